@@ -1,0 +1,31 @@
+-- The check byte of a message: the remainder of the message, times x^8, by x^8 + x^2 + x + 1. It starts at 0, and nothing is
+-- reflected or inverted at the end (EnOcean Serial Protocol 3, "CRC8 calculation").
+use Rattle.std.specs.Prelude.{ℕ, zero, suc, ◌+◌, ◌*◌, Bool, List, [], ◌∷◌, ◌++◌, length, ◌==◌, nat_lt, bit_xor, if◌then◌else◌}
+use Rattle.std.specs.Int.{bit_at}
+
+-- a remainder times x: the double, less the polynomial where the double passes a byte
+abbrev pub times_x : ℕ → ℕ
+times_x n = if nat_lt (2 * n) 256 then 2 * n else bit_xor (2 * n) 0x107
+
+-- the remainder of x^k
+unfoldable pub power : ℕ → ℕ
+power zero = 1
+power (suc k) = times_x (power k)
+
+-- a byte's bits, the high one first
+unfoldable pub byte_bits : ℕ → List Bool
+byte_bits b = (bit_at b 7 == 1) ∷ (bit_at b 6 == 1) ∷ (bit_at b 5 == 1) ∷ (bit_at b 4 == 1) ∷ (bit_at b 3 == 1) ∷ (bit_at b 2 == 1) ∷ (bit_at b 1 == 1) ∷ (bit_at b 0 == 1) ∷ []
+
+-- the bits of a message
+unfoldable pub bits : List ℕ → List Bool
+bits [] = []
+bits (b ∷ m) = byte_bits b ++ bits m
+
+-- a set bit with k bits after it stands for x^(k + 8)
+unfoldable pub remainder : List Bool → ℕ
+remainder [] = 0
+remainder (b ∷ bs) = bit_xor (if b then power (length bs + 8) else 0) (remainder bs)
+
+-- the check byte of a message
+unfoldable pub check : List ℕ → ℕ
+check m = remainder (bits m)

@@ -1,0 +1,28 @@
+-- The packets of a serial line and their bytes (EnOcean Serial Protocol 3, "Packet structure").
+use Rattle.std.specs.Prelude.{◌≡◌, ℕ, ◌+◌, ◌/◌, ◌%◌, ◌<◌, ◌≤◌, List, [], ◌∷◌, ◌++◌, length}
+use Rattle.esp3_frames.specs.Check.{check}
+
+-- what a packet holds: its type, its data and its optional data
+pub record Packet : Type 0 where
+  pub kind : ℕ
+  pub body : List ℕ
+  pub opt : List ℕ
+
+-- the length of the data in two bytes, high first, that of the optional data, and the type
+abbrev pub header : Packet → List ℕ
+header p = (length p.body / 256) ∷ (length p.body % 256) ∷ length p.opt ∷ p.kind ∷ []
+
+-- the sync byte, the header and its check; the data, the optional data and their check
+abbrev pub spelling : Packet → List ℕ
+spelling p = (0x55 ∷ header p ++ check (header p) ∷ []) ++ (p.body ++ p.opt ++ check (p.body ++ p.opt) ∷ [])
+
+-- w is the packet p, whole. Own choice: a packet is not empty, and its data is no longer than 1,024 bytes
+pub record IsPacket (p : Packet) (w : List ℕ) : Type 0 where
+  pub some : 0 < length p.body + length p.opt
+  pub body : length p.body ≤ 1024
+  pub opt : length p.opt ≤ 255
+  pub bytes : w ≡ spelling p
+
+-- a text is at most one packet, which has no other text, and no packet begins another
+abbrev pub OneReading : Type 0
+OneReading = (p q : Packet) (v w rest : List ℕ) → IsPacket p v → IsPacket q w → w ≡ v ++ rest → (p ≡ q) × (rest ≡ [])

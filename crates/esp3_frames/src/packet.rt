@@ -1,0 +1,142 @@
+//! Headers and packets, read and written whole.
+ghost use Rattle.std.specs.Prelude.{◌≡◌, ℕ, ◌+◌, ◌*◌, ◌-◌, ◌++◌, IfSome, IfNone, OnOk, OnErr};
+ghost use Rattle.esp3_frames.specs.Packet.{Packet, IsPacket, spelling};
+ghost use Rattle.esp3_frames.specs.Outcome.{packet_of, header_of, write_outcome};
+ghost use Rattle.arrayvec.specs.ArrayVec.{array_vec_len};
+
+use crate::check8;
+use arrayvec::ArrayVec;
+
+/// What the first six bytes of a packet announce.
+#[derive(Clone, Copy, Debug, PartialEq, Eq)]
+pub struct Header {
+    /// The length of the data, in bytes: 0 to 1,024.
+    pub data_len: u16,
+    /// The length of the optional data, in bytes.
+    pub opt_len: u8,
+    /// The packet type.
+    pub kind: u8,
+}
+
+/// Why six bytes begin no packet. They are looked for in this order.
+#[derive(Clone, Copy, Debug, PartialEq, Eq)]
+pub enum HeaderFault {
+    /// The first byte is not the sync byte `55`.
+    NotSync,
+    /// The sixth byte is not the check byte of the four before it.
+    HeaderCheck,
+    /// Both lengths are 0. Own choice: there is no such packet.
+    EmptyPacket,
+    /// The data would be longer than 1,024 bytes. Own choice.
+    TooLong,
+}
+
+/// Reads the sync byte, the header and its check: the first six bytes of a packet. Of several faults it answers the first.
+///
+/// EnOcean Serial Protocol 3, "Packet structure".
+pub fn read_header(b: &[u8; 6]) -> Result<Header, HeaderFault>
+    ensures { result ≡ header_of b.now }
+{
+    if b[0] != 0x55 {
+        return Err(HeaderFault::NotSync);
+    }
+    if b[5] != check8(&b[1..5]) {
+        return Err(HeaderFault::HeaderCheck);
+    }
+    let data_len = u16::from_be_bytes([b[1], b[2]]);
+    let opt_len = b[3];
+    if data_len == 0 && opt_len == 0 {
+        return Err(HeaderFault::EmptyPacket);
+    }
+    if data_len > 1024 {
+        return Err(HeaderFault::TooLong);
+    }
+    Ok(Header {
+        data_len,
+        opt_len,
+        kind: b[4],
+    })
+}
+
+/// A packet whose data and optional data are borrowed.
+#[derive(Clone, Copy, Debug, PartialEq, Eq)]
+pub struct PacketRef<'a> {
+    /// The packet type.
+    pub kind: u8,
+    /// The data: at most 1,024 bytes.
+    pub body: &'a [u8],
+    /// The optional data: at most 255 bytes.
+    pub opt: &'a [u8],
+}
+
+/// Reads a slice that is one packet, from its sync byte to its last check byte. Any other slice gives `None`.
+///
+/// EnOcean Serial Protocol 3, "Packet structure".
+pub fn read_packet(b: &[u8]) -> Option<PacketRef<'_>>
+    ensures some { IfSome result (λ r. IsPacket (packet_of r) b.now) }
+    ensures none { IfNone result ((p : Packet) → ¬ IsPacket p b.now) }
+{
+    let (front, rest) = b.split_first_chunk::<6>()?;
+    let Ok(header) = read_header(front) else {
+        return None;
+    };
+    let len = header.data_len as usize + header.opt_len as usize;
+    if rest.len() != len + 1 || rest[len] != check8(&rest[..len]) {
+        return None;
+    }
+    let (body, opt) = rest[..len].split_at(header.data_len as usize);
+    Some(PacketRef {
+        kind: header.kind,
+        body,
+        opt,
+    })
+}
+
+/// Why a packet is not written. They are looked for in this order.
+#[derive(Clone, Copy, Debug, PartialEq, Eq)]
+pub enum PacketFault {
+    /// There is neither data nor optional data.
+    EmptyPacket,
+    /// The data is longer than 1,024 bytes, or the optional data longer than 255.
+    TooLong,
+    /// The packet does not fit behind what the buffer holds.
+    NoRoom,
+}
+
+/// Appends one packet with its check bytes. Of several faults it answers the first, and leaves the buffer as it was.
+///
+/// EnOcean Serial Protocol 3, "Packet structure".
+pub fn write_packet<const CAP: usize>(
+    kind: u8,
+    body: &[u8],
+    opt: &[u8],
+    out: &mut ArrayVec<u8, CAP>,
+) -> Result<(), PacketFault>
+    ensures outcome { let p : Packet = record { kind = kind; body = body.now; opt = opt.now } in
+        result ≡ write_outcome p (CAP - array_vec_len out.old) }
+    ensures ok { let p : Packet = record { kind = kind; body = body.now; opt = opt.now } in
+        OnOk result (out.new.items ≡ out.old.items ++ spelling p) }
+    ensures packet { let p : Packet = record { kind = kind; body = body.now; opt = opt.now } in
+        OnOk result (IsPacket p (spelling p)) }
+    ensures err { OnErr result (out.new ≡ out.old) }
+{
+    if body.is_empty() && opt.is_empty() {
+        return Err(PacketFault::EmptyPacket);
+    }
+    if body.len() > 1024 || opt.len() > 255 {
+        return Err(PacketFault::TooLong);
+    }
+    if out.remaining_capacity() < body.len() + opt.len() + 7 {
+        return Err(PacketFault::NoRoom);
+    }
+    let [high, low] = (body.len() as u16).to_be_bytes();
+    let header = [high, low, opt.len() as u8, kind];
+    let start = out.len() + 6;
+    out.push(0x55);
+    let _fits = out.try_extend_from_slice(&header);
+    out.push(check8(&header));
+    let _fits = out.try_extend_from_slice(body);
+    let _fits = out.try_extend_from_slice(opt);
+    out.push(check8(&out[start..]));
+    Ok(())
+}

@@ -1,0 +1,86 @@
+-- The front of a text by its header.
+use Rattle.std.proofs.Common.{◌≡◌, ◌≢◌, ℕ, zero, suc, ◌+◌, ◌-◌, ◌*◌, ◌/◌, ◌%◌, ◌<◌, ◌≤◌, Bool, true, false, cond, ◌&&◌, ◌==◌, eqb, ltb, leb, List, [], ◌∷◌, ◌++◌, length, take, drop, get_or, refl, sym, ap, ◌∙◌, subst, arith, length-append, length-take, length-drop, ◌⊎◌, inl, inr}
+use Rattle.std.specs.Prelude.{Result, Ok, Err, not, slice_index}
+use Rattle.std.proofs.lemmas.Bool.{and_parts, and_from, ltb-true, le-ltb, leb-true, le-leb, lt-leb, eqb-true, eq-eqb, ne_eqb, cases_Bool}
+use Rattle.esp3_frames.specs.Check.{check}
+use Rattle.esp3_frames.specs.Packet.{Packet}
+use Rattle.esp3_frames.specs.Frames.{lengths_fit, may_begin, Front, front_behind, front_of}
+use Rattle.esp3_frames.specs.Frames.Front.{Never, Partial, Whole}
+use Rattle.esp3_frames.specs.Outcome.{header_in, header_of}
+use Rattle.esp3_frames.specs.declared.packet.Header.{Header}
+use Rattle.esp3_frames.specs.declared.packet.HeaderFault.{HeaderFault}
+use Rattle.esp3_frames.proofs.HeaderLemmas.{six, heads}
+use Rattle.esp3_frames.proofs.FrontLemmas.{fitting, test_fitting}
+
+pub front-short : (b : List ℕ) → length b < 6 → front_of b ≡ cond (may_begin b) Partial Never
+unfolding front_of
+front-short [] h = refl
+front-short (s ∷ []) h = refl
+front-short (s ∷ g ∷ []) h = refl
+front-short (s ∷ g ∷ l ∷ []) h = refl
+front-short (s ∷ g ∷ l ∷ o ∷ []) h = refl
+front-short (s ∷ g ∷ l ∷ o ∷ k ∷ []) h = refl
+front-short (s ∷ g ∷ l ∷ o ∷ k ∷ c ∷ w) h = absurd (omega arith)
+
+chosen : (t : Bool) (x : Front) → t ≡ true → cond t x Never ≡ x
+chosen true x e = refl
+chosen false x e = absurd cc
+
+pub front-header : (b f w : List ℕ) (x : Header) → ((i : ℕ) → get_or b i 0 < 256) → length f ≡ 6 → f ++ w ≡ b → header_of f ≡ Ok x → front_of b ≡ front_behind x.data_len x.opt_len x.kind w
+unfolding front_of
+front-header b f w x fits hf hb hx =
+    let t = six f hf in
+    let s = t.0 in let h = t.1 in let l = t.2 in let o = t.3 in let k = t.4 in let c = t.5 in
+    let r = heads s h l o k c x (sym (ap header_of t.6) ∙ hx) in
+    let eb : s ∷ h ∷ l ∷ o ∷ k ∷ c ∷ w ≡ b = ap (λ (y : List ℕ). y ++ w) (sym t.6) ∙ hb in
+    let hl : l < 256 = subst (λ (y : List ℕ). get_or y 2 0 < 256) (sym eb) (fits 2) in
+    let ho : o < 256 = subst (λ (y : List ℕ). get_or y 3 0 < 256) (sym eb) (fits 3) in
+    let ed : x.data_len ≡ 256 * h + l = (let e = r.is in cc) in
+    let eo : x.opt_len ≡ o = (let e = r.is in cc) in
+    let ek : x.kind ≡ k = (let e = r.is in cc) in
+    let good : (s == 0x55 && (lengths_fit h l o && c == check (h ∷ l ∷ o ∷ k ∷ []))) ≡ true = and_from _ _ (eq-eqb s 0x55 r.sync) (and_from _ _ (test_fitting h l o (record { low = hl; opts = ho; some = r.some; fits = r.fits })) (eq-eqb c _ r.checked)) in
+    ap front_of (sym eb) ∙ chosen _ (front_behind (256 * h + l) o k w) good
+    ∙ sym (ap (λ (n : ℕ). front_behind n x.opt_len x.kind w) ed ∙ ap (λ (n : ℕ). front_behind (256 * h + l) n x.kind w) eo ∙ ap (λ (n : ℕ). front_behind (256 * h + l) o n w) ek)
+
+good_header : (s h l o k c : ℕ) → (s == 0x55 && (lengths_fit h l o && c == check (h ∷ l ∷ o ∷ k ∷ []))) ≡ true → header_of (s ∷ h ∷ l ∷ o ∷ k ∷ c ∷ []) ≡ Ok (header_in (s ∷ h ∷ l ∷ o ∷ k ∷ c ∷ []))
+good_header s h l o k c e =
+    let a = and_parts _ _ e in
+    let b = and_parts _ _ a.1 in
+    let f = fitting h l o b.0 in
+    let some = f.some in
+    let e1 : eqb s 0x55 ≡ true = a.0 in
+    let e2 : eqb c (check (h ∷ l ∷ o ∷ k ∷ [])) ≡ true = b.1 in
+    let e3 : eqb (256 * h + l + o) 0 ≡ false = ne_eqb (256 * h + l + o) 0 (λ z. omega arith) in
+    let e4 : ltb 1024 (256 * h + l) ≡ false = le-ltb 1024 (256 * h + l) f.fits in
+    rw (e1, e2, e3, e4) refl
+
+apart : (y : Header) (e : HeaderFault) → ◌≡◌ {A = Result Header HeaderFault} (Ok y) (Err e) → ⊥
+apart y e h = cc
+
+dead_or : (t : Bool) (x : Front) → (t ≡ true → ⊥) → cond t x Never ≡ Never
+dead_or true x n = absurd (n refl)
+dead_or false x n = refl
+
+pub front-no_header : (b f w : List ℕ) (e : HeaderFault) → length f ≡ 6 → f ++ w ≡ b → header_of f ≡ Err e → front_of b ≡ Never
+unfolding front_of
+front-no_header b f w e hf hb he =
+    let t = six f hf in
+    let s = t.0 in let h = t.1 in let l = t.2 in let o = t.3 in let k = t.4 in let c = t.5 in
+    let eb : s ∷ h ∷ l ∷ o ∷ k ∷ c ∷ w ≡ b = ap (λ (y : List ℕ). y ++ w) (sym t.6) ∙ hb in
+    ap front_of (sym eb) ∙ dead_or _ (front_behind (256 * h + l) o k w) (λ good. apart _ e (sym (good_header s h l o k c good) ∙ sym (ap header_of t.6) ∙ he))
+
+pub front_behind-partial : (d o k : ℕ) (w : List ℕ) → length w ≤ d + o → front_behind d o k w ≡ Partial
+front_behind-partial d o k w h = let e : leb (length w) (d + o) ≡ true = le-leb (length w) (d + o) h in rw e refl
+
+pub front_behind-whole : (d o k : ℕ) (w : List ℕ) → d + o < length w → get_or w (d + o) 0 ≡ check (take (d + o) w) → (p : Packet) × (front_behind d o k w ≡ Whole p) × (d + o + 7 ≡ length p.body + length p.opt + 7)
+front_behind-whole d o k w h g =
+    let e1 : leb (length w) (d + o) ≡ false = lt-leb (length w) (d + o) h in
+    let e2 : eqb (get_or w (d + o) 0) (check (take (d + o) w)) ≡ true = eq-eqb _ _ g in
+    let m : List ℕ = take (d + o) w in
+    (record { kind = k; body = take d m; opt = drop d m }, rw (e1, e2) refl, omega (arith, length-take (d + o) w, length-take d m, length-drop d m))
+
+pub front_behind-never : (d o k : ℕ) (w : List ℕ) → d + o < length w → get_or w (d + o) 0 ≢ check (take (d + o) w) → front_behind d o k w ≡ Never
+front_behind-never d o k w h g =
+    let e1 : leb (length w) (d + o) ≡ false = lt-leb (length w) (d + o) h in
+    let e2 : eqb (get_or w (d + o) 0) (check (take (d + o) w)) ≡ false = ne_eqb _ _ g in
+    rw (e1, e2) refl
