@@ -1,0 +1,15 @@
+//! The radio telegrams of ISO/IEC 14543-3-10, in packets of EnOcean Serial Protocol 3 of the type RADIO_ERP1: read from a
+//! packet, and written as one. Nothing here takes memory.
+#![tactic(auto)]
+
+mod eep;
+pub mod laws;
+mod serial;
+mod telegram;
+
+pub use eep::Eep;
+pub use serial::{read, write};
+pub use telegram::{BROADCAST, Telegram, TelegramFault};
+
+#[cfg(test)]
+mod tests;

@@ -1,0 +1,175 @@
+//! One telegram, whichever way it came.
+ghost use Rattle.std.specs.Prelude.{◌≡◌, ◌≢◌, ◌↔◌, length, true, false, IsTrue, IfOk, Err};
+ghost use Rattle.erp1_telegrams.specs.Telegram.{fits, is_kind};
+
+use arrayvec::ArrayVec;
+use std::marker::Model;
+
+/// Repeated switch communication.
+const RPS: u8 = 0xF6;
+
+/// One byte of payload.
+const BS1: u8 = 0xD5;
+
+/// Four bytes of payload.
+const BS4: u8 = 0xA5;
+
+/// A payload of variable length.
+const VLD: u8 = 0xD2;
+
+/// Universal teach-in.
+const UTE: u8 = 0xD4;
+
+/// The destination of a telegram that is for everyone (EnOcean Serial Protocol 3, "Packet type 1: RADIO_ERP1").
+pub const BROADCAST: u32 = 0xFFFF_FFFF;
+
+/// Why there is no telegram.
+#[derive(Clone, Copy, Debug, PartialEq, Eq)]
+pub enum TelegramFault {
+    /// The packet is not of the type RADIO_ERP1.
+    NotRadio,
+    /// The telegram's kind, its RORG, is none of RPS, 1BS, 4BS, VLD and UTE.
+    OtherKind,
+    /// The payload has not the length of the telegram's kind, or the data ends before the sender's ID or the status.
+    BadLength,
+}
+
+/// A telegram (ISO/IEC 14543-3-10) of one of the five kinds, with a payload of that kind's length. In contracts it is the
+/// record `Telegram` of `specs/Telegram.antt`.
+#[derive(Clone, Debug, Drop)]
+pub struct Telegram {
+    rorg: u8,
+    payload: ArrayVec<u8, 14>,
+    sender: u32,
+    status: u8,
+    dest: u32,
+    dbm: Option<u8>,
+}
+
+impl Model for Telegram {
+    ghost use Rattle.std.specs.Prelude.{IsTrue};
+    ghost use Rattle.arrayvec.specs.ArrayVec.{array_vec_len};
+    ghost use Rattle.erp1_telegrams.specs.Telegram.{Telegram as Said, fits};
+
+    ghost Value = { Said };
+
+    ghost view = { λ t. record {
+      rorg = t.rorg;
+      payload = t.payload.items;
+      sender = t.sender;
+      status = t.status;
+      dest = t.dest;
+      dbm = t.dbm;
+    } };
+
+    ghost invariant = { λ t. IsTrue (fits t.rorg (array_vec_len t.payload)) };
+}
+
+impl Telegram {
+    /// A telegram of these parts, as one that is to be sent. The kind is a RORG, the IDs have 32 bits, and dBm stands
+    /// without its minus. `OtherKind` where there is no such kind, and else `BadLength` where the payload has not the
+    /// kind's length.
+    pub fn new(
+        rorg: u8,
+        payload: &[u8],
+        sender: u32,
+        status: u8,
+        dest: u32,
+        dbm: Option<u8>,
+    ) -> Result<Telegram, TelegramFault>
+        ensures ok { IfOk result (λ t. t ≡ record {
+          rorg = rorg;
+          payload = payload.now;
+          sender = sender;
+          status = status;
+          dest = dest;
+          dbm = dbm;
+        }) }
+        ensures other_kind { (result ≡ Err TelegramFault.OtherKind) ↔ (is_kind rorg ≡ false) }
+        ensures bad_length { (result ≡ Err TelegramFault.BadLength)
+            ↔ ((is_kind rorg ≡ true) × (fits rorg (length payload.now) ≡ false)) }
+        ensures no_other { result ≢ Err TelegramFault.NotRadio }
+    {
+        if !is_kind(rorg) {
+            return Err(TelegramFault::OtherKind);
+        }
+        if !fits(rorg, payload.len()) {
+            return Err(TelegramFault::BadLength);
+        }
+        let Ok(payload) = ArrayVec::try_from(payload) else {
+            return Err(TelegramFault::BadLength);
+        };
+        Ok(Telegram {
+            rorg,
+            payload,
+            sender,
+            status,
+            dest,
+            dbm,
+        })
+    }
+
+    /// The kind of the telegram: F6 is RPS, D5 1BS, A5 4BS, D2 VLD and D4 UTE (ISO/IEC 14543-3-10, "RORG").
+    pub fn rorg(&self) -> u8
+        ensures { result ≡ self.now.rorg }
+    {
+        self.rorg
+    }
+
+    /// What the sender says: 1 byte at RPS and 1BS, 4 bytes at 4BS, 1 to 14 bytes at VLD and 7 bytes at UTE.
+    pub fn payload(&self) -> &[u8]
+        ensures value { result.now ≡ self.now.payload }
+        ensures length_fits { IsTrue (fits self.now.rorg (length self.now.payload)) }
+    {
+        &self.payload
+    }
+
+    /// The ID of the device that sent it.
+    pub fn sender(&self) -> u32
+        ensures { result ≡ self.now.sender }
+    {
+        self.sender
+    }
+
+    /// The status byte: the repeater's count in its low four bits, and at RPS the bits T21 and NU
+    /// (ISO/IEC 14543-3-10, "Status").
+    pub fn status(&self) -> u8
+        ensures { result ≡ self.now.status }
+    {
+        self.status
+    }
+
+    /// The ID of the device that it is for, or `BROADCAST`.
+    pub fn dest(&self) -> u32
+        ensures { result ≡ self.now.dest }
+    {
+        self.dest
+    }
+
+    /// How strongly it was received, in dBm without the minus: 45 is -45 dBm. None where the packet did not say it.
+    pub fn dbm(&self) -> Option<u8>
+        ensures { result ≡ self.now.dbm }
+    {
+        self.dbm
+    }
+}
+
+/// Whether telegrams of this kind are read.
+pub(crate) fn is_kind(rorg: u8) -> bool
+    ensures { result ≡ is_kind rorg }
+{
+    matches!(rorg, RPS | BS1 | BS4 | VLD | UTE)
+}
+
+/// Whether a telegram of this kind may have this many bytes of payload.
+fn fits(rorg: u8, len: usize) -> bool
+    ensures { result ≡ fits rorg len }
+{
+    match rorg {
+        RPS | BS1 => len == 1,
+        BS4 => len == 4,
+        VLD => 1 <= len && len <= 14,
+        UTE => len == 7,
+        _ => false,
+    }
+}

@@ -1,0 +1,83 @@
+//! Telegrams whose packets are known, each fault, and the room that a packet needs.
+use crate::{BROADCAST, Telegram, TelegramFault, read, write};
+use arrayvec::ArrayVec;
+use esp3_frames::{PacketFault, PacketRef, read_packet};
+use std::test::Fail;
+
+const CONTACT: [u8; 21] = [
+    0x55, 0x00, 0x07, 0x07, 0x01, 0x7A, 0xD5, 0x09, 0x01, 0x80, 0x0A, 0xBC, 0x00, 0x01, 0xFF, 0xFF,
+    0xFF, 0xFF, 0x2D, 0x00, 0x1F,
+];
+
+const CONTACT_SENT: [u8; 21] = [
+    0x55, 0x00, 0x07, 0x07, 0x01, 0x7A, 0xD5, 0x09, 0x01, 0x80, 0x0A, 0xBC, 0x00, 0x03, 0xFF, 0xFF,
+    0xFF, 0xFF, 0xFF, 0x00, 0x36,
+];
+
+const WITHOUT_OPTIONAL_DATA: [u8; 14] = [
+    0x55, 0x00, 0x07, 0x00, 0x01, 0x11, 0xD5, 0x09, 0x01, 0x80, 0x0A, 0xBC, 0x00, 0xB7,
+];
+
+const ADDRESSED: [u8; 21] = [
+    0x55, 0x00, 0x07, 0x07, 0x01, 0x7A, 0xD5, 0x09, 0x01, 0x80, 0x0A, 0xBC, 0x00, 0x01, 0x01, 0x02,
+    0x03, 0x04, 0x2D, 0x00, 0x0F,
+];
+
+#[test]
+fn contact_telegrams(rt: HostRuntime) -> Result<(), Fail> {
+    let cases: [(&[u8], u32, Option<u8>); 3] = [
+        (&CONTACT, BROADCAST, Some(0x2D)),
+        (&WITHOUT_OPTIONAL_DATA, BROADCAST, None),
+        (&ADDRESSED, 0x0102_0304, Some(0x2D)),
+    ];
+    for (bytes, dest, dbm) in cases {
+        let packet = read_packet(bytes).ok_or("no packet")?;
+        let telegram = read(&packet)?;
+        assert_eq!(rt; telegram.rorg(), 0xD5);
+        assert_eq!(rt; telegram.payload(), [0x09].as_slice());
+        assert_eq!(rt; telegram.sender(), 0x0180_0ABC);
+        assert_eq!(rt; telegram.status(), 0);
+        assert_eq!(rt; telegram.dest(), dest);
+        assert_eq!(rt; telegram.dbm(), dbm);
+    }
+    Ok(())
+}
+
+#[test]
+fn faults(rt: HostRuntime) {
+    let cases: [(u8, &[u8], TelegramFault); 6] = [
+        (2, &[0x00], TelegramFault::NotRadio),
+        (1, &[], TelegramFault::BadLength),
+        (1, &[0x30], TelegramFault::OtherKind),
+        (1, &[0xD5], TelegramFault::BadLength),
+        (1, &[0xD5, 1, 2, 3, 4, 0], TelegramFault::BadLength),
+        (1, &[0xD5, 9, 9, 1, 2, 3, 4, 0], TelegramFault::BadLength),
+    ];
+    for (kind, body, fault) in cases {
+        let packet = PacketRef {
+            kind,
+            body,
+            opt: &[],
+        };
+        assert_eq!(rt; read(&packet).err(), Some(fault));
+    }
+    let other_kind = Telegram::new(0x30, &[], 1, 0, BROADCAST, None);
+    assert_eq!(rt; other_kind.err(), Some(TelegramFault::OtherKind));
+    let too_long = Telegram::new(0xD2, &[0; 15], 1, 0, BROADCAST, None);
+    assert_eq!(rt; too_long.err(), Some(TelegramFault::BadLength));
+}
+
+#[test]
+fn room_for_a_packet(rt: HostRuntime) -> Result<(), Fail> {
+    let telegram = Telegram::new(0xD5, &[0x09], 0x0180_0ABC, 0, BROADCAST, Some(0x2D))?;
+    let mut out = ArrayVec::<u8, 64>::new();
+    out.try_extend_from_slice(&[7; 44])?;
+    assert_eq!(rt; write(&telegram, &mut out), Err(PacketFault::NoRoom));
+    assert_eq!(rt; out.as_slice(), [7; 44].as_slice());
+    out.truncate(43);
+    assert_eq!(rt; write(&telegram, &mut out), Ok(()));
+    let (before, packet) = out.split_at(43);
+    assert_eq!(rt; before, [7; 43].as_slice());
+    assert_eq!(rt; packet, CONTACT_SENT.as_slice());
+    Ok(())
+}
