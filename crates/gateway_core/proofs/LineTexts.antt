@@ -1,0 +1,115 @@
+-- The JSON values behind the lines have the texts of the lines, and hold no float.
+use Rattle.std.proofs.Common.{◌≡◌, ℕ, ℤ, pos, negsuc, ◌-ℤ◌, List, [], ◌∷◌, ◌++◌, codes, true, false, Option, Some, None, refl, sym, ap₂, ◌∙◌, append_assoc}
+use Rattle.std.specs.Fmt.{signed_decimal}
+use Rattle.std.specs.List.{join_by, flat_map}
+use Rattle.json.specs.Print.{quoted}
+use Rattle.serde_json.specs.Written.{number_text, compact_text, items_text, has_float, items_have_float}
+use Rattle.serde_json.specs.Find.{of_integer, is_float}
+use Rattle.serde_json.proofs.OnLiterals.{serde_json_on_literals}
+use Rattle.gateway_core.specs.Lines.{id_text, eep_text, outcome_text, dbm_text, Entry, entry_text, list_text, ReadingLine, reading_text, maker_text, TeachLine, teach_text}
+use Rattle.gateway_core.specs.declared.lines.teach.Outcome.{Outcome}
+use Rattle.gateway_core.specs.declared.lines.teach.Outcome.TheVariants.{Accepted}
+use Rattle.gateway_core.proofs.HexTexts.{plain-id}
+use Rattle.gateway_core.specs.LineData.{IsPlain, dbm_data, entry_data, entries_data, reading_data, maker_data, teach_data}
+
+-- ---- the parts of the lines
+
+-- an integer's text is its digits
+digits_of : (z : ℤ) → number_text (of_integer z) ≡ signed_decimal z
+digits_of (pos n) = refl
+digits_of (negsuc n) = refl
+
+no_float-integer : (z : ℤ) → is_float (of_integer z) ≡ false
+no_float-integer (pos n) = refl
+no_float-integer (negsuc n) = refl
+
+text-dbm : (dbm : Option ℕ) → compact_text (dbm_data dbm) ≡ dbm_text dbm
+text-dbm None = refl
+text-dbm (Some byte) = digits_of (pos 0 -ℤ pos byte)
+
+no_float-dbm : (dbm : Option ℕ) → has_float (dbm_data dbm) ≡ false
+no_float-dbm None = refl
+no_float-dbm (Some byte) = no_float-integer (pos 0 -ℤ pos byte)
+
+text-maker : (maker : Option ℕ) → compact_text (maker_data maker) ≡ maker_text maker
+text-maker None = refl
+text-maker (Some maker) = refl
+
+no_float-maker : (maker : Option ℕ) → has_float (maker_data maker) ≡ false
+no_float-maker None = refl
+no_float-maker (Some maker) = refl
+
+-- an outcome's word needs no escape
+plain-outcome : (outcome : Outcome) → IsPlain (outcome_text outcome)
+unfolding serde_json_on_literals
+plain-outcome Accepted = refl
+
+-- ---- the list of readings
+
+-- the parts of an entry, grouped as the writer and as the definition group them
+grouped-entry : (name word : List ℕ)
+    → codes "{\"name\":" ++ (name ++ (codes ",\"word\":" ++ (word ++ codes "}")))
+    ≡ codes "{\"name\":" ++ name ++ codes ",\"word\":" ++ word ++ codes "}"
+grouped-entry name word = simp append_assoc
+
+text-entry : (entry : Entry) → compact_text (entry_data entry) ≡ entry_text entry
+unfolding serde_json_on_literals
+text-entry entry = grouped-entry (quoted entry.name) (quoted entry.word)
+
+-- the entries after the first, each with a comma before it
+text-rest : (list : List Entry)
+    → items_text true (entries_data list) ≡ flat_map (λ entry. codes "," ++ entry_text entry) list ++ codes "]"
+text-rest [] = refl
+text-rest (entry ∷ list) =
+    ap₂ (λ text rest. codes "," ++ (text ++ rest)) (text-entry entry) (text-rest list)
+    ∙ sym (append_assoc (codes "," ++ entry_text entry) _ _)
+
+text-items : (list : List Entry)
+    → items_text false (entries_data list) ≡ join_by entry_text (codes ",") list ++ codes "]"
+text-items [] = refl
+text-items (entry ∷ list) =
+    ap₂ (λ text rest. text ++ rest) (text-entry entry) (text-rest list) ∙ sym (append_assoc (entry_text entry) _ _)
+
+no_float-items : (list : List Entry) → items_have_float (entries_data list) ≡ false
+no_float-items [] = refl
+no_float-items (entry ∷ list) = no_float-items list
+
+-- ---- a reading line
+
+-- the parts of the line, grouped as the writer and as the definition group them
+grouped-reading : (dbm eep id list : List ℕ)
+    → (codes "{\"dbm\":" ++ (dbm ++ (codes ",\"eep\":\"" ++ ((eep ++ codes "\"") ++ (codes ",\"id\":\"" ++ ((id ++ codes "\"")
+    ++ (codes ",\"readings\":" ++ (list ++ codes ",\"type\":\"reading\"}")))))))) ++ codes "\n"
+    ≡ codes "{\"dbm\":" ++ dbm ++ codes ",\"eep\":\"" ++ eep ++ codes "\",\"id\":\"" ++ id
+    ++ codes "\",\"readings\":" ++ list ++ codes ",\"type\":\"reading\"}\n"
+grouped-reading dbm eep id list = simp append_assoc
+
+pub text-reading : (line : ReadingLine) → IsPlain (eep_text line.eep)
+    → compact_text (reading_data line) ++ codes "\n" ≡ reading_text line
+unfolding serde_json_on_literals
+text-reading line plain =
+    rw (text-dbm line.dbm, plain, plain-id line.id, text-items line.readings)
+    (grouped-reading (dbm_text line.dbm) (eep_text line.eep) (id_text line.id) (list_text line.readings))
+
+pub no_float-reading : (line : ReadingLine) → has_float (reading_data line) ≡ false
+no_float-reading line = rw (no_float-dbm line.dbm, no_float-items line.readings) refl
+
+-- ---- a teach line
+
+-- the parts of the line, grouped as the writer and as the definition group them
+grouped-teach : (eep id maker outcome : List ℕ)
+    → (codes "{\"eep\":\"" ++ ((eep ++ codes "\"") ++ (codes ",\"id\":\"" ++ ((id ++ codes "\"") ++ (codes ",\"maker\":" ++ (maker
+    ++ (codes ",\"result\":\"" ++ ((outcome ++ codes "\"") ++ codes ",\"type\":\"teach\"}")))))))) ++ codes "\n"
+    ≡ codes "{\"eep\":\"" ++ eep ++ codes "\",\"id\":\"" ++ id ++ codes "\",\"maker\":" ++ maker
+    ++ codes ",\"result\":\"" ++ outcome ++ codes "\",\"type\":\"teach\"}\n"
+grouped-teach eep id maker outcome = simp append_assoc
+
+pub text-teach : (line : TeachLine) → IsPlain (eep_text line.eep)
+    → compact_text (teach_data line) ++ codes "\n" ≡ teach_text line
+unfolding serde_json_on_literals
+text-teach line plain =
+    rw (plain, plain-id line.id, text-maker line.maker, plain-outcome line.outcome)
+    (grouped-teach (eep_text line.eep) (id_text line.id) (maker_text line.maker) (outcome_text line.outcome))
+
+pub no_float-teach : (line : TeachLine) → has_float (teach_data line) ≡ false
+no_float-teach line = rw (no_float-maker line.maker) refl

@@ -1,0 +1,80 @@
+-- What a gateway's value is, how each call moves it, and what all calls together do.
+use Rattle.std.specs.Prelude.{◌≡◌, ℕ, List, [], ◌∷◌, ◌++◌, Option, Some, None}
+use Rattle.std.specs.FinMap.{empty}
+use Rattle.esp3_frames.specs.Packet.{Packet}
+use Rattle.esp3_frames.specs.Frames.{packets_in, rest_of}
+use Rattle.gateway_core.specs.Step.{State, Item, Received, Ordered, Answer}
+use Rattle.gateway_core.specs.Run.{Handles}
+
+-- what is known, the packets that wait to be handled, and the bytes behind them, of which one more packet may come
+pub record Value : Type 0 where
+  pub state : State
+  pub ready : List Packet
+  pub rest : List ℕ
+
+-- a gateway with this base ID that knows no device, and to which no byte has come
+abbrev pub new_value : ℕ → Value
+new_value base = record { state = record { base = base; devices = empty }; ready = []; rest = [] }
+
+-- a call, with what it was given and what it answered
+pub data Call : Type 0 where
+  Byte : (byte : ℕ) → Call
+  Next : (answer : Option Answer) → Call
+  Order : (line : List ℕ) (answer : Answer) → Call
+
+-- the call takes the gateway from old to new
+abbrev pub Moves : Value → Call → Value → Type 0
+-- a byte goes behind the rest, which is framed anew; this is allowed where no packet waits
+Moves old (Byte byte) new =
+    (old.ready ≡ []) × (new.state ≡ old.state) × (new.ready ≡ packets_in (old.rest ++ byte ∷ [])) × (new.rest ≡ rest_of (old.rest ++ byte ∷ []))
+-- the first packet that waits is handled
+Moves old (Next (Some answer)) new =
+    (packet : Packet) × (old.ready ≡ packet ∷ new.ready) × (new.rest ≡ old.rest) × Handles old.state (Received packet ∷ []) (answer ∷ []) new.state
+-- no packet waits
+Moves old (Next None) new = (old.ready ≡ []) × (new ≡ old)
+-- a line is handled
+Moves old (Order line answer) new =
+    (new.ready ≡ old.ready) × (new.rest ≡ old.rest) × Handles old.state (Ordered line ∷ []) (answer ∷ []) new.state
+
+-- the calls take the gateway from old to new, one after another
+abbrev pub AllMove : Value → List Call → Value → Type 0
+AllMove old [] new = new ≡ old
+AllMove old (call ∷ calls) new = (mid : Value) × Moves old call mid × AllMove mid calls new
+
+-- the bytes that were given
+abbrev pub bytes_of : List Call → List ℕ
+bytes_of [] = []
+bytes_of (Byte byte ∷ calls) = byte ∷ bytes_of calls
+bytes_of (Next answer ∷ calls) = bytes_of calls
+bytes_of (Order line answer ∷ calls) = bytes_of calls
+
+-- the answers that were given
+abbrev pub answers_of : List Call → List Answer
+answers_of [] = []
+answers_of (Byte byte ∷ calls) = answers_of calls
+answers_of (Next None ∷ calls) = answers_of calls
+answers_of (Next (Some answer) ∷ calls) = answer ∷ answers_of calls
+answers_of (Order line answer ∷ calls) = answer ∷ answers_of calls
+
+-- the calls' items, in the order of the calls, where these packets were handled
+abbrev pub AreItems : List Call → List Packet → List Item → Type 0
+AreItems [] packets items = (packets ≡ []) × (items ≡ [])
+AreItems (Byte byte ∷ calls) packets items = AreItems calls packets items
+AreItems (Next None ∷ calls) packets items = AreItems calls packets items
+AreItems (Next (Some answer) ∷ calls) (packet ∷ packets) (item ∷ items) = (item ≡ Received packet) × AreItems calls packets items
+AreItems (Order line answer ∷ calls) packets (item ∷ items) = (item ≡ Ordered line) × AreItems calls packets items
+AreItems calls packets items = ⊥
+
+-- The packets handled, and behind them those that wait, are the packets of the bytes given. So those handled are a first part
+-- of these, and all of them where none waits. The answers are a run on packets and lines, in the order of the calls.
+pub record IsARun (old : Value) (calls : List Call) (new : Value) : Type 0 where
+  pub handled : List Packet
+  pub items : List Item
+  pub packets : packets_in (bytes_of calls) ≡ handled ++ new.ready
+  pub rest : rest_of (bytes_of calls) ≡ new.rest
+  pub in_order : AreItems calls handled items
+  pub run : Handles old.state items (answers_of calls) new.state
+
+-- whatever is called of a new gateway
+abbrev pub CallsAreARun : Type 0
+CallsAreARun = (base : ℕ) (calls : List Call) (new : Value) → AllMove (new_value base) calls new → IsARun (new_value base) calls new

@@ -1,0 +1,9 @@
+-- What a reply tells the desk.
+use Rattle.std.specs.Prelude.{ℕ, List, []}
+use Rattle.gateway_core.specs.declared.reply.Desk.{Desk}
+use Rattle.gateway_core.specs.declared.reply.Desk.TheVariants.{Nothing, Fixed, Owned}
+
+abbrev pub desk_bytes : Desk → List ℕ
+desk_bytes Nothing = []
+desk_bytes (Fixed text) = text.now
+desk_bytes (Owned line) = line

@@ -1,0 +1,14 @@
+pub mod Lines
+pub mod LineData
+pub mod Contact
+pub mod TeachIn
+pub mod Orders
+pub mod Devices
+pub mod Address
+pub mod Step
+pub mod Run
+pub mod Events
+pub mod Calls
+pub mod Codes
+pub mod Desks
+pub mod Replies

@@ -1,0 +1,49 @@
+-- For private clauses: the JSON values whose texts the lines are.
+use Rattle.std.specs.Prelude.{◌≡◌, ℕ, pos, ◌-ℤ◌, List, map, codes, Option, Some, None}
+use Rattle.json.specs.Print.{escape}
+use Rattle.serde_json.specs.Data.{Data, unsigned, null, number, string, array, object, Items, member, no_members}
+use Rattle.serde_json.specs.Find.{of_integer}
+use Rattle.serde_json.specs.View.{items_of}
+use Rattle.gateway_core.specs.Lines.{id_text, eep_text, Entry, ReadingLine, outcome_text, TeachLine}
+
+-- the text stands in a JSON string as it is, with no escape
+abbrev pub IsPlain : List ℕ → Type 0
+IsPlain text = escape text ≡ text
+
+-- the signal strength: a number, or null
+abbrev pub dbm_data : Option ℕ → Data
+dbm_data None = null
+dbm_data (Some byte) = number (of_integer (pos 0 -ℤ pos byte))
+
+-- an entry: an object of two strings
+abbrev pub entry_data : Entry → Data
+entry_data entry = object (
+    member (codes "name") (string entry.name) (
+    member (codes "word") (string entry.word) no_members))
+
+-- the entries in their order
+abbrev pub entries_data : List Entry → Items
+entries_data list = items_of (map entry_data list)
+
+-- a reading line
+abbrev pub reading_data : ReadingLine → Data
+reading_data line = object (
+    member (codes "dbm") (dbm_data line.dbm) (
+    member (codes "eep") (string (eep_text line.eep)) (
+    member (codes "id") (string (id_text line.id)) (
+    member (codes "readings") (array (entries_data line.readings)) (
+    member (codes "type") (string (codes "reading")) no_members)))))
+
+-- the maker: a number, or null
+abbrev pub maker_data : Option ℕ → Data
+maker_data None = null
+maker_data (Some maker) = number (unsigned maker)
+
+-- a teach line
+abbrev pub teach_data : TeachLine → Data
+teach_data line = object (
+    member (codes "eep") (string (eep_text line.eep)) (
+    member (codes "id") (string (id_text line.id)) (
+    member (codes "maker") (maker_data line.maker) (
+    member (codes "result") (string (outcome_text line.outcome)) (
+    member (codes "type") (string (codes "teach")) no_members)))))

@@ -1,0 +1,108 @@
+-- The texts of the lines that the desk is sent, as bytes. The layout is this program's own choice: one JSON object
+-- with no space, its members in the byte order of their names, and a line feed at the end.
+use Rattle.std.specs.Prelude.{ℕ, pos, ◌-ℤ◌, List, [], ◌∷◌, ◌++◌, map, codes, decimal, Option, Some, None}
+use Rattle.std.specs.Fmt.{signed_decimal}
+use Rattle.std.specs.Int.{w32, to_be_bytes}
+use Rattle.std.specs.List.{join_by}
+use Rattle.json.specs.Print.{quoted}
+use Rattle.hex.specs.Hex.{encode_upper}
+use Rattle.erp1_telegrams.specs.declared.eep.Eep.{Eep}
+use Rattle.gateway_core.specs.declared.lines.error.ErrorName.{ErrorName}
+use Rattle.gateway_core.specs.declared.lines.error.ErrorName.TheVariants.{Syntax, TooLong, Range, Full, UnsupportedProfile, Memory}
+use Rattle.gateway_core.specs.declared.lines.reading.Reading.{Reading}
+use Rattle.gateway_core.specs.declared.lines.teach.Outcome.{Outcome}
+use Rattle.gateway_core.specs.declared.lines.teach.Outcome.TheVariants.{Accepted}
+
+-- a byte as two upper-case hexadecimal digits
+abbrev pub byte_text : ℕ → List ℕ
+byte_text byte = encode_upper (byte ∷ [])
+
+-- an ID as 8 upper-case hexadecimal digits
+abbrev pub id_text : ℕ → List ℕ
+id_text id = encode_upper (to_be_bytes w32 id)
+
+-- a profile by the three numbers that EnOcean Equipment Profiles gives it, with `-` between them
+abbrev pub eep_text : Eep → List ℕ
+eep_text eep = byte_text eep.rorg ++ codes "-" ++ byte_text eep.func ++ codes "-" ++ byte_text eep.typ
+
+-- ---- a reading line
+
+-- the signal strength in dBm, 0 minus the byte, or null
+abbrev pub dbm_text : Option ℕ → List ℕ
+dbm_text None = codes "null"
+dbm_text (Some byte) = signed_decimal (pos 0 -ℤ pos byte)
+
+-- a reading as its line tells it
+pub record Entry : Type 0 where
+  pub name : List ℕ
+  pub word : List ℕ
+
+abbrev pub entry_of : Reading → Entry
+entry_of reading = record { name = reading.name.now; word = reading.word.now }
+
+-- the readings in their order
+abbrev pub entries : List Reading → List Entry
+entries = map entry_of
+
+-- an object of two strings; `quoted` writes JSON's shortest escapes
+abbrev pub entry_text : Entry → List ℕ
+entry_text entry = codes "{\"name\":" ++ quoted entry.name ++ codes ",\"word\":" ++ quoted entry.word ++ codes "}"
+
+-- a list of the entries, with a comma between each two
+abbrev pub list_text : List Entry → List ℕ
+list_text list = codes "[" ++ join_by entry_text (codes ",") list ++ codes "]"
+
+-- what a reading line tells
+pub record ReadingLine : Type 0 where
+  pub dbm : Option ℕ
+  pub eep : Eep
+  pub id : ℕ
+  pub readings : List Entry
+
+abbrev pub reading_text : ReadingLine → List ℕ
+reading_text line =
+    codes "{\"dbm\":" ++ dbm_text line.dbm
+    ++ codes ",\"eep\":\"" ++ eep_text line.eep
+    ++ codes "\",\"id\":\"" ++ id_text line.id
+    ++ codes "\",\"readings\":" ++ list_text line.readings
+    ++ codes ",\"type\":\"reading\"}\n"
+
+-- ---- a teach line
+
+-- the maker's number, or null
+abbrev pub maker_text : Option ℕ → List ℕ
+maker_text None = codes "null"
+maker_text (Some maker) = decimal maker
+
+-- the outcome's word
+abbrev pub outcome_text : Outcome → List ℕ
+outcome_text Accepted = codes "accepted"
+
+-- what a teach line tells
+pub record TeachLine : Type 0 where
+  pub eep : Eep
+  pub id : ℕ
+  pub maker : Option ℕ
+  pub outcome : Outcome
+
+abbrev pub teach_text : TeachLine → List ℕ
+teach_text line =
+    codes "{\"eep\":\"" ++ eep_text line.eep
+    ++ codes "\",\"id\":\"" ++ id_text line.id
+    ++ codes "\",\"maker\":" ++ maker_text line.maker
+    ++ codes ",\"result\":\"" ++ outcome_text line.outcome
+    ++ codes "\",\"type\":\"teach\"}\n"
+
+-- ---- an error line
+
+-- the error's name
+abbrev pub name_of : ErrorName → List ℕ
+name_of Syntax = codes "syntax"
+name_of TooLong = codes "too_long"
+name_of Range = codes "range"
+name_of Full = codes "full"
+name_of UnsupportedProfile = codes "unsupported_profile"
+name_of Memory = codes "memory"
+
+abbrev pub error_text : ErrorName → List ℕ
+error_text error = codes "{\"error\":\"" ++ name_of error ++ codes "\",\"type\":\"error\"}\n"

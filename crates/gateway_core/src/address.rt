@@ -1,0 +1,32 @@
+//! Which IDs are the gateway's own, and which telegrams it passes over.
+ghost use Rattle.std.specs.Prelude.{◌≡◌, ◌≤◌};
+ghost use Rattle.gateway_core.specs.Address;
+
+use erp1_telegrams::{BROADCAST, Telegram};
+
+/// Whether an ID is a base ID: the first of the 128 IDs that a radio module sends as. It lies in `FF800000` to
+/// `FFFFFF80`, and its low seven bits are 0.
+///
+/// EnOcean Serial Protocol 3, "CO_WR_IDBASE".
+pub fn is_base(id: u32) -> bool
+    ensures { result ≡ Address.is_base id }
+{
+    id >= 0xFF80_0000 && id <= 0xFFFF_FF80 && id % 128 == 0
+}
+
+fn is_own(base: u32, id: u32) -> bool
+    requires { base ≤ 0xFFFF_FF80 }
+    ensures { result ≡ Address.is_own base id }
+{
+    base <= id && id <= base + 127
+}
+
+/// Whether a telegram is passed over, since its sender is the ID of all, or since it is neither for all nor for one of
+/// the 128 IDs from `base` on.
+pub fn is_passed_over(base: u32, telegram: &Telegram) -> bool
+    requires { base ≤ 0xFFFF_FF80 }
+    ensures { result ≡ Address.is_passed_over base telegram.now }
+{
+    let dest = telegram.dest();
+    telegram.sender() == BROADCAST || !(dest == BROADCAST || is_own(base, dest))
+}

@@ -1,0 +1,105 @@
+//! The gateway.
+ghost use Rattle.std.specs.Prelude.{◌≡◌, ◌≢◌, ◌↔◌, [], IfOk, MatchBool, false};
+ghost use Rattle.std.specs.Option.{option_map};
+ghost use Rattle.esp3_frames.specs.Framing.{MayBecomePacket};
+ghost use Rattle.gateway_core.specs.Address;
+ghost use Rattle.gateway_core.specs.Calls.{Byte as ByteCall, Moves, Next as NextCall, Order as OrderCall, new_value};
+ghost use Rattle.gateway_core.specs.Replies.{answer_of};
+
+use crate::address::is_base;
+use crate::handler::Handler;
+use crate::reply::Reply;
+use esp3_resync::{Framer, PacketBuf};
+use std::alloc::{AllocError, Global};
+use std::marker::Model;
+
+/// Why no gateway is made.
+#[derive(Clone, Copy, Debug, PartialEq, Eq)]
+pub enum StartFault {
+    /// The ID is no base ID.
+    BadBase,
+    /// There is no memory for the framer.
+    Memory,
+}
+
+impl From<AllocError> for StartFault {
+    ghost use Rattle.gateway_core.specs.declared.gateway.StartFault.TheVariants.{Memory};
+
+    ghost from_gives = { λ _ e. e ≡ Memory };
+
+    fn from(_error: AllocError) -> StartFault {
+        StartFault::Memory
+    }
+}
+
+/// A gateway: what it knows, the packets that wait to be handled, and the bytes behind them, of which one more packet may
+/// come.
+#[derive(Drop)]
+pub struct Gateway {
+    handler: Handler,
+    framer: Framer,
+    packet: PacketBuf,
+}
+
+impl Model for Gateway {
+    ghost use Rattle.gateway_core.specs.Calls.{Value as GatewayValue};
+    ghost use Rattle.gateway_core.specs.Codes.{value_code};
+
+    ghost Value = { GatewayValue };
+
+    ghost coded = { value_code };
+
+    ghost view = { λ gateway. record { state = gateway.handler; ready = gateway.framer.ready; rest = gateway.framer.rest } };
+}
+
+impl Gateway {
+    /// A gateway that knows no device, for a radio module with this base ID. An ID that is no base ID is refused first;
+    /// then want of memory for the framer.
+    pub fn new(alloc: Global, base: u32) -> Result<Gateway, StartFault>
+        ensures bad_base { (result ≡ Err StartFault.BadBase) ↔ (Address.is_base base ≡ false) }
+        ensures ok { IfOk result (λ gateway. gateway ≡ new_value base) }
+    {
+        if !is_base(base) {
+            return Err(StartFault::BadBase);
+        }
+        Ok(Gateway {
+            handler: Handler::new(alloc, base),
+            framer: Framer::new(alloc)?,
+            packet: PacketBuf::new(alloc)?,
+        })
+    }
+
+    /// Whether a packet waits to be handled. Of the bytes behind it one more may come.
+    pub fn is_ready(&self) -> bool
+        ensures ready { MatchBool result (self.now.ready ≢ []) (self.now.ready ≡ []) }
+        ensures rest { MayBecomePacket self.now.rest }
+    {
+        self.framer.is_ready()
+    }
+
+    /// Takes the next byte of the serial line. One byte can make several packets ready. It takes no memory.
+    pub fn byte(&mut self, b: u8)
+        requires { self.old.ready ≡ [] }
+        ensures { Moves self.old (ByteCall b) self.new }
+    {
+        self.framer.push(b);
+    }
+
+    /// Handles the first packet that waits. `None` says that none does.
+    pub fn next(&mut self) -> Option<Reply>
+        ensures { Moves self.old (NextCall (option_map answer_of result)) self.new }
+    {
+        if !self.framer.take(&mut self.packet) {
+            return None;
+        }
+        let packet = self.packet.packet()?;
+        Some(self.handler.packet(&packet))
+    }
+
+    /// Handles a line of the desk, without its line end.
+    pub fn order(&mut self, line: &[u8]) -> Reply
+        ensures { Moves self.old (OrderCall line.now (answer_of result)) self.new }
+    {
+        self.handler.line(line)
+    }
+}

@@ -1,0 +1,21 @@
+//! One gateway: it stands between the serial line of a radio module and the control desk of a building. It takes the
+//! bytes of the line and the orders of the desk, and answers them.
+#![tactic(auto)]
+
+mod address;
+mod contact;
+mod devices;
+mod gateway;
+mod handler;
+pub mod laws;
+mod lines;
+mod orders;
+mod reply;
+mod teach_in;
+#[cfg(test)]
+mod tests;
+
+pub use address::is_base;
+pub use gateway::{Gateway, StartFault};
+pub use lines::line::Line;
+pub use reply::{Desk, Reply};

@@ -1,0 +1,39 @@
+//! The lines that tell of an error. They are constants, so none of them takes memory.
+
+ghost use Rattle.std.specs.Prelude.{◌≡◌};
+ghost use Rattle.gateway_core.specs.Lines.{error_text};
+
+/// Why the gateway has not done what it was given.
+#[derive(Clone, Copy, Debug, PartialEq, Eq)]
+pub enum ErrorName {
+    /// The line has not the shape of an order.
+    Syntax,
+    /// The line is longer than 200 bytes.
+    TooLong,
+    /// A number of the order is out of range.
+    Range,
+    /// 1,000 other devices are learned.
+    Full,
+    /// The gateway cannot read telegrams of this profile.
+    UnsupportedProfile,
+    /// There is no memory for the answer, and nothing was done.
+    Memory,
+}
+
+impl ErrorName {
+    /// The line of the error, as `{"error":"syntax","type":"error"}` and a line feed. It takes no memory.
+    pub fn line(self) -> &'static [u8]
+        ensures { result.now ≡ error_text self }
+    {
+        match self {
+            ErrorName::Syntax => b"{\"error\":\"syntax\",\"type\":\"error\"}\n",
+            ErrorName::TooLong => b"{\"error\":\"too_long\",\"type\":\"error\"}\n",
+            ErrorName::Range => b"{\"error\":\"range\",\"type\":\"error\"}\n",
+            ErrorName::Full => b"{\"error\":\"full\",\"type\":\"error\"}\n",
+            ErrorName::UnsupportedProfile => {
+                b"{\"error\":\"unsupported_profile\",\"type\":\"error\"}\n"
+            }
+            ErrorName::Memory => b"{\"error\":\"memory\",\"type\":\"error\"}\n",
+        }
+    }
+}

@@ -1,0 +1,91 @@
+use crate::lines::error::ErrorName;
+use crate::lines::reading::{Reading, reading_line};
+use crate::lines::teach::{Outcome, teach_line};
+use erp1_telegrams::Eep;
+use std::test::Fail;
+
+const CONTACT: Eep = Eep {
+    rorg: 0xD5,
+    func: 0,
+    typ: 1,
+};
+
+#[test]
+fn reading_lines(rt: HostRuntime) -> Result<(), Fail> {
+    let closed = [Reading {
+        name: "CO",
+        word: "closed",
+    }];
+    let line = reading_line(rt.alloc(), Some(45), 0x01800ABC, CONTACT, &closed[..])?;
+    assert!(rt;
+        line.as_bytes()
+            == b"{\"dbm\":-45,\"eep\":\"D5-00-01\",\"id\":\"01800ABC\",\"readings\":[{\"name\":\"CO\",\"word\":\"closed\"}],\"type\":\"reading\"}\n".as_slice()
+    );
+    let line = reading_line(rt.alloc(), None, 1, CONTACT, &[])?;
+    assert!(rt;
+        line.as_bytes()
+            == b"{\"dbm\":null,\"eep\":\"D5-00-01\",\"id\":\"00000001\",\"readings\":[],\"type\":\"reading\"}\n".as_slice()
+    );
+    let rocker = Eep {
+        rorg: 0xF6,
+        func: 2,
+        typ: 0x1F,
+    };
+    let pressed = [
+        Reading {
+            name: "R1",
+            word: "AI",
+        },
+        Reading {
+            name: "EB",
+            word: "pressed",
+        },
+    ];
+    let line = reading_line(rt.alloc(), Some(0), 0xFF800000, rocker, &pressed[..])?;
+    assert!(rt;
+        line.as_bytes()
+            == b"{\"dbm\":0,\"eep\":\"F6-02-1F\",\"id\":\"FF800000\",\"readings\":[{\"name\":\"R1\",\"word\":\"AI\"},{\"name\":\"EB\",\"word\":\"pressed\"}],\"type\":\"reading\"}\n".as_slice()
+    );
+    Ok(())
+}
+
+#[test]
+fn teach_lines(rt: HostRuntime) -> Result<(), Fail> {
+    let line = teach_line(rt.alloc(), 0x01800ABC, CONTACT, None, Outcome::Accepted)?;
+    assert!(rt;
+        line.as_bytes()
+            == b"{\"eep\":\"D5-00-01\",\"id\":\"01800ABC\",\"maker\":null,\"result\":\"accepted\",\"type\":\"teach\"}\n".as_slice()
+    );
+    let switch = Eep {
+        rorg: 0xD2,
+        func: 1,
+        typ: 0x12,
+    };
+    let line = teach_line(rt.alloc(), 0x01800ABC, switch, Some(70), Outcome::Accepted)?;
+    assert!(rt;
+        line.as_bytes()
+            == b"{\"eep\":\"D2-01-12\",\"id\":\"01800ABC\",\"maker\":70,\"result\":\"accepted\",\"type\":\"teach\"}\n".as_slice()
+    );
+    Ok(())
+}
+
+#[test]
+fn error_lines(rt: HostRuntime) {
+    assert!(rt;
+        ErrorName::Syntax.line() == b"{\"error\":\"syntax\",\"type\":\"error\"}\n".as_slice()
+    );
+    assert!(rt;
+        ErrorName::TooLong.line() == b"{\"error\":\"too_long\",\"type\":\"error\"}\n".as_slice()
+    );
+    assert!(rt;
+        ErrorName::Range.line() == b"{\"error\":\"range\",\"type\":\"error\"}\n".as_slice()
+    );
+    assert!(rt; ErrorName::Full.line() == b"{\"error\":\"full\",\"type\":\"error\"}\n".as_slice());
+    assert!(rt;
+        ErrorName::UnsupportedProfile.line()
+            == b"{\"error\":\"unsupported_profile\",\"type\":\"error\"}\n".as_slice()
+    );
+    assert!(rt;
+        ErrorName::Memory.line() == b"{\"error\":\"memory\",\"type\":\"error\"}\n".as_slice()
+    );
+}
