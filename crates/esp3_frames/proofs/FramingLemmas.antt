@@ -1,17 +1,16 @@
 -- Each stream has exactly one framing, the computed one.
-use Rattle.std.proofs.Common.{◌≡◌, ◌≢◌, ℕ, zero, suc, ◌+◌, ◌-◌, ◌*◌, ◌/◌, ◌%◌, ◌<◌, ◌≤◌, Bool, true, false, cond, ◌&&◌, ◌==◌, nat_lt, nat_le, eqb, ltb, leb, List, [], ◌∷◌, ◌++◌, length, take, drop, get_or, refl, sym, ap, ◌∙◌, subst, append_assoc, arith, length-append, ◌⊎◌, inl, inr}
-use Rattle.std.proofs.lemmas.List.{append-nil, nil_from_length, append_cancel_left}
+use Rattle.std.proofs.Common.{◌≡◌, ℕ, zero, suc, ◌+◌, ◌*◌, ◌/◌, ◌%◌, ◌<◌, ◌≤◌, Bool, true, false, cond, List, [], ◌∷◌, ◌++◌, length, drop, refl, sym, ap, ◌∙◌, subst, append_assoc, arith, length-append, ◌⊎◌, inl, inr}
 use Rattle.std.proofs.Math.Seq.{drop-append_seam}
-use Rattle.std.proofs.lemmas.Bool.{and_from, leb-true, lt-ltb, le-leb, lt-leb, eq-eqb, cases_Bool}
+use Rattle.std.proofs.lemmas.Bool.{and_from, le-leb, eq-eqb}
 use Rattle.esp3_frames.specs.Check.{check}
-use Rattle.esp3_frames.specs.Packet.{Packet, header, spelling, IsPacket}
+use Rattle.esp3_frames.specs.Packet.{Packet, spelling, IsPacket}
 use Rattle.esp3_frames.specs.Framing.{BeginsWithPacket, MayBecomePacket, NeverPacket, Framing}
 use Rattle.esp3_frames.specs.Framing.Framing.{ends, skips, finds}
-use Rattle.esp3_frames.specs.Frames.{lengths_fit, Front, front_behind, front_of, Frames, frames_after, frames_of, packets_in, rest_of}
+use Rattle.esp3_frames.specs.Frames.{Front, front_of, Frames, frames_after, packets_in, rest_of}
 use Rattle.esp3_frames.specs.Frames.Front.{Never, Partial, Whole}
-use Rattle.esp3_frames.proofs.PacketLemmas.{append_parts, split_fronts, one_reading, never-longer, may_become-shorter, packet_length, begins_not_may}
-use Rattle.esp3_frames.proofs.HeaderLemmas.{Parts, packet_parts, tail_check}
-use Rattle.esp3_frames.proofs.FrontLemmas.{Found, test_fitting, fit_parts, front_partial, front_whole}
+use Rattle.esp3_frames.proofs.PacketLemmas.{split_fronts, one_reading, never-longer, packet_length, begins_not_may}
+use Rattle.esp3_frames.proofs.HeaderLemmas.{packet_parts, tail_check}
+use Rattle.esp3_frames.proofs.FrontLemmas.{test_fitting, fit_parts, front_partial, front_whole}
 
 kept : (b : Bool) (x : Front) → b ≡ true → (x ≡ Never → ⊥) → cond b x Never ≡ Never → ⊥
 kept true x e n h = n h

@@ -1,16 +1,15 @@
 -- The front of a text decides whether it begins with a packet, may become one, or never does.
-use Rattle.std.proofs.Common.{◌≡◌, ◌≢◌, ℕ, zero, suc, ◌+◌, ◌-◌, ◌*◌, ◌/◌, ◌%◌, ◌<◌, ◌≤◌, Bool, true, false, cond, ◌&&◌, nat_lt, nat_le, eqb, ltb, leb, List, [], ◌∷◌, ◌++◌, length, take, drop, get_or, ◌==◌, replicate, refl, sym, ap, ◌∙◌, subst, append_assoc, arith, length-append, length-take, length-drop, ◌⊎◌, inl, inr, add-one}
-use Rattle.std.proofs.Math.Seq.{take-append_seam, drop-append_seam}
+use Rattle.std.proofs.Common.{◌≡◌, ℕ, ◌+◌, ◌-◌, ◌*◌, ◌<◌, ◌≤◌, Bool, true, false, cond, ◌&&◌, eqb, leb, List, [], ◌∷◌, ◌++◌, length, take, drop, get_or, ◌==◌, replicate, refl, sym, ap, ◌∙◌, subst, append_assoc, arith, length-append, length-take, length-drop, ◌⊎◌, inl, inr}
 use Rattle.std.proofs.Math.ListN.{length-replicate}
 use Rattle.std.proofs.lemmas.List.{take-append-drop}
-use Rattle.std.proofs.lemmas.Bool.{and_parts, and_from, ltb-true, leb-true, leb-false, eqb-true, lt-ltb, le-leb, lt-leb, eq-eqb, cases_Bool, not-false, ltb-false, eqb-false, cases_lt}
+use Rattle.std.proofs.lemmas.Bool.{and_parts, and_from, ltb-true, leb-true, leb-false, eqb-true, lt-ltb, le-leb, eq-eqb}
 use Rattle.esp3_frames.specs.Check.{check}
-use Rattle.esp3_frames.specs.Packet.{Packet, header, spelling, IsPacket}
-use Rattle.esp3_frames.specs.Framing.{BeginsWithPacket, MayBecomePacket, NeverPacket}
-use Rattle.esp3_frames.specs.Frames.{lengths_fit, Front, front_behind, front_of}
+use Rattle.esp3_frames.specs.Packet.{Packet, IsPacket}
+use Rattle.esp3_frames.specs.Framing.{MayBecomePacket}
+use Rattle.esp3_frames.specs.Frames.{lengths_fit, Front, front_of}
 use Rattle.esp3_frames.specs.Frames.Front.{Never, Partial, Whole}
-use Rattle.esp3_frames.proofs.PacketLemmas.{append_parts, split_fronts, same_packet, may_become-shorter, packet_length, begins_not_may}
-use Rattle.esp3_frames.proofs.HeaderLemmas.{Parts, packet_parts, parts_packet, tail_check, made, is_made}
+use Rattle.esp3_frames.proofs.PacketLemmas.{may_become-shorter}
+use Rattle.esp3_frames.proofs.HeaderLemmas.{packet_parts, parts_packet, made, is_made}
 
 -- what a test of the lengths says
 pub record Fitting (h l o : ℕ) : Type 0 where

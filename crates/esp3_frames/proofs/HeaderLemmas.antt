@@ -1,19 +1,14 @@
 -- What a header says of the packet behind it.
-use Rattle.std.proofs.Common.{◌≡◌, ◌≢◌, ℕ, zero, suc, ◌+◌, ◌-◌, ◌*◌, ◌/◌, ◌%◌, ◌<◌, ◌≤◌, Bool, true, false, cond, ◌&&◌, nat_lt, nat_le, eqb, ltb, leb, List, [], ◌∷◌, ◌++◌, length, take, drop, get_or, replicate, refl, sym, ap, ◌∙◌, subst, append_assoc, arith, length-append, length-take, length-drop, ◌⊎◌, inl, inr, add-one}
-use Rattle.std.proofs.Math.Seq.{take-append_seam, drop-append_seam, get_or-append_seam}
+use Rattle.std.proofs.Common.{◌≡◌, ℕ, ◌+◌, ◌*◌, ◌/◌, ◌%◌, ◌<◌, ◌≤◌, Bool, true, false, cond, List, [], ◌∷◌, ◌++◌, length, take, drop, get_or, refl, sym, ap, ◌∙◌, subst, arith, length-append, length-take, length-drop}
+use Rattle.std.proofs.Math.Seq.{take-append_seam, get_or-append_seam}
 use Rattle.std.proofs.lemmas.List.{take-append-drop, take_all, take_more}
-use Rattle.std.proofs.lemmas.Bool.{and_parts, and_from, ltb-true, leb-true, leb-false, eqb-true, lt-ltb, le-leb, lt-leb, eq-eqb, cases_Bool, not-false, ltb-false, eqb-false}
-use Rattle.std.specs.Prelude.{Result, Ok, Err, not, slice_index}
+use Rattle.std.proofs.lemmas.Bool.{eqb-true, not-false, ltb-false, eqb-false}
+use Rattle.std.specs.Prelude.{Result, Ok, Err}
 use Rattle.esp3_frames.specs.Check.{check}
-use Rattle.esp3_frames.specs.Outcome.{header_in, header_of, packet_of}
+use Rattle.esp3_frames.specs.Outcome.{header_in, header_of}
 use Rattle.esp3_frames.specs.declared.packet.Header.{Header}
 use Rattle.esp3_frames.specs.declared.packet.HeaderFault.{HeaderFault}
-use Rattle.esp3_frames.specs.declared.packet.HeaderFault.TheVariants as fault
 use Rattle.esp3_frames.specs.Packet.{Packet, header, spelling, IsPacket}
-use Rattle.esp3_frames.specs.Framing.{BeginsWithPacket, MayBecomePacket, NeverPacket}
-use Rattle.esp3_frames.specs.Frames.{lengths_fit, Front, front_behind, front_of}
-use Rattle.esp3_frames.specs.Frames.Front.{Never, Partial, Whole}
-use Rattle.esp3_frames.proofs.PacketLemmas.{append_parts, split_fronts, same_packet, may_become-shorter, packet_length, begins_not_may}
 
 -- what a packet's bytes are, by place
 pub record Parts (p : Packet) (s h l o k c : ℕ) (w : List ℕ) : Type 0 where

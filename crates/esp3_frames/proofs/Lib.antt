@@ -4,4 +4,7 @@ pub mod PacketLemmas
 pub mod HeaderLemmas
 pub mod FrontLemmas
 pub mod FramingLemmas
+pub mod FrontByHeader
+pub mod FramesByFront
+pub mod ForCallers
 pub mod WorkedStreams

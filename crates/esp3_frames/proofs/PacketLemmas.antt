@@ -1,9 +1,8 @@
 -- Packets and their prefixes.
-use Rattle.std.proofs.Common.{◌≡◌, ◌≢◌, ℕ, zero, suc, ◌+◌, ◌-◌, ◌*◌, ◌/◌, ◌%◌, ◌<◌, ◌≤◌, List, [], ◌∷◌, ◌++◌, length, refl, sym, ap, ◌∙◌, subst, append_assoc, arith, length-append, ◌⊎◌, inl, inr}
-use Rattle.std.proofs.lemmas.List.{append-nil, nil_from_length}
+use Rattle.std.proofs.Common.{◌≡◌, ℕ, ◌+◌, ◌/◌, ◌%◌, ◌<◌, List, [], ◌∷◌, ◌++◌, length, refl, sym, ap, ◌∙◌, subst, append_assoc, arith, length-append, ◌⊎◌, inl, inr}
 use Rattle.esp3_frames.specs.Check.{check}
-use Rattle.esp3_frames.specs.Packet.{Packet, header, spelling, IsPacket, OneReading}
-use Rattle.esp3_frames.specs.Framing.{BeginsWithPacket, MayBecomePacket, NeverPacket, Framing}
+use Rattle.esp3_frames.specs.Packet.{Packet, spelling, IsPacket, OneReading}
+use Rattle.esp3_frames.specs.Framing.{BeginsWithPacket, MayBecomePacket, NeverPacket}
 
 -- two fronts of one length are one
 pub append_parts : (v w x y : List ℕ) → length v ≡ length w → v ++ x ≡ w ++ y → (v ≡ w) × (x ≡ y)

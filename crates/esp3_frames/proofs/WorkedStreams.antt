@@ -1,8 +1,8 @@
 -- Worked streams, by computing.
-use Rattle.std.proofs.Common.{◌≡◌, ℕ, List, [], ◌∷◌, ◌++◌, replicate, refl}
+use Rattle.std.proofs.Common.{◌≡◌, ℕ, List, [], ◌∷◌, ◌++◌, refl}
 use Rattle.esp3_frames.specs.Check.{power, byte_bits, bits, remainder, check}
 use Rattle.esp3_frames.specs.Packet.{Packet}
-use Rattle.esp3_frames.specs.Frames.{front_of, frames_after, packets_in, rest_of, frames_of, Frames}
+use Rattle.esp3_frames.specs.Frames.{front_of, frames_after, packets_in, frames_of, Frames}
 
 abbrev contact : List ℕ
 contact = 0x55 ∷ 0x00 ∷ 0x07 ∷ 0x07 ∷ 0x01 ∷ 0x7A ∷ 0xD5 ∷ 0x09 ∷ 0x01 ∷ 0x80 ∷ 0x0A ∷ 0xBC ∷ 0x00 ∷ 0x01 ∷ 0xFF ∷ 0xFF ∷ 0xFF ∷ 0xFF ∷ 0x2D ∷ 0x00 ∷ 0x1F ∷ []

@@ -1,9 +1,13 @@
 //! Laws of the definitions. Each function does nothing: its contract is the law.
-ghost use Rattle.std.specs.Prelude.{◌≡◌, ℕ, ◌<◌, List, [], ◌∷◌, ◌++◌, ◌⊎◌, bit_xor};
+ghost use Rattle.std.specs.Prelude.{◌≡◌, ◌≢◌, ℕ, ◌+◌, ◌<◌, ◌≤◌, List, [], ◌∷◌, ◌++◌, ◌⊎◌, length, take, drop, slice_index, bit_xor, if◌then◌else◌, Ok, Err};
 ghost use Rattle.esp3_frames.specs.Check.{check};
-ghost use Rattle.esp3_frames.specs.Packet.{Packet, OneReading};
+ghost use Rattle.esp3_frames.specs.Packet.{Packet, IsPacket, OneReading};
 ghost use Rattle.esp3_frames.specs.Framing.{Framing, BeginsWithPacket, MayBecomePacket, NeverPacket};
-ghost use Rattle.esp3_frames.specs.Frames.{packets_in, rest_of};
+ghost use Rattle.esp3_frames.specs.Frames.{front_of, front_behind, may_begin, frames_of, packets_in, rest_of};
+ghost use Rattle.esp3_frames.specs.Frames.Front.{Never, Partial, Whole};
+ghost use Rattle.esp3_frames.specs.Outcome.{header_of};
+ghost use Rattle.esp3_frames.specs.declared.packet.Header.{Header};
+ghost use Rattle.esp3_frames.specs.declared.packet.HeaderFault.{HeaderFault};
 
 /// The check byte of a message that is one byte longer.
 pub fn check_next()
@@ -39,4 +43,31 @@ pub fn one_framing()
 pub fn framing_in_parts()
     ensures packets { (s t : List ℕ) → packets_in (s ++ t) ≡ packets_in s ++ packets_in (rest_of s ++ t) }
     ensures rest { (s t : List ℕ) → rest_of (s ++ t) ≡ rest_of (rest_of s ++ t) }
+{}
+
+/// What stands at the front of a text, computed, is what it is by its definition. Of a packet only a part is shorter than
+/// 1,286 bytes, and no packet is longer.
+pub fn fronts()
+    ensures never { (w : List ℕ) → front_of w ≡ Never → NeverPacket w }
+    ensures partial { (w : List ℕ) → front_of w ≡ Partial → MayBecomePacket w × (length w < 1286) }
+    ensures whole { (w : List ℕ) (p : Packet) → front_of w ≡ Whole p → let n = length p.body + length p.opt + 7 in
+        (n ≤ length w) × (n ≤ 1286) × IsPacket p (take n w) }
+    ensures empty { front_of [] ≡ Partial }
+{}
+
+/// The frames of a text, by what stands at its front: a byte is skipped, nothing is there yet, or a packet is.
+pub fn frames_by_front()
+    ensures never { (w : List ℕ) → front_of w ≡ Never → (0 < length w) × (frames_of (drop 1 w) ≡ frames_of w) }
+    ensures partial { (w : List ℕ) → front_of w ≡ Partial → frames_of w ≡ record { ready = []; rest = w } }
+    ensures whole { (w : List ℕ) (p : Packet) → front_of w ≡ Whole p → let more = drop (length p.body + length p.opt + 7) w in
+        frames_of w ≡ record { ready = p ∷ packets_in more; rest = rest_of more } }
+    ensures one { (p : Packet) (w : List ℕ) → IsPacket p w → packets_in w ≡ p ∷ [] }
+{}
+
+/// What stands at the front of a text of bytes, by its header: by what has come of it, where that is less than six bytes.
+pub fn front_by_header()
+    ensures short { (b : List ℕ) → length b < 6 → front_of b ≡ (if may_begin b then Partial else Never) }
+    ensures bad { (b : List ℕ) (e : HeaderFault) → 6 ≤ length b → header_of (take 6 b) ≡ Err e → front_of b ≡ Never }
+    ensures good { (b : List ℕ) (x : Header) → ((i : ℕ) → slice_index b i < 256) → 6 ≤ length b → header_of (take 6 b) ≡ Ok x →
+        front_of b ≡ front_behind x.data_len x.opt_len x.kind (drop 6 b) }
 {}

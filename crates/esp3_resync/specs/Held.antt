@@ -1,5 +1,5 @@
 -- What the parts of a framer see of the bytes that it holds.
-use Rattle.std.specs.Prelude.{◌≡◌, ◌≢◌, ℕ, ◌+◌, ◌≤◌, List, [], ◌⊎◌, length, vec_capacity}
+use Rattle.std.specs.Prelude.{◌≡◌, ◌≢◌, ℕ, ◌+◌, ◌≤◌, [], ◌⊎◌, length, vec_capacity}
 use Rattle.std.specs.Global.{Vec}
 use Rattle.esp3_frames.specs.Packet.{Packet, IsPacket}
 use Rattle.esp3_frames.specs.Frames.{Front, front_of}

@@ -2,7 +2,7 @@
 use Rattle.std.proofs.Common.{◌≡◌, ℕ, List, [], ◌∷◌, ◌++◌, refl, ap, sym, subst, ◌∙◌, append_assoc, append-nil, Some, None}
 use Rattle.esp3_frames.specs.Packet.{Packet}
 use Rattle.esp3_frames.specs.Frames.{packets_in, rest_of}
-use Rattle.esp3_frames.proofs.FramingLemmas.{framing_in_parts, frames_of-may_become, empty_may_become}
+use Rattle.esp3_frames.proofs.ForCallers.{framing_in_parts, frames_of-may_become, empty_may_become}
 use Rattle.gateway_core.specs.Step.{State, Item, Received, Ordered}
 use Rattle.gateway_core.specs.Run.{Handles}
 use Rattle.gateway_core.specs.Calls.{Value, Call, Byte, Next, Order, Moves, AllMove, bytes_of, answers_of, AreItems, CallsAreARun}

@@ -4,7 +4,7 @@ use Rattle.std.proofs.Math.Seq.{drop-append_seam}
 use Rattle.std.proofs.lemmas.List.{append-nil, map-append}
 use Rattle.esp3_frames.specs.Packet.{Packet}
 use Rattle.esp3_frames.specs.Frames.{packets_in, rest_of}
-use Rattle.esp3_frames.proofs.FramingLemmas.{framing_in_parts}
+use Rattle.esp3_frames.proofs.ForCallers.{framing_in_parts}
 use Rattle.gateway_core.specs.Step.{Item, Received, Ordered}
 use Rattle.gateway_core.specs.Events.{Event, Piece, Line, brought, items_of, bytes_in, lines_in, with_front, bytes_between, CutsDoNotMatter}
 

@@ -1,5 +1,4 @@
-use Rattle.std.proofs.Common.{◌≡◌, ℕ, ◌+◌, ◌++◌, ◌<◌, ◌≤◌, length, List, [], ◌∷◌, take, drop, get_or, arith, refl, sym, ap, subst, ◌∙◌, length-take}
-use Rattle.esp3_frames.specs.Check.{check}
+use Rattle.std.proofs.Common.{◌≡◌, ℕ, ◌+◌, List, take, drop, arith, sym, ap, subst, ◌∙◌}
 use Rattle.esp3_frames.specs.Packet.{Packet, IsPacket}
 use Rattle.esp3_frames.proofs.HeaderLemmas.{made, read_some, read_none, six_first}
 use Rattle.esp3_frames.proofs.packet.read_packet.Goals as goal

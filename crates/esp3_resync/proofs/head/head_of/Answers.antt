@@ -1,9 +1,8 @@
-use Rattle.std.proofs.Common.{◌≡◌, ℕ, ◌+◌, ◌++◌, ◌<◌, ◌≤◌, length, List, [], ◌∷◌, take, drop, get_or, cond, arith, refl, sym, ap, subst, ◌∙◌}
-use Rattle.esp3_frames.specs.Check.{check}
-use Rattle.esp3_frames.specs.Frames.{may_begin, front_of, front_behind, Front}
-use Rattle.esp3_frames.specs.Frames.Front.{Never, Partial, Whole}
-use Rattle.esp3_resync.proofs.FrontLemmas.{front-short, front-header, front-no_header, front_behind-partial, front_behind-whole, front_behind-never}
-use Rattle.esp3_frames.proofs.HeaderLemmas.{six_first}
+use Rattle.std.proofs.Common.{◌≡◌, ℕ, List, cond, arith, sym, ap, ◌∙◌}
+use Rattle.esp3_frames.specs.Frames.{front_of, front_behind}
+use Rattle.esp3_frames.specs.Frames.Front.{Never, Partial}
+use Rattle.esp3_frames.specs.Outcome.{header_of}
+use Rattle.esp3_frames.proofs.ForCallers.{front-short, front-good, front-bad, front_behind-partial, front_behind-whole, front_behind-never}
 use Rattle.esp3_resync.proofs.head.head_of.Goals as goal
 use Rattle.esp3_resync.proofs.head.head_of.Goals.{In-Ok}
 
@@ -16,14 +15,14 @@ returns-else-may_begin c = front-short c.args.b.now (omega (arith, c.in_default.
 pub returns-in_default-read_header : goal.returns-in_default-read_header
 returns-in_default-read_header c =
     let cases = c.in-Some.ensures.cases in
-    let s = six_first c.args.b.now c.in-Some.first.now c.in-Some.rest.now (omega (arith, cases.2)) cases.0 cases.1 in
-    front-no_header c.args.b.now c.in-Some.first.now c.in-Some.rest.now c.in_default-read_header.field-0 s.0 s.1 (sym c.in_default-read_header.ensures)
+    front-bad c.args.b.now c.in_default-read_header.field-0 (omega (arith, cases.2)) (ap header_of (sym cases.0) ∙ sym c.in_default-read_header.ensures)
 
 read : (c : In-Ok) → front_of c.args.b.now ≡ front_behind c.in-Ok.header.data_len c.in-Ok.header.opt_len c.in-Ok.header.kind c.in-Some.rest.now
 read c =
     let cases = c.in-Some.ensures.cases in
-    let s = six_first c.args.b.now c.in-Some.first.now c.in-Some.rest.now (omega (arith, cases.2)) cases.0 cases.1 in
-    front-header c.args.b.now c.in-Some.first.now c.in-Some.rest.now c.in-Ok.header (λ i. omega (arith, c.type_inv.b i)) s.0 s.1 (sym c.in-Ok.ensures)
+    let x = c.in-Ok.header in
+    front-good c.args.b.now x (λ i. omega (arith, c.type_inv.b i)) (omega (arith, cases.2)) (ap header_of (sym cases.0) ∙ sym c.in-Ok.ensures)
+    ∙ ap (λ (w : List ℕ). front_behind x.data_len x.opt_len x.kind w) (sym cases.1)
 
 pub returns-then-rest-len : goal.returns-then-rest-len
 returns-then-rest-len c = read (goal.at.returns-then-rest-len c).In-Ok ∙ front_behind-partial c.in-Ok.header.data_len c.in-Ok.header.opt_len c.in-Ok.header.kind c.in-Some.rest.now c.if-rest-len.true

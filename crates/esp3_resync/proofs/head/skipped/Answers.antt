@@ -1,8 +1,8 @@
-use Rattle.std.proofs.Common.{◌≡◌, ℕ, ◌+◌, ◌-◌, ◌<◌, ◌≤◌, length, List, take, drop, arith, refl, sym, ap, subst, ◌∙◌, length-drop, drop-drop}
+use Rattle.std.proofs.Common.{◌≡◌, ◌-◌, length, drop, arith, sym, ap, ◌∙◌, length-drop, drop-drop}
 use Rattle.esp3_frames.specs.Frames.{front_of, frames_of}
 use Rattle.esp3_frames.specs.Frames.Front.{Never}
 use Rattle.std.proofs.lemmas.List.{take_all}
-use Rattle.esp3_resync.proofs.FramesLemmas.{frames-never}
+use Rattle.esp3_frames.proofs.ForCallers.{frames-never}
 use Rattle.esp3_resync.proofs.head.skipped.Goals as goal
 use Rattle.esp3_resync.proofs.head.skipped.Goals.{In-Never}
 

@@ -1,8 +1,8 @@
-use Rattle.std.proofs.Common.{◌≡◌, ℕ, ◌<◌, length, arith, rules, sym, ap, subst, ◌∙◌}
-use Rattle.esp3_frames.specs.Frames.{front_of, frames_of, Frames}
+use Rattle.std.proofs.Common.{length, arith, rules, sym, ap, subst, ◌∙◌}
+use Rattle.esp3_frames.specs.Frames.{front_of, Frames}
 use Rattle.esp3_resync.proofs.FramesLemmas.{not_whole, idle, ready_whole}
 use Rattle.esp3_frames.specs.Framing.{MayBecomePacket}
-use Rattle.esp3_frames.proofs.FramingLemmas.{framing_of, rest_may_become}
+use Rattle.esp3_frames.proofs.ForCallers.{framing_of, rest_may_become}
 use Rattle.esp3_resync.proofs.framer.Framer.is_ready.Goals as goal
 
 pub returns-in-Whole-clause-ready : goal.returns-in-Whole-clause-ready

@@ -1,6 +1,7 @@
-use Rattle.std.proofs.Common.{◌≡◌, ℕ, ◌≤◌, arith, sym, ap, ◌∙◌}
+use Rattle.std.proofs.Common.{arith, sym, ap, ◌∙◌}
 use Rattle.esp3_frames.specs.Frames.{front_of, frames_of}
-use Rattle.esp3_resync.proofs.FramesLemmas.{front-empty, frames_of-empty}
+use Rattle.esp3_frames.proofs.ForCallers.{front-empty}
+use Rattle.esp3_resync.proofs.FramesLemmas.{frames_of-empty}
 use Rattle.esp3_resync.proofs.framer.Framer.new.Goals as goal
 
 pub invariant_of-result : goal.invariant_of-result

@@ -1,8 +1,9 @@
-use Rattle.std.proofs.Common.{◌≡◌, ℕ, ◌<◌, ◌≤◌, length, List, [], ◌∷◌, ◌++◌, arith, sym, ap, ◌∙◌, vec_len, vec_capacity}
+use Rattle.std.proofs.Common.{◌≡◌, ℕ, ◌<◌, length, List, [], ◌∷◌, ◌++◌, arith, sym, ap, ◌∙◌, vec_len, vec_capacity}
 use Rattle.std.specs.Result.{is_ok}
 use Rattle.std.proofs.lemmas.Bool.{cond-true}
-use Rattle.esp3_frames.specs.Frames.{front_of, frames_of, Frames}
-use Rattle.esp3_resync.proofs.FramesLemmas.{unready, partial_short}
+use Rattle.esp3_frames.specs.Frames.{frames_of, Frames}
+use Rattle.esp3_frames.proofs.ForCallers.{partial_short}
+use Rattle.esp3_resync.proofs.FramesLemmas.{unready}
 use Rattle.esp3_resync.proofs.framer.Framer.push.Goals as goal
 
 pub returns : goal.returns

@@ -1,8 +1,9 @@
-use Rattle.std.proofs.Common.{◌≡◌, ℕ, ◌+◌, ◌-◌, ◌<◌, ◌≤◌, length, List, take, drop, arith, refl, sym, ap, subst, ◌∙◌, length-take, rules, inr}
-use Rattle.esp3_frames.specs.Frames.{front_of, frames_of, Frames, Front}
+use Rattle.std.proofs.Common.{◌≡◌, ℕ, ◌+◌, length, List, take, arith, refl, sym, ap, subst, ◌∙◌, length-take, rules, inr}
+use Rattle.esp3_frames.specs.Frames.{front_of, Frames}
 use Rattle.esp3_frames.specs.Frames.Front.{Whole}
 use Rattle.esp3_frames.specs.Packet.{Packet, IsPacket}
-use Rattle.esp3_resync.proofs.FramesLemmas.{not_whole, idle, ready_whole, whole_length, taken}
+use Rattle.esp3_frames.proofs.ForCallers.{whole_length}
+use Rattle.esp3_resync.proofs.FramesLemmas.{not_whole, idle, ready_whole, taken}
 use Rattle.esp3_resync.proofs.framer.Framer.take.Goals as goal
 use Rattle.esp3_resync.proofs.framer.Framer.take.Goals.{In-Whole}
 

@@ -1,4 +1,4 @@
-use Rattle.std.proofs.Common.{◌≡◌, ℕ, ◌≤◌, arith, sym, ap, ◌∙◌, List, inl}
+use Rattle.std.proofs.Common.{ℕ, arith, ap, ◌∙◌, List, inl}
 use Rattle.std.specs.Prelude.{slice_get}
 use Rattle.esp3_frames.specs.Packet.{Packet}
 use Rattle.esp3_frames.specs.Frames.{packets_in}

@@ -1,8 +1,7 @@
-use Rattle.std.proofs.Common.{◌≡◌, ℕ, sym, ap, ◌∙◌, List, subst, rules}
-use Rattle.std.specs.Prelude.{slice_get, IfSome, IfNone}
+use Rattle.std.proofs.Common.{ℕ, ◌∙◌, List, subst}
+use Rattle.std.specs.Prelude.{IfSome, IfNone}
 use Rattle.esp3_frames.specs.Packet.{Packet, IsPacket}
 use Rattle.esp3_frames.specs.Outcome.{packet_of}
-use Rattle.esp3_frames.specs.Frames.{packets_in}
 use Rattle.esp3_resync.proofs.FramesLemmas.{shown}
 use Rattle.esp3_resync.proofs.framer.PacketBuf.packet.Goals as goal
 

@@ -1,7 +1,7 @@
--- The front of a text by its header.
-use Rattle.std.proofs.Common.{◌≡◌, ◌≢◌, ℕ, zero, suc, ◌+◌, ◌-◌, ◌*◌, ◌/◌, ◌%◌, ◌<◌, ◌≤◌, Bool, true, false, cond, ◌&&◌, ◌==◌, eqb, ltb, leb, List, [], ◌∷◌, ◌++◌, length, take, drop, get_or, refl, sym, ap, ◌∙◌, subst, arith, length-append, length-take, length-drop, ◌⊎◌, inl, inr}
-use Rattle.std.specs.Prelude.{Result, Ok, Err, not, slice_index}
-use Rattle.std.proofs.lemmas.Bool.{and_parts, and_from, ltb-true, le-ltb, leb-true, le-leb, lt-leb, eqb-true, eq-eqb, ne_eqb, cases_Bool}
+-- What stands at the front of a text, by its header.
+use Rattle.std.proofs.Common.{◌≡◌, ◌≢◌, ℕ, ◌+◌, ◌*◌, ◌<◌, ◌≤◌, Bool, true, false, cond, ◌&&◌, ◌==◌, eqb, ltb, leb, List, [], ◌∷◌, ◌++◌, length, take, drop, get_or, refl, sym, ap, ◌∙◌, subst, arith, length-take, length-drop}
+use Rattle.std.specs.Prelude.{Result, Ok, Err}
+use Rattle.std.proofs.lemmas.Bool.{and_parts, and_from, le-ltb, le-leb, lt-leb, eq-eqb, ne_eqb}
 use Rattle.esp3_frames.specs.Check.{check}
 use Rattle.esp3_frames.specs.Packet.{Packet}
 use Rattle.esp3_frames.specs.Frames.{lengths_fit, may_begin, Front, front_behind, front_of}
@@ -9,7 +9,7 @@ use Rattle.esp3_frames.specs.Frames.Front.{Never, Partial, Whole}
 use Rattle.esp3_frames.specs.Outcome.{header_in, header_of}
 use Rattle.esp3_frames.specs.declared.packet.Header.{Header}
 use Rattle.esp3_frames.specs.declared.packet.HeaderFault.{HeaderFault}
-use Rattle.esp3_frames.proofs.HeaderLemmas.{six, heads}
+use Rattle.esp3_frames.proofs.HeaderLemmas.{six, heads, six_first}
 use Rattle.esp3_frames.proofs.FrontLemmas.{fitting, test_fitting}
 
 pub front-short : (b : List ℕ) → length b < 6 → front_of b ≡ cond (may_begin b) Partial Never
@@ -26,7 +26,7 @@ chosen : (t : Bool) (x : Front) → t ≡ true → cond t x Never ≡ x
 chosen true x e = refl
 chosen false x e = absurd cc
 
-pub front-header : (b f w : List ℕ) (x : Header) → ((i : ℕ) → get_or b i 0 < 256) → length f ≡ 6 → f ++ w ≡ b → header_of f ≡ Ok x → front_of b ≡ front_behind x.data_len x.opt_len x.kind w
+front-header : (b f w : List ℕ) (x : Header) → ((i : ℕ) → get_or b i 0 < 256) → length f ≡ 6 → f ++ w ≡ b → header_of f ≡ Ok x → front_of b ≡ front_behind x.data_len x.opt_len x.kind w
 unfolding front_of
 front-header b f w x fits hf hb hx =
     let t = six f hf in
@@ -61,7 +61,7 @@ dead_or : (t : Bool) (x : Front) → (t ≡ true → ⊥) → cond t x Never ≡
 dead_or true x n = absurd (n refl)
 dead_or false x n = refl
 
-pub front-no_header : (b f w : List ℕ) (e : HeaderFault) → length f ≡ 6 → f ++ w ≡ b → header_of f ≡ Err e → front_of b ≡ Never
+front-no_header : (b f w : List ℕ) (e : HeaderFault) → length f ≡ 6 → f ++ w ≡ b → header_of f ≡ Err e → front_of b ≡ Never
 unfolding front_of
 front-no_header b f w e hf hb he =
     let t = six f hf in
@@ -84,3 +84,11 @@ front_behind-never d o k w h g =
     let e1 : leb (length w) (d + o) ≡ false = lt-leb (length w) (d + o) h in
     let e2 : eqb (get_or w (d + o) 0) (check (take (d + o) w)) ≡ false = ne_eqb _ _ g in
     rw (e1, e2) refl
+
+-- a text of at least six bytes whose header is good
+pub front-good : (b : List ℕ) (x : Header) → ((i : ℕ) → get_or b i 0 < 256) → 6 ≤ length b → header_of (take 6 b) ≡ Ok x → front_of b ≡ front_behind x.data_len x.opt_len x.kind (drop 6 b)
+front-good b x fits long good = let s = six_first b (take 6 b) (drop 6 b) long refl refl in front-header b (take 6 b) (drop 6 b) x fits s.0 s.1 good
+
+-- a text of at least six bytes whose header is not
+pub front-bad : (b : List ℕ) (e : HeaderFault) → 6 ≤ length b → header_of (take 6 b) ≡ Err e → front_of b ≡ Never
+front-bad b e long bad = let s = six_first b (take 6 b) (drop 6 b) long refl refl in front-no_header b (take 6 b) (drop 6 b) e s.0 s.1 bad
