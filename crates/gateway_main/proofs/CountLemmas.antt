@@ -1,0 +1,37 @@
+-- How counts of calls go on.
+use Rattle.std.proofs.Common.{◌≡◌, ℕ, ◌+◌, ◌<◌, ◌≤◌, ap, ◌∙◌, arith, false, ◌⊎◌, inl, inr}
+use Rattle.std.specs.Prelude.{Result, Ok, ◌==◌, if◌then◌else◌}
+use Rattle.std.proofs.lemmas.Bool.{ne_eqb}
+use Rattle.std.proofs.lemmas.Result.{MatchResult-weaker}
+use Rattle.gateway_main.specs.Counts.{Counts, counted, count_with, one_more, WentWell, OneFailed, OneEmpty, Went, Made}
+
+pub went_on : (old mid new : Counts) → WentWell old mid → WentWell mid new → WentWell old new
+went_on old mid new first second = (second.0 ∙ first.0, second.1 ∙ first.1)
+
+wrong_behind : (old mid new : Counts) → WentWell old mid → OneFailed mid new ⊎ OneEmpty mid new → OneFailed old new ⊎ OneEmpty old new
+wrong_behind old mid new first (inl second) = inl (second.0 ∙ ap one_more first.0, second.1 ∙ first.1)
+wrong_behind old mid new first (inr second) = inr (second.0 ∙ first.0, second.1 ∙ ap one_more first.1)
+
+-- calls behind others that went well
+pub went_behind : {A E : Type 0} (old mid new : Counts) (r : Result A E) → WentWell old mid → Went r mid new → Went r old new
+went_behind old mid new r first second = MatchResult-weaker r second (λ _ well. went_on old mid new first well) (λ _ wrong. wrong_behind old mid new first wrong)
+
+-- a call that answers some bytes went well
+pub went_well : (E : Type 0) (old mid new : Counts) (n : ℕ) → WentWell old mid → new ≡ counted {E = E} mid (Ok n) → (n ≡ 0 → ⊥) → WentWell old new
+went_well E old mid new n before e some =
+    let none : (n == 0) ≡ false = ne_eqb n 0 some in (
+      ap (λ c. c.failed) e ∙ before.0,
+      ap (λ c. c.empty) e ∙ ap (λ b. if b then one_more mid.empty else mid.empty) none ∙ before.1,
+    )
+
+pub made_none : (old : Counts) → Made old old 0
+made_none old fits = omega arith
+
+pub made_more : (old mid new : Counts) (n : ℕ) → Made old mid n → new.calls ≡ one_more mid.calls → Made old new (n + 1)
+made_more old mid new n before e fits = let h = before fits in omega (arith, h, e)
+
+pub made_within : (old mid new : Counts) (n turns : ℕ) → n < turns → Made old mid n → new.calls ≡ one_more mid.calls → (m : ℕ) × (m ≤ turns) × Made old new m
+made_within old mid new n turns below before e = (n + 1, omega arith, made_more old mid new n before e)
+
+pub count_on : (a b c n m : ℕ) → b ≡ count_with a n → c ≡ count_with b m → c ≡ count_with a (n + m)
+count_on a b c n m e f = omega (arith, e, f)

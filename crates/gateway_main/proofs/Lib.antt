@@ -1,0 +1,11 @@
+pub mod ResultLemmas
+pub mod ListLemmas
+pub mod CountLemmas
+pub mod WriteLemmas
+pub mod AnswerLemmas
+pub mod ReplayLemmas
+pub mod TakeLemmas
+pub mod LineLemmas
+pub mod AlikeLemmas
+pub mod ProgressLemmas
+pub mod CommandLemmas

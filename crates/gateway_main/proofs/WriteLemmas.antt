@@ -1,0 +1,70 @@
+-- How the writes of a text go on.
+use Rattle.std.proofs.Common.{◌≡◌, ℕ, ◌-◌, ◌<◌, List, [], ◌++◌, length, take, drop, ap, sym, ◌∙◌, append_assoc, append-nil, length-append, arith, length-drop, Option, Some, None}
+use Rattle.std.specs.Prelude.{Result, IsErrAnd}
+use Rattle.std.specs.Io.KnownBytes.{Appends, Keeps}
+use Rattle.std.proofs.KnownBytes.{Appends-trans}
+use Rattle.std.proofs.lemmas.List.{take-append-drop}
+use Rattle.std.proofs.Math.Seq.{take-length}
+use Rattle.std.proofs.lemmas.Result.{MatchResult-weaker, err_from_is_err_and}
+use Rattle.gateway_main.specs.Writes.{AppendsPart, Writes}
+
+-- what is written so far, and what is left
+pub record Left (old new : Option (List ℕ)) (text rest : List ℕ) : Type 0 where
+  pub done : List ℕ
+  pub whole : text ≡ done ++ rest
+  pub grown : Appends old new done
+
+pub left_after : (old mid new : Option (List ℕ)) (text rest : List ℕ) (n : ℕ) → Left old mid text rest → Appends mid new (take n rest) → Left old new text (take (length rest - n) (drop n rest))
+left_after old mid new text rest n before more = record {
+  done = before.done ++ take n rest;
+  whole = before.whole ∙ ap (λ s. before.done ++ s) (sym (take-append-drop n rest)) ∙ sym (append_assoc before.done (take n rest) (drop n rest)) ∙ ap (λ s. (before.done ++ take n rest) ++ s) (sym (all_taken rest n));
+  grown = Appends-trans old mid new before.done (take n rest) before.grown more;
+}
+  where
+    all_taken : (rest : List ℕ) (n : ℕ) → take (length rest - n) (drop n rest) ≡ drop n rest
+    all_taken rest n = rw (← length-drop n rest) (take-length (drop n rest))
+
+Appends-kept : (old mid new : Option (List ℕ)) (bytes : List ℕ) → Appends old mid bytes → Keeps mid new → Appends old new bytes
+Appends-kept None mid new bytes p q = tt
+Appends-kept (Some x) None new bytes p q = absurd p
+Appends-kept (Some x) (Some y) None bytes p q = absurd q
+Appends-kept (Some x) (Some y) (Some z) bytes p q = q ∙ p
+
+-- where some text is left, a first part of it is written
+pub part_left : (old new : Option (List ℕ)) (text rest : List ℕ) → Left old new text rest → 0 < length rest → AppendsPart old new text
+part_left old new text rest left some = record { part = left.done; missing = rest; whole = left.whole; proper = some; grown = left.grown }
+
+pub left_kept : (old mid new : Option (List ℕ)) (text rest : List ℕ) → Left old mid text rest → Keeps mid new → Left old new text rest
+left_kept old mid new text rest left kept = record { done = left.done; whole = left.whole; grown = Appends-kept old mid new left.done left.grown kept }
+
+pub left_none : (old new : Option (List ℕ)) (text : List ℕ) → Left old new text [] → Appends old new text
+left_none old new text left = rw (left.whole, append-nil left.done) left.grown
+
+-- a first part of the front is a first part of all
+pub part_of_front : (old new : Option (List ℕ)) (front back : List ℕ) → AppendsPart old new front → AppendsPart old new (front ++ back)
+part_of_front old new front back p = record {
+  part = p.part;
+  missing = p.missing ++ back;
+  whole = ap (λ s. s ++ back) p.whole ∙ append_assoc p.part p.missing back;
+  proper = let some = p.proper in omega (arith, length-append p.missing back);
+  grown = p.grown;
+}
+
+-- behind the front, a first part of the back
+pub part_behind : (old mid new : Option (List ℕ)) (front back : List ℕ) → Appends old mid front → AppendsPart mid new back → AppendsPart old new (front ++ back)
+part_behind old mid new front back first p = record {
+  part = front ++ p.part;
+  missing = p.missing;
+  whole = ap (λ s. front ++ s) p.whole ∙ sym (append_assoc front p.part p.missing);
+  proper = p.proper;
+  grown = Appends-trans old mid new front p.part first p.grown;
+}
+
+-- the front was written, and then the back
+pub writes_behind : {A E : Type 0} (old mid new : Option (List ℕ)) (r : Result A E) (front back : List ℕ) → Appends old mid front → Writes mid new r back → Writes old new r (front ++ back)
+writes_behind old mid new r front back first second =
+    MatchResult-weaker r second (λ _ grown. Appends-trans old mid new front back first grown) (λ _ part. part_behind old mid new front back first part)
+
+-- an error after a first part
+pub writes_part : {A E : Type 0} (Q : E → Type 0) (old new : Option (List ℕ)) (r : Result A E) (text : List ℕ) → IsErrAnd r Q → AppendsPart old new text → Writes old new r text
+writes_part Q old new r text err part = let p = err_from_is_err_and r err in rw p.1 part

@@ -1,0 +1,12 @@
+-- The base ID that a text spells.
+use Rattle.std.specs.Prelude.{ℕ, List, if◌then◌else◌, Option, Some, None}
+use Rattle.gateway_core.specs.Address.{is_base}
+use Rattle.gateway_core.specs.Orders.{id_in}
+
+abbrev pub base_from : Option ℕ → Option ℕ
+base_from (Some id) = if is_base id then Some id else None
+base_from None = None
+
+-- the ID that eight hexadecimal digits of either case spell, if it is a base ID
+abbrev pub base_in : List ℕ → Option ℕ
+base_in text = base_from (id_in text)

@@ -1,0 +1,38 @@
+-- What the words of the command line say, in the words of `clap`.
+use Rattle.std.specs.Prelude.{◌≡◌, ℕ, List, codes, true, if◌then◌else◌, Option, Some, None, option_and_then}
+use Rattle.std.specs.Str.{bytes_eq}
+use Rattle.clap.specs.Words.{App, Row, Rule, Text, first_of, kind_of, new_app, new_rule, subcommand_of, with_rule, with_subcommand}
+use Rattle.clap.specs.declared.builder.ArgAction.TheVariants.{Set}
+use Rattle.clap.specs.declared.error.ErrorKind.TheVariants.{OutOfMemory}
+use Rattle.gateway_main.specs.Bases.{base_in}
+use Rattle.gateway_main.specs.declared.command_line.Refused.{Refused}
+use Rattle.gateway_main.specs.declared.command_line.Refused.TheVariants.{Words, BadBase}
+
+-- `--base ID`, which is required
+abbrev pub base_rule : Rule
+base_rule = record (new_rule (codes "base")) { long = Some (codes "base"); action = Some Set; value_names = 1; required = true }
+
+abbrev pub replay_app : App
+replay_app = with_rule (new_app (codes "replay")) base_rule
+
+-- `enogate`, with the one subcommand `replay`
+abbrev pub enogate_app : App
+enogate_app =
+    let above = new_app (codes "enogate") in
+    with_subcommand (record above { top = record above.top { subcommand_required = true } }) replay_app.top
+
+-- the text that stands for the base ID, where the subcommand is `replay`
+abbrev pub base_at : Text × List Row → Option Text
+base_at found = if bytes_eq found.0 (codes "replay") then first_of (codes "base") found.1 else None
+
+abbrev pub base_found : Option (Text × List Row) → Option ℕ
+base_found found = option_and_then base_in (option_and_then base_at found)
+
+-- the base ID of a command line that `clap` takes
+abbrev pub base_of_line : List Text → Option ℕ
+base_of_line words = base_found (subcommand_of enogate_app words)
+
+-- it was refused for want of memory
+abbrev pub IsMemory : Refused → Type 0
+IsMemory BadBase = ⊥
+IsMemory (Words error) = kind_of error ≡ OutOfMemory

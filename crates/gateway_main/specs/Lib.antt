@@ -1,0 +1,9 @@
+pub mod Counts
+pub mod Writes
+pub mod Written
+pub mod Script
+pub mod Replayed
+pub mod Progress
+pub mod Bases
+pub mod Faults
+pub mod CommandLine

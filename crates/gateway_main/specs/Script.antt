@@ -1,0 +1,32 @@
+-- Which events the bytes of a script are.
+use Rattle.std.specs.Prelude.{◌≡◌, ◌≢◌, ℕ, ◌⊎◌, ◌&&◌, All, nat_eq, nat_le, if◌then◌else◌, List, [], ◌++◌, length, drop, map, codes, Result, Ok, Err}
+use Rattle.std.specs.List.{starts_with}
+use Rattle.std.specs.Str.Lines.{lines}
+use Rattle.hex.specs.Hex.{decode_of}
+use Rattle.hex.specs.declared.error.FromHexError.{FromHexError}
+use Rattle.gateway_core.specs.Events.{Event, Piece, Line}
+
+-- the bytes that the digits of a line spell, or else the line
+abbrev pub spelled : List ℕ → Result (List ℕ) FromHexError → Event
+spelled line (Ok bytes) = Piece bytes
+spelled line (Err fault) = Line line
+
+-- `S`, one space and an even number of hexadecimal digits are a serial piece, unless the line is longer than 200 bytes
+abbrev pub event_of : List ℕ → Event
+event_of line =
+    if nat_le (length line) 200 && starts_with nat_eq line (codes "S ") then spelled line (decode_of (drop 2 line)) else Line line
+
+-- a line ends with LF, or CR LF, or the end of the input
+abbrev pub script : List ℕ → List Event
+script input = map event_of (lines input)
+
+-- nothing, or bytes of which LF is the last
+abbrev pub IsClosed : List ℕ → Type 0
+IsClosed bytes = (bytes ≡ []) ⊎ ((front : List ℕ) × (bytes ≡ front ++ codes "\n"))
+
+-- closed is what the input has up to its last LF, and with it
+pub record HasClosed (input closed : List ℕ) : Type 0 where
+  pub tail : List ℕ
+  pub whole : input ≡ closed ++ tail
+  pub ends : IsClosed closed
+  pub no_end : All (λ byte. byte ≢ 10) tail

@@ -1,0 +1,73 @@
+//! Where bytes come from.
+ghost use Rattle.std.specs.Prelude.{◌≡◌, ◌≤◌, ℕ, List, Option, IfOk, length};
+ghost use Rattle.std.specs.Io.KnownBytes.{ReadConsumes};
+ghost use Rattle.gateway_main.specs.Counts.{Counts, counted, none_yet};
+
+use std::io::Read;
+
+/// A read or a write that failed.
+#[derive(Clone, Copy, Debug, PartialEq, Eq)]
+pub struct Failed;
+
+/// Where bytes come from.
+pub trait Source {
+    /// The bytes that reads will give from here on, where they are known.
+    ghost left: { Self → Option (List ℕ) };
+
+    /// How the reads so far went.
+    ghost counts: { Self → Counts };
+
+    /// Reads some bytes into the front of the buffer, and says how many. 0 bytes say that no more will come, if the
+    /// buffer has room. After `Failed` nothing is lost: no byte was taken from the source.
+    fn read(&mut self, buffer: &mut [u8]) -> Result<usize, Failed>
+        ensures within { IfOk result (λ n. n ≤ length buffer.new) }
+        ensures bytes { ReadConsumes (left self.old) (left self.new) result buffer.new }
+        ensures told { counts self.new ≡ counted (counts self.old) result };
+}
+
+/// A source over a reader of `std`. It counts its reads, those that failed, and those that gave 0 bytes; each count stays
+/// at its greatest value.
+#[derive(Drop)]
+pub struct OverRead<R> {
+    reader: R,
+    calls: u64,
+    failed: u64,
+    empty: u64,
+}
+
+impl<R: Read> OverRead<R> {
+    /// A source that has made no read of this reader.
+    pub fn new(reader: R) -> OverRead<R>
+        ensures bytes { ⟦<OverRead<R> as Source>⟧.left result ≡ R.remaining reader }
+        ensures told { ⟦<OverRead<R> as Source>⟧.counts result ≡ none_yet }
+    {
+        OverRead {
+            reader,
+            calls: 0,
+            failed: 0,
+            empty: 0,
+        }
+    }
+}
+
+impl<R: Read> Source for OverRead<R> {
+    ghost left = { λ source. R.remaining source.reader };
+
+    ghost counts = { λ source. record { calls = source.calls; failed = source.failed; empty = source.empty } };
+
+    fn read(&mut self, buffer: &mut [u8]) -> Result<usize, Failed> {
+        self.calls = self.calls.saturating_add(1);
+        match self.reader.read(buffer) {
+            Ok(count) => {
+                if count == 0 {
+                    self.empty = self.empty.saturating_add(1);
+                }
+                Ok(count)
+            }
+            Err(_) => {
+                self.failed = self.failed.saturating_add(1);
+                Err(Failed)
+            }
+        }
+    }
+}

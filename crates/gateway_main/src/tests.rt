@@ -1,0 +1,219 @@
+//! Scripts and what is written for them, readers and writers that fail, and command lines.
+use crate::command_line::{Options, Refused, read};
+use crate::fault::Fault;
+use crate::{OverRead, OverWrite, RunFault, Sink, Source, Summary, replay};
+use clap::error::ErrorKind;
+use gateway_core::Gateway;
+use std::io;
+use std::io::{Read, Write};
+use std::test::Fail;
+
+const SYNTAX: &[u8] = b"{\"error\":\"syntax\",\"type\":\"error\"}\n";
+
+fn run<R: Source, W: Sink>(
+    rt: &HostRuntime,
+    reader: &mut R,
+    writer: &mut W,
+    turns: u64,
+) -> Result<Result<Summary, RunFault>, Fail> {
+    match Gateway::new(rt.alloc(), 0xFF80_0000) {
+        Ok(mut gateway) => Ok(replay(reader, writer, &mut gateway, turns)),
+        Err(_) => Err(Fail::from("no gateway")),
+    }
+}
+
+#[test]
+fn scripts(rt: HostRuntime) -> Result<(), Fail> {
+    let contact = b"add 01800ABC D5-00-01\nS 55000707017AD50901800ABC0001FFFFFFFF2D001F\n";
+    let in_parts = b"add 01800abc d5-00-01\r\nS 55000707017ad50901800A\nS BC0001ffffffff2d001f";
+    let contact_out =
+        b"{\"eep\":\"D5-00-01\",\"id\":\"01800ABC\",\"maker\":null,\"result\":\"accepted\",\"type\":\"teach\"}\n{\"dbm\":-45,\"eep\":\"D5-00-01\",\"id\":\"01800ABC\",\"readings\":[{\"name\":\"CO\",\"word\":\"closed\"}],\"type\":\"reading\"}\n";
+    let rows = [
+        (b"\n".as_slice(), 1, Err(RunFault::TooManyTurns), SYNTAX),
+        (b"\n".as_slice(), 2, Ok(Summary { items: 1 }), SYNTAX),
+        (
+            contact.as_slice(),
+            2,
+            Ok(Summary { items: 2 }),
+            contact_out.as_slice(),
+        ),
+    ];
+    for (script, turns, wanted, text) in rows {
+        let mut out = Vec::new(rt.alloc());
+        let summary = run(
+            &rt,
+            &mut OverRead::new(script),
+            &mut OverWrite::new(&mut out),
+            turns,
+        )?;
+        assert!(rt; summary == wanted);
+        assert_eq!(rt; out.as_slice(), text);
+    }
+    Ok(())
+}
+
+/// A reader that fails at its second read.
+#[derive(Drop)]
+struct FailsAtSecond {
+    text: &'static [u8],
+    is_second: bool,
+}
+
+impl Read for FailsAtSecond {
+    fn read(&mut self, buffer: &mut [u8]) -> io::Result<usize> {
+        if self.is_second {
+            return Err(io::Error::from(io::ErrorKind::Other));
+        }
+        self.is_second = true;
+        self.text.read(buffer)
+    }
+}
+
+#[test]
+fn a_read_fails(rt: HostRuntime) -> Result<(), Fail> {
+    let mut out = Vec::new(rt.alloc());
+    let reader = FailsAtSecond {
+        text: b"\nadd 01800ABC D5",
+        is_second: false,
+    };
+    let stopped = run(
+        &rt,
+        &mut OverRead::new(reader),
+        &mut OverWrite::new(&mut out),
+        9,
+    )?;
+    assert!(rt; stopped == Err(RunFault::Read));
+    assert_eq!(rt; out.as_slice(), SYNTAX);
+    Ok(())
+}
+
+/// A writer that takes one byte at a call, and fails at its sixteenth.
+#[derive(Drop)]
+struct FailsAtSixteenth<'a> {
+    taken: &'a mut Vec<u8>,
+}
+
+impl<'a> Write for FailsAtSixteenth<'a> {
+    fn write(&mut self, text: &[u8]) -> io::Result<usize> {
+        if self.taken.len() == 15 {
+            return Err(io::Error::from(io::ErrorKind::Other));
+        }
+        self.taken.write(&text[..text.len().min(1)])
+    }
+
+    fn flush(&mut self) -> io::Result<()> {
+        Ok(())
+    }
+}
+
+/// A writer that takes nothing.
+#[derive(Drop)]
+struct TakesNothing;
+
+impl Write for TakesNothing {
+    fn write(&mut self, _text: &[u8]) -> io::Result<usize> {
+        Ok(0)
+    }
+
+    fn flush(&mut self) -> io::Result<()> {
+        Ok(())
+    }
+}
+
+#[test]
+fn a_write_fails(rt: HostRuntime) -> Result<(), Fail> {
+    let script = b"\n\n".as_slice();
+    let mut taken = Vec::new(rt.alloc());
+    let writer = FailsAtSixteenth { taken: &mut taken };
+    let stopped = run(
+        &rt,
+        &mut OverRead::new(script),
+        &mut OverWrite::new(writer),
+        9,
+    )?;
+    assert!(rt; stopped == Err(RunFault::Write));
+    assert_eq!(rt; taken.as_slice(), b"{\"error\":\"synta".as_slice());
+    let stopped = run(
+        &rt,
+        &mut OverRead::new(script),
+        &mut OverWrite::new(TakesNothing),
+        9,
+    )?;
+    assert!(rt; stopped == Err(RunFault::Write));
+    Ok(())
+}
+
+#[test]
+fn fault_texts(rt: HostRuntime) -> Result<(), Fail> {
+    for (fault, text) in [
+        (Fault::Memory, "memory"),
+        (Fault::from(RunFault::Read), "read"),
+        (Fault::from(RunFault::Write), "write"),
+        (Fault::from(RunFault::TooManyTurns), "too many turns"),
+    ] {
+        assert_eq!(rt; fault.to_string(rt.alloc())?.as_str(), text);
+    }
+    Ok(())
+}
+
+fn taken(rt: &HostRuntime, line: &str) -> Result<Result<Options, Refused>, Fail> {
+    let mut words = Vec::new(rt.alloc());
+    for word in line.split(' ') {
+        words.push(word.to_string(rt.alloc())?)?;
+    }
+    Ok(read(rt.alloc(), words.as_slice()))
+}
+
+#[test]
+fn command_lines(rt: HostRuntime) -> Result<(), Fail> {
+    for (line, base) in [
+        ("enogate replay --base FF800000", 0xFF80_0000),
+        ("enogate replay --base=ffffff80", 0xFFFF_FF80),
+    ] {
+        match taken(&rt, line)? {
+            Ok(options) => assert_eq!(rt; options.base, base),
+            Err(_) => return Err(Fail::from(line)),
+        }
+    }
+    for base in ["FF80zz00", "FF80000", "FF800001", ""] {
+        match taken(
+            &rt,
+            format!(in rt.alloc(); "enogate replay --base={base}")?.as_str(),
+        )? {
+            Err(Refused::BadBase) => {}
+            _ => return Err(Fail::from(base)),
+        }
+    }
+    for (line, kind) in [
+        ("enogate replay --help", ErrorKind::DisplayHelp),
+        ("enogate --help", ErrorKind::DisplayHelp),
+        ("enogate replay", ErrorKind::MissingRequiredArgument),
+        ("enogate play", ErrorKind::InvalidSubcommand),
+        ("enogate", ErrorKind::MissingSubcommand),
+        (
+            "enogate replay --db x --base FF800000",
+            ErrorKind::UnknownArgument,
+        ),
+    ] {
+        match taken(&rt, line)? {
+            Err(Refused::Words(error)) => assert_eq!(rt; error.kind(), kind, "{line}"),
+            _ => return Err(Fail::from(line)),
+        }
+    }
+    Ok(())
+}
+
+#[test]
+fn help_text(rt: HostRuntime) -> Result<(), Fail> {
+    match taken(&rt, "enogate replay --help")? {
+        Err(Refused::Words(error)) => {
+            let text = error.to_string(rt.alloc())?;
+            assert_eq!(rt;
+                text.as_str(),
+                "Runs a script from standard input to standard output\n\nUsage: enogate replay --base <ID>\n\nOptions:\n      --base <ID>  Base ID of the radio module, 8 hexadecimal digits\n  -h, --help       Print help\n"
+            );
+        }
+        _ => return Err(Fail::from("no help")),
+    }
+    Ok(())
+}
