@@ -9,6 +9,7 @@ mod replaying;
 mod sink;
 mod source;
 mod start;
+mod tally;
 #[cfg(test)]
 mod tests;
 mod unended;
@@ -16,5 +17,6 @@ mod writing;
 
 pub use replaying::{RunFault, Summary, replay};
 pub use sink::{OverWrite, Sink};
-pub use source::{Failed, OverRead, Source};
+pub use source::{OverRead, Source};
 pub use start::program;
+pub use tally::Failed;

@@ -9,7 +9,7 @@ ghost use Rattle.gateway_main.specs.Script.{event_of, spelled};
 
 use crate::pieces::take_piece;
 use crate::sink::Sink;
-use crate::source::Failed;
+use crate::tally::Failed;
 use crate::writing::write_reply;
 use gateway_core::Gateway;
 

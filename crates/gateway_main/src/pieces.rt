@@ -6,7 +6,7 @@ ghost use Rattle.gateway_main.specs.Progress.{Drains, DrainsPart, TakesOrBreaks}
 ghost use Rattle.gateway_main.specs.Replayed.{IsIdle};
 
 use crate::sink::Sink;
-use crate::source::Failed;
+use crate::tally::Failed;
 use crate::writing::write_reply;
 use gateway_core::Gateway;
 

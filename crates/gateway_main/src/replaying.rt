@@ -11,7 +11,8 @@ ghost use Rattle.gateway_main.specs.Script.{script};
 
 use crate::lines::take_line;
 use crate::sink::Sink;
-use crate::source::{Failed, Source};
+use crate::source::Source;
+use crate::tally::Failed;
 use crate::unended::UnendedLine;
 use gateway_core::Gateway;
 

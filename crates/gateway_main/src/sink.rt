@@ -3,7 +3,7 @@ ghost use Rattle.std.specs.Prelude.{◌≡◌, ◌≤◌, ℕ, List, Option, IfO
 ghost use Rattle.std.specs.Io.KnownBytes.{WriteAppends};
 ghost use Rattle.gateway_main.specs.Counts.{Counts, counted, none_yet};
 
-use crate::source::Failed;
+use crate::tally::{Failed, Tally};
 use std::io::Write;
 
 /// Where bytes go.
@@ -26,9 +26,7 @@ pub trait Sink {
 #[derive(Drop)]
 pub struct OverWrite<W> {
     writer: W,
-    calls: u64,
-    failed: u64,
-    empty: u64,
+    tally: Tally,
 }
 
 impl<W: Write> OverWrite<W> {
@@ -39,9 +37,7 @@ impl<W: Write> OverWrite<W> {
     {
         OverWrite {
             writer,
-            calls: 0,
-            failed: 0,
-            empty: 0,
+            tally: Tally::new(),
         }
     }
 }
@@ -49,21 +45,11 @@ impl<W: Write> OverWrite<W> {
 impl<W: Write> Sink for OverWrite<W> {
     ghost held = { λ sink. W.contents sink.writer };
 
-    ghost counts = { λ sink. record { calls = sink.calls; failed = sink.failed; empty = sink.empty } };
+    ghost counts = { λ sink. sink.tally };
 
     fn write(&mut self, text: &[u8]) -> Result<usize, Failed> {
-        self.calls = self.calls.saturating_add(1);
-        match self.writer.write(text) {
-            Ok(count) => {
-                if count == 0 {
-                    self.empty = self.empty.saturating_add(1);
-                }
-                Ok(count)
-            }
-            Err(_) => {
-                self.failed = self.failed.saturating_add(1);
-                Err(Failed)
-            }
-        }
+        let answer = self.writer.write(text).map_err(|_| Failed);
+        self.tally.count(answer);
+        answer
     }
 }

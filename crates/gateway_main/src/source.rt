@@ -3,11 +3,8 @@ ghost use Rattle.std.specs.Prelude.{◌≡◌, ◌≤◌, ℕ, List, Option, IfO
 ghost use Rattle.std.specs.Io.KnownBytes.{ReadConsumes};
 ghost use Rattle.gateway_main.specs.Counts.{Counts, counted, none_yet};
 
+use crate::tally::{Failed, Tally};
 use std::io::Read;
-
-/// A read or a write that failed.
-#[derive(Clone, Copy, Debug, PartialEq, Eq)]
-pub struct Failed;
 
 /// Where bytes come from.
 pub trait Source {
@@ -30,9 +27,7 @@ pub trait Source {
 #[derive(Drop)]
 pub struct OverRead<R> {
     reader: R,
-    calls: u64,
-    failed: u64,
-    empty: u64,
+    tally: Tally,
 }
 
 impl<R: Read> OverRead<R> {
@@ -43,9 +38,7 @@ impl<R: Read> OverRead<R> {
     {
         OverRead {
             reader,
-            calls: 0,
-            failed: 0,
-            empty: 0,
+            tally: Tally::new(),
         }
     }
 }
@@ -53,21 +46,11 @@ impl<R: Read> OverRead<R> {
 impl<R: Read> Source for OverRead<R> {
     ghost left = { λ source. R.remaining source.reader };
 
-    ghost counts = { λ source. record { calls = source.calls; failed = source.failed; empty = source.empty } };
+    ghost counts = { λ source. source.tally };
 
     fn read(&mut self, buffer: &mut [u8]) -> Result<usize, Failed> {
-        self.calls = self.calls.saturating_add(1);
-        match self.reader.read(buffer) {
-            Ok(count) => {
-                if count == 0 {
-                    self.empty = self.empty.saturating_add(1);
-                }
-                Ok(count)
-            }
-            Err(_) => {
-                self.failed = self.failed.saturating_add(1);
-                Err(Failed)
-            }
-        }
+        let answer = self.reader.read(buffer).map_err(|_| Failed);
+        self.tally.count(answer);
+        answer
     }
 }

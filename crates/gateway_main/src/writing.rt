@@ -8,7 +8,7 @@ ghost use Rattle.gateway_main.specs.Writes.{Writes};
 ghost use Rattle.gateway_main.specs.Written.{radio_text, text_of};
 
 use crate::sink::Sink;
-use crate::source::Failed;
+use crate::tally::Failed;
 use arrayvec::ArrayVec;
 use gateway_core::Reply;
 

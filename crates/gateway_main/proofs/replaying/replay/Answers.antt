@@ -2,7 +2,7 @@ use Rattle.std.proofs.Common.{rules, [], ◌++◌, refl, take, ap, arith, sym, a
 use Rattle.std.specs.Prelude.{is_ok}
 use Rattle.std.specs.Io.KnownBytes.{Consumes}
 use Rattle.std.proofs.KnownBytes.{Consumes-nil, Consumes-trans, Consumes-kept}
-use Rattle.gateway_main.specs.declared.source.Failed.{Failed}
+use Rattle.gateway_main.specs.declared.tally.Failed.{Failed}
 use Rattle.gateway_main.specs.Replayed.{IsIdle}
 use Rattle.gateway_main.proofs.CountLemmas.{went_on, went_well, made_more, made_none, made_within}
 use Rattle.gateway_main.proofs.ResultLemmas.{OnOk-at_ok, OnErr-at_err}

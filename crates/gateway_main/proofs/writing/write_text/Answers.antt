@@ -1,4 +1,4 @@
-use Rattle.gateway_main.specs.declared.source.Failed.{Failed}
+use Rattle.gateway_main.specs.declared.tally.Failed.{Failed}
 use Rattle.gateway_main.proofs.CountLemmas.{went_well}
 use Rattle.gateway_main.proofs.WriteLemmas.{left_after}
 use Rattle.gateway_main.proofs.writing.write_text.Goals as goal
