@@ -1,4 +1,4 @@
--- The laws as proofs cite them, also those of the crates above. Each is a clause of a function of `laws`.
+-- The facts about the definitions that proofs cite, also those of the crates above: the laws, and steps that they are made of.
 pub use Rattle.esp3_frames.proofs.CheckLemmas.{check_next}
 pub use Rattle.esp3_frames.proofs.PacketLemmas.{one_reading}
 pub use Rattle.esp3_frames.proofs.FrontLemmas.{front_partial}
