@@ -16,22 +16,22 @@ kept : (b : Bool) (x : Front) → b ≡ true → (x ≡ Never → ⊥) → cond 
 kept true x e n h = n h
 kept false x e n h = absurd cc
 
-live_stays : Partial ≡ Never → ⊥
-live_stays e = cc
+partial_apart : Partial ≡ Never → ⊥
+partial_apart e = cc
 
-behind_hit : (b c : Bool) (p : Packet) → c ≡ true → cond b Partial (cond c (Whole p) Never) ≡ Never → ⊥
-behind_hit true c p e h = cc
-behind_hit false true p e h = cc
-behind_hit false false p e h = cc
+behind_whole : (b c : Bool) (p : Packet) → c ≡ true → cond b Partial (cond c (Whole p) Never) ≡ Never → ⊥
+behind_whole true c p e h = cc
+behind_whole false true p e h = cc
+behind_whole false false p e h = cc
 
-behind_live : (b : Bool) (x : Front) → b ≡ true → cond b Partial x ≡ Never → ⊥
-behind_live true x e h = cc
-behind_live false x e h = cc
+behind_partial : (b : Bool) (x : Front) → b ≡ true → cond b Partial x ≡ Never → ⊥
+behind_partial true x e h = cc
+behind_partial false x e h = cc
 
--- the cells of a text that may_begin with a packet
-hit_cells : (p : Packet) (s h l o k c : ℕ) (t r : List ℕ) → (s ∷ h ∷ l ∷ o ∷ k ∷ c ∷ t) ≡ spelling p ++ r → IsPacket p (spelling p) → front_of (s ∷ h ∷ l ∷ o ∷ k ∷ c ∷ t) ≡ Never → ⊥
+-- the cells of a text that begins with a packet
+begins_cells : (p : Packet) (s h l o k c : ℕ) (t r : List ℕ) → (s ∷ h ∷ l ∷ o ∷ k ∷ c ∷ t) ≡ spelling p ++ r → IsPacket p (spelling p) → front_of (s ∷ h ∷ l ∷ o ∷ k ∷ c ∷ t) ≡ Never → ⊥
 unfolding front_of
-hit_cells p s h l o k c t r e hp d =
+begins_cells p s h l o k c t r e hp d =
     let m : List ℕ = p.body ++ p.opt in
     let cells : (s ∷ h ∷ l ∷ o ∷ k ∷ c ∷ (m ++ check m ∷ [])) ≡ spelling p = cc in
     let et : t ≡ (m ++ check m ∷ []) ++ r = cc in
@@ -40,51 +40,51 @@ hit_cells p s h l o k c t r e hp d =
     let high = parts.high in let low = parts.low in let opts = parts.opts in
     let n : 256 * h + l + o ≡ length m = omega (arith, length-append p.body p.opt) in
     let checked = tail_check m r t (256 * h + l + o) n (et ∙ append_assoc m (check m ∷ []) r) in
-    kept _ _ (fit_parts p s h l o k c t (m ++ check m ∷ []) hq) (behind_hit _ _ _ (eq-eqb _ _ checked)) d
+    kept _ _ (fit_parts p s h l o k c t (m ++ check m ∷ []) hq) (behind_whole _ _ _ (eq-eqb _ _ checked)) d
 
-hit_stands : (w : List ℕ) (p : Packet) (r : List ℕ) → w ≡ spelling p ++ r → IsPacket p (spelling p) → front_of w ≡ Never → ⊥
-hit_stands [] p r e hp d = cc
-hit_stands (s ∷ []) p r e hp d = cc
-hit_stands (s ∷ h ∷ []) p r e hp d = cc
-hit_stands (s ∷ h ∷ l ∷ []) p r e hp d = cc
-hit_stands (s ∷ h ∷ l ∷ o ∷ []) p r e hp d = cc
-hit_stands (s ∷ h ∷ l ∷ o ∷ k ∷ []) p r e hp d = cc
-hit_stands (s ∷ h ∷ l ∷ o ∷ k ∷ c ∷ t) p r e hp d = hit_cells p s h l o k c t r e hp d
+begins_not_never : (w : List ℕ) (p : Packet) (r : List ℕ) → w ≡ spelling p ++ r → IsPacket p (spelling p) → front_of w ≡ Never → ⊥
+begins_not_never [] p r e hp d = cc
+begins_not_never (s ∷ []) p r e hp d = cc
+begins_not_never (s ∷ h ∷ []) p r e hp d = cc
+begins_not_never (s ∷ h ∷ l ∷ []) p r e hp d = cc
+begins_not_never (s ∷ h ∷ l ∷ o ∷ []) p r e hp d = cc
+begins_not_never (s ∷ h ∷ l ∷ o ∷ k ∷ []) p r e hp d = cc
+begins_not_never (s ∷ h ∷ l ∷ o ∷ k ∷ c ∷ t) p r e hp d = begins_cells p s h l o k c t r e hp d
 
-live_cells : (p : Packet) (s h l o k c : ℕ) (t more : List ℕ) → IsPacket p (s ∷ h ∷ l ∷ o ∷ k ∷ c ∷ (t ++ more)) → 0 < length more → front_of (s ∷ h ∷ l ∷ o ∷ k ∷ c ∷ t) ≡ Never → ⊥
+may_become_cells : (p : Packet) (s h l o k c : ℕ) (t more : List ℕ) → IsPacket p (s ∷ h ∷ l ∷ o ∷ k ∷ c ∷ (t ++ more)) → 0 < length more → front_of (s ∷ h ∷ l ∷ o ∷ k ∷ c ∷ t) ≡ Never → ⊥
 unfolding front_of
-live_cells p s h l o k c t more hp hm d =
+may_become_cells p s h l o k c t more hp hm d =
     let parts = packet_parts p s h l o k c (t ++ more) hp.bytes in
     let high = parts.high in let low = parts.low in let opts = parts.opts in
     let m : List ℕ = p.body ++ p.opt in
     let n : length t ≤ 256 * h + l + o = omega (arith, ap length parts.tail, length-append t more, length-append m (check m ∷ []), length-append p.body p.opt) in
-    kept _ _ (fit_parts p s h l o k c t (t ++ more) hp) (behind_live _ _ (le-leb (length t) (256 * h + l + o) n)) d
+    kept _ _ (fit_parts p s h l o k c t (t ++ more) hp) (behind_partial _ _ (le-leb (length t) (256 * h + l + o) n)) d
 
-live_stands : (w : List ℕ) (p : Packet) (more : List ℕ) → IsPacket p (w ++ more) → 0 < length more → front_of w ≡ Never → ⊥
+may_become_not_never : (w : List ℕ) (p : Packet) (more : List ℕ) → IsPacket p (w ++ more) → 0 < length more → front_of w ≡ Never → ⊥
 unfolding front_of
-live_stands [] p more hp hm d = cc
-live_stands (s ∷ []) p more hp hm d =
+may_become_not_never [] p more hp hm d = cc
+may_become_not_never (s ∷ []) p more hp hm d =
     let e = hp.bytes in let es : s ≡ 0x55 = cc in
-    kept _ Partial (and_from _ _ (eq-eqb s 0x55 es) refl) live_stays d
-live_stands (s ∷ h ∷ []) p more hp hm d =
+    kept _ Partial (and_from _ _ (eq-eqb s 0x55 es) refl) partial_apart d
+may_become_not_never (s ∷ h ∷ []) p more hp hm d =
     let e = hp.bytes in let es : s ≡ 0x55 = cc in let eh : h ≡ length p.body / 256 = cc in let body = hp.body in
-    kept _ Partial (and_from _ _ (eq-eqb s 0x55 es) (test_fitting h 0 1 (record { low = omega arith; opts = omega arith; some = omega arith; fits = omega arith }))) live_stays d
-live_stands (s ∷ h ∷ l ∷ []) p more hp hm d =
+    kept _ Partial (and_from _ _ (eq-eqb s 0x55 es) (test_fitting h 0 1 (record { low = omega arith; opts = omega arith; some = omega arith; fits = omega arith }))) partial_apart d
+may_become_not_never (s ∷ h ∷ l ∷ []) p more hp hm d =
     let e = hp.bytes in let es : s ≡ 0x55 = cc in let eh : h ≡ length p.body / 256 = cc in let el : l ≡ length p.body % 256 = cc in let body = hp.body in
-    kept _ Partial (and_from _ _ (eq-eqb s 0x55 es) (test_fitting h l 1 (record { low = omega arith; opts = omega arith; some = omega arith; fits = omega arith }))) live_stays d
-live_stands (s ∷ h ∷ l ∷ o ∷ []) p more hp hm d =
+    kept _ Partial (and_from _ _ (eq-eqb s 0x55 es) (test_fitting h l 1 (record { low = omega arith; opts = omega arith; some = omega arith; fits = omega arith }))) partial_apart d
+may_become_not_never (s ∷ h ∷ l ∷ o ∷ []) p more hp hm d =
     let e = hp.bytes in let es : s ≡ 0x55 = cc in let eh : h ≡ length p.body / 256 = cc in let el : l ≡ length p.body % 256 = cc in let eo : o ≡ length p.opt = cc in let body = hp.body in let opt = hp.opt in let some = hp.some in
-    kept _ Partial (and_from _ _ (eq-eqb s 0x55 es) (test_fitting h l o (record { low = omega arith; opts = omega arith; some = omega arith; fits = omega arith }))) live_stays d
-live_stands (s ∷ h ∷ l ∷ o ∷ k ∷ []) p more hp hm d =
+    kept _ Partial (and_from _ _ (eq-eqb s 0x55 es) (test_fitting h l o (record { low = omega arith; opts = omega arith; some = omega arith; fits = omega arith }))) partial_apart d
+may_become_not_never (s ∷ h ∷ l ∷ o ∷ k ∷ []) p more hp hm d =
     let e = hp.bytes in let es : s ≡ 0x55 = cc in let eh : h ≡ length p.body / 256 = cc in let el : l ≡ length p.body % 256 = cc in let eo : o ≡ length p.opt = cc in let body = hp.body in let opt = hp.opt in let some = hp.some in
-    kept _ Partial (and_from _ _ (eq-eqb s 0x55 es) (test_fitting h l o (record { low = omega arith; opts = omega arith; some = omega arith; fits = omega arith }))) live_stays d
-live_stands (s ∷ h ∷ l ∷ o ∷ k ∷ c ∷ t) p more hp hm d = live_cells p s h l o k c t more hp hm d
+    kept _ Partial (and_from _ _ (eq-eqb s 0x55 es) (test_fitting h l o (record { low = omega arith; opts = omega arith; some = omega arith; fits = omega arith }))) partial_apart d
+may_become_not_never (s ∷ h ∷ l ∷ o ∷ k ∷ c ∷ t) p more hp hm d = may_become_cells p s h l o k c t more hp hm d
 
 whole_spelling : (p : Packet) (v : List ℕ) → IsPacket p v → IsPacket p (spelling p)
 whole_spelling p v h = subst (IsPacket p) h.bytes h
 
 pub front_never : (w : List ℕ) → front_of w ≡ Never → NeverPacket w
-front_never w d = (λ h. hit_stands w h.packet h.rest (h.is ∙ ap (λ (y : List ℕ). y ++ h.rest) h.whole.bytes) (whole_spelling h.packet h.front h.whole) d, λ l. live_stands w l.packet l.more l.whole l.proper d)
+front_never w d = (λ h. begins_not_never w h.packet h.rest (h.is ∙ ap (λ (y : List ℕ). y ++ h.rest) h.whole.bytes) (whole_spelling h.packet h.front h.whole) d, λ l. may_become_not_never w l.packet l.more l.whole l.proper d)
 
 empty_front : front_of [] ≡ Partial
 unfolding front_of

@@ -57,9 +57,9 @@ good_header s h l o k c e =
 apart : (y : Header) (e : HeaderFault) → ◌≡◌ {A = Result Header HeaderFault} (Ok y) (Err e) → ⊥
 apart y e h = cc
 
-dead_or : (t : Bool) (x : Front) → (t ≡ true → ⊥) → cond t x Never ≡ Never
-dead_or true x n = absurd (n refl)
-dead_or false x n = refl
+never_or : (t : Bool) (x : Front) → (t ≡ true → ⊥) → cond t x Never ≡ Never
+never_or true x n = absurd (n refl)
+never_or false x n = refl
 
 front-no_header : (b f w : List ℕ) (e : HeaderFault) → length f ≡ 6 → f ++ w ≡ b → header_of f ≡ Err e → front_of b ≡ Never
 unfolding front_of
@@ -67,7 +67,7 @@ front-no_header b f w e hf hb he =
     let t = six f hf in
     let s = t.0 in let h = t.1 in let l = t.2 in let o = t.3 in let k = t.4 in let c = t.5 in
     let eb : s ∷ h ∷ l ∷ o ∷ k ∷ c ∷ w ≡ b = ap (λ (y : List ℕ). y ++ w) (sym t.6) ∙ hb in
-    ap front_of (sym eb) ∙ dead_or _ (front_behind (256 * h + l) o k w) (λ good. apart _ e (sym (good_header s h l o k c good) ∙ sym (ap header_of t.6) ∙ he))
+    ap front_of (sym eb) ∙ never_or _ (front_behind (256 * h + l) o k w) (λ good. apart _ e (sym (good_header s h l o k c good) ∙ sym (ap header_of t.6) ∙ he))
 
 pub front_behind-partial : (d o k : ℕ) (w : List ℕ) → length w ≤ d + o → front_behind d o k w ≡ Partial
 front_behind-partial d o k w h = let e : leb (length w) (d + o) ≡ true = le-leb (length w) (d + o) h in rw e refl

@@ -28,7 +28,7 @@ fitting h l o e =
 pub test_fitting : (h l o : ℕ) → Fitting h l o → lengths_fit h l o ≡ true
 test_fitting h l o f = and_from _ _ (and_from _ _ (lt-ltb l 256 f.low) (le-leb _ 1024 f.fits)) (and_from _ _ (lt-ltb o 256 f.opts) (lt-ltb 0 _ f.some))
 
--- a header that fits, with not more than the lengths behind it, is live
+-- a header that fits, with not more than the lengths behind it, may become a packet
 pub completed : (h l o k : ℕ) (w : List ℕ) → Fitting h l o → length w ≤ 256 * h + l + o → MayBecomePacket (0x55 ∷ h ∷ l ∷ o ∷ k ∷ check (h ∷ l ∷ o ∷ k ∷ []) ∷ w)
 completed h l o k w f hw =
     let d : ℕ = 256 * h + l in
@@ -66,13 +66,13 @@ may_become_sync : (s : ℕ) (w : List ℕ) → s ≡ 0x55 → MayBecomePacket (0
 may_become_sync s w e h = subst (λ (n : ℕ). MayBecomePacket (n ∷ w)) (sym e) h
 
 -- what a test answers
-pub chosen_live : (b : Bool) → cond b Partial Never ≡ Partial → b ≡ true
-chosen_live true e = refl
-chosen_live false e = absurd cc
+pub chosen_partial : (b : Bool) → cond b Partial Never ≡ Partial → b ≡ true
+chosen_partial true e = refl
+chosen_partial false e = absurd cc
 
-no_hit : (b : Bool) (p : Packet) → cond b Partial Never ≡ Whole p → ⊥
-no_hit true p e = cc
-no_hit false p e = cc
+no_whole : (b : Bool) (p : Packet) → cond b Partial Never ≡ Whole p → ⊥
+no_whole true p e = cc
+no_whole false p e = cc
 
 pub may_become_two : (h : ℕ) → lengths_fit h 0 1 ≡ true → MayBecomePacket (0x55 ∷ h ∷ [])
 may_become_two h e = may_become-shorter (0x55 ∷ h ∷ []) (0 ∷ 1 ∷ 0 ∷ check (h ∷ 0 ∷ 1 ∷ 0 ∷ []) ∷ []) (completed h 0 1 0 [] (fitting h 0 1 e) (omega arith))
@@ -93,16 +93,10 @@ good : (b : Bool) (x f : Front) → cond b x Never ≡ f → (f ≡ Never → �
 good true x f e n = (refl, e)
 good false x f e n = absurd (n (sym e))
 
-live_not_dead : (f : Front) → f ≡ Partial → f ≡ Never → ⊥
-live_not_dead f a b = cc
+same_whole : (p q : Packet) → Whole p ≡ Whole q → q ≡ p
+same_whole p q e = cc
 
-hit_not_dead : (f : Front) (p : Packet) → f ≡ Whole p → f ≡ Never → ⊥
-hit_not_dead f p a b = cc
-
-same_hit : (p q : Packet) → Whole p ≡ Whole q → q ≡ p
-same_hit p q e = cc
-
--- a text that is live by the test
+-- a text that may become a packet by the test
 may_become_six : (s h l o k c : ℕ) (w : List ℕ) → front_of (s ∷ h ∷ l ∷ o ∷ k ∷ c ∷ w) ≡ Partial → MayBecomePacket (s ∷ h ∷ l ∷ o ∷ k ∷ c ∷ w)
 unfolding front_of made
 may_become_six s h l o k c w e =
@@ -116,11 +110,11 @@ may_become_six s h l o k c w e =
 pub front_partial : (w : List ℕ) → front_of w ≡ Partial → MayBecomePacket w
 unfolding front_of
 front_partial [] e = may_become-shorter [] (0x55 ∷ 0 ∷ []) (may_become_two 0 refl)
-front_partial (s ∷ []) e = may_become_sync s [] (eqb-true s 0x55 (and_parts _ _ (chosen_live _ e)).0) (may_become-shorter (0x55 ∷ []) (0 ∷ []) (may_become_two 0 refl))
-front_partial (s ∷ h ∷ []) e = let a = and_parts _ _ (chosen_live _ e) in may_become_sync s _ (eqb-true s 0x55 a.0) (may_become_two h a.1)
-front_partial (s ∷ h ∷ l ∷ []) e = let a = and_parts _ _ (chosen_live _ e) in may_become_sync s _ (eqb-true s 0x55 a.0) (may_become_three h l a.1)
-front_partial (s ∷ h ∷ l ∷ o ∷ []) e = let a = and_parts _ _ (chosen_live _ e) in may_become_sync s _ (eqb-true s 0x55 a.0) (may_become-shorter (0x55 ∷ h ∷ l ∷ o ∷ []) (0 ∷ []) (may_become_five h l o 0 a.1))
-front_partial (s ∷ h ∷ l ∷ o ∷ k ∷ []) e = let a = and_parts _ _ (chosen_live _ e) in may_become_sync s _ (eqb-true s 0x55 a.0) (may_become_five h l o k a.1)
+front_partial (s ∷ []) e = may_become_sync s [] (eqb-true s 0x55 (and_parts _ _ (chosen_partial _ e)).0) (may_become-shorter (0x55 ∷ []) (0 ∷ []) (may_become_two 0 refl))
+front_partial (s ∷ h ∷ []) e = let a = and_parts _ _ (chosen_partial _ e) in may_become_sync s _ (eqb-true s 0x55 a.0) (may_become_two h a.1)
+front_partial (s ∷ h ∷ l ∷ []) e = let a = and_parts _ _ (chosen_partial _ e) in may_become_sync s _ (eqb-true s 0x55 a.0) (may_become_three h l a.1)
+front_partial (s ∷ h ∷ l ∷ o ∷ []) e = let a = and_parts _ _ (chosen_partial _ e) in may_become_sync s _ (eqb-true s 0x55 a.0) (may_become-shorter (0x55 ∷ h ∷ l ∷ o ∷ []) (0 ∷ []) (may_become_five h l o 0 a.1))
+front_partial (s ∷ h ∷ l ∷ o ∷ k ∷ []) e = let a = and_parts _ _ (chosen_partial _ e) in may_become_sync s _ (eqb-true s 0x55 a.0) (may_become_five h l o k a.1)
 front_partial (s ∷ h ∷ l ∷ o ∷ k ∷ c ∷ w) e = may_become_six s h l o k c w e
 
 -- a packet that the test finds stands there
@@ -143,7 +137,7 @@ hit_six s h l o k c w p e =
     let t : (n < length w) × (get_or w n 0 ≡ check (take n w)) × (p ≡ made k (256 * h + l) o w) = elim (behind (leb (length w) n) (eqb (get_or w n 0) (check (take n w))) (made k (256 * h + l) o w) (Whole p) g.1) [
       | inl x ↦ absurd (let z = x.1 in cc)
       | inr x ↦ elim x [
-        | inl y ↦ (leb-false _ _ y.0, eqb-true _ _ y.1, same_hit _ p (sym y.2))
+        | inl y ↦ (leb-false _ _ y.0, eqb-true _ _ y.1, same_whole _ p (sym y.2))
         | inr y ↦ absurd (let z = y.2 in cc)
       ]
     ] in
@@ -157,14 +151,14 @@ hit_six s h l o k c w p e =
 pub front_whole : (w : List ℕ) (p : Packet) → front_of w ≡ Whole p → Found p w
 unfolding front_of
 front_whole [] p e = absurd cc
-front_whole (s ∷ []) p e = absurd (no_hit _ p e)
-front_whole (s ∷ h ∷ []) p e = absurd (no_hit _ p e)
-front_whole (s ∷ h ∷ l ∷ []) p e = absurd (no_hit _ p e)
-front_whole (s ∷ h ∷ l ∷ o ∷ []) p e = absurd (no_hit _ p e)
-front_whole (s ∷ h ∷ l ∷ o ∷ k ∷ []) p e = absurd (no_hit _ p e)
+front_whole (s ∷ []) p e = absurd (no_whole _ p e)
+front_whole (s ∷ h ∷ []) p e = absurd (no_whole _ p e)
+front_whole (s ∷ h ∷ l ∷ []) p e = absurd (no_whole _ p e)
+front_whole (s ∷ h ∷ l ∷ o ∷ []) p e = absurd (no_whole _ p e)
+front_whole (s ∷ h ∷ l ∷ o ∷ k ∷ []) p e = absurd (no_whole _ p e)
 front_whole (s ∷ h ∷ l ∷ o ∷ k ∷ c ∷ w) p e = hit_six s h l o k c w p e
 
--- a text that may_begin a packet passes the tests
+-- a text that begins a packet passes the tests
 pub fit_parts : (p : Packet) (s h l o k c : ℕ) (w t : List ℕ) → IsPacket p (s ∷ h ∷ l ∷ o ∷ k ∷ c ∷ t) → (s == 0x55 && (lengths_fit h l o && c == check (h ∷ l ∷ o ∷ k ∷ []))) ≡ true
 fit_parts p s h l o k c w t hp =
     let r = packet_parts p s h l o k c t hp.bytes in

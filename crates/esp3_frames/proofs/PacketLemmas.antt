@@ -15,7 +15,7 @@ append_parts (a ∷ v) (b ∷ w) x y h e =
     let r = append_parts v w x y (omega arith) tails in
     (cc, r.1)
 
--- of two fronts of one list, one may_begin the other
+-- of two fronts of one list, one begins the other
 pub split_fronts : (w t v r : List ℕ) → w ++ t ≡ v ++ r → ((m : List ℕ) × (w ≡ v ++ m) × (r ≡ m ++ t)) ⊎ ((m : List ℕ) × (v ≡ w ++ m) × (0 < length m))
 split_fronts w t [] r e = inl (w, refl, sym e)
 split_fronts [] t (b ∷ v) r e = inr (b ∷ v, refl, omega arith)

@@ -11,11 +11,11 @@ use Rattle.gateway_core.proofs.ForCallers.{brought-rest, items_of-append}
 use Rattle.gateway_main.specs.Replayed.{IsIdle, Replays, BreaksOff}
 use Rattle.gateway_main.proofs.AnswerLemmas.{answers_nothing, answers-append, answers-part}
 
-pub rest_is_live : (s : List ℕ) → MayBecomePacket (rest_of s)
-rest_is_live s = rest_may_become (framing_of s)
+pub rest_goes_on : (s : List ℕ) → MayBecomePacket (rest_of s)
+rest_goes_on s = rest_may_become (framing_of s)
 
 rest_of-rest_of : (s : List ℕ) → rest_of (rest_of s) ≡ rest_of s
-rest_of-rest_of s = sym (frames_of-may_become (rest_of s) (rest_is_live s)).1
+rest_of-rest_of s = sym (frames_of-may_become (rest_of s) (rest_goes_on s)).1
 
 -- the items of events hang on the rest of the stream alone
 items_of-rest : (s : List ℕ) (events : List Event) → items_of s events ≡ items_of (rest_of s) events

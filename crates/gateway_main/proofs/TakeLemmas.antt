@@ -17,7 +17,7 @@ use Rattle.gateway_main.specs.Replayed.{IsIdle, Answers, AnswersPart, Replays, B
 use Rattle.gateway_main.specs.Progress.{Drains, DrainsPart, Takes}
 use Rattle.gateway_main.proofs.CountLemmas.{count_on}
 use Rattle.gateway_main.proofs.AnswerLemmas.{answers_nothing, answers_one, answers-append, part_one, answers-part}
-use Rattle.gateway_main.proofs.ReplayLemmas.{rest_is_live, items_behind, rest_behind, replays_nothing, replays-append}
+use Rattle.gateway_main.proofs.ReplayLemmas.{rest_goes_on, items_behind, rest_behind, replays_nothing, replays-append}
 
 -- ---- the packets that wait
 
@@ -97,7 +97,7 @@ takes_more old now mid new bytes byte held holds after count some total before m
     let next : Replays now new (Piece (byte ∷ []) ∷ []) holds after = record {
       answered = answered;
       rest = rest;
-      idle = record { ready = none; rest = rw rest (rest_is_live (now.rest ++ byte ∷ [])) };
+      idle = record { ready = none; rest = rw rest (rest_goes_on (now.rest ++ byte ∷ [])) };
     } in
     let joined = replays-append old now new (Piece bytes ∷ []) (Piece (byte ∷ []) ∷ []) held holds after before.replayed next in
     let items = items-joined old.rest bytes (byte ∷ []) in
