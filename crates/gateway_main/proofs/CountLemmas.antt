@@ -1,20 +1,11 @@
 -- How counts of calls go on.
-use Rattle.std.proofs.Common.{◌≡◌, ℕ, ◌+◌, ◌<◌, ◌≤◌, ap, ◌∙◌, arith, false, ◌⊎◌, inl, inr}
-use Rattle.std.specs.Prelude.{Result, Ok, ◌==◌, if◌then◌else◌}
+use Rattle.std.proofs.Common.{◌≡◌, ℕ, ◌+◌, ◌<◌, ◌≤◌, ap, ◌∙◌, arith, false}
+use Rattle.std.specs.Prelude.{Ok, ◌==◌, if◌then◌else◌}
 use Rattle.std.proofs.lemmas.Bool.{ne_eqb}
-use Rattle.std.proofs.lemmas.Result.{MatchResult-weaker}
-use Rattle.gateway_main.specs.Counts.{Counts, counted, count_with, one_more, WentWell, OneFailed, OneEmpty, Went, Made}
+use Rattle.gateway_main.specs.Counts.{Counts, counted, count_with, one_more, WentWell, Made}
 
 pub went_on : (old mid new : Counts) → WentWell old mid → WentWell mid new → WentWell old new
 went_on old mid new first second = (second.0 ∙ first.0, second.1 ∙ first.1)
-
-wrong_behind : (old mid new : Counts) → WentWell old mid → OneFailed mid new ⊎ OneEmpty mid new → OneFailed old new ⊎ OneEmpty old new
-wrong_behind old mid new first (inl second) = inl (second.0 ∙ ap one_more first.0, second.1 ∙ first.1)
-wrong_behind old mid new first (inr second) = inr (second.0 ∙ first.0, second.1 ∙ ap one_more first.1)
-
--- calls behind others that went well
-pub went_behind : {A E : Type 0} (old mid new : Counts) (r : Result A E) → WentWell old mid → Went r mid new → Went r old new
-went_behind old mid new r first second = MatchResult-weaker r second (λ _ well. went_on old mid new first well) (λ _ wrong. wrong_behind old mid new first wrong)
 
 -- a call that answers some bytes went well
 pub went_well : (E : Type 0) (old mid new : Counts) (n : ℕ) → WentWell old mid → new ≡ counted {E = E} mid (Ok n) → (n ≡ 0 → ⊥) → WentWell old new

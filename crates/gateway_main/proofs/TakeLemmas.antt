@@ -16,19 +16,10 @@ use Rattle.gateway_main.specs.Written.{text_of}
 use Rattle.gateway_main.specs.Replayed.{IsIdle, Answers, AnswersPart, Replays, BreaksOff}
 use Rattle.gateway_main.specs.Progress.{Drains, DrainsPart, Takes}
 use Rattle.gateway_main.proofs.CountLemmas.{count_on}
-use Rattle.gateway_main.proofs.AnswerLemmas.{answers_nothing, answers_one, answers-append, part_one, answers-part}
+use Rattle.gateway_main.proofs.AnswerLemmas.{answers_one, answers-append, part_one, answers-part}
 use Rattle.gateway_main.proofs.ReplayLemmas.{rest_goes_on, items_behind, rest_behind, replays_nothing, replays-append}
 
 -- ---- the packets that wait
-
-pub drains_nothing : (old : Value) (held : Option (List ℕ)) (count : ℕ) → count < 2 ^ 64 → Drains old old held held count count
-drains_nothing old held count fits = record {
-  packets = [];
-  ready = refl;
-  rest = refl;
-  answered = answers_nothing old.state held;
-  counted = omega arith;
-}
 
 -- one packet more leaves the queue
 ready_after : (old mid new : List Packet) (packets : List Packet) (packet : Packet) → old ≡ packets ++ mid → mid ≡ packet ∷ new → old ≡ (packets ++ packet ∷ []) ++ new

@@ -1,7 +1,7 @@
 -- How the writes of a text go on.
-use Rattle.std.proofs.Common.{◌≡◌, ℕ, ◌-◌, ◌<◌, List, [], ◌++◌, length, take, drop, ap, sym, ◌∙◌, append_assoc, append-nil, length-append, arith, length-drop, Option, Some, None}
+use Rattle.std.proofs.Common.{◌≡◌, ℕ, ◌-◌, List, ◌++◌, length, take, drop, ap, sym, ◌∙◌, append_assoc, length-append, arith, length-drop, Option}
 use Rattle.std.specs.Prelude.{Result, IsErrAnd}
-use Rattle.std.specs.Io.KnownBytes.{Appends, Keeps}
+use Rattle.std.specs.Io.KnownBytes.{Appends}
 use Rattle.std.proofs.KnownBytes.{Appends-trans}
 use Rattle.std.proofs.lemmas.List.{take-append-drop}
 use Rattle.std.proofs.Math.Seq.{take-length}
@@ -23,22 +23,6 @@ left_after old mid new text rest n before more = record {
   where
     all_taken : (rest : List ℕ) (n : ℕ) → take (length rest - n) (drop n rest) ≡ drop n rest
     all_taken rest n = rw (← length-drop n rest) (take-length (drop n rest))
-
-Appends-kept : (old mid new : Option (List ℕ)) (bytes : List ℕ) → Appends old mid bytes → Keeps mid new → Appends old new bytes
-Appends-kept None mid new bytes p q = tt
-Appends-kept (Some x) None new bytes p q = absurd p
-Appends-kept (Some x) (Some y) None bytes p q = absurd q
-Appends-kept (Some x) (Some y) (Some z) bytes p q = q ∙ p
-
--- where some text is left, a first part of it is written
-pub part_left : (old new : Option (List ℕ)) (text rest : List ℕ) → Left old new text rest → 0 < length rest → AppendsPart old new text
-part_left old new text rest left some = record { part = left.done; missing = rest; whole = left.whole; proper = some; grown = left.grown }
-
-pub left_kept : (old mid new : Option (List ℕ)) (text rest : List ℕ) → Left old mid text rest → Keeps mid new → Left old new text rest
-left_kept old mid new text rest left kept = record { done = left.done; whole = left.whole; grown = Appends-kept old mid new left.done left.grown kept }
-
-pub left_none : (old new : Option (List ℕ)) (text : List ℕ) → Left old new text [] → Appends old new text
-left_none old new text left = rw (left.whole, append-nil left.done) left.grown
 
 -- a first part of the front is a first part of all
 pub part_of_front : (old new : Option (List ℕ)) (front back : List ℕ) → AppendsPart old new front → AppendsPart old new (front ++ back)
