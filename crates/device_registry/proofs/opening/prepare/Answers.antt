@@ -1,0 +1,69 @@
+use Rattle.std.proofs.Common.{rules, arith, ◌≡◌, Ok, Err, false, true, IsTrue}
+use Rattle.sqlite.specs.State.{HasCleanDisk, IsUnchanged}
+use Rattle.sqlite.specs.Held.{state}
+use Rattle.device_registry.specs.Opening.{is_clear, IsTakeable}
+use Rattle.device_registry.proofs.TakingLemmas.{free_found}
+use Rattle.device_registry.proofs.TakeLemmas.{begun, begun_stop, ready, taken, taken_stop}
+use Rattle.device_registry.proofs.opening.prepare.Goals as goal
+
+pub returns-in_err-make-clause-stop : goal.returns-in_err-make-clause-stop
+returns-in_err-make-clause-stop g c =
+    let old = state g.S.Store c.args.conn.now in
+    let clear : IsTrue (is_clear old.now.schema) = search rules in
+    begun_stop old (state g.S.Store c.make.new.conn) c.requires.rest clear c.make.ensures.stop
+
+pub returns-then-is_clear-clause-prepared : goal.returns-then-is_clear-clause-prepared
+returns-then-is_clear-clause-prepared g c clean =
+    let old = state g.S.Store c.args.conn.now in
+    let early : HasCleanDisk old = omega (arith, clean, c.make.ensures.stop.clean) in
+    let clear : IsTrue (is_clear old.now.schema) = search rules in
+    begun old (state g.S.Store c.make.new.conn) (c.requires.rest early) clear (c.in_ok-make.ensures.made clean)
+
+pub returns-then-is_clear-clause-stop : goal.returns-then-is_clear-clause-stop
+returns-then-is_clear-clause-stop g c =
+    let old = state g.S.Store c.args.conn.now in
+    let clear : IsTrue (is_clear old.now.schema) = search rules in
+    begun_stop old (state g.S.Store c.make.new.conn) c.requires.rest clear c.make.ensures.stop
+
+pub returns-then-not-branch-clause-refused : goal.returns-then-not-branch-clause-refused
+returns-then-not-branch-clause-refused g c clean why =
+    let old = state g.S.Store c.args.conn.now in
+    let early : HasCleanDisk old = omega (arith, clean, c.stands.ensures.stop.clean) in
+    let no : c.stands.result ≡ Ok false = search rules in
+    (c.stands.ensures.other clean no, λ free.
+      let clear : IsTrue (is_clear old.now.schema) = free_found old (c.requires.rest early) free in
+      absurd (search rules))
+
+pub renew-requires : goal.renew-requires
+renew-requires g c clean =
+    let old = state g.S.Store c.args.conn.now in
+    let early : HasCleanDisk old = omega (arith, clean, c.stands.ensures.stop.clean) in
+    let yes : IsTrue c.in_ok-stands.field-0 = search rules in
+    let it = c.in_ok-stands.ensures.ours clean in
+    ready old (state g.S.Store c.stands.new.conn) (c.requires.rest early) it.0 (it.1 yes)
+
+pub returns-in_err-renew-clause-stop : goal.returns-in_err-renew-clause-stop
+returns-in_err-renew-clause-stop g c =
+    let old = state g.S.Store c.args.conn.now in
+    let mid = state g.S.Store c.stands.new.conn in
+    let yes : IsTrue c.in_ok-stands.field-0 = search rules in
+    let took : HasCleanDisk mid → IsUnchanged old mid × IsTakeable old.now = λ clean. let it = c.in_ok-stands.ensures.ours clean in (it.0, it.1 yes) in
+    taken_stop old mid (state g.S.Store c.renew.new.conn) c.requires.rest took c.stands.ensures.stop c.renew.ensures.stop
+
+pub returns-clause-prepared : goal.returns-clause-prepared
+returns-clause-prepared g c clean =
+    let old = state g.S.Store c.args.conn.now in
+    let mid = state g.S.Store c.stands.new.conn in
+    let between : HasCleanDisk mid = omega (arith, clean, c.renew.ensures.stop.clean) in
+    let early : HasCleanDisk old = omega (arith, between, c.stands.ensures.stop.clean) in
+    let yes : IsTrue c.in_ok-stands.field-0 = search rules in
+    let it = c.in_ok-stands.ensures.ours between in
+    taken old mid (state g.S.Store c.renew.new.conn) (c.requires.rest early) it.0 (it.1 yes) (c.in_ok-renew.ensures.renewed clean)
+
+pub returns-clause-stop : goal.returns-clause-stop
+returns-clause-stop g c =
+    let old = state g.S.Store c.args.conn.now in
+    let mid = state g.S.Store c.stands.new.conn in
+    let yes : IsTrue c.in_ok-stands.field-0 = search rules in
+    let took : HasCleanDisk mid → IsUnchanged old mid × IsTakeable old.now = λ clean. let it = c.in_ok-stands.ensures.ours clean in (it.0, it.1 yes) in
+    taken_stop old mid (state g.S.Store c.renew.new.conn) c.requires.rest took c.stands.ensures.stop c.renew.ensures.stop

@@ -1,0 +1,13 @@
+use Rattle.sqlite.specs.Held.{state}
+use Rattle.device_registry.proofs.TurnLemmas.{renew_turns}
+use Rattle.device_registry.proofs.VersionLemmas.{renewed_if, renew_stop}
+use Rattle.device_registry.proofs.statements.renew.Goals as goal
+
+pub returns-clause-renewed : goal.returns-clause-renewed
+returns-clause-renewed g c clean = renewed_if (state g.S.Store c.args.conn.now) (state g.S.Store c.execute.new.self) c.execute.result (c.execute.ensures.runs clean)
+
+pub returns-clause-stop : goal.returns-clause-stop
+returns-clause-stop g c = renew_stop (state g.S.Store c.args.conn.now) (state g.S.Store c.execute.new.self) c.execute.ensures.survives
+
+pub returns-clause-turns : goal.returns-clause-turns
+returns-clause-turns g c change same = renew_turns change (state g.S.Store c.args.conn.now) (state g.S.Store c.execute.new.self) c.execute.result c.requires same c.execute.ensures.survives c.execute.ensures.runs

@@ -1,0 +1,58 @@
+use Rattle.std.proofs.Common.{rules, arith, length, ◌≤◌, ◌≡◌, ◌∷◌, [], IsTrue, pos, ap, sym, subst}
+use Rattle.std.proofs.lemmas.Bool.Decides.{nat_tests}
+use Rattle.sqlite.specs.declared.types.Value.TheVariants.{Int}
+use Rattle.sqlite.specs.State.{HasCleanDisk}
+use Rattle.sqlite.specs.Given.{IsPlain}
+use Rattle.sqlite.specs.Listing.{understood}
+use Rattle.sqlite.specs.Effect.{Database}
+use Rattle.sqlite.specs.Held.{state}
+use Rattle.sqlite.proofs.Callers.{unchanged_then}
+use Rattle.device_registry.specs.Tables.{all_text}
+use Rattle.device_registry.specs.Opening.{ShowsVersion}
+use Rattle.device_registry.proofs.MeaningLemmas.{version_means, all_means}
+use Rattle.device_registry.proofs.WholeLemmas.{whole, version_told, devices_told}
+use Rattle.device_registry.proofs.taking.is_whole.Goals as goal
+
+pub rows_of-requires : goal.rows_of-requires
+rows_of-requires g c clean =
+    let t = c.requires clean in
+    (version_means (state g.S.Store c.args.conn.now).now.schema t.meta_at t.meta t.meta_stands).plain
+
+pub rows_of-requires-2 : goal.rows_of-requires-2
+rows_of-requires-2 g c clean =
+    let old = state g.S.Store c.args.conn.now in
+    let early : HasCleanDisk old = omega (arith, clean, c.rows_of.ensures.stop.clean) in
+    let t = c.requires early in
+    let same = ap (λ (d : Database). d.schema) (c.in_ok-versions.ensures.shown clean).1.0.now_is in
+    subst (λ s. IsPlain (understood s all_text)) (sym same) (all_means old.now.schema t.devices_at t.devices t.devices_stand).plain
+
+pub returns-then-not-is_version-clause-other : goal.returns-then-not-is_version-clause-other
+returns-then-not-is_version-clause-other g c clean none t it =
+    let old = state g.S.Store c.args.conn.now in
+    let mid = state g.S.Store c.rows_of.new.conn in
+    let told : c.in_ok-versions.versions.items ≡ (Int (pos 1) ∷ []) ∷ [] = version_told old mid c.in_ok-versions.versions.items t it (c.in_ok-versions.ensures.shown clean).0 in
+    let is_one : IsTrue c.is_version.result = search rules in
+    absurd (let e = c.if-not-is_version.true in cc)
+
+pub returns-clause-whole : goal.returns-clause-whole
+returns-clause-whole g c clean =
+    let old = state g.S.Store c.args.conn.now in
+    let mid = state g.S.Store c.rows_of.new.conn in
+    let new = state g.S.Store c.rows_of-2.new.conn in
+    let between : HasCleanDisk mid = omega (arith, clean, c.rows_of-2.ensures.stop.clean) in
+    let first = c.in_ok-versions.ensures.shown between in
+    let second = c.in_ok-devices.ensures.shown clean in
+    (unchanged_then old mid new first.1 second.1, λ yes t.
+      let version : ShowsVersion c.in_ok-versions.versions.items = search rules in
+      let few : length c.in_ok-devices.devices.items ≤ 1000 = search rules in
+      whole old mid new c.in_ok-versions.versions.items c.in_ok-devices.devices.items t version first.0 first.1 second.0 few)
+
+pub returns-clause-other : goal.returns-clause-other
+returns-clause-other g c clean none t it =
+    let old = state g.S.Store c.args.conn.now in
+    let mid = state g.S.Store c.rows_of.new.conn in
+    let new = state g.S.Store c.rows_of-2.new.conn in
+    let between : HasCleanDisk mid = omega (arith, clean, c.rows_of-2.ensures.stop.clean) in
+    let count = devices_told old mid new c.in_ok-devices.devices.items t (c.in_ok-versions.ensures.shown between).1 (c.in_ok-devices.ensures.shown clean).0 in
+    let few : length c.in_ok-devices.devices.items ≤ 1000 = omega (arith, count, it.few) in
+    absurd (grind (arith, nat_tests, few, none, c.len.ensures))

@@ -1,0 +1,53 @@
+-- The registry between two of its statements, and what each does to it.
+use Rattle.std.specs.Prelude.{◌≡◌, ◌⊎◌, false, Result, OnOk, OnErr, IsTrue, List, [], ◌∷◌, Option, Some, None}
+use Rattle.sqlite.specs.State.{State, HasCleanDisk}
+use Rattle.sqlite.specs.Effect.{IsDatabase}
+use Rattle.sqlite.specs.Order.{Row, column}
+use Rattle.sqlite_trees.specs.Tree.{Trees}
+use Rattle.device_registry.specs.Devices.{Devices, Learned, Change, changed, device}
+use Rattle.device_registry.specs.declared.device.Device.{Device}
+use Rattle.device_registry.specs.Stored.{Registers, Holds, natural, eep_of, maker_in}
+
+-- the registry is open between two transactions, with these devices
+pub record Shows (s : State) (devices : Devices) : Type 0 where
+  pub is_open : IsTrue s.is_open
+  pub idle : s.in_transaction ≡ false
+  pub settled : s.now ≡ s.committed
+  pub sound : IsDatabase s.now
+  pub registers : Registers s.now devices
+
+pub record IsReady (s : State) : Type 0 where
+  pub devices : Devices
+  pub shows : Shows s devices
+
+-- as long as the disk is honest, an open connection is ready
+abbrev pub StaysReady : State → Type 0
+StaysReady s = HasCleanDisk s → IsTrue s.is_open → IsReady s
+
+-- where the connection is open still, it was open, and has the devices that it had
+abbrev pub GoesOn : State → State → Type 0
+GoesOn old new = IsTrue new.is_open → IsTrue old.is_open × ((devices : Devices) → Shows old devices → Shows new devices)
+
+-- nothing is written
+pub record Stays (old new : State) : Type 0 where
+  pub clean : HasCleanDisk new → HasCleanDisk old
+  pub stop : HasCleanDisk new → (trees : Trees) → new.may_leave trees → old.may_leave trees
+  pub goes_on : HasCleanDisk new → GoesOn old new
+
+-- the change is made and committed, or it is refused, and then a stop may leave it all the same
+pub record Turns {T E : Type 0} (old new : State) (change : Change) (result : Result T E) : Type 0 where
+  pub clean : HasCleanDisk new → HasCleanDisk old
+  pub stop : HasCleanDisk new → (trees : Trees) → new.may_leave trees → old.may_leave trees ⊎ (IsTrue old.is_open × ((devices : Devices) → Shows old devices → Holds trees (changed devices change)))
+  pub made : HasCleanDisk new → OnOk result ((devices : Devices) → Shows old devices → Shows new (changed devices change))
+  pub refused : HasCleanDisk new → OnErr result (GoesOn old new)
+
+-- ---- what a query shows
+
+-- the rows of a sender: its profile and its maker
+abbrev pub AreFound : Option Learned → List Row → Type 0
+AreFound None rows = rows ≡ []
+AreFound (Some it) rows = (row : Row) × (rows ≡ row ∷ []) × (eep_of (natural (column row 0)) ≡ it.eep) × (maker_in (column row 1) ≡ it.maker)
+
+-- a row of the list of all devices: the sender, its profile and its maker
+abbrev pub listed : Row → Device
+listed row = device (natural (column row 0)) (record { eep = eep_of (natural (column row 1)); maker = maker_in (column row 2) })

@@ -1,0 +1,88 @@
+-- The two tables of the registry.
+use Rattle.std.specs.Prelude.{ℕ, true, false, List, [], ◌∷◌, Some, codes, pos, negsuc}
+use Rattle.sqlite.specs.Collation.TheVariants.{Binary}
+use Rattle.sqlite.specs.declared.types.Value.TheVariants.{Null, Int}
+use Rattle.sqlite.specs.Table.{Table}
+use Rattle.sqlite.specs.Schema.{Schema}
+use Rattle.sqlite.specs.Kind.TheVariants.{Integer}
+use Rattle.sqlite.specs.Term.{Term, lit, col, op2}
+use Rattle.sqlite_schema.specs.declared.schema.Column.{Column}
+use Rattle.sqlite_sql.specs.declared.ops.BinaryOp.TheVariants.{Compare, And}
+use Rattle.sqlite_sql.specs.declared.ops.CompareOp.TheVariants.{Eq, Le, Ge}
+
+abbrev pub meta_name : List ℕ
+meta_name = codes "enogate_meta"
+
+abbrev pub device_name : List ℕ
+device_name = codes "enogate_device"
+
+abbrev pub meta_text : List ℕ
+meta_text = codes "CREATE TABLE enogate_meta (k INTEGER PRIMARY KEY CHECK (k = 1), version INTEGER NOT NULL) STRICT"
+
+abbrev pub device_text : List ℕ
+device_text = codes "CREATE TABLE enogate_device (id INTEGER PRIMARY KEY CHECK (id >= 0 AND id <= 4294967294), eep INTEGER NOT NULL CHECK (eep >= 0 AND eep <= 16777215), maker INTEGER NOT NULL CHECK (maker >= -1 AND maker <= 2047)) STRICT"
+
+abbrev pub key_column : List ℕ → Column
+key_column name = record { name = name; kind = Integer; is_strict = true; not_null = false; default = Null; collation = Binary }
+
+abbrev pub number_column : List ℕ → Column
+number_column name = record { name = name; kind = Integer; is_strict = true; not_null = true; default = Null; collation = Binary }
+
+abbrev pub keyed_table : List ℕ → ℕ → List Column → List Term → Table
+keyed_table name tree columns checks = record {
+  name = name;
+  tree = tree;
+  columns = columns;
+  key = Some 0;
+  primary = 0 ∷ [];
+  uniques = [];
+  orders = [];
+  checks = checks;
+  references = [];
+  computed = [];
+  stamps = record { places = []; terms = []; formats = [] };
+  is_counted = false;
+}
+
+-- the value at a place of the row lies between the two
+abbrev pub between : ℕ → Term → Term → Term
+between place low high = op2 And (op2 (Compare Ge Binary) (col 1 place) low) (op2 (Compare Le Binary) (col 1 place) high)
+
+abbrev pub meta_table : ℕ → Table
+meta_table tree = keyed_table meta_name tree (key_column (codes "k") ∷ number_column (codes "version") ∷ [])
+    (op2 (Compare Eq Binary) (col 1 0) (lit (Int (pos 1))) ∷ [])
+
+abbrev pub device_table : ℕ → Table
+device_table tree = keyed_table device_name tree (key_column (codes "id") ∷ number_column (codes "eep") ∷ number_column (codes "maker") ∷ [])
+    (between 0 (lit (Int (pos 0))) (lit (Int (pos 4294967294))) ∷ between 2 (lit (Int (pos 0))) (lit (Int (pos 16777215))) ∷ between 3 (lit (Int (negsuc 0))) (lit (Int (pos 2047))) ∷ [])
+
+-- the schema of a registry, whose tables lie in these trees
+abbrev pub registry_schema : ℕ → ℕ → Schema
+registry_schema meta devices = record { tables = meta_table meta ∷ device_table devices ∷ []; indexes = []; views = [] }
+
+abbrev pub learn_text : List ℕ
+learn_text = codes "INSERT OR REPLACE INTO enogate_device (id, eep, maker) VALUES (?1, ?2, ?3)"
+
+abbrev pub find_text : List ℕ
+find_text = codes "SELECT eep, maker FROM enogate_device WHERE id = ?1"
+
+abbrev pub others_text : List ℕ
+others_text = codes "SELECT count(*) FROM enogate_device WHERE id <> ?1"
+
+abbrev pub forget_text : List ℕ
+forget_text = codes "DELETE FROM enogate_device WHERE id = ?1"
+
+abbrev pub renew_text : List ℕ
+renew_text = codes "UPDATE enogate_meta SET version = 1"
+
+abbrev pub all_text : List ℕ
+all_text = codes "SELECT id, eep, maker FROM enogate_device ORDER BY id"
+
+abbrev pub list_text : List ℕ
+list_text = codes "SELECT rowid, type, sql FROM sqlite_schema ORDER BY rowid"
+
+abbrev pub version_text : List ℕ
+version_text = codes "INSERT INTO enogate_meta (k, version) VALUES (1, 1)"
+
+abbrev pub read_version_text : List ℕ
+read_version_text = codes "SELECT version FROM enogate_meta"

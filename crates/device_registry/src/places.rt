@@ -1,0 +1,97 @@
+//! Where the two tables stand in a schema, and what stands beside them.
+ghost use Rattle.std.specs.Prelude.{◌≡◌};
+ghost use Rattle.std.specs.List.{list_any};
+ghost use Rattle.sqlite.specs.Table.{Table};
+ghost use Rattle.sqlite_catalog.specs.Change.{is_used};
+ghost use Rattle.device_registry.specs.Opening.{refers, is_referred, is_indexed, lacks_counts, is_clear, is_left_alone, tree_named, trees_in};
+
+use sqlite_schema::names::same_name;
+use sqlite_schema::schema::{Schema, Table};
+
+const META: &[u8] = b"enogate_meta";
+const DEVICE: &[u8] = b"enogate_device";
+
+fn is_used(schema: &Schema, name: &[u8]) -> bool
+    ensures { result ≡ is_used schema.now name.now }
+{
+    schema.table_named(name).is_some()
+        || schema.index_named(name).is_some()
+        || schema.view_named(name).is_some()
+}
+
+fn refers(table: &Table, name: &[u8]) -> bool
+    ensures { result ≡ refers name.now table.now }
+{
+    table
+        .references
+        .as_slice()
+        .iter()
+        .any(|reference| same_name(reference.parent.as_slice(), name))
+}
+
+/// Whether a foreign key refers to a table of this name.
+fn is_referred(schema: &Schema, name: &[u8]) -> bool
+    ensures { result ≡ is_referred schema.now name.now }
+{
+    schema.tables.as_slice().iter().any(|table| refers(table, name))
+}
+
+fn is_indexed(schema: &Schema, tree: u32) -> bool
+    ensures { result ≡ is_indexed schema.now tree }
+{
+    schema.indexes.as_slice().iter().any(|index| index.table == tree)
+}
+
+fn counts(schema: &Schema) -> bool
+    ensures { result ≡ list_any (λ (table : Table). table.is_counted) schema.now.tables }
+{
+    schema.tables.as_slice().iter().any(|table| table.is_counted)
+}
+
+/// Whether a table counts its rowids where nothing holds the counts.
+fn lacks_counts(schema: &Schema) -> bool
+    ensures { result ≡ lacks_counts schema.now }
+{
+    counts(schema) && schema.table_named(b"sqlite_sequence").is_none()
+}
+
+/// Whether the two tables can be made.
+pub fn is_clear(schema: &Schema) -> bool
+    ensures { result ≡ is_clear schema.now }
+{
+    !is_used(schema, META)
+        && !is_used(schema, DEVICE)
+        && !is_referred(schema, META)
+        && !is_referred(schema, DEVICE)
+        && !lacks_counts(schema)
+}
+
+fn is_left_alone(schema: &Schema, meta: u32, devices: u32) -> bool
+    ensures { result ≡ is_left_alone schema.now meta devices }
+{
+    !is_referred(schema, META)
+        && !is_referred(schema, DEVICE)
+        && !is_indexed(schema, meta)
+        && !is_indexed(schema, devices)
+}
+
+fn tree_named(schema: &Schema, name: &[u8]) -> Option<u32>
+    ensures { result ≡ tree_named schema.now name.now }
+{
+    let at = schema.table_named(name)?;
+    let table = schema.tables.as_slice().get(at)?;
+    Some(table.tree)
+}
+
+/// The trees of the two tables, where they are left alone.
+pub fn trees_in(schema: &Schema) -> Option<(u32, u32)>
+    ensures { result ≡ trees_in schema.now }
+{
+    let meta = tree_named(schema, META)?;
+    let devices = tree_named(schema, DEVICE)?;
+    if is_left_alone(schema, meta, devices) {
+        Some((meta, devices))
+    } else {
+        None
+    }
+}

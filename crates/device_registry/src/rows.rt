@@ -1,0 +1,91 @@
+//! What the rows of the registry's queries tell.
+ghost use Rattle.std.specs.Prelude.{◌≡◌, ◌+◌, ◌≤◌, [], ◌∷◌, map, pos, Option, IfOk};
+ghost use Rattle.std.specs.Option.{option_map};
+ghost use Rattle.sqlite.specs.declared.types.Value.TheVariants.{Int};
+ghost use Rattle.sqlite.specs.Order.{Row as SqlRow, column};
+ghost use Rattle.device_registry.specs.Devices.{Learned, device};
+ghost use Rattle.device_registry.specs.Stored.{natural, eep_of, maker_in};
+ghost use Rattle.device_registry.specs.Ready.{AreFound, listed};
+
+use crate::device::Device;
+use crate::fault::StoreFault;
+use erp1_telegrams::Eep;
+use sqlite::Row;
+use std::alloc::Global;
+
+/// A profile, of its number.
+fn eep_named(number: u32) -> Eep
+    ensures { result ≡ eep_of number }
+{
+    Eep {
+        rorg: (number / 65536 % 256) as u8,
+        func: (number / 256 % 256) as u8,
+        typ: (number % 256) as u8,
+    }
+}
+
+/// A maker, of its number, which is -1 for none.
+fn maker_named(number: i64) -> Result<Option<u16>, StoreFault>
+    ensures { IfOk result (λ maker. maker ≡ maker_in (Int number)) }
+{
+    if number < 0 {
+        return Ok(None);
+    }
+    match u16::try_from(number) {
+        Ok(maker) => Ok(Some(maker)),
+        Err(_) => Err(StoreFault::Store),
+    }
+}
+
+/// A device, whose profile and maker stand from a place of the row on.
+fn device_at(id: u32, row: &Row, at: usize) -> Result<Device, StoreFault>
+    requires { at ≤ 1 }
+    ensures { IfOk result (λ it. it ≡ device id (record { eep = eep_of (natural (column row.now at)); maker = maker_in (column row.now (at + 1)) })) }
+{
+    let eep: u32 = row.get(at)?;
+    let maker: i64 = row.get(at + 1)?;
+    Ok(Device {
+        id,
+        eep: eep_named(eep),
+        maker: maker_named(maker)?,
+    })
+}
+
+/// The device of a sender, whose rows these are.
+pub(crate) fn found(id: u32, rows: &[Row]) -> Result<Option<Device>, StoreFault>
+    ensures { (known : Option Learned) → AreFound known rows.now → IfOk result (λ found. found ≡ option_map (device id) known) }
+{
+    match rows.first() {
+        Some(row) => Ok(Some(device_at(id, row, 0)?)),
+        None => Ok(None),
+    }
+}
+
+/// The device that a row lists.
+fn listed(row: &Row) -> Result<Device, StoreFault>
+    ensures { IfOk result (λ it. it ≡ listed row.now) }
+{
+    let id: u32 = row.get(0)?;
+    device_at(id, row, 1)
+}
+
+/// The devices that the rows list.
+pub(crate) fn all_listed(alloc: Global, rows: &[Row]) -> Result<Vec<Device>, StoreFault>
+    ensures { IfOk result (λ all. all.items ≡ map listed rows.now) }
+{
+    let mut all = Vec::with_capacity(alloc, rows.len())?;
+    for row in rows {
+        all.push(listed(row)?)?;
+    }
+    Ok(all)
+}
+
+/// The number that a query shows in one row.
+pub(crate) fn number(rows: &[Row]) -> Result<u64, StoreFault>
+    ensures { IfOk result (λ n. (row : SqlRow) × (more : _) × (rows.now ≡ row ∷ more) × (column row 0 ≡ Int (pos n))) }
+{
+    match rows.first() {
+        Some(row) => Ok(row.get(0)?),
+        None => Err(StoreFault::Store),
+    }
+}
