@@ -1,8 +1,15 @@
+pub mod BeginningLemmas
 pub mod CallLemmas
-pub mod DevicesLemmas
 pub mod EventLemmas
 pub mod ForCallers
 pub mod HexTexts
+pub mod LifeLemmas
 pub mod LineTexts
+pub mod LongLineLemmas
 pub mod OrderLemmas
+pub mod PrefixLemmas
+pub mod RestLemmas
 pub mod RunLemmas
+pub mod StopLemmas
+pub mod TellingLemmas
+pub mod TryLemmas

@@ -1,16 +1,17 @@
 -- The JSON values behind the lines have the texts of the lines, and hold no float.
-use Rattle.std.proofs.Common.{◌≡◌, ℕ, ℤ, pos, negsuc, ◌-ℤ◌, List, [], ◌∷◌, ◌++◌, codes, true, false, Option, Some, None, refl, sym, ap₂, ◌∙◌, append_assoc}
+use Rattle.std.proofs.Common.{◌≡◌, ℕ, ℤ, pos, negsuc, ◌-ℤ◌, List, [], ◌∷◌, ◌++◌, codes, decimal, true, false, Option, Some, None, refl, sym, ap₂, ◌∙◌, append_assoc}
 use Rattle.std.specs.Fmt.{signed_decimal}
 use Rattle.std.specs.List.{join_by, flat_map}
 use Rattle.json.specs.Print.{quoted}
 use Rattle.serde_json.specs.Written.{number_text, compact_text, items_text, has_float, items_have_float}
 use Rattle.serde_json.specs.Find.{of_integer, is_float}
 use Rattle.serde_json.proofs.OnLiterals.{serde_json_on_literals}
-use Rattle.gateway_core.specs.Lines.{id_text, eep_text, outcome_text, dbm_text, Entry, entry_text, list_text, ReadingLine, reading_text, maker_text, TeachLine, teach_text}
+use Rattle.device_registry.specs.declared.device.Device.{Device}
+use Rattle.gateway_core.specs.Lines.{id_text, eep_text, outcome_text, dbm_text, Entry, entry_text, list_text, ReadingLine, reading_text, maker_text, TeachLine, teach_text, device_text, count_text}
 use Rattle.gateway_core.specs.declared.lines.teach.Outcome.{Outcome}
-use Rattle.gateway_core.specs.declared.lines.teach.Outcome.TheVariants.{Accepted}
+use Rattle.gateway_core.specs.declared.lines.teach.Outcome.TheVariants.{Accepted, Deleted}
 use Rattle.gateway_core.proofs.HexTexts.{plain-id}
-use Rattle.gateway_core.specs.LineData.{IsPlain, dbm_data, entry_data, entries_data, reading_data, maker_data, teach_data}
+use Rattle.gateway_core.specs.LineData.{IsPlain, dbm_data, entry_data, entries_data, reading_data, maker_data, teach_data, device_data, count_data}
 
 -- ---- the parts of the lines
 
@@ -43,6 +44,7 @@ no_float-maker (Some maker) = refl
 plain-outcome : (outcome : Outcome) → IsPlain (outcome_text outcome)
 unfolding serde_json_on_literals
 plain-outcome Accepted = refl
+plain-outcome Deleted = refl
 
 -- ---- the list of readings
 
@@ -113,3 +115,33 @@ text-teach line plain =
 
 pub no_float-teach : (line : TeachLine) → has_float (teach_data line) ≡ false
 no_float-teach line = rw (no_float-maker line.maker) refl
+
+-- ---- the lines of a listing
+
+-- the parts of the line, grouped as the writer and as the definition group them
+grouped-device : (eep id maker : List ℕ)
+    → (codes "{\"eep\":\"" ++ ((eep ++ codes "\"") ++ (codes ",\"id\":\"" ++ ((id ++ codes "\"") ++ (codes ",\"maker\":" ++ (maker
+    ++ codes ",\"type\":\"device\"}")))))) ++ codes "\n"
+    ≡ codes "{\"eep\":\"" ++ eep ++ codes "\",\"id\":\"" ++ id ++ codes "\",\"maker\":" ++ maker ++ codes ",\"type\":\"device\"}\n"
+grouped-device eep id maker = simp append_assoc
+
+pub text_device : (known : Device) → IsPlain (eep_text known.eep) → compact_text (device_data known) ++ codes "\n" ≡ device_text known
+unfolding serde_json_on_literals
+text_device known plain =
+    rw (plain, plain-id known.id, text-maker known.maker)
+    (grouped-device (eep_text known.eep) (id_text known.id) (maker_text known.maker))
+
+pub no_float_device : (known : Device) → has_float (device_data known) ≡ false
+no_float_device known = rw (no_float-maker known.maker) refl
+
+grouped-count : (digits : List ℕ)
+    → (codes "{\"count\":" ++ (digits ++ codes ",\"type\":\"list\"}")) ++ codes "\n"
+    ≡ codes "{\"count\":" ++ digits ++ codes ",\"type\":\"list\"}\n"
+grouped-count digits = simp append_assoc
+
+pub text_count : (count : ℕ) → compact_text (count_data count) ++ codes "\n" ≡ count_text count
+unfolding serde_json_on_literals
+text_count count = grouped-count (decimal count)
+
+pub no_float_count : (count : ℕ) → has_float (count_data count) ≡ false
+no_float_count count = refl

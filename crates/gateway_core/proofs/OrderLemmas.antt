@@ -1,6 +1,7 @@
 -- The computed order of a line is the one that the line spells.
-use Rattle.std.proofs.Common.{◌≡◌, ◌≢◌, ℕ, Bool, true, false, cond, eqb, List, [], ◌∷◌, ◌++◌, length, drop, refl, sym, ap, ◌∙◌, subst, arith, Option, Some, None, ◌⊎◌, inl, inr}
-use Rattle.std.specs.Prelude.{Result, Ok, Err, codes, nat_eq, ◌==◌, ◌&&◌, slice_range, slice_index_or}
+use Rattle.std.proofs.Common.{◌≡◌, ◌≢◌, ℕ, Bool, true, false, cond, eqb, List, [], ◌∷◌, ◌++◌, length, drop, refl, sym, ap, ◌∙◌, subst, arith, Option, Some, None}
+use Rattle.std.specs.Prelude.{Result, Ok, Err, codes, nat_eq, ◌==◌, ◌&&◌, slice_range, slice_index_or, if◌then◌else◌}
+use Rattle.std.specs.Cmp.Lexicographic.{pointwise, same_text}
 use Rattle.std.specs.List.{starts_with}
 use Rattle.std.specs.Int.{w32, from_be_bytes}
 use Rattle.std.proofs.lemmas.Slice.Eq.{starts_is}
@@ -11,10 +12,10 @@ use Rattle.hex.specs.declared.error.FromHexError.{FromHexError}
 use Rattle.hex.proofs.HexLemmas.{decode_of-ok, decode_sized-ok, decode_sized-twice}
 use Rattle.erp1_telegrams.specs.declared.eep.Eep.{Eep}
 use Rattle.gateway_core.specs.declared.orders.Order.{Order}
-use Rattle.gateway_core.specs.declared.orders.Order.TheVariants.{Add}
+use Rattle.gateway_core.specs.declared.orders.Order.TheVariants.{Add, Remove, List as ListAll}
 use Rattle.gateway_core.specs.declared.orders.OrderFault.{OrderFault}
 use Rattle.gateway_core.specs.declared.orders.OrderFault.TheVariants.{Syntax, Range}
-use Rattle.gateway_core.specs.Orders.{SpellsId, SpellsEep, HasShape, IsInRange, Spells, byte_from, byte_in, id_from, id_in, eep_from, eep_in, add_order, order_of, OrdersAreSpelled}
+use Rattle.gateway_core.specs.Orders.{SpellsId, SpellsEep, HasShape, IsInRange, Spells, byte_from, byte_in, id_from, id_in, eep_from, eep_in, add_order, remove_order, order_of, OrdersAreSpelled}
 
 -- ---- an ID
 
@@ -150,78 +151,78 @@ words line e =
         let s = spaced rest (ap (λ (x : List ℕ). slice_index_or x 12 0 == 32) (sym first) ∙ t) in
         first ∙ ap (λ (x : List ℕ). codes "add " ++ x) s ∙ sym (ap (λ (x : List ℕ). codes "add " ++ slice_range x 4 12 ++ codes " " ++ drop 13 x) first)
 
--- what comes of an ID and a profile
-data Comes (i : Option ℕ) (e : Option Eep) (r : Result Order OrderFault) : Type 0 where
-  orders : (id : ℕ) (eep : Eep) → i ≡ Some id → e ≡ Some eep → id ≢ 0xFFFF_FFFF → r ≡ Ok (Add id eep) → Comes i e r
-  ranges : (id : ℕ) (eep : Eep) → i ≡ Some id → e ≡ Some eep → id ≡ 0xFFFF_FFFF → r ≡ Err Range → Comes i e r
-  fails : r ≡ Err Syntax → Comes i e r
+order_of-remove : (digits : List ℕ) → order_of (codes "remove " ++ digits) ≡ remove_order (id_in digits)
+order_of-remove digits = refl
 
-by_range : (id : ℕ) (eep : Eep) (b : Bool) → (id == 0xFFFF_FFFF) ≡ b → Comes (Some id) (Some eep) (cond b (Err Range) (Ok (Add id eep)))
-by_range id eep true t = ranges id eep refl refl (eqb-true id 0xFFFF_FFFF t) refl
-by_range id eep false t = orders id eep refl refl (eqb-false id 0xFFFF_FFFF t) refl
+-- what a result says of its line
+Speaks : List ℕ → Result Order OrderFault → Type 0
+Speaks line (Ok order) = Spells line order
+Speaks line (Err Range) = (order : Order) × HasShape line order × (¬ IsInRange order)
+Speaks line (Err Syntax) = Unit {0}
 
-comes : (i : Option ℕ) (e : Option Eep) → Comes i e (add_order i e)
-comes None e = fails refl
-comes (Some id) None = fails refl
-comes (Some id) (Some eep) = by_range id eep (id == 0xFFFF_FFFF) refl
+-- an order whose ID may be the ID of all
+speaks_by_range : (line : List ℕ) (id : ℕ) (order : Order) (b : Bool) → (id == 0xFFFF_FFFF) ≡ b → HasShape line order → (IsInRange order ≡ (id ≢ 0xFFFF_FFFF)) → Speaks line (if b then Err Range else Ok order)
+unfolding Speaks
+speaks_by_range line id order true t shape is = (order, shape, λ h. let n : id ≢ 0xFFFF_FFFF = subst (λ (T : Type 0). T) is h in n (eqb-true id 0xFFFF_FFFF t))
+speaks_by_range line id order false t shape is = (shape, subst (λ (T : Type 0). T) (sym is) (eqb-false id 0xFFFF_FFFF t))
 
--- what comes of a line: the words of an order, or a fault of syntax
-decided : (line : List ℕ) (b : Bool) → (starts_with nat_eq line (codes "add ") && slice_index_or line 12 0 == 32) ≡ b
-    → ((b ≡ true) × (order_of line ≡ add_order (id_in (slice_range line 4 12)) (eep_in (drop 13 line)))) ⊎ (order_of line ≡ Err Syntax)
-decided line true t = inl (refl, rw t refl)
-decided line false t = inr (rw t refl)
+speaks-add : (line : List ℕ) (i : Option ℕ) (e : Option Eep) → ((id : ℕ) (eep : Eep) → i ≡ Some id → e ≡ Some eep → HasShape line (Add id eep)) → Speaks line (add_order i e)
+unfolding Speaks
+speaks-add line None e shape = tt
+speaks-add line (Some id) None shape = tt
+speaks-add line (Some id) (Some eep) shape = speaks_by_range line id (Add id eep) (id == 0xFFFF_FFFF) refl (shape id eep refl refl) refl
 
--- the shape of a line that has the words, where they spell an ID and a profile
-shaped : (line : List ℕ) (id : ℕ) (eep : Eep) → (starts_with nat_eq line (codes "add ") && slice_index_or line 12 0 == 32) ≡ true
-    → id_in (slice_range line 4 12) ≡ Some id → eep_in (drop 13 line) ≡ Some eep → HasShape line (Add id eep)
-shaped line id eep t i e = (slice_range line 4 12, drop 13 line, words line t, id_spelled _ id i, eep_spelled _ eep e)
+speaks-remove : (line : List ℕ) (i : Option ℕ) → ((id : ℕ) → i ≡ Some id → HasShape line (Remove id)) → Speaks line (remove_order i)
+unfolding Speaks
+speaks-remove line None shape = tt
+speaks-remove line (Some id) shape = speaks_by_range line id (Remove id) (id == 0xFFFF_FFFF) refl (shape id refl) refl
 
--- a line with the shape of an order is read as its ID and its profile say
-read : (line : List ℕ) (id : ℕ) (eep : Eep) → HasShape line (Add id eep) → order_of line ≡ add_order (Some id) (Some eep)
-read line id eep (digits, text, is, spells_id, spells_eep) =
+speaks_by_words : (line : List ℕ) (add remove list : Bool) → (starts_with nat_eq line (codes "add ") && slice_index_or line 12 0 == 32) ≡ add
+    → starts_with nat_eq line (codes "remove ") ≡ remove → pointwise nat_eq line (codes "list") ≡ list
+    → Speaks line (if add then add_order (id_in (slice_range line 4 12)) (eep_in (drop 13 line)) else if remove then remove_order (id_in (drop 7 line)) else if list then Ok ListAll else Err Syntax)
+unfolding Speaks
+speaks_by_words line true remove list t r l =
+    speaks-add line _ _ (λ id eep i e. (slice_range line 4 12, drop 13 line, words line t, id_spelled _ id i, eep_spelled _ eep e))
+speaks_by_words line false true list t r l =
+    speaks-remove line _ (λ id i. (drop 7 line, (starts_is Decides-eqb line (codes "remove ") _ refl).0 r, id_spelled _ id i))
+speaks_by_words line false false true t r l = (same_text line (codes "list") (sym l), tt)
+speaks_by_words line false false false t r l = tt
+
+speaks : (line : List ℕ) → Speaks line (order_of line)
+speaks line = speaks_by_words line _ _ _ refl refl refl
+
+-- a line with the shape of an order is read as its numbers say
+read-add : (line : List ℕ) (id : ℕ) (eep : Eep) → HasShape line (Add id eep) → order_of line ≡ add_order (Some id) (Some eep)
+read-add line id eep (digits, text, is, spells_id, spells_eep) =
     let d = id_read digits id spells_id in
     ap order_of is ∙ order_of-add digits text d.0
     ∙ ap (λ (o : Option ℕ). add_order o (eep_in text)) d.1 ∙ ap (λ (o : Option Eep). add_order (Some id) o) (eep_read text eep spells_eep)
 
-pub spelled : (line : List ℕ) (order : Order) → order_of line ≡ Ok order → Spells line order
-spelled line order e = elim (decided line _ refl) [
-  | inr none ↦ absurd (let z = sym none ∙ e in cc)
-  | inl some ↦ elim (comes (id_in (slice_range line 4 12)) (eep_in (drop 13 line))) [
-    | orders id eep i p n r ↦
-        let o : Add id eep ≡ order = (let z = sym r ∙ sym some.1 ∙ e in cc) in
-        subst (Spells line) o (shaped line id eep some.0 i p, n)
-    | ranges id eep i p n r ↦ absurd (let z = sym r ∙ sym some.1 ∙ e in cc)
-    | fails r ↦ absurd (let z = sym r ∙ sym some.1 ∙ e in cc)
-  ]
-]
+read-remove : (line : List ℕ) (id : ℕ) → HasShape line (Remove id) → order_of line ≡ remove_order (Some id)
+read-remove line id (digits, is, spells_id) = ap order_of is ∙ order_of-remove digits ∙ ap remove_order (id_read digits id spells_id).1
 
-pub out_of_range : (line : List ℕ) → order_of line ≡ Err Range → (order : Order) × HasShape line order × (¬ IsInRange order)
-out_of_range line e = elim (decided line _ refl) [
-  | inr none ↦ absurd (let z = sym none ∙ e in cc)
-  | inl some ↦ elim (comes (id_in (slice_range line 4 12)) (eep_in (drop 13 line))) [
-    | orders id eep i p n r ↦ absurd (let z = sym r ∙ sym some.1 ∙ e in cc)
-    | ranges id eep i p n r ↦ (Add id eep, shaped line id eep some.0 i p, λ h. h n)
-    | fails r ↦ absurd (let z = sym r ∙ sym some.1 ∙ e in cc)
-  ]
-]
+in_range : (id : ℕ) (order : Order) → id ≢ 0xFFFF_FFFF → (if id == 0xFFFF_FFFF then Err Range else Ok order) ≡ Ok order
+in_range id order n = let t : eqb id 0xFFFF_FFFF ≡ false = ne_eqb id 0xFFFF_FFFF n in rw t refl
 
-in_range : (id : ℕ) (eep : Eep) → id ≢ 0xFFFF_FFFF → add_order (Some id) (Some eep) ≡ Ok (Add id eep)
-in_range id eep n = let t : eqb id 0xFFFF_FFFF ≡ false = ne_eqb id 0xFFFF_FFFF n in rw t refl
-
-no_syntax : (id : ℕ) (eep : Eep) (b : Bool) → cond b (Err Range) (Ok (Add id eep)) ≡ Err Syntax → ⊥
-no_syntax id eep true e = cc
-no_syntax id eep false e = cc
+no_syntax : (order : Order) (b : Bool) → (if b then Err Range else Ok order) ≡ Err Syntax → ⊥
+no_syntax order true e = cc
+no_syntax order false e = cc
 
 pub orders_are_spelled : OrdersAreSpelled
+unfolding Speaks
 orders_are_spelled = record {
-  spelled = spelled;
+  spelled = λ line order e. subst (Speaks line) e (speaks line);
   only = only;
-  out_of_range = out_of_range;
+  out_of_range = λ line e. subst (Speaks line) e (speaks line);
   no_shape = no_shape;
 }
   where
     only : (line : List ℕ) (order : Order) → Spells line order → order_of line ≡ Ok order
-    only line (Add id eep) (shape, n) = read line id eep shape ∙ in_range id eep n
+    only line (Add id eep) (shape, n) = read-add line id eep shape ∙ in_range id (Add id eep) n
+    only line (Remove id) (shape, n) = read-remove line id shape ∙ in_range id (Remove id) n
+    only line ListAll (shape, all) = ap order_of shape
 
     no_shape : (line : List ℕ) → order_of line ≡ Err Syntax → (order : Order) → ¬ HasShape line order
-    no_shape line e (Add id eep) = λ shape. no_syntax id eep (id == 0xFFFF_FFFF) (sym (read line id eep shape) ∙ e)
+    no_shape line e (Add id eep) = λ shape. no_syntax (Add id eep) (id == 0xFFFF_FFFF) (sym (read-add line id eep shape) ∙ e)
+    no_shape line e (Remove id) = λ shape. no_syntax (Remove id) (id == 0xFFFF_FFFF) (sym (read-remove line id shape) ∙ e)
+    no_shape line e ListAll = λ shape. let z = sym (ap order_of shape) ∙ e in cc

@@ -1,7 +1,13 @@
 -- Runs of many items.
-use Rattle.std.proofs.Common.{List, [], ◌∷◌, ◌++◌, refl, sym, ap, subst, ◌∙◌}
+use Rattle.std.proofs.Common.{inr, List, [], ◌∷◌, ◌++◌, refl, sym, ap, subst, ◌∙◌}
+use Rattle.sqlite.specs.Held.{state}
+use Rattle.sqlite_trees.specs.declared.store.Store.{Ghosts}
+use Rattle.device_registry.specs.Holding.{MayFind}
 use Rattle.gateway_core.specs.Step.{State, Item, Answer}
-use Rattle.gateway_core.specs.Run.{Fate, Run, Handles, state_with, SameFates}
+use Rattle.gateway_core.specs.Run.{Fate, Run, state_with, SameFates}
+use Rattle.gateway_core.specs.Stops.{nothing_left, left_by, Safe}
+use Rattle.gateway_core.specs.Handling.{Sight, Handles}
+use Rattle.gateway_core.proofs.StopLemmas.{safe_joins, safe-weaker}
 
 -- a run goes on with another
 pub run-append : (old mid new : State) (items more : List Item) (fates others : List Fate) (answers after : List Answer) → Run old items fates answers mid → Run mid more others after new → Run old (items ++ more) (fates ++ others) (answers ++ after) new
@@ -13,14 +19,34 @@ run-append old mid new [] more (fate ∷ fates) others answers after first secon
 run-append old mid new (item ∷ items) more [] others answers after first second = absurd first
 run-append old mid new (item ∷ items) more (fate ∷ fates) others [] after first second = absurd first
 
-pub handles-nothing : (state : State) → Handles state [] [] state
-handles-nothing state = record { fates = []; run = refl }
+module _ {S : Type 0} (g : Ghosts S) where
+  pub handles-nothing : (sight : Sight S) → Handles g sight [] [] sight
+  handles-nothing sight = record {
+    base = refl;
+    clean = λ honest. honest;
+    registries = λ honest before. before;
+    went = λ honest start at. record { fates = []; last = start; run = refl; at = at; stop = λ left may. inr (refl, may) };
+  }
 
-pub handles-append : (old mid new : State) (items more : List Item) (answers after : List Answer) → Handles old items answers mid → Handles mid more after new → Handles old (items ++ more) (answers ++ after) new
-handles-append old mid new items more answers after first second = record {
-  fates = first.fates ++ second.fates;
-  run = run-append old mid new items more first.fates second.fates answers after first.run second.run;
-}
+  pub handles-append : (old mid new : Sight S) (items more : List Item) (answers after : List Answer) → Handles g old items answers mid → Handles g mid more after new
+      → Handles g old (items ++ more) (answers ++ after) new
+  handles-append old mid new items more answers after first second = record {
+    base = second.base ∙ first.base;
+    clean = λ honest. first.clean (second.clean honest);
+    registries = λ honest before. second.registries honest (first.registries (second.clean honest) before);
+    went = λ honest start at.
+        let a = first.went (second.clean honest) start at in
+        let b = second.went honest a.last a.at in
+        let Before = MayFind (state g old.registry) in
+        record {
+          fates = a.fates ++ b.fates;
+          last = b.last;
+          run = run-append start a.last b.last items more a.fates b.fates answers after a.run b.run;
+          at = b.at;
+          stop = λ left may. safe_joins Before start a.last items more a.fates b.fates answers left a.run
+              (safe-weaker (MayFind (state g mid.registry)) (Safe Before (left_by nothing_left start items a.fates)) a.stop _ left (b.stop left may));
+        };
+  }
 
 pub same_fates : SameFates
 same_fates old left right [] [] [] [] x y = (refl, x ∙ sym y)

@@ -1,20 +1,21 @@
 -- What a gateway's value is, how each call moves it, and what all calls together do.
 use Rattle.std.specs.Prelude.{◌≡◌, ℕ, List, [], ◌∷◌, ◌++◌, Option, Some, None}
-use Rattle.std.specs.FinMap.{empty}
+use Rattle.sqlite.specs.Held.{Held}
+use Rattle.sqlite_trees.specs.declared.store.Store.{Ghosts}
 use Rattle.esp3_frames.specs.Packet.{Packet}
 use Rattle.esp3_frames.specs.Frames.{packets_in, rest_of}
-use Rattle.gateway_core.specs.Step.{State, Item, Received, Ordered, Answer}
-use Rattle.gateway_core.specs.Run.{Handles}
+use Rattle.gateway_core.specs.Step.{Item, Received, Ordered, Answer}
+use Rattle.gateway_core.specs.Handling.{Sight, Handles}
 
--- what is known, the packets that wait to be handled, and the bytes behind them, of which one more packet may come
-pub record Value : Type 0 where
-  pub state : State
+-- the registry and the base ID, the packets that wait to be handled, and the bytes behind them, of which one more packet may come
+pub record Value (S : Type 0) : Type 0 where
+  pub sight : Sight S
   pub ready : List Packet
   pub rest : List ℕ
 
--- a gateway with this base ID that knows no device, and to which no byte has come
-abbrev pub new_value : ℕ → Value
-new_value base = record { state = record { base = base; devices = empty }; ready = []; rest = [] }
+-- a gateway with this base ID over this registry, to which no byte has come
+abbrev pub new_value : {S : Type 0} → ℕ → Held S → Value S
+new_value base registry = record { sight = record { base = base; registry = registry }; ready = []; rest = [] }
 
 -- a call, with what it was given and what it answered
 pub data Call : Type 0 where
@@ -22,24 +23,25 @@ pub data Call : Type 0 where
   Next : (answer : Option Answer) → Call
   Order : (line : List ℕ) (answer : Answer) → Call
 
--- the call takes the gateway from old to new
-abbrev pub Moves : Value → Call → Value → Type 0
--- a byte goes behind the rest, which is framed anew; this is allowed where no packet waits
-Moves old (Byte byte) new =
-    (old.ready ≡ []) × (new.state ≡ old.state) × (new.ready ≡ packets_in (old.rest ++ byte ∷ [])) × (new.rest ≡ rest_of (old.rest ++ byte ∷ []))
--- the first packet that waits is handled
-Moves old (Next (Some answer)) new =
-    (packet : Packet) × (old.ready ≡ packet ∷ new.ready) × (new.rest ≡ old.rest) × Handles old.state (Received packet ∷ []) (answer ∷ []) new.state
--- no packet waits
-Moves old (Next None) new = (old.ready ≡ []) × (new ≡ old)
--- a line is handled
-Moves old (Order line answer) new =
-    (new.ready ≡ old.ready) × (new.rest ≡ old.rest) × Handles old.state (Ordered line ∷ []) (answer ∷ []) new.state
+module _ {S : Type 0} (g : Ghosts S) where
+  -- the call takes the gateway from old to new
+  abbrev pub Moves : Value S → Call → Value S → Type 0
+  -- a byte goes behind the rest, which is framed anew; this is allowed where no packet waits
+  Moves old (Byte byte) new =
+      (old.ready ≡ []) × (new.sight ≡ old.sight) × (new.ready ≡ packets_in (old.rest ++ byte ∷ [])) × (new.rest ≡ rest_of (old.rest ++ byte ∷ []))
+  -- the first packet that waits is handled
+  Moves old (Next (Some answer)) new =
+      (packet : Packet) × (old.ready ≡ packet ∷ new.ready) × (new.rest ≡ old.rest) × Handles g old.sight (Received packet ∷ []) (answer ∷ []) new.sight
+  -- no packet waits
+  Moves old (Next None) new = (old.ready ≡ []) × (new ≡ old)
+  -- a line is handled
+  Moves old (Order line answer) new =
+      (new.ready ≡ old.ready) × (new.rest ≡ old.rest) × Handles g old.sight (Ordered line ∷ []) (answer ∷ []) new.sight
 
--- the calls take the gateway from old to new, one after another
-abbrev pub AllMove : Value → List Call → Value → Type 0
-AllMove old [] new = new ≡ old
-AllMove old (call ∷ calls) new = (mid : Value) × Moves old call mid × AllMove mid calls new
+  -- the calls take the gateway from old to new, one after another
+  abbrev pub AllMove : Value S → List Call → Value S → Type 0
+  AllMove old [] new = new ≡ old
+  AllMove old (call ∷ calls) new = (mid : Value S) × Moves old call mid × AllMove mid calls new
 
 -- the bytes that were given
 abbrev pub bytes_of : List Call → List ℕ
@@ -67,14 +69,15 @@ AreItems calls packets items = ⊥
 
 -- The packets handled, and behind them those that wait, are the packets of the bytes given. So those handled are a first part
 -- of these, and all of them where none waits. The answers are a run on packets and lines, in the order of the calls.
-pub record IsARun (old : Value) (calls : List Call) (new : Value) : Type 0 where
+pub record IsARun {S : Type 0} (g : Ghosts S) (old : Value S) (calls : List Call) (new : Value S) : Type 0 where
   pub handled : List Packet
   pub items : List Item
   pub packets : packets_in (bytes_of calls) ≡ handled ++ new.ready
   pub rest : rest_of (bytes_of calls) ≡ new.rest
   pub in_order : AreItems calls handled items
-  pub run : Handles old.state items (answers_of calls) new.state
+  pub run : Handles g old.sight items (answers_of calls) new.sight
 
 -- whatever is called of a new gateway
-abbrev pub CallsAreARun : Type 0
-CallsAreARun = (base : ℕ) (calls : List Call) (new : Value) → AllMove (new_value base) calls new → IsARun (new_value base) calls new
+abbrev pub CallsAreARun : {S : Type 0} → Ghosts S → Type 0
+CallsAreARun {S} g = (base : ℕ) (registry : Held S) (calls : List Call) (new : Value S) →
+    AllMove g (new_value base registry) calls new → IsARun g (new_value base registry) calls new

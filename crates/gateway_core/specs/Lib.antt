@@ -3,10 +3,16 @@ pub mod LineData
 pub mod Contact
 pub mod TeachIn
 pub mod Orders
-pub mod Devices
 pub mod Address
 pub mod Step
 pub mod Run
+pub mod Stops
+pub mod Handling
+pub mod Refusals
+pub mod Tries
+pub mod Lives
+pub mod Prefixes
+pub mod Beginnings
 pub mod Events
 pub mod Calls
 pub mod Codes

@@ -4,6 +4,7 @@ use Rattle.json.specs.Print.{escape}
 use Rattle.serde_json.specs.Data.{Data, unsigned, null, number, string, array, object, Items, member, no_members}
 use Rattle.serde_json.specs.Find.{of_integer}
 use Rattle.serde_json.specs.View.{items_of}
+use Rattle.device_registry.specs.declared.device.Device.{Device}
 use Rattle.gateway_core.specs.Lines.{id_text, eep_text, Entry, ReadingLine, outcome_text, TeachLine}
 
 -- the text stands in a JSON string as it is, with no escape
@@ -47,3 +48,17 @@ teach_data line = object (
     member (codes "maker") (maker_data line.maker) (
     member (codes "result") (string (outcome_text line.outcome)) (
     member (codes "type") (string (codes "teach")) no_members)))))
+
+-- the line of a device
+abbrev pub device_data : Device → Data
+device_data known = object (
+    member (codes "eep") (string (eep_text known.eep)) (
+    member (codes "id") (string (id_text known.id)) (
+    member (codes "maker") (maker_data known.maker) (
+    member (codes "type") (string (codes "device")) no_members))))
+
+-- the line of a count
+abbrev pub count_data : ℕ → Data
+count_data count = object (
+    member (codes "count") (number (unsigned count)) (
+    member (codes "type") (string (codes "list")) no_members))

@@ -1,17 +1,18 @@
 -- The texts of the lines that the desk is sent, as bytes. The layout is this program's own choice: one JSON object
 -- with no space, its members in the byte order of their names, and a line feed at the end.
-use Rattle.std.specs.Prelude.{ℕ, pos, ◌-ℤ◌, List, [], ◌∷◌, ◌++◌, map, codes, decimal, Option, Some, None}
+use Rattle.std.specs.Prelude.{ℕ, pos, ◌-ℤ◌, List, [], ◌∷◌, ◌++◌, map, length, codes, decimal, Option, Some, None}
 use Rattle.std.specs.Fmt.{signed_decimal}
 use Rattle.std.specs.Int.{w32, to_be_bytes}
-use Rattle.std.specs.List.{join_by}
+use Rattle.std.specs.List.{join_by, flat_map}
 use Rattle.json.specs.Print.{quoted}
 use Rattle.hex.specs.Hex.{encode_upper}
 use Rattle.erp1_telegrams.specs.declared.eep.Eep.{Eep}
+use Rattle.device_registry.specs.declared.device.Device.{Device}
 use Rattle.gateway_core.specs.declared.lines.error.ErrorName.{ErrorName}
-use Rattle.gateway_core.specs.declared.lines.error.ErrorName.TheVariants.{Syntax, TooLong, Range, Full, UnsupportedProfile, Memory}
+use Rattle.gateway_core.specs.declared.lines.error.ErrorName.TheVariants.{Syntax, TooLong, Range, UnknownDevice, Full, UnsupportedProfile, Memory, Store}
 use Rattle.gateway_core.specs.declared.lines.reading.Reading.{Reading}
 use Rattle.gateway_core.specs.declared.lines.teach.Outcome.{Outcome}
-use Rattle.gateway_core.specs.declared.lines.teach.Outcome.TheVariants.{Accepted}
+use Rattle.gateway_core.specs.declared.lines.teach.Outcome.TheVariants.{Accepted, Deleted}
 
 -- a byte as two upper-case hexadecimal digits
 abbrev pub byte_text : ℕ → List ℕ
@@ -77,6 +78,7 @@ maker_text (Some maker) = decimal maker
 -- the outcome's word
 abbrev pub outcome_text : Outcome → List ℕ
 outcome_text Accepted = codes "accepted"
+outcome_text Deleted = codes "deleted"
 
 -- what a teach line tells
 pub record TeachLine : Type 0 where
@@ -93,6 +95,22 @@ teach_text line =
     ++ codes ",\"result\":\"" ++ outcome_text line.outcome
     ++ codes "\",\"type\":\"teach\"}\n"
 
+-- ---- the lines of a listing
+
+abbrev pub device_text : Device → List ℕ
+device_text known =
+    codes "{\"eep\":\"" ++ eep_text known.eep
+    ++ codes "\",\"id\":\"" ++ id_text known.id
+    ++ codes "\",\"maker\":" ++ maker_text known.maker
+    ++ codes ",\"type\":\"device\"}\n"
+
+abbrev pub count_text : ℕ → List ℕ
+count_text count = codes "{\"count\":" ++ decimal count ++ codes ",\"type\":\"list\"}\n"
+
+-- a line for each device, and behind them a line that counts them
+abbrev pub listing_text : List Device → List ℕ
+listing_text known = flat_map device_text known ++ count_text (length known)
+
 -- ---- an error line
 
 -- the error's name
@@ -100,9 +118,11 @@ abbrev pub name_of : ErrorName → List ℕ
 name_of Syntax = codes "syntax"
 name_of TooLong = codes "too_long"
 name_of Range = codes "range"
+name_of UnknownDevice = codes "unknown_device"
 name_of Full = codes "full"
 name_of UnsupportedProfile = codes "unsupported_profile"
 name_of Memory = codes "memory"
+name_of Store = codes "store"
 
 abbrev pub error_text : ErrorName → List ℕ
 error_text error = codes "{\"error\":\"" ++ name_of error ++ codes "\",\"type\":\"error\"}\n"

@@ -1,12 +1,13 @@
 -- The orders that a line of the desk spells. Own choice: words stand as written, with exactly one space between two of them.
 use Rattle.std.specs.Prelude.{◌≡◌, ◌≢◌, ℕ, ◌==◌, ◌&&◌, List, [], ◌∷◌, ◌++◌, codes, length, drop, slice_range, slice_index_or, Option, Some, None, Result, Ok, Err, nat_eq, if◌then◌else◌}
+use Rattle.std.specs.Cmp.Lexicographic.{pointwise}
 use Rattle.std.specs.List.{starts_with}
 use Rattle.hex.specs.Hex.{decode_of, decode_sized}
 use Rattle.hex.specs.declared.error.FromHexError.{FromHexError}
 use Rattle.std.specs.Int.{w32, from_be_bytes}
 use Rattle.erp1_telegrams.specs.declared.eep.Eep.{Eep}
 use Rattle.gateway_core.specs.declared.orders.Order.{Order}
-use Rattle.gateway_core.specs.declared.orders.Order.TheVariants.{Add}
+use Rattle.gateway_core.specs.declared.orders.Order.TheVariants.{Add, Remove, List as ListAll}
 use Rattle.gateway_core.specs.declared.orders.OrderFault.{OrderFault}
 use Rattle.gateway_core.specs.declared.orders.OrderFault.TheVariants.{Syntax, Range}
 
@@ -27,10 +28,14 @@ pub record SpellsEep (text : List ℕ) (eep : Eep) : Type 0 where
 -- the line has the shape of the order, whatever its numbers
 abbrev pub HasShape : List ℕ → Order → Type 0
 HasShape line (Add id eep) = (digits text : List ℕ) × (line ≡ codes "add " ++ digits ++ codes " " ++ text) × SpellsId digits id × SpellsEep text eep
+HasShape line (Remove id) = (digits : List ℕ) × (line ≡ codes "remove " ++ digits) × SpellsId digits id
+HasShape line ListAll = line ≡ codes "list"
 
 -- the order's numbers are in range: no device has the ID of all
 abbrev pub IsInRange : Order → Type 0
 IsInRange (Add id eep) = id ≢ 0xFFFF_FFFF
+IsInRange (Remove id) = id ≢ 0xFFFF_FFFF
+IsInRange ListAll = Unit {0}
 
 -- the line spells the order
 abbrev pub Spells : List ℕ → Order → Type 0
@@ -66,10 +71,16 @@ abbrev pub add_order : Option ℕ → Option Eep → Result Order OrderFault
 add_order (Some id) (Some eep) = if id == 0xFFFF_FFFF then Err Range else Ok (Add id eep)
 add_order id eep = Err Syntax
 
+abbrev pub remove_order : Option ℕ → Result Order OrderFault
+remove_order (Some id) = if id == 0xFFFF_FFFF then Err Range else Ok (Remove id)
+remove_order None = Err Syntax
+
 -- the order that a line spells, or why it spells none
 abbrev pub order_of : List ℕ → Result Order OrderFault
 order_of line =
     if starts_with nat_eq line (codes "add ") && slice_index_or line 12 0 == 32 then add_order (id_in (slice_range line 4 12)) (eep_in (drop 13 line))
+    else if starts_with nat_eq line (codes "remove ") then remove_order (id_in (drop 7 line))
+    else if pointwise nat_eq line (codes "list") then Ok ListAll
     else Err Syntax
 
 -- A line that spells no order is out of range where it has the shape of one, and else no order at all.

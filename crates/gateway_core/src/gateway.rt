@@ -1,6 +1,8 @@
 //! The gateway.
-ghost use Rattle.std.specs.Prelude.{◌≡◌, ◌≢◌, ◌↔◌, [], IfOk, MatchBool, false};
+ghost use Rattle.std.specs.Prelude.{◌≡◌, ◌≢◌, ◌↔◌, [], IfOk, IsTrue, MatchBool, false};
 ghost use Rattle.std.specs.Option.{option_map};
+ghost use Rattle.sqlite.specs.Held.{state};
+ghost use Rattle.sqlite.specs.State.{HasCleanDisk};
 ghost use Rattle.esp3_frames.specs.Framing.{MayBecomePacket};
 ghost use Rattle.gateway_core.specs.Address;
 ghost use Rattle.gateway_core.specs.Calls.{Byte as ByteCall, Moves, Next as NextCall, Order as OrderCall, new_value};
@@ -9,7 +11,9 @@ ghost use Rattle.gateway_core.specs.Replies.{answer_of};
 use crate::address::is_base;
 use crate::handler::Handler;
 use crate::reply::Reply;
+use device_registry::Registry;
 use esp3_resync::{Framer, PacketBuf};
+use sqlite::{Alter, Connection};
 use std::alloc::{AllocError, Global};
 use std::marker::Model;
 
@@ -35,40 +39,42 @@ impl From<AllocError> for StartFault {
 /// A gateway: what it knows, the packets that wait to be handled, and the bytes behind them, of which one more packet may
 /// come.
 #[derive(Drop)]
-pub struct Gateway {
-    handler: Handler,
+pub struct Gateway<S: Alter> {
+    handler: Handler<S>,
     framer: Framer,
     packet: PacketBuf,
 }
 
-impl Model for Gateway {
+impl<S: Alter> Model for Gateway<S> {
     ghost use Rattle.gateway_core.specs.Calls.{Value as GatewayValue};
     ghost use Rattle.gateway_core.specs.Codes.{value_code};
 
-    ghost Value = { GatewayValue };
+    ghost Value = { GatewayValue S };
 
-    ghost coded = { value_code };
+    ghost coded = { value_code S.code };
 
-    ghost view = { λ gateway. record { state = gateway.handler; ready = gateway.framer.ready; rest = gateway.framer.rest } };
+    ghost view = { λ gateway. record { sight = gateway.handler; ready = gateway.framer.ready; rest = gateway.framer.rest } };
 }
 
-impl Gateway {
-    /// A gateway that knows no device, for a radio module with this base ID. An ID that is no base ID is refused first;
+impl<S: Alter + Drop> Gateway<S> {
+    /// A gateway over this registry, for a radio module with this base ID. An ID that is no base ID is refused first;
     /// then want of memory for the framer.
-    pub fn new(alloc: Global, base: u32) -> Result<Gateway, StartFault>
+    pub fn new(alloc: Global, registry: Registry<S>, base: u32) -> Result<Gateway<S>, StartFault>
         ensures bad_base { (result ≡ Err StartFault.BadBase) ↔ (Address.is_base base ≡ false) }
-        ensures ok { IfOk result (λ gateway. gateway ≡ new_value base) }
+        ensures ok { IfOk result (λ gateway. gateway ≡ new_value base registry) }
     {
         if !is_base(base) {
             return Err(StartFault::BadBase);
         }
         Ok(Gateway {
-            handler: Handler::new(alloc, base),
+            handler: Handler::new(alloc, registry, base),
             framer: Framer::new(alloc)?,
             packet: PacketBuf::new(alloc)?,
         })
     }
+}
 
+impl<S: Alter> Gateway<S> {
     /// Whether a packet waits to be handled. Of the bytes behind it one more may come.
     pub fn is_ready(&self) -> bool
         ensures ready { MatchBool result (self.now.ready ≢ []) (self.now.ready ≡ []) }
@@ -80,14 +86,14 @@ impl Gateway {
     /// Takes the next byte of the serial line. One byte can make several packets ready. It takes no memory.
     pub fn byte(&mut self, b: u8)
         requires { self.old.ready ≡ [] }
-        ensures { Moves self.old (ByteCall b) self.new }
+        ensures { Moves S.Store self.old (ByteCall b) self.new }
     {
         self.framer.push(b);
     }
 
     /// Handles the first packet that waits. `None` says that none does.
     pub fn next(&mut self) -> Option<Reply>
-        ensures { Moves self.old (NextCall (option_map answer_of result)) self.new }
+        ensures { Moves S.Store self.old (NextCall (option_map answer_of result)) self.new }
     {
         if !self.framer.take(&mut self.packet) {
             return None;
@@ -98,8 +104,16 @@ impl Gateway {
 
     /// Handles a line of the desk, without its line end.
     pub fn order(&mut self, line: &[u8]) -> Reply
-        ensures { Moves self.old (OrderCall line.now (answer_of result)) self.new }
+        ensures { Moves S.Store self.old (OrderCall line.now (answer_of result)) self.new }
     {
         self.handler.line(line)
+    }
+    /// Hands on the connection of the registry, as it is, with no open transaction.
+    pub fn close(self) -> Connection<S>
+        ensures same { result ≡ self.sight.registry }
+        ensures idle { HasCleanDisk (state S.Store self.sight.registry) → IsTrue (state S.Store self.sight.registry).is_open → (state S.Store self.sight.registry).in_transaction ≡ false }
+    {
+        let Gateway { handler, .. } = self;
+        handler.close()
     }
 }

@@ -1,11 +1,20 @@
 //! Laws of the definitions. Each function does nothing: its contract is the law.
 ghost use Rattle.std.specs.Prelude.{◌≡◌, ℕ, List, [], ◌++◌};
+ghost use Rattle.sqlite.specs.Held.{Held, state};
 ghost use Rattle.esp3_frames.specs.Frames.{packets_in, rest_of};
+ghost use Rattle.device_registry.specs.Holding.{MayFind};
+ghost use Rattle.gateway_core.specs.Beginnings.{CallsLeaveALife, StopsLeaveALife, TeachLinesAreTold};
 ghost use Rattle.gateway_core.specs.Calls.{CallsAreARun};
 ghost use Rattle.gateway_core.specs.Events.{CutsDoNotMatter, Event, brought, bytes_in, items_of};
+ghost use Rattle.gateway_core.specs.Handling.{Handles, Sight};
+ghost use Rattle.gateway_core.specs.Lives.{LivesKeep};
 ghost use Rattle.gateway_core.specs.Orders.{OrdersAreSpelled};
-ghost use Rattle.gateway_core.specs.Run.{Handles, SameFates};
-ghost use Rattle.gateway_core.specs.Step.{Answer, Item, State};
+ghost use Rattle.gateway_core.specs.Prefixes.{LeftIsPrefix, SafeIsPrefix};
+ghost use Rattle.gateway_core.specs.Run.{SameFates};
+ghost use Rattle.gateway_core.specs.Step.{Answer, Item};
+ghost use Rattle.gateway_core.specs.Stops.{SafeJoins};
+
+use sqlite::Alter;
 
 /// The computed order of a line is the one that the line spells.
 pub fn orders_are_spelled()
@@ -26,10 +35,10 @@ pub fn items_in_parts()
 {}
 
 /// Items that are handled, and then others, are handled one after another.
-pub fn handles_join()
-    ensures nothing { (state : State) → Handles state [] [] state }
-    ensures join { (old mid new : State) (items more : List Item) (answers after : List Answer) →
-        Handles old items answers mid → Handles mid more after new → Handles old (items ++ more) (answers ++ after) new }
+pub fn handles_join<S: Alter>()
+    ensures nothing { (sight : Sight S) → Handles S.Store sight [] [] sight }
+    ensures join { (old mid new : Sight S) (items more : List Item) (answers after : List Answer) →
+        Handles S.Store old items answers mid → Handles S.Store mid more after new → Handles S.Store old (items ++ more) (answers ++ after) new }
 {}
 
 /// Where the same items are refused, each for the same cause, the answers are the same.
@@ -39,6 +48,42 @@ pub fn same_fates()
 
 /// Whatever is called of a new gateway, in whatever order: the packets handled, and behind them those that wait, are the
 /// packets of the bytes given, and the answers are a run on packets and lines in the order of the calls.
-pub fn calls_are_a_run()
-    ensures { CallsAreARun }
+pub fn calls_are_a_run<S: Alter>()
+    ensures { CallsAreARun S.Store }
+{}
+
+/// What is safe for a second list of items, behind what is safe for a first, is safe for both joined.
+pub fn safe_joins<S: Alter>()
+    ensures { (registry : Held S) → SafeJoins (MayFind (state S.Store registry)) }
+{}
+
+/// What is told learned or forgotten is found so by every later life, until an item learns or forgets the sender.
+pub fn lives_keep()
+    ensures { LivesKeep }
+{}
+
+/// What a stop may leave is what was known after a first part of the items, and that part has every item that was told done.
+pub fn safe_is_prefix()
+    ensures { SafeIsPrefix }
+{}
+
+/// What a life leaves is what was known after a first part of its items that has every told one, or after all of them and
+/// the one in work.
+pub fn left_is_prefix()
+    ensures { LeftIsPrefix }
+{}
+
+/// A teach line is answered only where an item asks for a change and the change is committed.
+pub fn teach_lines_are_told()
+    ensures { TeachLinesAreTold }
+{}
+
+/// What a stop leaves after the calls of a life is what a life may leave.
+pub fn calls_leave_a_life<S: Alter>()
+    ensures { CallsLeaveALife S.Store }
+{}
+
+/// What a stop leaves while the write of the next item is tried is what a life that is stopped in that item may leave.
+pub fn stops_leave_a_life<S: Alter>()
+    ensures { StopsLeaveALife S.Store }
 {}

@@ -4,18 +4,18 @@
 
 mod address;
 mod contact;
-mod devices;
 mod gateway;
 mod handler;
 pub mod laws;
 mod lines;
 mod orders;
+mod refusal;
 mod reply;
 mod teach_in;
-#[cfg(test)]
-mod tests;
+mod verdict;
 
 pub use address::is_base;
 pub use gateway::{Gateway, StartFault};
 pub use lines::line::Line;
+pub use refusal::Cause;
 pub use reply::{Desk, Reply};

@@ -1,6 +1,6 @@
 //! The orders of the desk, read from their lines.
 ghost use Rattle.std.specs.Prelude.{◌≡◌};
-ghost use Rattle.gateway_core.specs.Orders.{byte_in, id_in, eep_in, order_of};
+ghost use Rattle.gateway_core.specs.Orders.{add_order, byte_in, eep_in, id_in, order_of, remove_order};
 
 use erp1_telegrams::{BROADCAST, Eep};
 use hex::FromHex;
@@ -10,6 +10,10 @@ use hex::FromHex;
 pub enum Order {
     /// `add ID EEP`: learn the device with this ID and profile.
     Add(u32, Eep),
+    /// `remove ID`: forget the device with this ID.
+    Remove(u32),
+    /// `list`: tell all devices.
+    List,
 }
 
 /// Why a line is no order.
@@ -47,19 +51,41 @@ fn eep_of(text: &[u8]) -> Option<Eep>
     Some(Eep { rorg, func, typ })
 }
 
-/// Reads an order. A line that is none is refused as out of range where it has the shape of an order, and else for its
-/// syntax.
-pub fn parse(line: &[u8]) -> Result<Order, OrderFault>
-    ensures { result ≡ order_of line.now }
+fn add_order(id: &[u8], eep: &[u8]) -> Result<Order, OrderFault>
+    ensures { result ≡ add_order (id_in id.now) (eep_in eep.now) }
 {
-    if !line.starts_with(b"add ".as_slice()) || line.get(12) != Some(&b' ') {
-        return Err(OrderFault::Syntax);
-    }
-    let (Some(id), Some(eep)) = (id_of(&line[4..12]), eep_of(&line[13..])) else {
+    let (Some(id), Some(eep)) = (id_of(id), eep_of(eep)) else {
         return Err(OrderFault::Syntax);
     };
     if id == BROADCAST {
         return Err(OrderFault::Range);
     }
     Ok(Order::Add(id, eep))
+}
+
+fn remove_order(id: &[u8]) -> Result<Order, OrderFault>
+    ensures { result ≡ remove_order (id_in id.now) }
+{
+    match id_of(id) {
+        Some(BROADCAST) => Err(OrderFault::Range),
+        Some(id) => Ok(Order::Remove(id)),
+        None => Err(OrderFault::Syntax),
+    }
+}
+
+/// Reads an order. A line that is none is refused as out of range where it has the shape of an order, and else for its
+/// syntax.
+pub fn parse(line: &[u8]) -> Result<Order, OrderFault>
+    ensures { result ≡ order_of line.now }
+{
+    if line.starts_with(b"add ".as_slice()) && line.get(12) == Some(&b' ') {
+        return add_order(&line[4..12], &line[13..]);
+    }
+    if line.starts_with(b"remove ".as_slice()) {
+        return remove_order(&line[7..]);
+    }
+    if line == b"list".as_slice() {
+        return Ok(Order::List);
+    }
+    Err(OrderFault::Syntax)
 }

@@ -9,3 +9,5 @@ pub mod LineLemmas
 pub mod AlikeLemmas
 pub mod ProgressLemmas
 pub mod CommandLemmas
+pub mod StartLemmas
+pub mod LifeLemmas

@@ -1,76 +1,42 @@
 -- How a replay of events goes on.
-use Rattle.std.proofs.Common.{◌≡◌, ℕ, List, [], ◌∷◌, ◌++◌, refl, ap, ap₂, sym, ◌∙◌, append_assoc, append-nil, Option, map}
-use Rattle.esp3_frames.specs.Packet.{Packet}
-use Rattle.esp3_frames.specs.Framing.{MayBecomePacket}
-use Rattle.esp3_frames.specs.Frames.{packets_in, rest_of}
-use Rattle.esp3_frames.proofs.ForCallers.{framing_in_parts, framing_of, frames_of-may_become, rest_may_become}
-use Rattle.gateway_core.specs.Step.{Item, Received, Ordered}
+use Rattle.std.proofs.Common.{ℕ, List, [], ◌∷◌, ◌++◌, ap, sym, ◌∙◌, append_assoc, append-nil, Option, map}
+use Rattle.esp3_frames.specs.Frames.{rest_of}
+use Rattle.esp3_frames.proofs.ForCallers.{frames_of-may_become}
+use Rattle.gateway_core.specs.Step.{Item, Received}
 use Rattle.gateway_core.specs.Calls.{Value}
-use Rattle.gateway_core.specs.Events.{Event, Piece, Line, brought, items_of, bytes_in}
-use Rattle.gateway_core.proofs.ForCallers.{brought-rest, items_of-append}
+use Rattle.gateway_core.specs.Events.{Event, items_of}
+use Rattle.gateway_core.proofs.ForCallers.{items_behind, rest_behind}
 use Rattle.gateway_main.specs.Replayed.{IsIdle, Replays, BreaksOff}
 use Rattle.gateway_main.proofs.AnswerLemmas.{answers_nothing, answers-append, answers-part}
+use Rattle.sqlite_trees.specs.declared.store.Store.{Ghosts}
 
-pub rest_goes_on : (s : List ℕ) → MayBecomePacket (rest_of s)
-rest_goes_on s = rest_may_become (framing_of s)
+module _ {S : Type 0} (g : Ghosts S) where
+  pub replays_nothing : (old : Value S) (held : Option (List ℕ)) → IsIdle old → Replays g old old [] held held
+  replays_nothing old held idle = record {
+    answered = answers_nothing g old.sight held;
+    rest = (frames_of-may_become old.rest idle.rest).1 ∙ ap rest_of (sym (append-nil old.rest));
+    idle = idle;
+  }
 
-rest_of-rest_of : (s : List ℕ) → rest_of (rest_of s) ≡ rest_of s
-rest_of-rest_of s = sym (frames_of-may_become (rest_of s) (rest_goes_on s)).1
+  pub replays-append : (old mid new : Value S) (events more : List Event) (held holds now : Option (List ℕ)) → Replays g old mid events held holds → Replays g mid new more holds now → Replays g old new (events ++ more) held now
+  replays-append old mid new events more held holds now first second = record {
+    answered = rw (items_behind old.rest mid.rest events more first.rest)
+        (answers-append g old.sight mid.sight new.sight (items_of old.rest events) (items_of mid.rest more) held holds now first.answered second.answered);
+    rest = second.rest ∙ rest_behind old.rest mid.rest events more first.rest;
+    idle = second.idle;
+  }
 
--- the items of events hang on the rest of the stream alone
-items_of-rest : (s : List ℕ) (events : List Event) → items_of s events ≡ items_of (rest_of s) events
-items_of-rest s [] = refl
-items_of-rest s (Piece w ∷ events) =
-    let bring : brought s w ≡ brought (rest_of s) w =
-    brought-rest s w ∙ ap (λ r. packets_in (r ++ w)) (sym (rest_of-rest_of s)) ∙ sym (brought-rest (rest_of s) w) in
-    let others : items_of (s ++ w) events ≡ items_of (rest_of s ++ w) events =
-    items_of-rest (s ++ w) events ∙ ap (λ r. items_of r events) (framing_in_parts s w).1 ∙ sym (items_of-rest (rest_of s ++ w) events) in
-    ap₂ (λ (ps : List Packet) (is : List Item). map Received ps ++ is) bring others
-items_of-rest s (Line line ∷ events) = ap (λ (is : List Item). Ordered line ∷ is) (items_of-rest s events)
-
-bytes_in-append : (events more : List Event) → bytes_in (events ++ more) ≡ bytes_in events ++ bytes_in more
-bytes_in-append [] more = refl
-bytes_in-append (Piece bytes ∷ events) more = ap (λ s. bytes ++ s) (bytes_in-append events more) ∙ sym (append_assoc bytes (bytes_in events) (bytes_in more))
-bytes_in-append (Line line ∷ events) more = bytes_in-append events more
-
--- more events behind those that left this rest
-pub items_behind : (old mid : List ℕ) (events more : List Event) → mid ≡ rest_of (old ++ bytes_in events) → items_of old (events ++ more) ≡ items_of old events ++ items_of mid more
-items_behind old mid events more e =
-    items_of-append old events more
-    ∙ ap (λ (is : List Item). items_of old events ++ is) (items_of-rest (old ++ bytes_in events) more ∙ ap (λ r. items_of r more) (sym e))
-
-pub rest_behind : (old mid : List ℕ) (events more : List Event) → mid ≡ rest_of (old ++ bytes_in events) → rest_of (mid ++ bytes_in more) ≡ rest_of (old ++ bytes_in (events ++ more))
-rest_behind old mid events more e =
-    ap (λ r. rest_of (r ++ bytes_in more)) e
-    ∙ sym (framing_in_parts (old ++ bytes_in events) (bytes_in more)).1
-    ∙ ap rest_of (append_assoc old (bytes_in events) (bytes_in more) ∙ ap (λ s. old ++ s) (sym (bytes_in-append events more)))
-
-pub replays_nothing : (old : Value) (held : Option (List ℕ)) → IsIdle old → Replays old old [] held held
-replays_nothing old held idle = record {
-  answered = answers_nothing old.state held;
-  rest = (frames_of-may_become old.rest idle.rest).1 ∙ ap rest_of (sym (append-nil old.rest));
-  idle = idle;
-}
-
-pub replays-append : (old mid new : Value) (events more : List Event) (held holds now : Option (List ℕ)) → Replays old mid events held holds → Replays mid new more holds now → Replays old new (events ++ more) held now
-replays-append old mid new events more held holds now first second = record {
-  answered = rw (items_behind old.rest mid.rest events more first.rest)
-      (answers-append old.state mid.state new.state (items_of old.rest events) (items_of mid.rest more) held holds now first.answered second.answered);
-  rest = second.rest ∙ rest_behind old.rest mid.rest events more first.rest;
-  idle = second.idle;
-}
-
--- a write fails behind some events
-pub replays-break : (old mid new : Value) (events : List Event) (event : Event) (held holds now : Option (List ℕ)) → Replays old mid events held holds → BreaksOff mid new [] event holds now → BreaksOff old new events event held now
-replays-break old mid new events event held holds now first second =
-    let last = second.begun ∷ [] in
-    record {
-      begun = second.begun;
-      begins = second.begins;
-      items = items_of old.rest events ++ second.items;
-      stand = items_behind old.rest mid.rest events last first.rest
-          ∙ ap (λ (is : List Item). items_of old.rest events ++ is) second.stand
-          ∙ sym (append_assoc (items_of old.rest events) second.items (map Received new.ready));
-      rest = second.rest ∙ rest_behind old.rest mid.rest events last first.rest;
-      answered = answers-part old.state mid.state new.state (items_of old.rest events) second.items held holds now first.answered second.answered;
-    }
+  -- a write fails behind some events
+  pub replays-break : (old mid new : Value S) (events : List Event) (event : Event) (held holds now : Option (List ℕ)) → Replays g old mid events held holds → BreaksOff g mid new [] event holds now → BreaksOff g old new events event held now
+  replays-break old mid new events event held holds now first second =
+      let last = second.begun ∷ [] in
+      record {
+        begun = second.begun;
+        begins = second.begins;
+        items = items_of old.rest events ++ second.items;
+        stand = items_behind old.rest mid.rest events last first.rest
+            ∙ ap (λ (is : List Item). items_of old.rest events ++ is) second.stand
+            ∙ sym (append_assoc (items_of old.rest events) second.items (map Received new.ready));
+        rest = second.rest ∙ rest_behind old.rest mid.rest events last first.rest;
+        answered = answers-part g old.sight mid.sight new.sight (items_of old.rest events) second.items held holds now first.answered second.answered;
+      }

@@ -12,8 +12,12 @@ use Rattle.gateway_main.specs.declared.command_line.Refused.TheVariants.{Words, 
 abbrev pub base_rule : Rule
 base_rule = record (new_rule (codes "base")) { long = Some (codes "base"); action = Some Set; value_names = 1; required = true }
 
+-- `--db PATH`
+abbrev pub db_rule : Rule
+db_rule = record (new_rule (codes "db")) { long = Some (codes "db"); action = Some Set; value_names = 1 }
+
 abbrev pub replay_app : App
-replay_app = with_rule (new_app (codes "replay")) base_rule
+replay_app = with_rule (with_rule (new_app (codes "replay")) base_rule) db_rule
 
 -- `enogate`, with the one subcommand `replay`
 abbrev pub enogate_app : App
@@ -21,16 +25,20 @@ enogate_app =
     let above = new_app (codes "enogate") in
     with_subcommand (record above { top = record above.top { subcommand_required = true } }) replay_app.top
 
--- the text that stands for the base ID, where the subcommand is `replay`
-abbrev pub base_at : Text × List Row → Option Text
-base_at found = if bytes_eq found.0 (codes "replay") then first_of (codes "base") found.1 else None
+-- the text that stands for the option of this name, where the subcommand is `replay`
+abbrev pub text_at : Text → Text × List Row → Option Text
+text_at name found = if bytes_eq found.0 (codes "replay") then first_of name found.1 else None
 
-abbrev pub base_found : Option (Text × List Row) → Option ℕ
-base_found found = option_and_then base_in (option_and_then base_at found)
+abbrev pub text_found : Text → Option (Text × List Row) → Option Text
+text_found name found = option_and_then (text_at name) found
 
 -- the base ID of a command line that `clap` takes
 abbrev pub base_of_line : List Text → Option ℕ
-base_of_line words = base_found (subcommand_of enogate_app words)
+base_of_line words = option_and_then base_in (text_found (codes "base") (subcommand_of enogate_app words))
+
+-- the path of its registry, if it names one
+abbrev pub db_of_line : List Text → Option Text
+db_of_line words = text_found (codes "db") (subcommand_of enogate_app words)
 
 -- it was refused for want of memory
 abbrev pub IsMemory : Refused → Type 0

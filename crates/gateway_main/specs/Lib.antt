@@ -7,3 +7,5 @@ pub mod Progress
 pub mod Bases
 pub mod Faults
 pub mod CommandLine
+pub mod Started
+pub mod Lived

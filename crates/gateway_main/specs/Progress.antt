@@ -9,31 +9,7 @@ use Rattle.esp3_frames.specs.Packet.{Packet}
 use Rattle.gateway_main.specs.Counts.{count_with}
 use Rattle.gateway_main.specs.Script.{event_of}
 use Rattle.gateway_main.specs.Replayed.{Answers, AnswersPart, Replays, BreaksOff}
-
--- the packets that waited first were handled, and no others
-pub record Drains (old new : Value) (held now : Option (List ℕ)) (count total : ℕ) : Type 0 where
-  pub packets : List Packet
-  pub ready : old.ready ≡ packets ++ new.ready
-  pub rest : new.rest ≡ old.rest
-  pub answered : Answers old.state new.state (map Received packets) held now
-  pub counted : total ≡ count_with count (length packets)
-
--- the same, where a write failed
-pub record DrainsPart (old new : Value) (held now : Option (List ℕ)) : Type 0 where
-  pub packets : List Packet
-  pub ready : old.ready ≡ packets ++ new.ready
-  pub rest : new.rest ≡ old.rest
-  pub answered : AnswersPart old.state new.state (map Received packets) held now
-
--- the event's items were handled and counted
-pub record Takes (old new : Value) (event : Event) (held now : Option (List ℕ)) (count total : ℕ) : Type 0 where
-  pub replayed : Replays old new (event ∷ []) held now
-  pub counted : total ≡ count_with count (length (items_of old.rest (event ∷ [])))
-
--- a call that takes an event: it does so at `Ok`, and breaks off at `Err`
-abbrev pub TakesOrBreaks : {A E : Type 0} → Result A E → Value → Value → Event → Option (List ℕ) → Option (List ℕ) → ℕ → ℕ → Type 0
-TakesOrBreaks result old new event held now count total =
-    MatchResult result (λ _. Takes old new event held now count total) (λ _. BreaksOff old new [] event held now)
+use Rattle.sqlite_trees.specs.declared.store.Store.{Ghosts}
 
 -- no LF stands in it
 abbrev pub IsOneLine : List ℕ → Type 0
@@ -46,13 +22,39 @@ ended line = line ++ 10 ∷ []
 abbrev pub events_of : List (List ℕ) → List Event
 events_of lines = map (λ line. event_of (strip_carriage_return line)) lines
 
--- the lines that LF ended were replayed and counted, and the first bytes of the unended line are kept
-pub record Progress (entry now : Value) (input unended : List ℕ) (held holds : Option (List ℕ)) (total : ℕ) : Type 0 where
-  pub lines : List (List ℕ)
-  pub tail : List ℕ
-  pub whole : input ≡ flat_map ended lines ++ tail
-  pub each : All IsOneLine lines
-  pub last : IsOneLine tail
-  pub kept : unended ≡ take 202 tail
-  pub replayed : Replays entry now (events_of lines) held holds
-  pub counted : total ≡ count_with 0 (length (items_of entry.rest (events_of lines)))
+module _ {S : Type 0} (g : Ghosts S) where
+  -- the packets that waited first were handled, and no others
+  pub record Drains (old new : Value S) (held now : Option (List ℕ)) (count total : ℕ) : Type 0 where
+    pub packets : List Packet
+    pub ready : old.ready ≡ packets ++ new.ready
+    pub rest : new.rest ≡ old.rest
+    pub answered : Answers g old.sight new.sight (map Received packets) held now
+    pub counted : total ≡ count_with count (length packets)
+
+  -- the same, where a write failed
+  pub record DrainsPart (old new : Value S) (held now : Option (List ℕ)) : Type 0 where
+    pub packets : List Packet
+    pub ready : old.ready ≡ packets ++ new.ready
+    pub rest : new.rest ≡ old.rest
+    pub answered : AnswersPart g old.sight new.sight (map Received packets) held now
+
+  -- the event's items were handled and counted
+  pub record Takes (old new : Value S) (event : Event) (held now : Option (List ℕ)) (count total : ℕ) : Type 0 where
+    pub replayed : Replays g old new (event ∷ []) held now
+    pub counted : total ≡ count_with count (length (items_of old.rest (event ∷ [])))
+
+  -- a call that takes an event: it does so at `Ok`, and breaks off at `Err`
+  abbrev pub TakesOrBreaks : {A E : Type 0} → Result A E → Value S → Value S → Event → Option (List ℕ) → Option (List ℕ) → ℕ → ℕ → Type 0
+  TakesOrBreaks result old new event held now count total =
+      MatchResult result (λ _. Takes old new event held now count total) (λ _. BreaksOff g old new [] event held now)
+
+  -- the lines that LF ended were replayed and counted, and the first bytes of the unended line are kept
+  pub record Progress (entry now : Value S) (input unended : List ℕ) (held holds : Option (List ℕ)) (total : ℕ) : Type 0 where
+    pub lines : List (List ℕ)
+    pub tail : List ℕ
+    pub whole : input ≡ flat_map ended lines ++ tail
+    pub each : All IsOneLine lines
+    pub last : IsOneLine tail
+    pub kept : unended ≡ take 202 tail
+    pub replayed : Replays g entry now (events_of lines) held holds
+    pub counted : total ≡ count_with 0 (length (items_of entry.rest (events_of lines)))

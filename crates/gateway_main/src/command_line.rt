@@ -1,10 +1,10 @@
 //! The words of the command line, read by `clap`.
-ghost use Rattle.std.specs.Prelude.{◌≡◌, ◌⊎◌, IfOk, IfErr, None, Some, map, true};
+ghost use Rattle.std.specs.Prelude.{◌≡◌, ◌⊎◌, IfOk, IfErr, None, Some, codes, false, map, option_and_then, option_map, true};
 ghost use Rattle.std.specs.String.{string_bytes};
-ghost use Rattle.clap.specs.Words.{app_of, subcommand_rows_of, takes};
+ghost use Rattle.clap.specs.Words.{app_of, rule_of, subcommand_rows_of, takes};
 ghost use Rattle.gateway_core.specs.Address;
 ghost use Rattle.gateway_main.specs.Bases.{base_in};
-ghost use Rattle.gateway_main.specs.CommandLine.{IsMemory, base_found, base_of_line, enogate_app};
+ghost use Rattle.gateway_main.specs.CommandLine.{IsMemory, base_of_line, base_rule, db_of_line, db_rule, enogate_app, text_found};
 
 use clap::{Arg, ArgAction, ArgMatches, Command, Error};
 use gateway_core::is_base;
@@ -13,9 +13,11 @@ use std::alloc::{AllocError, Global};
 
 /// What the command line asks for: that a script is replayed.
 #[derive(Clone, Copy, Debug, PartialEq, Eq)]
-pub struct Options {
+pub struct Options<'a> {
     /// The base ID of the radio module.
     pub base: u32,
+    /// The path of the file with the learned devices, if they are not to stay in memory alone.
+    pub db: Option<&'a str>,
 }
 
 /// Why a command line was not taken.
@@ -47,10 +49,11 @@ impl From<AllocError> for Refused {
     }
 }
 
-/// Reads a command line, whose first word is the program's name: `enogate replay --base ID`, where ID is eight hexadecimal
-/// digits of either case and a base ID. Each other line is refused, and so is one that asks for help.
-pub fn read(alloc: Global, words: &[String]) -> Result<Options, Refused>
+/// Reads a command line, whose first word is the program's name: `enogate replay --base ID [--db PATH]`, where ID is eight
+/// hexadecimal digits of either case and a base ID. Each other line is refused, and so is one that asks for help.
+pub fn read<'a>(alloc: Global, words: &'a [String]) -> Result<Options<'a>, Refused>
     ensures base { IfOk result (λ options. base_of_line (map string_bytes words.now) ≡ Some options.base) }
+    ensures db { IfOk result (λ options. option_map (λ path. path.now) options.db ≡ db_of_line (map string_bytes words.now)) }
     ensures is_base { IfOk result (λ options. Address.is_base options.base ≡ true) }
     ensures bad_base { result ≡ Err Refused.BadBase → base_of_line (map string_bytes words.now) ≡ None }
     ensures taken { takes enogate_app (map string_bytes words.now) ≡ true →
@@ -58,15 +61,21 @@ pub fn read(alloc: Global, words: &[String]) -> Result<Options, Refused>
 {
     let matches = command(alloc)?.try_get_matches_from(words)?;
     match base_given(&matches) {
-        Some(base) => Ok(Options { base }),
+        Some(base) => Ok(Options { base, db: text_given(&matches, "db") }),
         None => Err(Refused::BadBase),
     }
 }
 
-fn base_given(matches: &ArgMatches<'_>) -> Option<u32>
-    ensures { result ≡ base_found (subcommand_rows_of matches.now) }
+fn text_given<'a>(matches: &ArgMatches<'a>, name: &str) -> Option<&'a str>
+    ensures { option_map (λ text. text.now) result ≡ text_found name.now (subcommand_rows_of matches.now) }
 {
-    base_of(matches.subcommand_matches("replay")?.get_str("base")?)
+    matches.subcommand_matches("replay")?.get_str(name)
+}
+
+fn base_given(matches: &ArgMatches<'_>) -> Option<u32>
+    ensures { result ≡ option_and_then base_in (text_found (codes "base") (subcommand_rows_of matches.now)) }
+{
+    base_of(text_given(matches, "base")?)
 }
 
 fn base_of(text: &str) -> Option<u32>
@@ -77,18 +86,36 @@ fn base_of(text: &str) -> Option<u32>
     if is_base(base) { Some(base) } else { None }
 }
 
-fn command<'a>(alloc: Global) -> Result<Command<'a>, AllocError>
-    ensures { IfOk result (λ command. app_of command ≡ enogate_app) }
+fn base_option<'a>(alloc: Global) -> Arg<'a>
+    ensures rule { rule_of result ≡ base_rule }
+    ensures local { result.global ≡ false }
 {
-    let base = Arg::new(alloc, "base")
+    Arg::new(alloc, "base")
         .long("base")
         .action(ArgAction::Set)
         .value_name("ID")
         .help("Base ID of the radio module, 8 hexadecimal digits")
-        .required(true);
+        .required(true)
+}
+
+fn db_option<'a>(alloc: Global) -> Arg<'a>
+    ensures rule { rule_of result ≡ db_rule }
+    ensures local { result.global ≡ false }
+{
+    Arg::new(alloc, "db")
+        .long("db")
+        .action(ArgAction::Set)
+        .value_name("PATH")
+        .help("SQLite file of the learned devices, which else stay in memory alone")
+}
+
+fn command<'a>(alloc: Global) -> Result<Command<'a>, AllocError>
+    ensures { IfOk result (λ command. app_of command ≡ enogate_app) }
+{
     let replay = Command::new(alloc, "replay")
         .about("Runs a script from standard input to standard output")
-        .arg(base)?;
+        .arg(base_option(alloc))?
+        .arg(db_option(alloc))?;
     Command::new(alloc, "enogate")
         .bin_name("enogate")?
         .about("A gateway for EnOcean radio devices")

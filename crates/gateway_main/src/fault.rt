@@ -2,12 +2,21 @@
 ghost use Rattle.std.specs.Prelude.{◌≡◌};
 
 use crate::replaying::RunFault;
+use device_registry::OpenFault;
+use sqlite::ErrorCode;
+use std::alloc::AllocError;
 use thiserror::Error;
 
 /// What ends the program with status 1. Its text is what the program says of it.
 #[derive(Clone, Copy, Debug, PartialEq, Eq, Error)]
 pub enum Fault {
-    /// There is no memory for the command line or for the gateway.
+    /// The database is no registry of this program.
+    #[error("not a registry")]
+    NotARegistry,
+    /// The database does not open, refuses to be read or written, or cannot be closed.
+    #[error("store")]
+    Store,
+    /// There is no memory for the command line, the database or the gateway.
     #[error("memory")]
     Memory,
     /// Standard input cannot be read.
@@ -21,10 +30,47 @@ pub enum Fault {
     TooManyTurns,
 }
 
-impl From<RunFault> for Fault {
-    ghost use Rattle.gateway_main.specs.Faults.{fault_of};
+impl From<AllocError> for Fault {
+    ghost use Rattle.gateway_main.specs.declared.fault.Fault.TheVariants.{Memory};
 
-    ghost from_gives = { λ stopped fault. fault ≡ fault_of stopped };
+    ghost from_gives = { λ _ fault. fault ≡ Memory };
+
+    fn from(_error: AllocError) -> Fault {
+        Fault::Memory
+    }
+}
+
+impl From<sqlite::Error> for Fault {
+    ghost use Rattle.gateway_main.specs.Faults.{fault_of_store};
+
+    ghost from_gives = { λ error fault. fault ≡ fault_of_store error };
+
+    fn from(error: sqlite::Error) -> Fault {
+        match error {
+            sqlite::Error::SqliteFailure(ErrorCode::OutOfMemory) => Fault::Memory,
+            _ => Fault::Store,
+        }
+    }
+}
+
+impl From<OpenFault> for Fault {
+    ghost use Rattle.gateway_main.specs.Faults.{fault_of_open};
+
+    ghost from_gives = { λ refused fault. fault ≡ fault_of_open refused };
+
+    fn from(refused: OpenFault) -> Fault {
+        match refused {
+            OpenFault::NotARegistry => Fault::NotARegistry,
+            OpenFault::Store => Fault::Store,
+            OpenFault::Memory => Fault::Memory,
+        }
+    }
+}
+
+impl From<RunFault> for Fault {
+    ghost use Rattle.gateway_main.specs.Faults.{fault_of_run};
+
+    ghost from_gives = { λ stopped fault. fault ≡ fault_of_run stopped };
 
     fn from(stopped: RunFault) -> Fault {
         match stopped {

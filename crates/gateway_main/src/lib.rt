@@ -3,20 +3,25 @@
 
 pub mod command_line;
 pub mod fault;
+#[cfg(test)]
+mod gateway_tests;
+pub mod laws;
 mod lines;
 mod pieces;
+mod running;
 mod replaying;
 mod sink;
 mod source;
-mod start;
+mod starting;
 mod tally;
 #[cfg(test)]
 mod tests;
 mod unended;
 mod writing;
 
+pub use running::program;
 pub use replaying::{RunFault, Summary, replay};
 pub use sink::{OverWrite, Sink};
 pub use source::{OverRead, Source};
-pub use start::program;
+pub use starting::start;
 pub use tally::Failed;

@@ -12,16 +12,17 @@ use crate::sink::Sink;
 use crate::tally::Failed;
 use crate::writing::write_reply;
 use gateway_core::Gateway;
+use sqlite::Alter;
 
 /// Takes a line without its end.
-pub fn take_line<W: Sink>(
+pub fn take_line<W: Sink, S: Alter>(
     writer: &mut W,
-    gateway: &mut Gateway,
+    gateway: &mut Gateway<S>,
     line: &[u8],
     items: &mut u64,
 ) -> Result<(), Failed>
     requires { IsIdle gateway.old }
-    ensures taken { TakesOrBreaks result gateway.old gateway.new (event_of line.now)
+    ensures taken { TakesOrBreaks S.Store result gateway.old gateway.new (event_of line.now)
         (W.held writer.old) (W.held writer.new) items.old items.new }
     ensures told { Went result (W.counts writer.old) (W.counts writer.new) }
 {
@@ -33,16 +34,16 @@ pub fn take_line<W: Sink>(
 }
 
 /// Takes a line that begins with `S` and a space: a piece if digits stand behind them, and else an order.
-fn take_digits<W: Sink>(
+fn take_digits<W: Sink, S: Alter>(
     writer: &mut W,
-    gateway: &mut Gateway,
+    gateway: &mut Gateway<S>,
     line: &[u8],
     items: &mut u64,
 ) -> Result<(), Failed>
     requires idle { IsIdle gateway.old }
     requires long { 2 ≤ length line.now }
     requires short { length line.now ≤ 200 }
-    ensures taken { TakesOrBreaks result gateway.old gateway.new (spelled line.now (decode_of (drop 2 line.now)))
+    ensures taken { TakesOrBreaks S.Store result gateway.old gateway.new (spelled line.now (decode_of (drop 2 line.now)))
         (W.held writer.old) (W.held writer.new) items.old items.new }
     ensures told { Went result (W.counts writer.old) (W.counts writer.new) }
 {
@@ -64,14 +65,14 @@ fn spells(digits: &[u8], bytes: &mut [u8]) -> bool
     hex::decode_to_slice(digits, bytes).is_ok()
 }
 
-fn take_order<W: Sink>(
+fn take_order<W: Sink, S: Alter>(
     writer: &mut W,
-    gateway: &mut Gateway,
+    gateway: &mut Gateway<S>,
     line: &[u8],
     items: &mut u64,
 ) -> Result<(), Failed>
     requires { IsIdle gateway.old }
-    ensures taken { TakesOrBreaks result gateway.old gateway.new (LineEvent line.now)
+    ensures taken { TakesOrBreaks S.Store result gateway.old gateway.new (LineEvent line.now)
         (W.held writer.old) (W.held writer.new) items.old items.new }
     ensures told { Went result (W.counts writer.old) (W.counts writer.new) }
 {

@@ -9,16 +9,17 @@ use crate::sink::Sink;
 use crate::tally::Failed;
 use crate::writing::write_reply;
 use gateway_core::Gateway;
+use sqlite::Alter;
 
 /// Takes a piece of the serial stream, and handles each packet that it brings.
-pub fn take_piece<W: Sink>(
+pub fn take_piece<W: Sink, S: Alter>(
     writer: &mut W,
-    gateway: &mut Gateway,
+    gateway: &mut Gateway<S>,
     piece: &[u8],
     items: &mut u64,
 ) -> Result<(), Failed>
     requires { IsIdle gateway.old }
-    ensures taken { TakesOrBreaks result gateway.old gateway.new (PieceEvent piece.now)
+    ensures taken { TakesOrBreaks S.Store result gateway.old gateway.new (PieceEvent piece.now)
         (W.held writer.old) (W.held writer.new) items.old items.new }
     ensures told { Went result (W.counts writer.old) (W.counts writer.new) }
 {
@@ -31,11 +32,11 @@ pub fn take_piece<W: Sink>(
 }
 
 /// Handles the packets that wait.
-fn drain<W: Sink>(writer: &mut W, gateway: &mut Gateway, items: &mut u64) -> Result<(), Failed>
+fn drain<W: Sink, S: Alter>(writer: &mut W, gateway: &mut Gateway<S>, items: &mut u64) -> Result<(), Failed>
     ensures ready { OnOk result (gateway.new.ready ≡ []) }
-    ensures drained { OnOk result (Drains gateway.old gateway.new (W.held writer.old) (W.held writer.new)
+    ensures drained { OnOk result (Drains S.Store gateway.old gateway.new (W.held writer.old) (W.held writer.new)
         items.old items.new) }
-    ensures broken { OnErr result (DrainsPart gateway.old gateway.new (W.held writer.old) (W.held writer.new)) }
+    ensures broken { OnErr result (DrainsPart S.Store gateway.old gateway.new (W.held writer.old) (W.held writer.new)) }
     ensures told { Went result (W.counts writer.old) (W.counts writer.new) }
 {
     let _start = *items;

@@ -15,6 +15,7 @@ use crate::source::Source;
 use crate::tally::Failed;
 use crate::unended::UnendedLine;
 use gateway_core::Gateway;
+use sqlite::Alter;
 
 /// What a replay did.
 #[derive(Clone, Copy, Debug, PartialEq, Eq)]
@@ -44,24 +45,24 @@ pub enum RunFault {
 /// A turn is one read of at most 256 bytes, and `turns` reads are made at most. A read of 0 bytes ends the input.
 /// After `Read` and `TooManyTurns` the lines that LF ended are done, and of a line that did not end nothing. After `Write`
 /// the output breaks off within the text of one packet or order, and packets may still wait in the gateway.
-pub fn replay<R: Source, W: Sink>(
+pub fn replay<R: Source, W: Sink, S: Alter>(
     reader: &mut R,
     writer: &mut W,
-    gateway: &mut Gateway,
+    gateway: &mut Gateway<S>,
     turns: u64,
 ) -> Result<Summary, RunFault>
     requires { gateway.old.ready ≡ [] }
     // What is read, handled and written.
     ensures ok { IfOk result (λ summary. (input : List ℕ) × Consumes (R.left reader.old) (R.left reader.new) input
         × IsAtEnd (R.left reader.new)
-        × Replays gateway.old gateway.new (script input) (W.held writer.old) (W.held writer.new)
+        × Replays S.Store gateway.old gateway.new (script input) (W.held writer.old) (W.held writer.new)
         × (summary.items ≡ min (length (items_of gateway.old.rest (script input))) (2 ^ 64 - 1))) }
     ensures stopped { (result ≡ Err RunFault.Read) ⊎ (result ≡ Err RunFault.TooManyTurns) →
         (input : List ℕ) × Consumes (R.left reader.old) (R.left reader.new) input
-        × ReplaysClosed gateway.old gateway.new input (W.held writer.old) (W.held writer.new) }
+        × ReplaysClosed S.Store gateway.old gateway.new input (W.held writer.old) (W.held writer.new) }
     ensures broken { result ≡ Err RunFault.Write →
         (input : List ℕ) × Consumes (R.left reader.old) (R.left reader.new) input
-        × ReplaysPart gateway.old gateway.new input (W.held writer.old) (W.held writer.new) }
+        × ReplaysPart S.Store gateway.old gateway.new input (W.held writer.old) (W.held writer.new) }
 
     // How the reads and the writes went.
     ensures reads { (n : ℕ) × (n ≤ turns) × Made (R.counts reader.old) (R.counts reader.new) n }
@@ -98,21 +99,21 @@ pub fn replay<R: Source, W: Sink>(
 }
 
 /// Takes some bytes of a script.
-fn take_bytes<W: Sink>(
+fn take_bytes<W: Sink, S: Alter>(
     writer: &mut W,
-    gateway: &mut Gateway,
+    gateway: &mut Gateway<S>,
     bytes: &[u8],
     unended: &mut UnendedLine,
     items: &mut u64,
 ) -> Result<(), Failed>
     requires { IsIdle gateway.old }
     ensures idle { OnOk result (IsIdle gateway.new) }
-    ensures progress { OnOk result ((entry : GatewayValue) (input : List ℕ) (held : Option (List ℕ)) →
-        Progress entry gateway.old input unended.old held (W.held writer.old) items.old →
-        Progress entry gateway.new (input ++ bytes.now) unended.new held (W.held writer.new) items.new) }
-    ensures broken { OnErr result ((entry : GatewayValue) (input : List ℕ) (held : Option (List ℕ)) →
-        Progress entry gateway.old input unended.old held (W.held writer.old) items.old →
-        ReplaysPart entry gateway.new (input ++ bytes.now) held (W.held writer.new)) }
+    ensures progress { OnOk result ((entry : GatewayValue S) (input : List ℕ) (held : Option (List ℕ)) →
+        Progress S.Store entry gateway.old input unended.old held (W.held writer.old) items.old →
+        Progress S.Store entry gateway.new (input ++ bytes.now) unended.new held (W.held writer.new) items.new) }
+    ensures broken { OnErr result ((entry : GatewayValue S) (input : List ℕ) (held : Option (List ℕ)) →
+        Progress S.Store entry gateway.old input unended.old held (W.held writer.old) items.old →
+        ReplaysPart S.Store entry gateway.new (input ++ bytes.now) held (W.held writer.new)) }
     ensures told { Went result (W.counts writer.old) (W.counts writer.new) }
 {
     for byte in bytes {
@@ -122,22 +123,22 @@ fn take_bytes<W: Sink>(
 }
 
 /// Takes the next byte of a script. If it ends a line, the line is taken.
-fn take_byte<W: Sink>(
+fn take_byte<W: Sink, S: Alter>(
     writer: &mut W,
-    gateway: &mut Gateway,
+    gateway: &mut Gateway<S>,
     byte: u8,
     unended: &mut UnendedLine,
     items: &mut u64,
 ) -> Result<(), Failed>
     requires { IsIdle gateway.old }
     ensures idle { OnOk result (IsIdle gateway.new) }
-    ensures progress { OnOk result ((entry : GatewayValue) (input : List ℕ) (held : Option (List ℕ)) →
-        Progress entry gateway.old input unended.old held (W.held writer.old) items.old →
-        Progress entry gateway.new (input ++ byte ∷ []) unended.new held (W.held writer.new) items.new) }
+    ensures progress { OnOk result ((entry : GatewayValue S) (input : List ℕ) (held : Option (List ℕ)) →
+        Progress S.Store entry gateway.old input unended.old held (W.held writer.old) items.old →
+        Progress S.Store entry gateway.new (input ++ byte ∷ []) unended.new held (W.held writer.new) items.new) }
     // Whatever follows the byte.
-    ensures broken { OnErr result ((entry : GatewayValue) (input : List ℕ) (held : Option (List ℕ)) (more : List ℕ) →
-        Progress entry gateway.old input unended.old held (W.held writer.old) items.old →
-        ReplaysPart entry gateway.new (input ++ byte ∷ more) held (W.held writer.new)) }
+    ensures broken { OnErr result ((entry : GatewayValue S) (input : List ℕ) (held : Option (List ℕ)) (more : List ℕ) →
+        Progress S.Store entry gateway.old input unended.old held (W.held writer.old) items.old →
+        ReplaysPart S.Store entry gateway.new (input ++ byte ∷ more) held (W.held writer.new)) }
     ensures told { Went result (W.counts writer.old) (W.counts writer.new) }
 {
     if byte != b'\n' {
@@ -150,20 +151,20 @@ fn take_byte<W: Sink>(
 }
 
 /// Takes the line that the end of the input ends, if there is one.
-fn take_last<W: Sink>(
+fn take_last<W: Sink, S: Alter>(
     writer: &mut W,
-    gateway: &mut Gateway,
+    gateway: &mut Gateway<S>,
     unended: &UnendedLine,
     items: &mut u64,
 ) -> Result<(), Failed>
     requires { IsIdle gateway.old }
-    ensures replayed { OnOk result ((entry : GatewayValue) (input : List ℕ) (held : Option (List ℕ)) →
-        Progress entry gateway.old input unended.now held (W.held writer.old) items.old →
-        Replays entry gateway.new (script input) held (W.held writer.new)
+    ensures replayed { OnOk result ((entry : GatewayValue S) (input : List ℕ) (held : Option (List ℕ)) →
+        Progress S.Store entry gateway.old input unended.now held (W.held writer.old) items.old →
+        Replays S.Store entry gateway.new (script input) held (W.held writer.new)
         × (items.new ≡ min (length (items_of entry.rest (script input))) (2 ^ 64 - 1))) }
-    ensures broken { OnErr result ((entry : GatewayValue) (input : List ℕ) (held : Option (List ℕ)) →
-        Progress entry gateway.old input unended.now held (W.held writer.old) items.old →
-        ReplaysPart entry gateway.new input held (W.held writer.new)) }
+    ensures broken { OnErr result ((entry : GatewayValue S) (input : List ℕ) (held : Option (List ℕ)) →
+        Progress S.Store entry gateway.old input unended.now held (W.held writer.old) items.old →
+        ReplaysPart S.Store entry gateway.new input held (W.held writer.new)) }
     ensures told { Went result (W.counts writer.old) (W.counts writer.new) }
 {
     if unended.is_empty() {

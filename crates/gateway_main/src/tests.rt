@@ -1,9 +1,9 @@
 //! Scripts and what is written for them, readers and writers that fail, and command lines.
 use crate::command_line::{Options, Refused, read};
 use crate::fault::Fault;
-use crate::{OverRead, OverWrite, RunFault, Sink, Source, Summary, replay};
+use crate::{OverRead, OverWrite, RunFault, Sink, Source, Summary, replay, start};
 use clap::error::ErrorKind;
-use gateway_core::Gateway;
+use sqlite::Connection;
 use std::io;
 use std::io::{Read, Write};
 use std::test::Fail;
@@ -16,10 +16,9 @@ fn run<R: Source, W: Sink>(
     writer: &mut W,
     turns: u64,
 ) -> Result<Result<Summary, RunFault>, Fail> {
-    match Gateway::new(rt.alloc(), 0xFF80_0000) {
-        Ok(mut gateway) => Ok(replay(reader, writer, &mut gateway, turns)),
-        Err(_) => Err(Fail::from("no gateway")),
-    }
+    let conn = Connection::open_in_memory(rt.alloc())?;
+    let mut gateway = start(rt.alloc(), conn, 0xFF80_0000)?;
+    Ok(replay(reader, writer, &mut gateway, turns))
 }
 
 #[test]
@@ -146,6 +145,8 @@ fn a_write_fails(rt: HostRuntime) -> Result<(), Fail> {
 #[test]
 fn fault_texts(rt: HostRuntime) -> Result<(), Fail> {
     for (fault, text) in [
+        (Fault::NotARegistry, "not a registry"),
+        (Fault::Store, "store"),
         (Fault::Memory, "memory"),
         (Fault::from(RunFault::Read), "read"),
         (Fault::from(RunFault::Write), "write"),
@@ -156,30 +157,40 @@ fn fault_texts(rt: HostRuntime) -> Result<(), Fail> {
     Ok(())
 }
 
-fn taken(rt: &HostRuntime, line: &str) -> Result<Result<Options, Refused>, Fail> {
+fn words_of(rt: &HostRuntime, line: &str) -> Result<Vec<String>, Fail> {
     let mut words = Vec::new(rt.alloc());
     for word in line.split(' ') {
         words.push(word.to_string(rt.alloc())?)?;
     }
-    Ok(read(rt.alloc(), words.as_slice()))
+    Ok(words)
 }
 
 #[test]
 fn command_lines(rt: HostRuntime) -> Result<(), Fail> {
-    for (line, base) in [
-        ("enogate replay --base FF800000", 0xFF80_0000),
-        ("enogate replay --base=ffffff80", 0xFFFF_FF80),
+    for (line, base, db) in [
+        ("enogate replay --base FF800000", 0xFF80_0000, None),
+        ("enogate replay --base=ffffff80", 0xFFFF_FF80, None),
+        (
+            "enogate replay --db x.db --base FF800000",
+            0xFF80_0000,
+            Some("x.db"),
+        ),
+        (
+            "enogate replay --base FF800000 --db=a/b",
+            0xFF80_0000,
+            Some("a/b"),
+        ),
     ] {
-        match taken(&rt, line)? {
-            Ok(options) => assert_eq!(rt; options.base, base),
+        let words = words_of(&rt, line)?;
+        match read(rt.alloc(), words.as_slice()) {
+            Ok(options) => assert!(rt; options == Options { base, db }, "{line}"),
             Err(_) => return Err(Fail::from(line)),
         }
     }
     for base in ["FF80zz00", "FF80000", "FF800001", ""] {
-        match taken(
-            &rt,
-            format!(in rt.alloc(); "enogate replay --base={base}")?.as_str(),
-        )? {
+        let line = format!(in rt.alloc(); "enogate replay --base={base}")?;
+        let words = words_of(&rt, line.as_str())?;
+        match read(rt.alloc(), words.as_slice()) {
             Err(Refused::BadBase) => {}
             _ => return Err(Fail::from(base)),
         }
@@ -191,11 +202,12 @@ fn command_lines(rt: HostRuntime) -> Result<(), Fail> {
         ("enogate play", ErrorKind::InvalidSubcommand),
         ("enogate", ErrorKind::MissingSubcommand),
         (
-            "enogate replay --db x --base FF800000",
+            "enogate replay --store x --base FF800000",
             ErrorKind::UnknownArgument,
         ),
     ] {
-        match taken(&rt, line)? {
+        let words = words_of(&rt, line)?;
+        match read(rt.alloc(), words.as_slice()) {
             Err(Refused::Words(error)) => assert_eq!(rt; error.kind(), kind, "{line}"),
             _ => return Err(Fail::from(line)),
         }
@@ -205,12 +217,13 @@ fn command_lines(rt: HostRuntime) -> Result<(), Fail> {
 
 #[test]
 fn help_text(rt: HostRuntime) -> Result<(), Fail> {
-    match taken(&rt, "enogate replay --help")? {
+    let words = words_of(&rt, "enogate replay --help")?;
+    match read(rt.alloc(), words.as_slice()) {
         Err(Refused::Words(error)) => {
             let text = error.to_string(rt.alloc())?;
             assert_eq!(rt;
                 text.as_str(),
-                "Runs a script from standard input to standard output\n\nUsage: enogate replay --base <ID>\n\nOptions:\n      --base <ID>  Base ID of the radio module, 8 hexadecimal digits\n  -h, --help       Print help\n"
+                "Runs a script from standard input to standard output\n\nUsage: enogate replay [OPTIONS] --base <ID>\n\nOptions:\n      --base <ID>  Base ID of the radio module, 8 hexadecimal digits\n      --db <PATH>  SQLite file of the learned devices, which else stay in memory alone\n  -h, --help       Print help\n"
             );
         }
         _ => return Err(Fail::from("no help")),

@@ -2,8 +2,8 @@
 #![tactic(auto)]
 
 use anyhow::Result;
-use gateway_core::Gateway;
-use gateway_main::{OverRead, OverWrite, replay};
+use gateway_main::{OverRead, OverWrite, replay, start};
+use sqlite::Connection;
 use std::fs;
 use std::process::ExitCode;
 
@@ -19,7 +19,7 @@ fn is_well(rt: &HostRuntime, name: &str) -> Result<bool> {
     let script = fs::read(rt, format!(in alloc; "{name}.in")?)?;
     let wanted = fs::read(rt, format!(in alloc; "{name}.out")?)?;
     let mut written = Vec::new(alloc);
-    let Ok(mut gateway) = Gateway::new(alloc, BASE) else {
+    let Ok(mut gateway) = start(alloc, Connection::open_in_memory(alloc)?, BASE) else {
         return Ok(false);
     };
     let mut reader = OverRead::new(script.as_slice());

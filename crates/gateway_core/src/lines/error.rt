@@ -12,12 +12,16 @@ pub enum ErrorName {
     TooLong,
     /// A number of the order is out of range.
     Range,
+    /// No device with this ID is learned.
+    UnknownDevice,
     /// 1,000 other devices are learned.
     Full,
     /// The gateway cannot read telegrams of this profile.
     UnsupportedProfile,
-    /// There is no memory for the answer, and nothing was done.
+    /// There is no memory. A change that was asked for may be found done after a stop.
     Memory,
+    /// The store of the learned devices refused. A change that was asked for may be found done after a stop.
+    Store,
 }
 
 impl ErrorName {
@@ -29,11 +33,13 @@ impl ErrorName {
             ErrorName::Syntax => b"{\"error\":\"syntax\",\"type\":\"error\"}\n",
             ErrorName::TooLong => b"{\"error\":\"too_long\",\"type\":\"error\"}\n",
             ErrorName::Range => b"{\"error\":\"range\",\"type\":\"error\"}\n",
+            ErrorName::UnknownDevice => b"{\"error\":\"unknown_device\",\"type\":\"error\"}\n",
             ErrorName::Full => b"{\"error\":\"full\",\"type\":\"error\"}\n",
             ErrorName::UnsupportedProfile => {
                 b"{\"error\":\"unsupported_profile\",\"type\":\"error\"}\n"
             }
             ErrorName::Memory => b"{\"error\":\"memory\",\"type\":\"error\"}\n",
+            ErrorName::Store => b"{\"error\":\"store\",\"type\":\"error\"}\n",
         }
     }
 }

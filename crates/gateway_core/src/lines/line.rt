@@ -1,6 +1,6 @@
 //! A line of text.
 
-ghost use Rattle.std.specs.Prelude.{◌≡◌, ◌++◌, codes, IfOk, string_bytes, false};
+ghost use Rattle.std.specs.Prelude.{◌≡◌, ◌++◌, [], codes, IfOk, OnOk, string_bytes, false};
 ghost use Rattle.serde_json.specs.View.{view};
 ghost use Rattle.serde_json.specs.Written.{has_float, compact_text};
 
@@ -8,7 +8,7 @@ use serde_json::Value;
 use std::alloc::{AllocError, Global};
 use std::marker::Model;
 
-/// A line for the desk: the bytes of one JSON object and the line feed after it.
+/// A line for the desk, or several: the bytes of one JSON object each, and a line feed after it.
 #[derive(Drop)]
 pub struct Line {
     bytes: Vec<u8>,
@@ -23,7 +23,24 @@ impl Model for Line {
 }
 
 impl Line {
-    /// The bytes, with the line feed at their end.
+    // No line yet.
+    pub(crate) fn empty(alloc: Global) -> Line
+        ensures { result ≡ [] }
+    {
+        Line {
+            bytes: Vec::new(alloc),
+        }
+    }
+
+    // Puts another line behind it.
+    pub(crate) fn append(&mut self, other: &Line) -> Result<(), AllocError>
+        ensures { OnOk result (self.new ≡ self.old ++ other.now) }
+    {
+        self.bytes.extend_from_slice(other.bytes.as_slice())?;
+        Ok(())
+    }
+
+    /// The bytes, with a line feed at the end of each line.
     pub fn as_bytes(&self) -> &[u8]
         ensures { result.now ≡ self.now }
     {

@@ -1,6 +1,7 @@
+use crate::lines::devices::device_lines;
 use crate::lines::error::ErrorName;
 use crate::lines::reading::{Reading, reading_line};
-use crate::lines::teach::{Outcome, teach_line};
+use device_registry::Device;
 use erp1_telegrams::Eep;
 use std::test::Fail;
 
@@ -50,22 +51,28 @@ fn reading_lines(rt: HostRuntime) -> Result<(), Fail> {
 }
 
 #[test]
-fn teach_lines(rt: HostRuntime) -> Result<(), Fail> {
-    let line = teach_line(rt.alloc(), 0x01800ABC, CONTACT, None, Outcome::Accepted)?;
-    assert!(rt;
-        line.as_bytes()
-            == b"{\"eep\":\"D5-00-01\",\"id\":\"01800ABC\",\"maker\":null,\"result\":\"accepted\",\"type\":\"teach\"}\n".as_slice()
-    );
-    let switch = Eep {
-        rorg: 0xD2,
-        func: 1,
-        typ: 0x12,
+fn listings(rt: HostRuntime) -> Result<(), Fail> {
+    let contact = Device {
+        id: 0x01800ABC,
+        eep: CONTACT,
+        maker: None,
     };
-    let line = teach_line(rt.alloc(), 0x01800ABC, switch, Some(70), Outcome::Accepted)?;
+    let switch = Device {
+        id: 0xFFFFFFFE,
+        eep: Eep {
+            rorg: 0xD2,
+            func: 1,
+            typ: 0x12,
+        },
+        maker: Some(70),
+    };
+    let lines = device_lines(rt.alloc(), &[contact, switch])?;
     assert!(rt;
-        line.as_bytes()
-            == b"{\"eep\":\"D2-01-12\",\"id\":\"01800ABC\",\"maker\":70,\"result\":\"accepted\",\"type\":\"teach\"}\n".as_slice()
+        lines.as_bytes()
+            == b"{\"eep\":\"D5-00-01\",\"id\":\"01800ABC\",\"maker\":null,\"type\":\"device\"}\n{\"eep\":\"D2-01-12\",\"id\":\"FFFFFFFE\",\"maker\":70,\"type\":\"device\"}\n{\"count\":2,\"type\":\"list\"}\n".as_slice()
     );
+    let none = device_lines(rt.alloc(), &[])?;
+    assert!(rt; none.as_bytes() == b"{\"count\":0,\"type\":\"list\"}\n".as_slice());
     Ok(())
 }
 
@@ -84,6 +91,13 @@ fn error_lines(rt: HostRuntime) {
     assert!(rt;
         ErrorName::UnsupportedProfile.line()
             == b"{\"error\":\"unsupported_profile\",\"type\":\"error\"}\n".as_slice()
+    );
+    assert!(rt;
+        ErrorName::UnknownDevice.line()
+            == b"{\"error\":\"unknown_device\",\"type\":\"error\"}\n".as_slice()
+    );
+    assert!(rt;
+        ErrorName::Store.line() == b"{\"error\":\"store\",\"type\":\"error\"}\n".as_slice()
     );
     assert!(rt;
         ErrorName::Memory.line() == b"{\"error\":\"memory\",\"type\":\"error\"}\n".as_slice()

@@ -7,7 +7,7 @@ use Rattle.gateway_main.proofs.TakeLemmas.{takes_nothing, takes_more, takes_part
 use Rattle.gateway_main.proofs.pieces.take_piece.Goals as goal
 
 pub loop-byte-init : goal.loop-byte-init
-loop-byte-init g c = (takes_nothing c.args.gateway.now (g.W.Sink.held c.args.writer.now) c.args.items.now c.requires c.type_inv._start.fits, (refl, refl))
+loop-byte-init g c = (takes_nothing g.S.Store c.args.gateway.now (g.W.Sink.held c.args.writer.now) c.args.items.now c.requires c.type_inv._start.fits, (refl, refl))
 
 pub returns-in_err-drain-clause-taken : goal.returns-in_err-drain-clause-taken
 returns-in_err-drain-clause-taken g c =
@@ -17,7 +17,7 @@ returns-in_err-drain-clause-taken g c =
     let below : i < length piece = omega arith in
     let exit = err_from_is_err_and c.from_residual.result c.from_residual.ensures.1 in
     rw exit.1
-    (takes_part c.args.gateway.now c.loop-byte.gateway c.byte.new.self c.drain.new.gateway (take i piece) (get_or piece i 0) (drop (i + 1) piece) piece
+    (takes_part g.S.Store c.args.gateway.now c.loop-byte.gateway c.byte.new.self c.drain.new.gateway (take i piece) (get_or piece i 0) (drop (i + 1) piece) piece
     (held c.args.writer.now) (held c.loop-byte.writer) (held c.drain.new.writer) c.args.items.now c.loop-byte.items
     c.loop-byte.invariant.0 c.byte.ensures c.in_err-drain.ensures.broken (split_at piece i below))
 
@@ -29,7 +29,7 @@ loop-byte-preserved g c =
     let i = c.loop-byte.byte-index in
     let below : i < length piece = omega arith in (
       rw (take_more piece i 0 below)
-          (takes_more c.args.gateway.now c.loop-byte.gateway c.byte.new.self c.drain.new.gateway (take i piece) (get_or piece i 0)
+          (takes_more g.S.Store c.args.gateway.now c.loop-byte.gateway c.byte.new.self c.drain.new.gateway (take i piece) (get_or piece i 0)
           (held c.args.writer.now) (held c.loop-byte.writer) (held c.drain.new.writer) c.args.items.now c.loop-byte.items c.drain.new.items
           c.loop-byte.invariant.0 c.byte.ensures c.in_ok-drain.ensures.ready c.in_ok-drain.ensures.drained),
       went_on (counts c.args.writer.now) (counts c.loop-byte.writer) (counts c.drain.new.writer) c.loop-byte.invariant.1 c.in_ok-drain.ensures.told,

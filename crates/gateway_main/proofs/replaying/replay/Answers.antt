@@ -14,7 +14,7 @@ loop-turn-init g c =
     let idle : IsIdle c.args.gateway.now = record { ready = c.requires; rest = c.is_ready-is_ready.ensures.rest } in
     record {
       idle = idle;
-      progress = ([], Consumes-nil (g.R.Source.left c.args.reader.now), rw c.new-unended.ensures (progress_start c.args.gateway.now (g.W.Sink.held c.args.writer.now) idle));
+      progress = ([], Consumes-nil (g.R.Source.left c.args.reader.now), rw c.new-unended.ensures (progress_start g.S.Store c.args.gateway.now (g.W.Sink.held c.args.writer.now) idle));
       writes = (refl, refl);
       reads = (refl, refl);
       made = made_none (g.R.Source.counts c.args.reader.now);
@@ -49,14 +49,14 @@ returns-in-Err-clause-stopped g c =
     λ _. (
       progress.0,
       Consumes-kept (left c.args.reader.now) (left c.loop-turn.reader) (left c.read.new.self) progress.0 progress.1 c.in-Err.ensures.bytes,
-      closes c.args.gateway.now c.loop-turn.gateway progress.0 c.loop-turn.unended (held c.args.writer.now) (held c.loop-turn.writer) c.loop-turn.items progress.2,
+      closes g.S.Store c.args.gateway.now c.loop-turn.gateway progress.0 c.loop-turn.unended (held c.args.writer.now) (held c.loop-turn.writer) c.loop-turn.items progress.2,
     )
 
 pub returns-clause-stopped : goal.returns-clause-stopped
 returns-clause-stopped g c =
     let held = g.W.Sink.held in
     let progress = c.loop-turn.invariant.progress in
-    λ _. (progress.0, progress.1, closes c.args.gateway.now c.loop-turn.gateway progress.0 c.loop-turn.unended (held c.args.writer.now) (held c.loop-turn.writer) c.loop-turn.items progress.2)
+    λ _. (progress.0, progress.1, closes g.S.Store c.args.gateway.now c.loop-turn.gateway progress.0 c.loop-turn.unended (held c.args.writer.now) (held c.loop-turn.writer) c.loop-turn.items progress.2)
 
 pub returns-then-length-eq0-clause-ok : goal.returns-then-length-eq0-clause-ok
 returns-then-length-eq0-clause-ok g c =

@@ -14,7 +14,7 @@ returns-in_err-take_byte-clause-broken g c =
     let below : i < length bytes = omega arith in
     let exit = err_from_is_err_and c.from_residual.result c.from_residual.ensures.1 in
     rw exit.1 (λ entry input held p.
-    let P : List ℕ → Type 0 = λ s. ReplaysPart entry c.take_byte.new.gateway s held (h c.take_byte.new.writer) in
+    let P : List ℕ → Type 0 = λ s. ReplaysPart g.S.Store entry c.take_byte.new.gateway s held (h c.take_byte.new.writer) in
     subst P (split_behind input bytes i below)
     (c.in_err-take_byte.ensures.broken entry (input ++ take i bytes) held (drop (i + 1) bytes) (c.loop-byte.invariant.1 entry input held p)))
 

@@ -1,9 +1,6 @@
-use Rattle.std.proofs.Common.{[], ◌∷◌}
-use Rattle.gateway_core.specs.Run.{Taken, Refused, Memory}
+use Rattle.gateway_core.specs.Step.{Ordered}
+use Rattle.gateway_core.proofs.TryLemmas.{tries-handles}
 use Rattle.gateway_core.proofs.handler.Handler.line.Goals as goal
 
-pub returns-in-Ok : goal.returns-in-Ok
-returns-in-Ok c = record { fates = Taken ∷ []; run = (tt, c.in-Ok.ensures.ok.0, c.in-Ok.ensures.ok.1) }
-
-pub returns-in-Err : goal.returns-in-Err
-returns-in-Err c = record { fates = Refused Memory ∷ []; run = (c.in-Err.ensures.err.1, c.denied.ensures, c.in-Err.ensures.err.0) }
+pub returns : goal.returns
+returns g c = tries-handles g.S.Store _ _ (Ordered c.args.line.now) _ _ c.answered.ensures c.try_line.ensures

@@ -1,9 +1,7 @@
-use Rattle.std.proofs.Common.{refl, [], ◌∷◌}
-use Rattle.gateway_core.specs.Run.{Taken, Refused, Memory}
+use Rattle.gateway_core.specs.Step.{Received}
+use Rattle.esp3_frames.specs.Outcome.{packet_of}
+use Rattle.gateway_core.proofs.TryLemmas.{tries-handles}
 use Rattle.gateway_core.proofs.handler.Handler.packet.Goals as goal
 
-pub returns-in-Ok : goal.returns-in-Ok
-returns-in-Ok c = record { fates = Taken ∷ []; run = (tt, c.in-Ok.ensures.ok, refl) }
-
-pub returns-in-Err : goal.returns-in-Err
-returns-in-Err c = record { fates = Refused Memory ∷ []; run = (c.in-Err.ensures.err, c.denied.ensures, refl) }
+pub returns : goal.returns
+returns g c = tries-handles g.S.Store _ _ (Received (packet_of c.args.packet.now)) _ _ c.answered.ensures c.try_packet.ensures

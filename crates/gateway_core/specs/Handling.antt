@@ -1,0 +1,42 @@
+-- How the gateway handles items, over its registry: what it answers, what it knows afterwards, and what a stop may leave.
+-- All this has one premise, the store's own: so far the disk has returned what was written.
+use Rattle.std.specs.Prelude.{◌≡◌, ℕ, List, refl}
+use Rattle.std.specs.Coded.{Coded, code_by, coded×, coded_ℕ}
+use Rattle.sqlite.specs.Held.{Held, held_code, state}
+use Rattle.sqlite.specs.State.{HasCleanDisk}
+use Rattle.sqlite_trees.specs.declared.store.Store.{Ghosts}
+use Rattle.device_registry.specs.Devices.{Devices}
+use Rattle.device_registry.specs.Holding.{HasDevices, MayFind, AreRegistries}
+use Rattle.gateway_core.specs.Step.{State, Item, Answer}
+use Rattle.gateway_core.specs.Run.{Fate, Run}
+use Rattle.gateway_core.specs.Stops.{nothing_left, left_by, Safe}
+
+-- the base ID of the radio module, and the registry's connection
+pub record Sight (S : Type 0) : Type 0 where
+  pub base : ℕ
+  pub registry : Held S
+
+abbrev pub sight_code : {S : Type 0} → Coded S → Coded (Sight S)
+sight_code {S} store = code_by (ℕ × Held S) (coded× coded_ℕ (held_code store)) (λ v. (v.base, v.registry)) (λ p. record { base = p.0; registry = p.1 }) (λ _. refl)
+
+-- this is what the gateway knows
+abbrev pub IsAt : {S : Type 0} → Ghosts S → Sight S → State → Type 0
+IsAt g v s = (v.base ≡ s.base) × HasDevices (state g v.registry) s.devices
+
+module _ {S : Type 0} (g : Ghosts S) where
+  -- From what was known at the start, the items are handled with these answers and some fates. The gateway then knows what
+  -- they make of it, and a stop leaves what is safe for them.
+  pub record Went (old : Sight S) (start : State) (items : List Item) (answers : List Answer) (new : Sight S) : Type 0 where
+    pub fates : List Fate
+    pub last : State
+    pub run : Run start items fates answers last
+    pub at : IsAt g new last
+    pub stop : (left : Devices) → MayFind (state g new.registry) left → Safe (MayFind (state g old.registry)) (left_by nothing_left start items fates) left
+
+  -- the items are handled with these answers, whatever the gateway knew
+  pub record Handles (old : Sight S) (items : List Item) (answers : List Answer) (new : Sight S) : Type 0 where
+    pub base : new.base ≡ old.base
+    pub clean : HasCleanDisk (state g new.registry) → HasCleanDisk (state g old.registry)
+    -- what a stop leaves is a registry still
+    pub registries : HasCleanDisk (state g new.registry) → AreRegistries (state g old.registry).may_leave → AreRegistries (state g new.registry).may_leave
+    pub went : HasCleanDisk (state g new.registry) → (start : State) → IsAt g old start → Went old start items answers new

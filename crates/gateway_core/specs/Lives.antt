@@ -1,0 +1,81 @@
+-- Lives of the gateway, each ended by a stop, and what later ones find.
+use Rattle.std.specs.Prelude.{◌≡◌, ◌≢◌, ℕ, List, [], ◌∷◌, ◌++◌, Option, Some, None}
+use Rattle.std.specs.List.{AllByRecursion}
+use Rattle.std.specs.FinMap.{get}
+use Rattle.device_registry.specs.Devices.{Devices, Change}
+use Rattle.gateway_core.specs.Step.{State, Item, Answer, change_of, state_after}
+use Rattle.gateway_core.specs.Run.{Fate, Taken, Refused, RefusedAtWrite, state_with, Run}
+use Rattle.gateway_core.specs.Stops.{Left, nothing_left, pending, left_by, Safe}
+
+-- the base ID, the devices found, the items with their fates and answers, what was known after them, the item in work at the
+-- stop, and the devices that the stop left
+pub record Life : Type 0 where
+  pub base : ℕ
+  pub found : Devices
+  pub items : List Item
+  pub fates : List Fate
+  pub answers : List Answer
+  pub last : State
+  pub stopped : Option Item
+  pub left : Devices
+
+-- a life begins with the devices found
+abbrev pub begun : ℕ → Devices → State
+begun base devices = record { base = base; devices = devices }
+
+-- the item in work may be done, and may not
+abbrev pub stopped_in : Left → State → Option Item → Left
+stopped_in left state None = left
+stopped_in left state (Some item) = pending left state.devices (change_of state item)
+
+pub record IsLife (life : Life) : Type 0 where
+  pub run : Run (begun life.base life.found) life.items life.fates life.answers life.last
+  pub safe : Safe (λ devices. devices ≡ life.found) (stopped_in (left_by nothing_left (begun life.base life.found) life.items life.fates) life.last life.stopped) life.left
+
+-- each life finds what the one before left
+abbrev pub AreLives : Devices → List Life → Devices → Type 0
+AreLives found [] last = last ≡ found
+AreLives found (life ∷ lives) last = (life.found ≡ found) × IsLife life × AreLives life.left lives last
+
+-- the change that an item with this fate makes or may make
+abbrev pub written : State → Item → Fate → Option Change
+written state item Taken = change_of state item
+written state item (Refused cause) = None
+written state item (RefusedAtWrite cause) = change_of state item
+
+abbrev pub IsOfOther : ℕ → Option Change → Type 0
+IsOfOther sender None = Unit {0}
+IsOfOther sender (Some change) = change.sender ≢ sender
+
+-- none of the items learns or forgets the sender, be it taken or refused at its write
+abbrev pub Spares : ℕ → State → List Item → List Fate → Type 0
+Spares sender state (item ∷ items) (fate ∷ fates) = IsOfOther sender (written state item fate) × Spares sender (state_with state item fate) items fates
+Spares sender state items fates = Unit {0}
+
+abbrev pub StopSpares : ℕ → State → Option Item → Type 0
+StopSpares sender state None = Unit {0}
+StopSpares sender state (Some item) = IsOfOther sender (change_of state item)
+
+abbrev pub LifeSpares : ℕ → Life → Type 0
+LifeSpares sender life = Spares sender (begun life.base life.found) life.items life.fates × StopSpares sender life.last life.stopped
+
+-- the life told that the change is made, and then nothing in it learned or forgot the sender
+pub record Tells (life : Life) (change : Change) : Type 0 where
+  pub before : List Item
+  pub item : Item
+  pub after : List Item
+  pub fates : List Fate
+  pub more : List Fate
+  pub answers : List Answer
+  pub at : State
+  pub items_are : life.items ≡ before ++ item ∷ after
+  pub fates_are : life.fates ≡ fates ++ Taken ∷ more
+  pub run : Run (begun life.base life.found) before fates answers at
+  pub asks : change_of at item ≡ Some change
+  pub spared : Spares change.sender (state_after at item) after more
+  pub stop : StopSpares change.sender life.last life.stopped
+
+-- what is told learned or forgotten is found so by every later life, until an item learns or forgets the sender
+abbrev pub LivesKeep : Type 0
+LivesKeep = (life : Life) (change : Change) (lives : List Life) (last : Devices) →
+    IsLife life → Tells life change → AllByRecursion (LifeSpares change.sender) lives → AreLives life.left lives last → get last change.sender ≡ change.entry

@@ -1,0 +1,71 @@
+-- For private clauses: what comes of an item that is tried.
+use Rattle.std.specs.Prelude.{◌≡◌, Bool, is_some, IsTrue, Option, Some, None, Result, Ok, Err}
+use Rattle.sqlite.specs.Held.{Held, state}
+use Rattle.sqlite.specs.State.{HasCleanDisk}
+use Rattle.sqlite_trees.specs.declared.store.Store.{Ghosts}
+use Rattle.erp1_telegrams.specs.Telegram.{Telegram}
+use Rattle.device_registry.specs.declared.fault.LearnFault.{LearnFault}
+use Rattle.device_registry.specs.declared.fault.LearnFault.TheVariants as fault
+use Rattle.device_registry.specs.Devices.{Devices, Change}
+use Rattle.device_registry.specs.Holding.{HasDevices, AreRegistries, Keeps, Commits, Pends}
+use Rattle.gateway_core.specs.declared.lines.error.ErrorName.TheVariants as error
+use Rattle.gateway_core.specs.declared.refusal.Cause.TheVariants.{Memory, Store}
+use Rattle.gateway_core.specs.declared.refusal.Refusal.{Refusal}
+use Rattle.gateway_core.specs.declared.refusal.Refusal.TheVariants.{Before, AtWrite}
+use Rattle.gateway_core.specs.declared.reply.Reply.{Reply}
+use Rattle.gateway_core.specs.Lines.{error_text}
+use Rattle.gateway_core.specs.Step.{State, Item, Answer, said, Decision, decision_answer, change_in, telegram_answer, answer_to, change_of}
+use Rattle.gateway_core.specs.Refusals.{cause_in}
+use Rattle.gateway_core.specs.Run.{needs, needs_help, cause_text}
+use Rattle.gateway_core.specs.Replies.{answer_of}
+use Rattle.gateway_core.specs.Handling.{Sight}
+
+-- what is to be answered and to be written, and whether that takes memory or the store
+pub record Wanted : Type 0 where
+  pub answer : Answer
+  pub change : Option Change
+  pub help : Bool
+
+abbrev pub of_item : State → Item → Wanted
+of_item state item = record { answer = answer_to state item; change = change_of state item; help = needs state item }
+
+abbrev pub of_decision : Devices → Decision → Wanted
+of_decision devices decision = record { answer = decision_answer devices decision; change = change_in decision; help = needs_help decision }
+
+abbrev pub of_telegram : Devices → Option Telegram → Wanted
+of_telegram devices telegram = record { answer = telegram_answer devices telegram; change = None; help = is_some telegram }
+
+module _ {S : Type 0} (g : Ghosts S) (old new : Held S) (devices : Devices) where
+  -- the change, if any, is committed
+  abbrev pub IsMade : Option Change → Type 0
+  IsMade None = Keeps (state g old) (state g new) devices
+  IsMade (Some change) = Commits (state g new) change devices
+
+  -- what takes memory or the store was refused at its write; where nothing was to be written, nothing is
+  abbrev pub IsPending : Bool → Option Change → Type 0
+  IsPending help None = IsTrue help × Keeps (state g old) (state g new) devices
+  IsPending help (Some change) = Pends (state g old) (state g new) change devices
+
+  -- what is wanted is done, or it is refused
+  abbrev pub Comes : Wanted → Result Reply Refusal → Type 0
+  Comes wanted (Ok reply) = (answer_of reply ≡ wanted.answer) × IsMade wanted.change
+  Comes wanted (Err (Before cause)) = IsTrue wanted.help × Keeps (state g old) (state g new) devices
+  Comes wanted (Err (AtWrite cause)) = IsPending wanted.help wanted.change
+
+-- what is wanted, by the devices that the registry has, is done or refused
+pub record Tries {S : Type 0} (g : Ghosts S) (old : Sight S) (wanted : Devices → Wanted) (result : Result Reply Refusal) (new : Sight S) : Type 0 where
+  pub base : new.base ≡ old.base
+  pub clean : HasCleanDisk (state g new.registry) → HasCleanDisk (state g old.registry)
+  pub registries : HasCleanDisk (state g new.registry) → AreRegistries (state g old.registry).may_leave → AreRegistries (state g new.registry).may_leave
+  pub comes : HasCleanDisk (state g new.registry) → (devices : Devices) → HasDevices (state g old.registry) devices → Comes g old.registry new.registry devices (wanted devices) result
+
+-- the answer to what is done, or refused
+abbrev pub answer_from : Result Reply Refusal → Answer
+answer_from (Ok reply) = answer_of reply
+answer_from (Err refusal) = said (cause_text (cause_in refusal))
+
+-- a device is not learned: full is an answer, and all else a refusal at the write
+abbrev pub Unlearned : LearnFault → Result Reply Refusal → Type 0
+Unlearned fault.Full result = (reply : Reply) × (result ≡ Ok reply) × (answer_of reply ≡ said (error_text error.Full))
+Unlearned fault.Store result = result ≡ Err (AtWrite Store)
+Unlearned fault.Memory result = result ≡ Err (AtWrite Memory)

@@ -1,0 +1,32 @@
+//! A gateway over a database.
+ghost use Rattle.std.specs.Prelude.{◌≡◌, true, IfOk};
+ghost use Rattle.sqlite.specs.Held.{state};
+ghost use Rattle.sqlite.specs.State.{HasCleanDisk};
+ghost use Rattle.gateway_core.specs.Address;
+ghost use Rattle.gateway_main.specs.Replayed.{IsIdle};
+ghost use Rattle.gateway_main.specs.Started.{Starts};
+
+use crate::fault::Fault;
+use device_registry::Registry;
+use gateway_core::{Gateway, StartFault};
+use sqlite::{Alter, Connection};
+use std::alloc::Global;
+
+/// A gateway for a radio module with this base ID, over the registry that the database holds. A database that holds none of
+/// the registry's tables gets them. Where it is refused, the connection is dropped.
+pub fn start<S: Alter + Drop>(
+    alloc: Global,
+    conn: Connection<S>,
+    base: u32,
+) -> Result<Gateway<S>, Fault>
+    requires { Address.is_base base ≡ true }
+    ensures idle { IfOk result IsIdle }
+    ensures starts { IfOk result (λ gateway. HasCleanDisk (state S.Store gateway.sight.registry) → Starts S.Store conn base gateway.sight) }
+{
+    let registry = Registry::open(alloc, conn)?;
+    match Gateway::new(alloc, registry, base) {
+        Ok(gateway) => Ok(gateway),
+        Err(StartFault::Memory) => Err(Fault::Memory),
+        Err(StartFault::BadBase) => unreachable!(),
+    }
+}
