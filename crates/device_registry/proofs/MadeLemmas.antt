@@ -1,8 +1,7 @@
 -- From the statements that make the two tables to a registry of no devices.
-use Rattle.std.proofs.Common.{◌≡◌, ◌⊎◌, inl, inr, ℕ, pos, List, [], ◌∷◌, length, ◌≤◌, ◌<◌, ◌≢◌, ◌++◌, false, Some, None, Option, Ok, Err, OnOk, Result, arith, IsTrue, MatchBool, refl, sym, ap, subst, ◌∙◌}
+use Rattle.std.proofs.Common.{◌≡◌, ℕ, pos, List, [], ◌∷◌, length, ◌≤◌, ◌<◌, ◌≢◌, ◌++◌, false, None, Option, Ok, Err, OnOk, Result, arith, IsTrue, MatchBool, refl, sym, ap, subst, ◌∙◌}
 use Rattle.std.specs.List.{AllByRecursion}
 use Rattle.std.specs.FinMap.{empty}
-use Rattle.sqlite.specs.declared.types.Value.TheVariants.{Null, Int}
 use Rattle.sqlite.specs.Schema.{Schema}
 use Rattle.sqlite.specs.Table.{Table}
 use Rattle.sqlite.specs.Source.TheVariants.{Values}
@@ -12,16 +11,14 @@ use Rattle.sqlite_catalog.specs.Change.{created, next_tree, is_used, KeepsRows}
 use Rattle.sqlite.specs.declared.run.Mode.{Mode}
 use Rattle.sqlite.specs.declared.error.Error.{Error}
 use Rattle.sqlite_trees.specs.Tree.{Trees, IsTable}
-use Rattle.sqlite_rules.proofs.ListLemmas.{has_got, all_has}
 use Rattle.sqlite.specs.Effect.{Database, IsDatabase}
 use Rattle.sqlite.specs.Does.{Tally, Does, MakesTable, sequence_text, lacks_sequence}
 use Rattle.sqlite.specs.Rows.{Gives}
 use Rattle.sqlite.specs.Listing.{understood}
 use Rattle.sqlite.specs.State.{State, ExecutesInside, Shows as IsShowing, KeepsCounts, mode_of}
 use Rattle.sqlite.proofs.Callers.{runs_as, statement_of}
-use Rattle.device_registry.specs.Devices.{Devices}
 use Rattle.device_registry.specs.Tables.{meta_text, device_text, version_text, meta_name, device_name, meta_table, device_table}
-use Rattle.device_registry.specs.Stored.{KeepsTree, SparesName, IsDevice, IsRegistry, Registers, Holds, devices_in}
+use Rattle.device_registry.specs.Stored.{KeepsTree, SparesName, IsDevice, Registers, Holds, devices_in}
 use Rattle.device_registry.specs.Ready.{Shows}
 use Rattle.device_registry.specs.Opening.{HasTables}
 use Rattle.device_registry.proofs.PlaceLemmas.{IsClear}
@@ -42,8 +39,7 @@ creates limit mode old after text tally table defined none h =
     let both = went made.1 in
     let is : both.0.schema ≡ created old.schema table = both.1.is ∙ ap (created old.schema) (same_value (sym both.1.defined ∙ defined)) in
     let same : made.0 ≡ both.0 = same_value (subst (λ b. MatchBool b (MakesTable sequence_text both.0 (Ok made.0)) (Gives both.0 (Ok made.0))) (ap lacks_sequence is ∙ none) both.2) in
-    let now : after ≡ both.0 = ap (λ (p : Tally × Database). p.1) (same_value made.2) ∙ same in
-    (
+    let now : after ≡ both.0 = ap (λ (p : Tally × Database). p.1) (same_value made.2) ∙ same in (
       ap (λ (d : Database). d.schema) now ∙ is,
       ap (λ (d : Database). d.trees (next_tree old.schema)) now ∙ both.1.empty,
       subst (λ (d : Database). KeepsRows old.schema.tables old.trees d.trees) (sym now) both.1.others,
@@ -62,7 +58,7 @@ all_last P (y ∷ xs) x all = all_last P xs x all.1
 meta_alone : (schema : Schema) (t : HasTables schema) → StandsAlone schema t.meta
 meta_alone schema t = record {
   free = λ keys olds news. sets_off_nothing schema keys t.meta meta_name (all_weaker _ (KeepsTree meta_name t.meta) (λ t both. both.0) schema.tables t.alone) olds news
-    (all_weaker _ (SparesName meta_name) (λ t both. both.0) schema.tables t.spared);
+      (all_weaker _ (SparesName meta_name) (λ t both. both.0) schema.tables t.spared);
   unindexed = all_weaker _ (λ index. index.table ≢ t.meta) (λ index both. both.0) schema.indexes t.unindexed;
 }
 
@@ -100,7 +96,7 @@ module _ (a b c : State) (i j : ℕ) (clear : IsClear a.now.schema) (sound : IsD
       let makes = meta_makes a.now.schema clear.free_meta in
       let one = runs_as meta_text [] a b a.now.schema refl CreateTable makes.means.is makes.means.plain i first.0 in
       let made = creates a.step_limit (mode_of a) a.now b.now meta_text one.tally (meta_table 0) meta_is half_counted
-        (subst (λ t. Does a.step_limit (mode_of a) [] a.now t None CreateTable (Ok (one.tally, b.now))) makes.alone one.changed) in
+      (subst (λ t. Does a.step_limit (mode_of a) [] a.now t None CreateTable (Ok (one.tally, b.now))) makes.alone one.changed) in
       (made.0, made.1, one.sound)
 
   whole : (c.now.schema ≡ with_both a.now.schema) × (c.now.trees (next_tree (with_meta a.now.schema)) ≡ []) × (c.now.trees (next_tree a.now.schema) ≡ []) × IsDatabase c.now
@@ -109,8 +105,8 @@ module _ (a b c : State) (i j : ℕ) (clear : IsClear a.now.schema) (sound : IsD
       let makes = device_makes b.now.schema (subst (λ s. is_used s device_name ≡ false) (sym before.0) (half_free a.now.schema clear)) in
       let two = runs_as device_text [] b c b.now.schema refl CreateTable makes.means.is makes.means.plain j second.0 in
       let made = creates b.step_limit (mode_of b) b.now c.now device_text two.tally (device_table 0) device_is
-        (still_counted b.now.schema (device_table 0) refl (subst (λ s. lacks_sequence s ≡ false) (sym before.0) half_counted))
-        (subst (λ t. Does b.step_limit (mode_of b) [] b.now t None CreateTable (Ok (two.tally, c.now))) makes.alone two.changed) in
+      (still_counted b.now.schema (device_table 0) refl (subst (λ s. lacks_sequence s ≡ false) (sym before.0) half_counted))
+      (subst (λ t. Does b.step_limit (mode_of b) [] b.now t None CreateTable (Ok (two.tally, c.now))) makes.alone two.changed) in
       let kept = all_last (λ t. c.now.trees t.tree ≡ b.now.trees t.tree) a.now.schema.tables (meta_table (next_tree a.now.schema)) (subst (λ (s : Schema). KeepsRows s.tables b.now.trees c.now.trees) before.0 made.2) in
       (made.0 ∙ ap (λ s. created s (device_table 0)) before.0, subst (λ s. c.now.trees (next_tree s) ≡ []) before.0 made.1, kept ∙ before.1, two.sound)
 
@@ -120,7 +116,7 @@ module _ (a b c : State) (i j : ℕ) (clear : IsClear a.now.schema) (sound : IsD
       let after = whole in
       let low = all_last (λ t. t.tree < 65536) a.now.schema.tables (meta_table (next_tree a.now.schema)) (subst (λ (s : Schema). AllByRecursion (λ t. t.tree < 65536) s.tables) before.0 (lows b.now.schema b.now.trees before.2)) in
       let lower = all_last (λ t. t.tree < 65536) (with_meta a.now.schema).tables (device_table (next_tree (with_meta a.now.schema)))
-        (subst (λ (s : Schema). AllByRecursion (λ t. t.tree < 65536) s.tables) after.0 (lows c.now.schema c.now.trees after.3)) in
+      (subst (λ (s : Schema). AllByRecursion (λ t. t.tree < 65536) s.tables) after.0 (lows c.now.schema c.now.trees after.3)) in
       let t = made_tables a.now.schema clear low lower (owners_below a.now.schema a.now.trees sound) in
       subst (λ s. StandIn s (next_tree a.now.schema) (next_tree (with_meta a.now.schema))) (sym after.0) (record { tables = t.0; meta_is = t.1; devices_is = t.2 })
 

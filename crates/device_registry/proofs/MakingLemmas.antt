@@ -1,5 +1,5 @@
 -- What the transaction that makes the two tables leaves, whatever other tables there are.
-use Rattle.std.proofs.Common.{◌≡◌, ◌≢◌, ◌<◌, ◌⊎◌, inl, inr, ℕ, ◌+◌, ◌^◌, ◌==◌, nat_le, pos, List, [], ◌∷◌, ◌++◌, length, Bool, true, false, not, ◌&&◌, ◌||◌, Some, None, Option, Ok, Err, OnOk, Result, arith, IsTrue, MatchBool, refl, sym, ap, subst, ◌∙◌, append_assoc, append-nil, is_some, codes, slice_get, zero, suc, option_and_then}
+use Rattle.std.proofs.Common.{◌≡◌, ◌≢◌, ◌<◌, inl, inr, ℕ, ◌+◌, ◌^◌, ◌==◌, nat_le, List, [], ◌∷◌, ◌++◌, length, Bool, true, false, not, ◌&&◌, ◌||◌, Some, None, Option, arith, refl, sym, ap, subst, ◌∙◌, append_assoc, append-nil, is_some, codes, slice_get, zero, suc, option_and_then}
 use Rattle.std.proofs.lemmas.Bool.Decides.{nat_tests}
 use Rattle.std.proofs.lemmas.Bool.{cases_Bool}
 use Rattle.std.proofs.lemmas.List.Folds.{list_any-append}
@@ -11,17 +11,15 @@ use Rattle.sqlite_schema.specs.Names.{same_name, table_named, index_named, view_
 use Rattle.sqlite.specs.Does.{lacks_sequence}
 use Rattle.sqlite.specs.Rows.{sequence}
 use Rattle.sqlite_catalog.specs.Change.{created, next_tree, is_used}
-use Rattle.sqlite_catalog.specs.Listing.{IsSound, IsTableRow, IsIndexRow, is_table_row, is_index_row}
+use Rattle.sqlite_catalog.specs.Listing.{IsSound, IsTableRow, IsIndexRow}
 use Rattle.sqlite_catalog.proofs.ListFacts.{none_placed}
 use Rattle.sqlite_catalog.proofs.LayoutLemmas.{index_owner, zipped_left}
 use Rattle.sqlite_catalog.proofs.StepLemmas.{table_below}
 use Rattle.sqlite_trees.specs.Tree.{Trees}
-use Rattle.sqlite_trees.specs.Objects.{catalog_tree}
 use Rattle.sqlite_trees.proofs.ListLemmas.{all-append, all_weaker}
 use Rattle.sqlite_rules.specs.Lists.{Has}
 use Rattle.sqlite_rules.proofs.ListLemmas.{all_has, all_from}
 use Rattle.device_registry.specs.Tables.{meta_name, device_name, meta_table, device_table}
-use Rattle.device_registry.specs.Stored.{SparesName, KeepsTree}
 use Rattle.device_registry.specs.Opening.{HasTables}
 use Rattle.device_registry.proofs.PlaceLemmas.{IsClear}
 use Rattle.device_registry.proofs.MeaningLemmas.{unused}
@@ -81,7 +79,7 @@ unfolding same_name
 half_free schema clear =
     let none = unused schema device_name clear.free_devices in
     let table : table_named (with_meta schema) device_name ≡ None = none_at _ 0 (schema.tables ++ meta_table (next_tree schema) ∷ [])
-        (all-append _ schema.tables (meta_table (next_tree schema) ∷ []) (names_free schema device_name clear.free_devices) (refl, tt)) in
+    (all-append _ schema.tables (meta_table (next_tree schema) ∷ []) (names_free schema device_name clear.free_devices) (refl, tt)) in
     let index : index_named (with_meta schema) device_name ≡ None = subst (λ (xs : List Index). position_from (λ i. same_name i.name device_name) 0 xs ≡ None) (sym (append-nil schema.indexes)) none.1 in
     ap (λ (o : Option ℕ). (is_some o || is_some (index_named (with_meta schema) device_name)) || is_some (view_named schema device_name)) table
     ∙ ap (λ (o : Option ℕ). is_some o || is_some (view_named schema device_name)) index ∙ ap (λ (o : Option ℕ). is_some o) none.2
@@ -105,12 +103,13 @@ sequenced schema table (Some at) named h = sequence_kept schema table at (slice_
 pub still_counted : (schema : Schema) (table : Table) → table.is_counted ≡ false → lacks_sequence schema ≡ false → lacks_sequence (created schema table) ≡ false
 still_counted schema table plain lacks =
     let any : list_any counts (schema.tables ++ record table { tree = next_tree schema } ∷ []) ≡ list_any counts schema.tables =
-        list_any-append counts schema.tables (record table { tree = next_tree schema } ∷ []) ∙ ap (λ b. list_any counts schema.tables || (b || false)) plain ∙ or_false (list_any counts schema.tables) in
+    list_any-append counts schema.tables (record table { tree = next_tree schema } ∷ []) ∙ ap (λ b. list_any counts schema.tables || (b || false)) plain ∙ or_false (list_any counts schema.tables) in
     ap (λ b. b && not (is_some (sequence (created schema table)))) any ∙ decided (list_any counts schema.tables) (is_some (sequence schema)) lacks refl
   where
     or_false : (b : Bool) → (b || (false || false)) ≡ b
     or_false true = refl
     or_false false = refl
+
     decided : (any some : Bool) → (any && not some) ≡ false → is_some (sequence schema) ≡ some → (any && not (is_some (sequence (created schema table)))) ≡ false
     decided false some h is = refl
     decided true false h is = absurd (let e = h in cc)
@@ -151,22 +150,22 @@ module _ (schema : Schema) (clear : IsClear schema) (low : next_tree schema < 65
     meta_at = length schema.tables;
     devices_at = length front;
     meta_stands = stands (with_both schema) schema.tables (device_table second ∷ []) (meta_table first) (append_assoc schema.tables (meta_table first ∷ []) (device_table second ∷ []))
-      (names_free schema meta_name clear.free_meta) refl (all_weaker (λ t. t.tree < first) (λ t. (t.tree == first) ≡ false) (λ t h. other t.tree first h) schema.tables below) (itself first) (stored first low);
+        (names_free schema meta_name clear.free_meta) refl (all_weaker (λ t. t.tree < first) (λ t. (t.tree == first) ≡ false) (λ t h. other t.tree first h) schema.tables below) (itself first) (stored first low);
     devices_stand = stands (with_both schema) front [] (device_table second) refl
-      (all-append _ schema.tables (meta_table first ∷ []) (names_free schema device_name clear.free_devices) (refl, tt)) refl
-      (all_weaker (λ t. t.tree < second) (λ t. (t.tree == second) ≡ false) (λ t h. other t.tree second h) front front_below) (itself second) (stored second lower);
+        (all-append _ schema.tables (meta_table first ∷ []) (names_free schema device_name clear.free_devices) (refl, tt)) refl
+        (all_weaker (λ t. t.tree < second) (λ t. (t.tree == second) ≡ false) (λ t h. other t.tree second h) front front_below) (itself second) (stored second lower);
     apart = let r = rises in omega (arith, r);
     spared = all-append _ front (device_table second ∷ []) (all-append _ schema.tables (meta_table first ∷ []) clear.spared ((tt, tt), tt)) ((tt, tt), tt);
     alone = all-append _ front (device_table second ∷ [])
-      (all-append _ schema.tables (meta_table first ∷ [])
+        (all-append _ schema.tables (meta_table first ∷ [])
         (all_from _ schema.tables (λ t has.
-          let a = all_has _ schema.tables t below has in
-          let b = all_has _ schema.tables t lower_below has in
-          (λ e. absurd (omega (arith, a, e)), λ e. absurd (omega (arith, b, e)))))
+        let a = all_has _ schema.tables t below has in
+        let b = all_has _ schema.tables t lower_below has in
+        (λ e. absurd (omega (arith, a, e)), λ e. absurd (omega (arith, b, e)))))
         ((λ _. refl, λ e. absurd (let r = rises in omega (arith, r, e))), tt))
-      ((λ e. absurd (let r = rises in omega (arith, r, e)), λ _. refl), tt);
+        ((λ e. absurd (let r = rises in omega (arith, r, e)), λ _. refl), tt);
     unindexed = all-append _ (schema.indexes ++ []) [] (all-append _ schema.indexes []
-      (all_weaker (λ i. i.table < first) (λ i. (i.table ≢ first) × (i.table ≢ second)) (λ i h. let r = rises in (omega (arith, h), omega (arith, h, r))) schema.indexes owners) tt) tt;
+        (all_weaker (λ i. i.table < first) (λ i. (i.table ≢ first) × (i.table ≢ second)) (λ i h. let r = rises in (omega (arith, h), omega (arith, h, r))) schema.indexes owners) tt) tt;
   }
 
   pub made_tables : (t : HasTables (with_both schema)) × (t.meta ≡ first) × (t.devices ≡ second)

@@ -1,7 +1,7 @@
 -- What the registry's statements mean, wherever its tables stand in the schema.
 use Rattle.std.proofs.Common.{Bool, length, not, ◌||◌, ◌==◌, is_some, slice_range, ◌≡◌, ℕ, pos, negsuc, List, [], ◌∷◌, codes, true, false, Option, None, Some, Ok, Err, refl, slice_get, ap, ◌∙◌, ◌&&◌, option_map, option_and_then}
 use Rattle.sqlite.specs.declared.types.Value.TheVariants.{Null, Int}
-use Rattle.sqlite.specs.Term.{Term, lit, col, op2}
+use Rattle.sqlite.specs.Term.{Term, lit, col}
 use Rattle.sqlite.specs.Collation.TheVariants.{Binary}
 use Rattle.sqlite.specs.Schema.{Schema}
 use Rattle.sqlite.specs.Table.{Table}
@@ -611,7 +611,7 @@ version_result schema at d there = rw (there, there)
 
 version_joins : (schema : Schema) (at d : ℕ) → slice_get schema.tables at ≡ Some (meta_table d)
     → joins lower (inside schema (record { tables = one_bound (codes "enogate_meta") at; shown = version_shown }) false) (one_bound (codes "enogate_meta") at) (out-Core version_core).from (then_last (fresh 2 99999) plain_carried)
-      ≡ Ok (record { steps = Inner d ∷ []; filter = [] }, then_last (fresh 2 99999) plain_carried)
+    ≡ Ok (record { steps = Inner d ∷ []; filter = [] }, then_last (fresh 2 99999) plain_carried)
 unfolding everything version_select
 version_joins schema at d there = rw there
 
@@ -621,7 +621,7 @@ version_filter = refl
 
 version_matching : (schema : Schema) (at d : ℕ) → slice_get schema.tables at ≡ Some (meta_table d)
     → matching lower (outermost schema) (record { tables = one_bound (codes "enogate_meta") at; shown = version_shown }) version_core (then_last (fresh 2 99999) plain_carried)
-      ≡ Ok (record { steps = Inner d ∷ []; filter = [] }, then_last (fresh 2 99999) plain_carried)
+    ≡ Ok (record { steps = Inner d ∷ []; filter = [] }, then_last (fresh 2 99999) plain_carried)
 unfolding matching tests
 version_matching schema at d there = rw (version_joins schema at d there, version_filter)
 
@@ -665,8 +665,8 @@ version_means schema at d it =
     let command = Select (program_of (version_query d)) (codes "version" ∷ []) in
     means schema read_version_text (parsed_in (first read_version_text)) command
     (compiled_as schema read_version_text (parsed_in (first read_version_text)) command version_read
-      (rw (version_select.1, version_formats)) (λ base. rw version_select.1)
-      (λ base. rw (version_select.1, version_queried schema at d it, program_is schema (version_query d) (accepted_over schema d (meta_table d) (version_query d) it.classes refl) refl)))
+    (rw (version_select.1, version_formats)) (λ base. rw version_select.1)
+    (λ base. rw (version_select.1, version_queried schema at d it, program_is schema (version_query d) (accepted_over schema d (meta_table d) (version_query d) it.classes refl) refl)))
 
 unfoldable number_parts : (columns : List (List ℕ)) × (rows : Rows) × ((parsed_in (first version_text)).statement ≡ written.Insert conflict.Abort (codes "enogate_meta") columns rows [] [])
 unfolding everything
@@ -693,7 +693,7 @@ pub number_means : (schema : Schema) (at d : ℕ) → Stands schema (codes "enog
 unfolding timed returning shows
 number_means schema at d it = means schema version_text (parsed_in (first version_text)) (Insert at (Values version_terms 3))
     (compiled_as schema version_text (parsed_in (first version_text)) (Insert at (Values version_terms 3)) number_read
-      (rw (number_parts.2, number_formats, it.named, it.there)) (λ base. rw number_parts.2) (λ base. number_command schema at d base it))
+    (rw (number_parts.2, number_formats, it.named, it.there)) (λ base. rw number_parts.2) (λ base. number_command schema at d base it))
 
 -- ---- the tables
 
@@ -715,6 +715,7 @@ unused schema name free =
     neither : (a b : Bool) → (a || b) ≡ false → (a ≡ false) × (b ≡ false)
     neither true b h = absurd cc
     neither false b h = (refl, h)
+
     no_some : {A : Type 0} (o : Option A) → is_some o ≡ false → o ≡ None
     no_some None h = refl
     no_some (Some x) h = absurd cc

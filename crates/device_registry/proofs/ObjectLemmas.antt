@@ -1,7 +1,6 @@
 -- What the query that lists a database's objects means, whatever tables there are.
-use Rattle.std.proofs.Common.{◌≡◌, ℕ, pos, negsuc, List, [], ◌∷◌, codes, true, false, None, Some, Ok, Err, refl, sym, ◌∙◌, ap, subst, append-nil}
-use Rattle.sqlite.specs.declared.types.Value.TheVariants.{Int}
-use Rattle.sqlite.specs.Term.{Term, lit, col}
+use Rattle.std.proofs.Common.{◌≡◌, ℕ, List, [], ◌∷◌, codes, true, false, None, Ok, Err, refl, sym, ◌∙◌, ap, subst}
+use Rattle.sqlite.specs.Term.{col}
 use Rattle.sqlite.specs.Order.{Row}
 use Rattle.sqlite.specs.Schema.{Schema}
 use Rattle.sqlite.specs.Query.{Query}
@@ -24,14 +23,13 @@ use Rattle.sqlite_ast.specs.declared.Source.{Source, out-Source}
 use Rattle.sqlite_ast.specs.declared.Origin.TheVariants as origin
 use Rattle.sqlite_resolve.specs.Program.{Building, Shown, query, query_to, level, with, whole, alone, single, viewing, sources}
 use Rattle.sqlite_resolve.specs.Select.{named as part_named, paging, parts}
-use Rattle.sqlite_resolve.specs.Compile.{compiled, first, planned, meaning, timed, returning, command, read}
+use Rattle.sqlite_resolve.specs.Compile.{compiled, first, planned, meaning, returning, command, read}
 use Rattle.sqlite_resolve.specs.declared.error.CompileError.TheVariants.{NoSuchTable}
 use Rattle.sqlite_tied.specs.Compute.{everything}
 use Rattle.sqlite.proofs.Callers.{IsPlain, command_of}
 use Rattle.device_registry.proofs.TextLemmas.{plain_query, program_of}
 use Rattle.device_registry.proofs.MeaningLemmas.{parsed_in, no_page}
 use Rattle.device_registry.specs.Tables.{list_text}
-
 
 unfoldable list_select : (s : written_select.Select) × ((parsed_in (first list_text)).statement ≡ written.Select s)
 unfolding everything

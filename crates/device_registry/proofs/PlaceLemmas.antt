@@ -1,16 +1,15 @@
 -- What the tests of a schema tell.
-use Rattle.std.proofs.Common.{◌⊎◌, inl, inr, suc, ◌≡◌, ◌≢◌, ℕ, ◌+◌, ◌==◌, List, [], ◌∷◌, Bool, true, false, not, ◌&&◌, ◌||◌, Some, None, Option, if◌then◌else◌, subst, refl, sym, ap, ◌∙◌, arith, IsTrue, is_some, is_none, slice_get, option_map, option_and_then, codes}
+use Rattle.std.proofs.Common.{inl, inr, suc, ◌≡◌, ◌≢◌, ℕ, ◌+◌, ◌==◌, List, [], ◌∷◌, Bool, true, false, not, ◌&&◌, Some, None, Option, if◌then◌else◌, subst, refl, ap, ◌∙◌, arith, IsTrue, is_some, is_none, slice_get, option_map, option_and_then, codes}
 use Rattle.std.proofs.lemmas.Bool.Decides.{nat_tests}
 use Rattle.std.proofs.lemmas.Bool.{cases_Bool}
 use Rattle.std.specs.List.{AllByRecursion, list_any, position_from}
 use Rattle.sqlite.specs.Schema.{Schema}
 use Rattle.sqlite.specs.Table.{Table}
 use Rattle.sqlite.specs.Does.{lacks_sequence}
-use Rattle.sqlite.specs.Rows.{sequence}
 use Rattle.sqlite_catalog.specs.Change.{is_used}
 use Rattle.sqlite_schema.specs.Names.{same_name, table_named}
 use Rattle.sqlite_trees.proofs.ListLemmas.{all_weaker, all_both}
-use Rattle.device_registry.specs.Tables.{meta_name, device_name, meta_table, device_table}
+use Rattle.device_registry.specs.Tables.{meta_name, device_name}
 use Rattle.device_registry.specs.Stored.{SparesName}
 use Rattle.device_registry.specs.Opening.{HasTables, refers, is_referred, is_indexed, lacks_counts, is_clear, is_left_alone, if_left_alone, tree_named, trees_in}
 
@@ -107,7 +106,7 @@ left_alone schema meta devices h =
     record {
       spared = spared schema (untrue _ c.0) (untrue _ c.1);
       unindexed = all_both (λ index. index.table ≢ meta) (λ index. index.table ≢ devices) (λ index. (index.table ≢ meta) × (index.table ≢ devices)) (λ index p q. (p, q)) schema.indexes
-        (unindexed schema meta (untrue _ b.1)) (unindexed schema devices (untrue _ a.1));
+          (unindexed schema meta (untrue _ b.1)) (unindexed schema devices (untrue _ a.1));
     }
 
 -- the table of this name
@@ -138,19 +137,21 @@ found schema meta devices h = first (tree_named schema meta_name) refl h
     third : (m d : ℕ) → tree_named schema meta_name ≡ Some m → tree_named schema device_name ≡ Some d → if_left_alone schema m d ≡ Some (meta, devices) → IsPlaced schema meta devices
     third m d p q h = elim (cases_Bool (is_left_alone schema m d)) [
       | inl alone ↦
-        let pair : ◌≡◌ {A = ℕ × ℕ} (m, d) (meta, devices) = (let e = rw alone at h in cc) in
-        let x : m ≡ meta = ap (λ (o : ℕ × ℕ). o.0) pair in
-        let y : d ≡ devices = ap (λ (o : ℕ × ℕ). o.1) pair in
-        record {
-          meta_is = named_at schema meta_name meta (table_named schema meta_name) refl (p ∙ ap Some x);
-          devices_are = named_at schema device_name devices (table_named schema device_name) refl (q ∙ ap Some y);
-          alone = left_alone schema meta devices (subst (λ n. is_left_alone schema n devices ≡ true) x (subst (λ n. is_left_alone schema m n ≡ true) y alone));
-        }
+          let pair : ◌≡◌ {A = ℕ × ℕ} (m, d) (meta, devices) = (let e = rw alone at h in cc) in
+          let x : m ≡ meta = ap (λ (o : ℕ × ℕ). o.0) pair in
+          let y : d ≡ devices = ap (λ (o : ℕ × ℕ). o.1) pair in
+          record {
+            meta_is = named_at schema meta_name meta (table_named schema meta_name) refl (p ∙ ap Some x);
+            devices_are = named_at schema device_name devices (table_named schema device_name) refl (q ∙ ap Some y);
+            alone = left_alone schema meta devices (subst (λ n. is_left_alone schema n devices ≡ true) x (subst (λ n. is_left_alone schema m n ≡ true) y alone));
+          }
       | inr other ↦ absurd (let e = rw other at h in cc)
     ]
+
     second : (m : ℕ) (o : Option ℕ) → tree_named schema meta_name ≡ Some m → tree_named schema device_name ≡ o → option_and_then (if_left_alone schema m) o ≡ Some (meta, devices) → IsPlaced schema meta devices
     second m None p q h = absurd (let e = h in cc)
     second m (Some d) p q h = third m d p q h
+
     first : (o : Option ℕ) → tree_named schema meta_name ≡ o → option_and_then (λ m. option_and_then (if_left_alone schema m) (tree_named schema device_name)) o ≡ Some (meta, devices) → IsPlaced schema meta devices
     first None p h = absurd (let e = h in cc)
     first (Some m) p h = second m (tree_named schema device_name) p refl h
@@ -165,7 +166,7 @@ placed_tables schema t =
     let c = not_indexed schema t.meta (all_weaker _ (λ index. index.table ≢ t.meta) (λ x h. h.0) schema.indexes t.unindexed) in
     let d = not_indexed schema t.devices (all_weaker _ (λ index. index.table ≢ t.devices) (λ x h. h.1) schema.indexes t.unindexed) in
     let alone : is_left_alone schema t.meta t.devices ≡ true = ap (λ x. not x && not (is_referred schema device_name) && not (is_indexed schema t.meta) && not (is_indexed schema t.devices)) a
-        ∙ ap (λ x. true && not x && not (is_indexed schema t.meta) && not (is_indexed schema t.devices)) b
-        ∙ ap (λ x. true && true && not x && not (is_indexed schema t.devices)) c ∙ ap (λ x. true && true && true && not x) d in
+    ∙ ap (λ x. true && not x && not (is_indexed schema t.meta) && not (is_indexed schema t.devices)) b
+    ∙ ap (λ x. true && true && not x && not (is_indexed schema t.devices)) c ∙ ap (λ x. true && true && true && not x) d in
     let pair : Bool → Option (ℕ × ℕ) = λ b. if b then Some (t.meta, t.devices) else None in
     ap (option_and_then (λ m. option_and_then (if_left_alone schema m) (tree_named schema device_name))) meta ∙ ap (option_and_then (if_left_alone schema t.meta)) devices ∙ ap pair alone

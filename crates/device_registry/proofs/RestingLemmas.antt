@@ -1,30 +1,20 @@
 -- What a connection that is made anew over a store knows of it.
-use Rattle.std.proofs.Common.{◌≡◌, ℕ, ◌+◌, pos, negsuc, ℤ, List, [], ◌∷◌, Bool, true, false, not, ◌&&◌, Ok, Some, refl, sym, ap, subst, ◌∙◌, arith, IsTrue, inl, inr}
+use Rattle.std.proofs.Common.{◌≡◌, false, sym, subst, IsTrue, inl, inr}
 use Rattle.std.proofs.lemmas.Bool.{cases_Bool}
-use Rattle.std.specs.List.{AllByRecursion}
 use Rattle.sqlite.specs.Schema.{Schema}
 use Rattle.sqlite.specs.Table.{Table}
 use Rattle.sqlite_trees.specs.Objects.{catalog_tree, IsListed}
-use Rattle.sqlite_trees.specs.View.{View, IsClean, IsShaped, IsOrdered, IsRolledBack}
+use Rattle.sqlite_trees.specs.View.{View, IsShaped, IsOrdered}
 use Rattle.sqlite_trees.specs.declared.store.Shape.TheVariants as shape
 use Rattle.sqlite_catalog.specs.Listing.{AreListed}
 use Rattle.sqlite_catalog.proofs.LayoutLemmas.{table_shape, objects_rise}
 use Rattle.sqlite_rules.specs.Lists.{Has}
-use Rattle.sqlite.specs.Steps.{IsFresh}
 use Rattle.sqlite.specs.State.{State, Opens, IsLive}
 use Rattle.sqlite_trees.specs.Tree.{Trees, IsTable}
 use Rattle.device_registry.specs.Opening.{IsAtRest}
 
 pub open_if_sound : (v : View) → (v.is_open ≡ false → IsTrue v.is_broken) → v.is_broken ≡ false → IsTrue v.is_open
 open_if_sound v law sound = elim (cases_Bool v.is_open) [ inl is_open ↦ is_open | inr shut ↦ absurd (let e = law shut in cc) ]
-
-pub fresh : (old new : View) → IsRolledBack old new → IsClean new → IsTrue new.is_open → new.is_broken ≡ false → IsTrue new.is_numbered → IsFresh new
-fresh old new undone clean is_open sound numbered = record {
-  sound = sound;
-  numbered = numbered;
-  clean = (undone.undone is_open).0 ∙ sym ((undone.kept clean).committed is_open);
-  unmarked = (undone.kept clean).marks is_open;
-}
 
 rises : (v : View) (schema : Schema) → IsListed (v.trees catalog_tree) v.shape v.reals → IsOrdered v.shape v.trees → AreListed (v.trees catalog_tree) schema
     → (t : Table) → Has schema.tables t → IsShaped shape.Table (v.trees t.tree)

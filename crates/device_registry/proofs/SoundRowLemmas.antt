@@ -1,12 +1,11 @@
 -- The rows of a sound database that has the registry's tables are those of a registry.
-use Rattle.std.proofs.Common.{◌≡◌, ◌≢◌, ℕ, ◌<◌, pos, negsuc, ℤ, List, [], ◌∷◌, Bool, true, false, not, ◌&&◌, refl, sym, ap, subst, ◌∙◌, arith, IsTrue, inl, inr}
+use Rattle.std.proofs.Common.{◌≡◌, ℕ, pos, negsuc, List, [], ◌∷◌, Bool, true, false, not, ◌&&◌, refl, ap, subst, ◌∙◌, IsTrue}
 use Rattle.std.specs.List.{AllByRecursion}
 use Rattle.sqlite_value.proofs.OrderLemmas.{value_cmp-Int}
 use Rattle.sqlite.specs.declared.types.Value.{Value}
 use Rattle.sqlite.specs.declared.types.Value.TheVariants.{Text, Int, Null, Real, Blob}
 use Rattle.sqlite.specs.Order.{Row, column}
 use Rattle.sqlite.specs.Collation.TheVariants.{Binary}
-use Rattle.sqlite.specs.Schema.{Schema}
 use Rattle.sqlite_trees.specs.View.{is_int, IsShaped}
 use Rattle.sqlite_trees.specs.Tree.{rowid}
 use Rattle.sqlite_sql.specs.Ops.{binary, is_false}
@@ -15,13 +14,11 @@ use Rattle.sqlite_sql.specs.declared.ops.CompareOp.TheVariants.{Ge}
 use Rattle.sqlite_schema.specs.Rules.{passes_checks}
 use Rattle.sqlite.specs.Effect.{Database, IsDatabase}
 use Rattle.sqlite_schema.specs.declared.schema.Constraint.TheVariants.{Check}
-use Rattle.sqlite_rules.specs.Lists.{Has}
 use Rattle.sqlite_rules.proofs.ListLemmas.{has_got, all_has}
 use Rattle.sqlite_trees.specs.declared.store.Shape.TheVariants as shape
-use Rattle.device_registry.specs.Tables.{registry_schema, meta_name, device_name, device_table, meta_table}
+use Rattle.device_registry.specs.Tables.{device_table, meta_table}
 use Rattle.device_registry.specs.Stored.{IsDevice, IsRegistry, IsVersion}
 use Rattle.device_registry.specs.Opening.{AreShaped, HasTables, IsWhole}
-use Rattle.device_registry.proofs.StandingLemmas.{device_stands, meta_stands}
 
 both : (a b : Bool) → (a && b) ≡ true → (a ≡ true) × (b ≡ true)
 both true b h = (refl, h)
@@ -79,21 +76,3 @@ registry db sound shaped t whole =
       once = rows.0;
       few = whole.few;
     }
-
-two_tables : HasTables (registry_schema 0 1)
-unfolding Rattle.sqlite_schema.specs.Names.same_name
-two_tables = record {
-  meta = 0;
-  devices = 1;
-  meta_at = 0;
-  devices_at = 1;
-  meta_stands = meta_stands 0 1 (omega arith);
-  devices_stand = device_stands 0 1 (omega arith) (omega arith);
-  apart = omega arith;
-  spared = ((tt, tt), ((tt, tt), tt));
-  alone = ((λ _. refl, λ e. absurd (omega (arith, e))), ((λ e. absurd (omega (arith, e)), λ _. refl), tt));
-  unindexed = tt;
-}
-
-pub tables_of : (schema : Schema) → schema ≡ registry_schema 0 1 → HasTables schema
-tables_of schema is = subst HasTables (sym is) two_tables

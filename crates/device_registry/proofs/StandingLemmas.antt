@@ -1,13 +1,11 @@
 -- Where a table stands among the others of a schema.
-use Rattle.std.proofs.Common.{◌≡◌, ℕ, ◌+◌, List, [], ◌∷◌, ◌++◌, length, codes, Bool, true, false, cond, Some, Option, refl, sym, ap, ◌∙◌, slice_get, nat_le, ◌^◌, ◌==◌, arith, option_map, ◌≢◌, ◌<◌}
-use Rattle.std.proofs.lemmas.Bool.Decides.{nat_tests}
+use Rattle.std.proofs.Common.{◌≡◌, ℕ, ◌+◌, List, [], ◌∷◌, ◌++◌, length, Bool, true, false, Some, refl, ap, ◌∙◌, slice_get, nat_le, ◌^◌, ◌==◌, arith, option_map}
 use Rattle.std.specs.List.{AllByRecursion, position_from, find}
 use Rattle.sqlite.specs.Schema.{Schema}
 use Rattle.sqlite.specs.Table.{Table}
 use Rattle.sqlite_schema.specs.Names.{same_name}
 use Rattle.sqlite_typing.specs.Types.{row_classes}
 use Rattle.device_registry.specs.Stored.{Stands}
-use Rattle.device_registry.specs.Tables.{registry_schema, meta_table, device_table}
 
 placed_from : {X : Type 0} (test : X → Bool) (i : ℕ) (front back : List X) (x : X) → AllByRecursion (λ y. test y ≡ false) front → test x ≡ true → position_from test i (front ++ x ∷ back) ≡ Some (i + length front)
 placed_from test i [] back x none here = rw here (ap Some (omega arith))
@@ -31,13 +29,3 @@ stands schema front back table tables names own trees itself stored = record {
   there = rw tables (got_from front back table);
   classes = rw (stored, tables) (ap (option_map row_classes) (found_from (λ t. t.tree == table.tree) front back table trees itself));
 }
-
--- so in a registry that has just been made, or was found again, or that another table stands before
-pub device_stands : (m d : ℕ) → m ≢ d → d < 65536 → Stands (registry_schema m d) (codes "enogate_device") (device_table d) 1
-unfolding same_name
-device_stands m d apart low =
-    stands (registry_schema m d) (meta_table m ∷ []) [] (device_table d) refl (refl, tt) refl (grind (arith, nat_tests), tt) (grind (arith, nat_tests)) (grind (arith, nat_tests))
-
-pub meta_stands : (m d : ℕ) → m < 65536 → Stands (registry_schema m d) (codes "enogate_meta") (meta_table m) 0
-unfolding same_name
-meta_stands m d low = stands (registry_schema m d) [] (device_table d ∷ []) (meta_table m) refl tt refl tt (grind (arith, nat_tests)) (grind (arith, nat_tests))

@@ -1,7 +1,7 @@
 -- From the clauses of the calls of an open to the registry.
-use Rattle.std.proofs.Common.{◌≡◌, inl, inr, ℕ, List, Bool, true, false, Some, Option, Ok, Err, Result, IfOk, IfErr, refl, sym, ap, subst, ◌∙◌, arith, IsTrue}
+use Rattle.std.proofs.Common.{◌≡◌, inl, inr, ℕ, Bool, Some, None, Option, Ok, Err, Result, IfOk, IfErr, refl, sym, ap, subst, ◌∙◌, arith, IsTrue}
 use Rattle.sqlite.specs.declared.error.Error.{Error}
-use Rattle.sqlite.specs.Effect.{Database, IsDatabase}
+use Rattle.sqlite.specs.Effect.{Database}
 use Rattle.sqlite.specs.State.{State, IsUnchanged}
 use Rattle.sqlite.proofs.Callers.{unchanged_then}
 use Rattle.sqlite.specs.State.{HasCleanDisk, Survives}
@@ -12,25 +12,27 @@ use Rattle.device_registry.specs.declared.fault.OpenFault.{OpenFault}
 use Rattle.device_registry.specs.declared.fault.OpenFault.TheVariants.{NotARegistry}
 use Rattle.device_registry.specs.Devices.{Devices}
 use Rattle.device_registry.specs.Tables.{meta_name, device_name}
-use Rattle.device_registry.specs.Stored.{Registers, Holds, IsHeld, IsBare, devices_in}
+use Rattle.device_registry.specs.Stored.{Holds, IsBare, devices_in}
 use Rattle.device_registry.specs.Holding.{AreRegistries, Finds, Opens}
 use Rattle.device_registry.specs.Ready.{Shows, IsReady}
-use Rattle.device_registry.specs.Opening.{IsAtRest, IsAgain, HasTables, IsWhole, IsTakeable, IsPrepared, KeepsFound, IsOther, is_clear}
+use Rattle.device_registry.specs.Opening.{IsAtRest, IsAgain, HasTables, IsWhole, IsTakeable, IsPrepared, KeepsFound, IsOther, FoundAgain, is_clear}
+use Rattle.sqlite_catalog.specs.Listing.{IsSound}
+use Rattle.sqlite_schema.specs.Names.{table_named}
+use Rattle.device_registry.proofs.TakingLemmas.{same_schema}
 use Rattle.device_registry.proofs.MeaningLemmas.{unused}
 use Rattle.device_registry.proofs.PlaceLemmas.{cleared}
 use Rattle.device_registry.proofs.SoundRowLemmas.{registry}
 use Rattle.device_registry.proofs.StatementLemmas.{unchanged}
 use Rattle.device_registry.proofs.HoldingLemmas.{held_once}
 
--- nothing was called
-pub unmoved : (s : State) → IsAtRest s → IsUnchanged s s
-unmoved s rest = (record { was_open = rest.is_open; is_open = rest.is_open; now_is = refl; committed_is = refl; mode = refl }, record { changes = refl; last_rowid = refl }, refl)
-
 -- what was asked of the state between, which is as it was
 pub taken_if : (r : Result Bool Error) (old mid new : State) → IsUnchanged old mid → HasTables old.now.schema
     → IfOk r (λ yes. IsUnchanged mid new × (IsTrue yes → (t : HasTables mid.now.schema) → IsWhole mid.now.trees t.meta t.devices)) → IfOk r (λ yes. IsUnchanged old new × (IsTrue yes → IsTakeable old.now))
-taken_if (Ok is_so) old mid new same tables h = (unchanged_then old mid new same h.0, λ is.
-    subst IsTakeable same.0.now_is (let t : HasTables mid.now.schema = subst (λ (db : Database). HasTables db.schema) (sym same.0.now_is) tables in record { tables = t; whole = h.1 is t }))
+taken_if (Ok is_so) old mid new same tables h = (
+  unchanged_then old mid new same h.0,
+  λ is.
+      subst IsTakeable same.0.now_is (let t : HasTables mid.now.schema = subst (λ (db : Database). HasTables db.schema) (sym same.0.now_is) tables in record { tables = t; whole = h.1 is t }),
+)
 taken_if (Err e) old mid new same tables h = tt
 
 pub not_whole : (old mid : State) → IsUnchanged old mid → ((t : HasTables mid.now.schema) → ¬ IsWhole mid.now.trees t.meta t.devices) → (t : HasTables old.now.schema) → ¬ IsWhole old.now.trees t.meta t.devices
@@ -61,14 +63,16 @@ begun_stop old new rest clear h = survives_weaker old new (λ trees. Holds trees
 -- a database that may be taken is a registry
 shown : (s : State) → IsAtRest s → IsTakeable s.now → (devices : Devices) × Shows s devices
 shown s rest it =
-    let is = registry s.now rest.sound rest.shaped it.tables it.whole in
-    (devices_in (s.now.trees is.devices), record {
-      is_open = rest.is_open;
-      idle = rest.idle;
-      settled = rest.settled;
-      sound = rest.sound;
-      registers = record { registry = is; is = refl };
-    })
+    let is = registry s.now rest.sound rest.shaped it.tables it.whole in (
+      devices_in (s.now.trees is.devices),
+      record {
+        is_open = rest.is_open;
+        idle = rest.idle;
+        settled = rest.settled;
+        sound = rest.sound;
+        registers = record { registry = is; is = refl };
+      },
+    )
 
 held : (s : State) (devices : Devices) → Shows s devices → Holds s.now.trees devices
 held s devices shows = record { db = s.now; same = refl; sound = shows.sound; registers = shows.registers }
@@ -85,12 +89,12 @@ pub taken_stop : (old mid new : State) → (HasCleanDisk old → IsAtRest old) �
     → Survives mid new (λ trees. (devices : Devices) → Shows mid devices → Holds trees devices) → Survives old new (KeepsFound old.now.trees)
 taken_stop old mid new rest took first second =
     survives_then old mid new (λ _. ⊥) (λ trees. (devices : Devices) → Shows mid devices → Holds trees devices) (KeepsFound old.now.trees) (λ clean trees no. absurd no)
-      (λ clean trees leaves.
-        let between : HasCleanDisk mid = omega (arith, clean, second.clean) in
-        let it = took between in
-        let was = shown old (rest (omega (arith, between, first.clean))) it.1 in
-        record { devices = was.0; finds = inl (held old was.0 was.1); holds = leaves was.0 ((unchanged old mid it.0 it.0.0.is_open).1 was.0 was.1) })
-      first second
+    (λ clean trees leaves.
+    let between : HasCleanDisk mid = omega (arith, clean, second.clean) in
+    let it = took between in
+    let was = shown old (rest (omega (arith, between, first.clean))) it.1 in
+    record { devices = was.0; finds = inl (held old was.0 was.1); holds = leaves was.0 ((unchanged old mid it.0 it.0.0.is_open).1 was.0 was.1) })
+    first second
 
 -- ---- what is opened
 
@@ -117,3 +121,15 @@ another start fresh again other = subst IsOther again.1 other
 pub refused_if : {T P : Type 0} (r : Result T OpenFault) → (r ≡ Err NotARegistry → P) → IfErr r (λ e. e ≡ NotARegistry → P)
 refused_if (Ok v) told = tt
 refused_if (Err e) told = λ why. told (ap Err why)
+
+-- ---- what a stop left, found again
+
+no_place : (o : Option ℕ) (at : ℕ) → o ≡ Some at → o ≡ None → ⊥
+no_place o at some none = let e = sym some ∙ none in cc
+
+pub found_again : FoundAgain
+found_again trees devices found holds (inl other) = held_once trees devices found holds other
+found_again trees devices found holds (inr bare) =
+    let same : holds.db.schema ≡ bare.0.db.schema = same_schema trees holds.db.schema bare.0.db.schema (subst (IsSound holds.db.schema) holds.same holds.sound) (subst (IsSound bare.0.db.schema) bare.0.same bare.0.sound) in
+    let registry = holds.registers.registry in
+    absurd (no_place (table_named holds.db.schema meta_name) registry.meta_at registry.meta_stands.named (ap (λ s. table_named s meta_name) same ∙ bare.0.no_meta))

@@ -1,5 +1,5 @@
 -- A database that lists the registry's texts in the trees of its two names has the registry's tables.
-use Rattle.std.proofs.Common.{◌≡◌, ◌≢◌, ◌⊎◌, inl, inr, ℕ, ℤ, pos, ◌+◌, ◌<◌, ◌==◌, ◌^◌, nat_le, List, [], ◌∷◌, map, codes, Bool, true, false, not, ◌&&◌, ◌||◌, Some, None, Option, option_map, slice_get, Ok, refl, sym, ap, subst, ◌∙◌, arith, IsTrue, Less, is_eq, int_cmp}
+use Rattle.std.proofs.Common.{◌≡◌, inl, inr, ℕ, ℤ, pos, ◌+◌, ◌<◌, ◌==◌, ◌^◌, nat_le, List, [], ◌∷◌, map, Bool, true, false, ◌&&◌, ◌||◌, Some, option_map, Ok, refl, sym, ap, subst, ◌∙◌, arith, IsTrue, Less, is_eq}
 use Rattle.std.proofs.lemmas.Int.{ints}
 use Rattle.std.proofs.lemmas.Bool.Decides.{nat_tests}
 use Rattle.std.proofs.lemmas.Slice.Eq.{bytes_eq-Decides}
@@ -89,9 +89,9 @@ here trees tree text h =
     let hit = some_has (λ r. is_line number text (line r)) _ h in
     elim (put_all_has (map shown (trees catalog_tree)) [] hit.0 hit.1) [
       | inl new ↦
-        let object = has_mapped shown (trees catalog_tree) hit.0 new in
-        let passes = both _ _ (subst (λ r. is_line number text (line r) ≡ true) object.2 hit.2) in
-        record { row = object.0; listed = object.1; id = number_is (column object.0 0) number passes.0; sql = text_is (column object.0 4) text passes.1 }
+          let object = has_mapped shown (trees catalog_tree) hit.0 new in
+          let passes = both _ _ (subst (λ r. is_line number text (line r) ≡ true) object.2 hit.2) in
+          record { row = object.0; listed = object.1; id = number_is (column object.0 0) number passes.0; sql = text_is (column object.0 4) text passes.1 }
       | inr none ↦ absurd none
     ]
 
@@ -121,8 +121,8 @@ shows_line old new rows sound rising shows tree text it =
     let fresh = fresh_rising (map shown objects) [] (ascending-map _ shown objects rising) (λ x has. absurd has) in
     let there = put_all_adds (map shown objects) [] (shown it.row) fresh (mapped_has shown objects it.row it.listed) in
     let passes : is_line (pos (tree + 1)) text (line (shown it.row)) ≡ true =
-        ap (λ v. has_number v (pos (tree + 1)) && has_text (column it.row 4) text) it.id ∙ ap (λ v. has_number (Int (pos (tree + 1))) (pos (tree + 1)) && has_text v text) it.sql
-        ∙ ap (λ b. b && bytes_eq text text) (number_holds (pos (tree + 1))) ∙ (bytes_eq-Decides text text).1 refl in
+    ap (λ v. has_number v (pos (tree + 1)) && has_text (column it.row 4) text) it.id ∙ ap (λ v. has_number (Int (pos (tree + 1))) (pos (tree + 1)) && has_text v text) it.sql
+    ∙ ap (λ b. b && bytes_eq text text) (number_holds (pos (tree + 1))) ∙ (bytes_eq-Decides text text).1 refl in
     same ∙ some_from (λ r. is_line (pos (tree + 1)) text (line r)) _ (shown it.row) there passes
 
 pub ours_told : (old new : State) (rows : List Row) (meta devices : ℕ) → IsDatabase old.now → Shown list_text [] old new rows → are_ours meta devices rows ≡ true → AreListedAs old.now.trees meta devices

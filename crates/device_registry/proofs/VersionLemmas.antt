@@ -1,5 +1,5 @@
 -- The version row, as it is written once, and as it is written again.
-use Rattle.std.proofs.Common.{◌≡◌, ◌≢◌, ◌⊎◌, inl, inr, ℕ, ℤ, pos, false, List, [], ◌∷◌, Some, None, Option, Ok, Err, Result, OnOk, arith, refl, sym, ap, subst, ◌∙◌, slice_get}
+use Rattle.std.proofs.Common.{◌≡◌, inl, inr, ℕ, pos, List, [], ◌∷◌, Some, None, Option, Ok, Err, Result, OnOk, refl, sym, ap, subst, ◌∙◌, slice_get}
 use Rattle.sqlite.specs.declared.types.Value.TheVariants.{Null, Int}
 use Rattle.sqlite.specs.Order.{Row}
 use Rattle.sqlite.specs.Schema.{Schema}
@@ -13,7 +13,7 @@ use Rattle.sqlite.specs.Effect.{Database}
 use Rattle.sqlite.specs.Does.{Tally, Does, AtPlace, OnRows}
 use Rattle.sqlite.specs.Rows.{Written, Task, count_of, rowids_for}
 use Rattle.sqlite.specs.Listing.{understood}
-use Rattle.sqlite.specs.State.{State, HasCleanDisk, Survives, Executes, CommitsBy, mode_of}
+use Rattle.sqlite.specs.State.{State, Survives, Executes, CommitsBy, mode_of}
 use Rattle.sqlite_trees.specs.Tree.{Trees}
 use Rattle.sqlite_rules.specs.Edit.{edit_of, taken_by, edited, with_rowid}
 use Rattle.sqlite.proofs.Callers.{one_step, runs_as, statement_of}
@@ -21,7 +21,7 @@ use Rattle.sqlite.proofs.StateLemmas.{survives_weaker}
 use Rattle.device_registry.specs.Devices.{Devices}
 use Rattle.device_registry.specs.Tables.{renew_text, meta_table}
 use Rattle.device_registry.specs.Stored.{Registers, Holds}
-use Rattle.device_registry.specs.Ready.{Shows, IsReady}
+use Rattle.device_registry.specs.Ready.{Shows}
 use Rattle.device_registry.proofs.TextLemmas.{program_of, renew_query}
 use Rattle.device_registry.proofs.MeaningLemmas.{renew_means, version_terms}
 use Rattle.device_registry.proofs.SchemaLemmas.{StandsAlone, meta_alone}
@@ -58,7 +58,7 @@ numbers schema at m limit mode db text tally after there stands none does =
     let edit = edit_of db (meta_table m) [] rowids 0 given.0 in
     let step = one_step schema mode.keys db edits.0 edit (stands.free mode.keys (taken_by db edit) edit.news) edits.1 in
     let rows : after.trees m ≡ version_row ∷ [] =
-        ap (λ (s : Trees). s m) trees ∙ step.rows ∙ ap (λ rs. edited db (edit_of db (meta_table m) [] rowids 0 rs)) given.1.1 ∙ rw none (ap (λ r. with_rowid rowids [] r ∷ []) (cast_version m)) in
+    ap (λ (s : Trees). s m) trees ∙ step.rows ∙ ap (λ rs. edited db (edit_of db (meta_table m) [] rowids 0 rs)) given.1.1 ∙ rw none (ap (λ r. with_rowid rowids [] r ∷ []) (cast_version m)) in
     (ap (λ (db : Database). db.schema) now, rows, λ i t is other. ap (λ (s : Trees). s t.tree) trees ∙ spares schema mode.keys db edits.0 edit step i t is other)
 
 renew_does : (s : State) (after : Database) (text : List ℕ) (tally : Tally) (devices : Devices) (had : Registers s.now devices)

@@ -1,6 +1,6 @@
 -- What the two queries show that read a whole table.
 use Rattle.sqlite.specs.declared.error.Error.{Error}
-use Rattle.std.proofs.Common.{◌≡◌, ℕ, ◌+◌, Result, Ok, Err, IfOk, ◌≤◌, suc, pos, List, [], ◌∷◌, map, length, refl, sym, ap, subst, ◌∙◌, arith, codes}
+use Rattle.std.proofs.Common.{◌≡◌, ℕ, Result, Ok, Err, IfOk, ◌≤◌, suc, pos, List, [], ◌∷◌, map, length, refl, sym, ap, subst, ◌∙◌, arith, codes}
 use Rattle.std.specs.List.{flat_map}
 use Rattle.std.specs.List.Sorted.{IsPermutation}
 use Rattle.std.proofs.lemmas.List.Sorted.{length_permutation}
@@ -11,22 +11,16 @@ use Rattle.sqlite_sql.specs.Term.{Env}
 use Rattle.sqlite.specs.Program.{overlay}
 use Rattle.sqlite_trees.specs.Tree.{Trees}
 use Rattle.sqlite.specs.Command.TheVariants.{Select}
-use Rattle.sqlite.specs.Clock.{timed}
 use Rattle.sqlite.specs.Listing.{understood}
 use Rattle.sqlite.specs.Effect.{Database}
-use Rattle.sqlite.specs.State.{State, Shown, ShowsRows, IsUnchanged}
+use Rattle.sqlite.specs.State.{State, Shown, IsUnchanged}
 use Rattle.sqlite.proofs.Callers.{IsPlain, reads_as, one_permutation}
 use Rattle.device_registry.specs.Tables.{all_text, read_version_text}
 use Rattle.device_registry.specs.Opening.{HasTables, IsWhole, ShowsVersion}
+use Rattle.device_registry.proofs.StatementLemmas.{shown_same}
 use Rattle.device_registry.proofs.RowLemmas.{overlay_is}
 use Rattle.device_registry.proofs.TextLemmas.{program_of, all_query}
 use Rattle.device_registry.proofs.MeaningLemmas.{version_query, version_means, all_means}
-
-pub same_shown : (sql : List ℕ) (params : Row) (old new : State) (rows : List Row) → IsPlain (understood old.now.schema sql) → Shown sql params old new rows → IsUnchanged old new
-unfolding Shown
-same_shown sql params old new rows plain h =
-    let none = (subst IsPlain h.1.is plain).0 in
-    (subst (ShowsRows old new sql h.0 (timed params h.0.formats h.1.now) rows) none h.2).3
 
 abbrev envs : List Row → List Env
 envs rows = flat_map (λ r. ([] ∷ r ∷ []) ∷ []) rows
@@ -98,5 +92,5 @@ version_told old new rows t it h =
 
 pub shown_if : {V : Type 0} (items : V → List Row) (r : Result V Error) (sql : List ℕ) (old new : State) → IsPlain (understood old.now.schema sql) → IfOk r (λ v. Shown sql [] old new (items v))
     → IfOk r (λ v. Shown sql [] old new (items v) × IsUnchanged old new)
-shown_if items (Ok v) sql old new plain h = (h, same_shown sql [] old new (items v) plain h)
+shown_if items (Ok v) sql old new plain h = (h, shown_same sql [] old new plain (items v) h)
 shown_if items (Err e) sql old new plain h = tt

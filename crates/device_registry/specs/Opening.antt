@@ -188,3 +188,9 @@ is_no_memory _ = false
 
 abbrev pub fault_of : Error → OpenFault
 fault_of error = if is_no_memory error then Memory else Store
+
+-- ---- a law
+
+-- what a stop left of a registry is what the next open finds
+abbrev pub FoundAgain : Type 0
+FoundAgain = (trees : Trees) (left found : Devices) → Holds trees left → Finds trees found → left ≡ found

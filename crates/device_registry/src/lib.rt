@@ -7,6 +7,7 @@
 
 mod device;
 mod fault;
+pub mod laws;
 mod listing;
 mod making;
 mod opening;

@@ -44,8 +44,15 @@ fn lists(rows: &[Row], tree: u32, text: &[u8]) -> bool
 pub fn are_ours(rows: &[Row], meta: u32, devices: u32) -> bool
     ensures { result ≡ are_ours meta devices rows.now }
 {
-    lists(rows, meta, b"CREATE TABLE enogate_meta (k INTEGER PRIMARY KEY CHECK (k = 1), version INTEGER NOT NULL) STRICT")
-        && lists(rows, devices, b"CREATE TABLE enogate_device (id INTEGER PRIMARY KEY CHECK (id >= 0 AND id <= 4294967294), eep INTEGER NOT NULL CHECK (eep >= 0 AND eep <= 16777215), maker INTEGER NOT NULL CHECK (maker >= -1 AND maker <= 2047)) STRICT")
+    lists(
+        rows,
+        meta,
+        b"CREATE TABLE enogate_meta (k INTEGER PRIMARY KEY CHECK (k = 1), version INTEGER NOT NULL) STRICT",
+    ) && lists(
+        rows,
+        devices,
+        b"CREATE TABLE enogate_device (id INTEGER PRIMARY KEY CHECK (id >= 0 AND id <= 4294967294), eep INTEGER NOT NULL CHECK (eep >= 0 AND eep <= 16777215), maker INTEGER NOT NULL CHECK (maker >= -1 AND maker <= 2047)) STRICT",
+    )
 }
 
 /// Whether there is one row, with version 1.

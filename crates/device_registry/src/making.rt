@@ -18,8 +18,14 @@ pub fn make<S: Alter>(conn: &mut Connection<S>) -> Result<(), Error>
     ensures stop { Survives (state S.Store conn.old) (state S.Store conn.new) (λ trees. Holds trees empty) }
 {
     let mut making = conn.transaction();
-    making.execute("CREATE TABLE enogate_meta (k INTEGER PRIMARY KEY CHECK (k = 1), version INTEGER NOT NULL) STRICT", &[])?;
-    making.execute("CREATE TABLE enogate_device (id INTEGER PRIMARY KEY CHECK (id >= 0 AND id <= 4294967294), eep INTEGER NOT NULL CHECK (eep >= 0 AND eep <= 16777215), maker INTEGER NOT NULL CHECK (maker >= -1 AND maker <= 2047)) STRICT", &[])?;
+    making.execute(
+        "CREATE TABLE enogate_meta (k INTEGER PRIMARY KEY CHECK (k = 1), version INTEGER NOT NULL) STRICT",
+        &[],
+    )?;
+    making.execute(
+        "CREATE TABLE enogate_device (id INTEGER PRIMARY KEY CHECK (id >= 0 AND id <= 4294967294), eep INTEGER NOT NULL CHECK (eep >= 0 AND eep <= 16777215), maker INTEGER NOT NULL CHECK (maker >= -1 AND maker <= 2047)) STRICT",
+        &[],
+    )?;
     making.execute("INSERT INTO enogate_meta (k, version) VALUES (1, 1)", &[])?;
     making.commit()
 }

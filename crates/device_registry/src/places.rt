@@ -9,6 +9,7 @@ use sqlite_schema::names::same_name;
 use sqlite_schema::schema::{Schema, Table};
 
 const META: &[u8] = b"enogate_meta";
+
 const DEVICE: &[u8] = b"enogate_device";
 
 fn is_used(schema: &Schema, name: &[u8]) -> bool
@@ -33,19 +34,31 @@ fn refers(table: &Table, name: &[u8]) -> bool
 fn is_referred(schema: &Schema, name: &[u8]) -> bool
     ensures { result ≡ is_referred schema.now name.now }
 {
-    schema.tables.as_slice().iter().any(|table| refers(table, name))
+    schema
+        .tables
+        .as_slice()
+        .iter()
+        .any(|table| refers(table, name))
 }
 
 fn is_indexed(schema: &Schema, tree: u32) -> bool
     ensures { result ≡ is_indexed schema.now tree }
 {
-    schema.indexes.as_slice().iter().any(|index| index.table == tree)
+    schema
+        .indexes
+        .as_slice()
+        .iter()
+        .any(|index| index.table == tree)
 }
 
 fn counts(schema: &Schema) -> bool
     ensures { result ≡ list_any (λ (table : Table). table.is_counted) schema.now.tables }
 {
-    schema.tables.as_slice().iter().any(|table| table.is_counted)
+    schema
+        .tables
+        .as_slice()
+        .iter()
+        .any(|table| table.is_counted)
 }
 
 /// Whether a table counts its rowids where nothing holds the counts.

@@ -29,7 +29,10 @@ fn lists_ours<S: Alter>(conn: &mut Connection<S>, meta: u32, devices: u32) -> Re
     ensures other { HasCleanDisk (state S.Store conn.new) → IsTable ((state S.Store conn.old).now.trees catalog_tree) → result ≡ Ok false → ¬ AreListedAs (state S.Store conn.old).now.trees meta devices }
     ensures stop { Survives (state S.Store conn.old) (state S.Store conn.new) (λ _. ⊥) }
 {
-    let rows = rows_of(conn, "SELECT rowid, type, sql FROM sqlite_schema ORDER BY rowid")?;
+    let rows = rows_of(
+        conn,
+        "SELECT rowid, type, sql FROM sqlite_schema ORDER BY rowid",
+    )?;
     Ok(are_ours(&rows, meta, devices))
 }
 
@@ -44,7 +47,10 @@ fn is_whole<S: Alter>(conn: &mut Connection<S>) -> Result<bool, Error>
     if !is_version(&versions) {
         return Ok(false);
     }
-    let devices = rows_of(conn, "SELECT id, eep, maker FROM enogate_device ORDER BY id")?;
+    let devices = rows_of(
+        conn,
+        "SELECT id, eep, maker FROM enogate_device ORDER BY id",
+    )?;
     Ok(devices.len() <= 1000)
 }
 

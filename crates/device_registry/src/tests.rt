@@ -16,7 +16,8 @@ const SENSOR: Eep = Eep {
     typ: 0x05,
 };
 
-const TABLES: &str = "CREATE TABLE enogate_meta (k INTEGER PRIMARY KEY CHECK (k = 1), version INTEGER NOT NULL) STRICT; CREATE TABLE enogate_device (id INTEGER PRIMARY KEY CHECK (id >= 0 AND id <= 4294967294), eep INTEGER NOT NULL CHECK (eep >= 0 AND eep <= 16777215), maker INTEGER NOT NULL CHECK (maker >= -1 AND maker <= 2047)) STRICT;";
+const TABLES: &str =
+    "CREATE TABLE enogate_meta (k INTEGER PRIMARY KEY CHECK (k = 1), version INTEGER NOT NULL) STRICT; CREATE TABLE enogate_device (id INTEGER PRIMARY KEY CHECK (id >= 0 AND id <= 4294967294), eep INTEGER NOT NULL CHECK (eep >= 0 AND eep <= 16777215), maker INTEGER NOT NULL CHECK (maker >= -1 AND maker <= 2047)) STRICT;";
 
 fn contact(id: u32) -> Device {
     Device {
@@ -80,7 +81,9 @@ fn the_next_open_finds_all(rt: HostRuntime) -> Result<(), Fail> {
     assert!(rt; again.is_autocommit());
     let mut registry = Registry::open(rt.alloc(), again)?;
     let all = registry.all()?;
-    assert!(rt; all.as_slice() == [contact(0), contact(0x0180_0ABC), sensor(0xFFFF_FFFE)].as_slice());
+    assert!(rt;
+        all.as_slice() == [contact(0), contact(0x0180_0ABC), sensor(0xFFFF_FFFE)].as_slice()
+    );
     Ok(())
 }
 
@@ -121,13 +124,15 @@ fn a_thousand_devices_and_no_more(rt: HostRuntime) -> Result<(), Fail> {
 #[test]
 fn databases_that_are_no_registry(rt: HostRuntime) -> Result<(), Fail> {
     let refused = Some(OpenFault::NotARegistry);
-    let meta = "CREATE TABLE enogate_meta (k INTEGER PRIMARY KEY CHECK (k = 1), version INTEGER NOT NULL) STRICT";
+    let meta =
+        "CREATE TABLE enogate_meta (k INTEGER PRIMARY KEY CHECK (k = 1), version INTEGER NOT NULL) STRICT";
     assert!(rt; opened(&rt, meta)? == refused);
     assert!(rt; opened(&rt, "CREATE TABLE Enogate_Device (id)")? == refused);
     let nine = format!(in rt.alloc(); "{TABLES} INSERT INTO enogate_meta VALUES (1, 9)")?;
     assert!(rt; opened(&rt, nine.as_str())? == refused);
     assert!(rt; opened(&rt, TABLES)? == refused);
-    let others = "CREATE TABLE enogate_meta (k INTEGER PRIMARY KEY, version INTEGER) STRICT; CREATE TABLE enogate_device (id INTEGER PRIMARY KEY, eep INTEGER, maker INTEGER) STRICT; INSERT INTO enogate_meta VALUES (1, 1)";
+    let others =
+        "CREATE TABLE enogate_meta (k INTEGER PRIMARY KEY, version INTEGER) STRICT; CREATE TABLE enogate_device (id INTEGER PRIMARY KEY, eep INTEGER, maker INTEGER) STRICT; INSERT INTO enogate_meta VALUES (1, 1)";
     assert!(rt; opened(&rt, others)? == refused);
     let one = format!(in rt.alloc(); "{TABLES} INSERT INTO enogate_meta VALUES (1, 1)")?;
     assert!(rt; opened(&rt, one.as_str())? == None);
@@ -136,7 +141,8 @@ fn databases_that_are_no_registry(rt: HostRuntime) -> Result<(), Fail> {
 
 #[test]
 fn other_tables_beside_ours(rt: HostRuntime) -> Result<(), Fail> {
-    let rooms = "CREATE TABLE room (id INTEGER PRIMARY KEY, name TEXT NOT NULL UNIQUE) STRICT; INSERT INTO room VALUES (1, 'hall');";
+    let rooms =
+        "CREATE TABLE room (id INTEGER PRIMARY KEY, name TEXT NOT NULL UNIQUE) STRICT; INSERT INTO room VALUES (1, 'hall');";
     let mut conn = Connection::open_in_memory(rt.alloc())?;
     conn.execute_batch(rooms)?;
     let mut registry = Registry::open(rt.alloc(), conn)?;
@@ -153,11 +159,14 @@ fn other_tables_beside_ours(rt: HostRuntime) -> Result<(), Fail> {
 #[test]
 fn tables_that_refer_to_ours(rt: HostRuntime) -> Result<(), Fail> {
     let refused = Some(OpenFault::NotARegistry);
-    let early = "CREATE TABLE room (id INTEGER PRIMARY KEY, device INTEGER REFERENCES Enogate_Device (id)) STRICT";
+    let early =
+        "CREATE TABLE room (id INTEGER PRIMARY KEY, device INTEGER REFERENCES Enogate_Device (id)) STRICT";
     assert!(rt; opened(&rt, early)? == refused);
     let late = format!(in rt.alloc(); "{TABLES} INSERT INTO enogate_meta VALUES (1, 1); {early}")?;
     assert!(rt; opened(&rt, late.as_str())? == refused);
-    let index = format!(in rt.alloc(); "{TABLES} INSERT INTO enogate_meta VALUES (1, 1); CREATE UNIQUE INDEX by_eep ON enogate_device (eep)")?;
+    let index = format!(in rt.alloc();
+        "{TABLES} INSERT INTO enogate_meta VALUES (1, 1); CREATE UNIQUE INDEX by_eep ON enogate_device (eep)"
+    )?;
     assert!(rt; opened(&rt, index.as_str())? == refused);
     Ok(())
 }

@@ -1,5 +1,5 @@
 -- A teach line is answered only where an item asks for a change: no other line has its text.
-use Rattle.std.proofs.Common.{◌≡◌, ◌≢◌, ℕ, zero, suc, ◌+◌, ◌/◌, ◌%◌, Bool, true, false, cond, IsSome, List, [], ◌∷◌, ◌++◌, drop, codes, Option, Some, None, refl, sym, ap, subst, ◌∙◌, arith, append_assoc}
+use Rattle.std.proofs.Common.{◌≡◌, ◌≢◌, ℕ, zero, suc, ◌+◌, ◌/◌, ◌%◌, Bool, true, false, cond, IsSome, List, [], ◌∷◌, ◌++◌, drop, codes, Option, Some, None, refl, sym, ap, ◌∙◌, arith, append_assoc}
 use Rattle.std.specs.Prelude.{if◌then◌else◌, ◌==◌, nat_lt, slice_index_or}
 use Rattle.std.specs.Fmt.{digits_onto, digits, digit_glyph}
 use Rattle.std.specs.List.{flat_map}
@@ -13,7 +13,7 @@ use Rattle.gateway_core.specs.declared.refusal.Cause.{Cause}
 use Rattle.gateway_core.specs.declared.refusal.Cause.TheVariants.{Memory, Store}
 use Rattle.gateway_core.specs.Contact.{readings_of}
 use Rattle.gateway_core.specs.Lines.{Entry, maker_text, outcome_text, TeachLine, teach_text, device_text, count_text, listing_text}
-use Rattle.gateway_core.specs.Step.{State, Item, Received, Ordered, Answer, said, reading_answer, sender_answer, telegram_answer, data_telegram, Decision, Denies, Learns, Forgets, Lists, decision, decision_answer, change_in}
+use Rattle.gateway_core.specs.Step.{Received, Ordered, Answer, said, reading_answer, sender_answer, telegram_answer, data_telegram, Decision, Denies, Learns, Forgets, Lists, decision, decision_answer, change_in}
 use Rattle.gateway_core.specs.Run.{Taken, Refused, RefusedAtWrite, cause_text}
 use Rattle.gateway_core.specs.Beginnings.{TeachLinesAreTold}
 

@@ -108,7 +108,7 @@ device_of-id devices id known is = one (get devices id) is
   where
     one : (it : Option Learned) → Some known ≡ option_map (device id) it → known.id ≡ id
     one None is = absurd cc
-    one (Some it) is = ap (λ (d : Device). d.id) ((ap (λ o. unwrap_or o known) is))
+    one (Some it) is = ap (λ (d : Device). d.id) (ap (λ o. unwrap_or o known) is)
 
 module _ {S : Type 0} (g : Ghosts S) where
   -- ---- an item that is tried
@@ -120,7 +120,7 @@ module _ {S : Type 0} (g : Ghosts S) where
       → Tries g (record { base = base; registry = old }) wanted r (record { base = base; registry = new })
   tries base old new wanted r clean registries comes = record { base = refl; clean = clean; registries = λ honest before. registries honest; comes = comes }
 
-  -- with no registry at all
+  -- with nothing asked of the registry
   pub tries-alone : (v : Sight S) (wanted : Devices → Wanted) (r : Result Reply Refusal)
       → ((devices : Devices) → Keeps (state g v.registry) (state g v.registry) devices → Comes g v.registry v.registry devices (wanted devices) r) → Tries g v wanted r v
   tries-alone v wanted r comes = record {

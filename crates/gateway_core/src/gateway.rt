@@ -111,7 +111,8 @@ impl<S: Alter> Gateway<S> {
     /// Hands on the connection of the registry, as it is, with no open transaction.
     pub fn close(self) -> Connection<S>
         ensures same { result ≡ self.sight.registry }
-        ensures idle { HasCleanDisk (state S.Store self.sight.registry) → IsTrue (state S.Store self.sight.registry).is_open → (state S.Store self.sight.registry).in_transaction ≡ false }
+        ensures idle { HasCleanDisk (state S.Store self.sight.registry) → IsTrue (state S.Store self.sight.registry).is_open →
+            (state S.Store self.sight.registry).in_transaction ≡ false }
     {
         let Gateway { handler, .. } = self;
         handler.close()

@@ -117,7 +117,8 @@ impl<S: Alter> Handler<S> {
     /// Hands on the connection of the registry.
     pub fn close(self) -> Connection<S>
         ensures same { result ≡ self.registry }
-        ensures idle { HasCleanDisk (state S.Store self.registry) → IsTrue (state S.Store self.registry).is_open → (state S.Store self.registry).in_transaction ≡ false }
+        ensures idle { HasCleanDisk (state S.Store self.registry) → IsTrue (state S.Store self.registry).is_open →
+            (state S.Store self.registry).in_transaction ≡ false }
     {
         let Handler { registry, .. } = self;
         registry.close()
@@ -146,7 +147,8 @@ impl<S: Alter> Handler<S> {
 
     // Handles a packet, or refuses it.
     fn try_packet(&mut self, packet: &PacketRef<'_>) -> Result<Reply, Refusal>
-        ensures { Tries S.Store self.old (λ devices. of_telegram devices (data_telegram self.old.base (packet_of packet.now))) result self.new }
+        ensures { Tries S.Store self.old
+            (λ devices. of_telegram devices (data_telegram self.old.base (packet_of packet.now))) result self.new }
     {
         let Some(telegram) = self.data_telegram(packet) else {
             return Ok(told(Desk::Nothing));
@@ -156,7 +158,8 @@ impl<S: Alter> Handler<S> {
 
     // Learns a device that the desk names. The line is made before the write, and nothing is refused behind it.
     fn try_add(&mut self, id: u32, eep: Eep) -> Result<Reply, Refusal>
-        ensures { Tries S.Store self.old (λ devices. of_decision devices (order_decision devices (Ok (Order.Add id eep)))) result self.new }
+        ensures { Tries S.Store self.old
+            (λ devices. of_decision devices (order_decision devices (Ok (Order.Add id eep)))) result self.new }
     {
         if !contact::is_supported(eep) {
             return Ok(denied(ErrorName::UnsupportedProfile));
@@ -177,7 +180,8 @@ impl<S: Alter> Handler<S> {
 
     // Forgets a device that the desk names. The line is made before the write, and nothing is refused behind it.
     fn try_remove(&mut self, id: u32) -> Result<Reply, Refusal>
-        ensures { Tries S.Store self.old (λ devices. of_decision devices (order_decision devices (Ok (Order.Remove id)))) result self.new }
+        ensures { Tries S.Store self.old
+            (λ devices. of_decision devices (order_decision devices (Ok (Order.Remove id)))) result self.new }
     {
         let Some(device) = self.registry.find(id)? else {
             return Ok(denied(ErrorName::UnknownDevice));
@@ -202,7 +206,8 @@ impl<S: Alter> Handler<S> {
 
     // Handles a line, or refuses it.
     fn try_line(&mut self, line: &[u8]) -> Result<Reply, Refusal>
-        ensures { Tries S.Store self.old (λ devices. of_decision devices (decision devices line.now)) result self.new }
+        ensures { Tries S.Store self.old
+            (λ devices. of_decision devices (decision devices line.now)) result self.new }
     {
         if line.len() > LONGEST {
             return Ok(denied(ErrorName::TooLong));

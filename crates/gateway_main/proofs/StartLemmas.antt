@@ -20,11 +20,11 @@ pub starts : {S : Type 0} (g : Ghosts S) (database registry : Held S) (base : �
 starts {S} g database registry base new is registries opens =
     let P : Value S → Type 0 = λ v. HasCleanDisk (state g v.sight.registry) → Starts g database base v.sight in
     subst P (sym is) (λ clean.
-      let opened = opens clean in
-      record {
-        found = opened.0;
-        finds = opened.1.found;
-        base_is = refl;
-        begins = record { at = (refl, opened.1.now); stop = opened.1.stop };
-        registries = registries clean;
-      })
+    let opened = opens clean in
+    record {
+      found = opened.0;
+      finds = opened.1.found;
+      base_is = refl;
+      begins = record { at = (refl, opened.1.now); stop = opened.1.stop };
+      registries = registries clean;
+    })

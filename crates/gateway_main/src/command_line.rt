@@ -61,7 +61,10 @@ pub fn read<'a>(alloc: Global, words: &'a [String]) -> Result<Options<'a>, Refus
 {
     let matches = command(alloc)?.try_get_matches_from(words)?;
     match base_given(&matches) {
-        Some(base) => Ok(Options { base, db: text_given(&matches, "db") }),
+        Some(base) => Ok(Options {
+            base,
+            db: text_given(&matches, "db"),
+        }),
         None => Err(Refused::BadBase),
     }
 }

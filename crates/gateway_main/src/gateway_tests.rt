@@ -1,6 +1,6 @@
 //! One gateway over a registry in memory, from the first byte to the line, and what is refused.
-use gateway_core::{Gateway, StartFault, is_base};
 use device_registry::Registry;
+use gateway_core::{Gateway, StartFault, is_base};
 use sqlite::{Connection, MemStore};
 use std::alloc::Global;
 use std::test::Fail;

@@ -32,7 +32,11 @@ pub fn take_piece<W: Sink, S: Alter>(
 }
 
 /// Handles the packets that wait.
-fn drain<W: Sink, S: Alter>(writer: &mut W, gateway: &mut Gateway<S>, items: &mut u64) -> Result<(), Failed>
+fn drain<W: Sink, S: Alter>(
+    writer: &mut W,
+    gateway: &mut Gateway<S>,
+    items: &mut u64,
+) -> Result<(), Failed>
     ensures ready { OnOk result (gateway.new.ready ≡ []) }
     ensures drained { OnOk result (Drains S.Store gateway.old gateway.new (W.held writer.old) (W.held writer.new)
         items.old items.new) }

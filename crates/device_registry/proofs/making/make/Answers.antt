@@ -1,4 +1,4 @@
-use Rattle.std.proofs.Common.{rules, arith, ◌≡◌, ap, sym, subst, IsTrue, OnOk, false}
+use Rattle.std.proofs.Common.{rules, arith, ◌≡◌, ap, sym, subst, IsTrue, OnOk}
 use Rattle.std.specs.FinMap.{empty}
 use Rattle.sqlite.specs.State.{HasCleanDisk, Survives}
 use Rattle.sqlite.specs.Effect.{IsDatabase}
@@ -44,17 +44,17 @@ returns-clause-stop g c =
     let e = state g.S.Store c.commit.new.self.0 in
     let P : Trees → Type 0 = λ trees. Holds trees empty in
     let made : HasCleanDisk d → Registers d.now empty × IsDatabase d.now = λ clean_d.
-      let clean_m : HasCleanDisk m = omega (arith, clean_d, c.execute-3.ensures.survives.clean) in
-      let clean_b : HasCleanDisk b = omega (arith, clean_m, c.execute-2.ensures.survives.clean) in
-      let clean_a : HasCleanDisk a = omega (arith, clean_b, c.execute.ensures.survives.clean) in
-      let inside : IsTrue a.in_transaction = ap (λ (h : Held _). h.in_transaction) c.transaction-making.ensures.begun in
-      let start = c.requires.clear (subst (λ h. HasCleanDisk (state g.S.Store h)) c.transaction-making.ensures.begun clean_a) in
-      let clear : IsClear a.now.schema = subst (λ (h : Held _). IsClear h.schema) (sym c.transaction-making.ensures.begun) (cleared old.now.schema start.0) in
-      let sound : IsDatabase a.now = subst (λ h. IsDatabase (state g.S.Store h).now) (sym c.transaction-making.ensures.begun) start.1 in
-      let first = c.in_ok-execute.ensures.runs clean_b inside in
-      let second = c.in_ok-execute-2.ensures.runs clean_m first.1.mode in
-      let third = c.in_ok-execute-3.ensures.runs clean_d second.1.mode in
-      makes a b m d _ _ _ clear sound first second third in
+    let clean_m : HasCleanDisk m = omega (arith, clean_d, c.execute-3.ensures.survives.clean) in
+    let clean_b : HasCleanDisk b = omega (arith, clean_m, c.execute-2.ensures.survives.clean) in
+    let clean_a : HasCleanDisk a = omega (arith, clean_b, c.execute.ensures.survives.clean) in
+    let inside : IsTrue a.in_transaction = ap (λ (h : Held _). h.in_transaction) c.transaction-making.ensures.begun in
+    let start = c.requires.clear (subst (λ h. HasCleanDisk (state g.S.Store h)) c.transaction-making.ensures.begun clean_a) in
+    let clear : IsClear a.now.schema = subst (λ (h : Held _). IsClear h.schema) (sym c.transaction-making.ensures.begun) (cleared old.now.schema start.0) in
+    let sound : IsDatabase a.now = subst (λ h. IsDatabase (state g.S.Store h).now) (sym c.transaction-making.ensures.begun) start.1 in
+    let first = c.in_ok-execute.ensures.runs clean_b inside in
+    let second = c.in_ok-execute-2.ensures.runs clean_m first.1.mode in
+    let third = c.in_ok-execute-3.ensures.runs clean_d second.1.mode in
+    makes a b m d _ _ _ clear sound first second third in
     let last : Survives d e P = survives_weaker d e (λ trees. trees ≡ d.now.trees) P (λ clean trees is. left_by d trees (made (omega (arith, clean, c.commit.ensures.survives.clean))) is) c.commit.ensures.survives in
     let none : (clean : HasCleanDisk e) (trees : Trees) → ⊥ → P trees = λ clean trees no. absurd no in
     let same : (clean : HasCleanDisk e) (trees : Trees) → P trees → P trees = λ clean trees h. h in

@@ -1,4 +1,4 @@
-use Rattle.std.proofs.Common.{rules, arith, ◌≡◌, Ok, Err, false, true, IsTrue}
+use Rattle.std.proofs.Common.{rules, arith, ◌≡◌, Ok, false, IsTrue}
 use Rattle.sqlite.specs.State.{HasCleanDisk, IsUnchanged}
 use Rattle.sqlite.specs.Held.{state}
 use Rattle.device_registry.specs.Opening.{is_clear, IsTakeable}
@@ -29,10 +29,12 @@ pub returns-then-not-branch-clause-refused : goal.returns-then-not-branch-clause
 returns-then-not-branch-clause-refused g c clean why =
     let old = state g.S.Store c.args.conn.now in
     let early : HasCleanDisk old = omega (arith, clean, c.stands.ensures.stop.clean) in
-    let no : c.stands.result ≡ Ok false = search rules in
-    (c.stands.ensures.other clean no, λ free.
-      let clear : IsTrue (is_clear old.now.schema) = free_found old (c.requires.rest early) free in
-      absurd (search rules))
+    let no : c.stands.result ≡ Ok false = search rules in (
+      c.stands.ensures.other clean no,
+      λ free.
+          let clear : IsTrue (is_clear old.now.schema) = free_found old (c.requires.rest early) free in
+          absurd (search rules),
+    )
 
 pub renew-requires : goal.renew-requires
 renew-requires g c clean =

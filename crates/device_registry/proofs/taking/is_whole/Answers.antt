@@ -41,11 +41,13 @@ returns-clause-whole g c clean =
     let new = state g.S.Store c.rows_of-2.new.conn in
     let between : HasCleanDisk mid = omega (arith, clean, c.rows_of-2.ensures.stop.clean) in
     let first = c.in_ok-versions.ensures.shown between in
-    let second = c.in_ok-devices.ensures.shown clean in
-    (unchanged_then old mid new first.1 second.1, λ yes t.
-      let version : ShowsVersion c.in_ok-versions.versions.items = search rules in
-      let few : length c.in_ok-devices.devices.items ≤ 1000 = search rules in
-      whole old mid new c.in_ok-versions.versions.items c.in_ok-devices.devices.items t version first.0 first.1 second.0 few)
+    let second = c.in_ok-devices.ensures.shown clean in (
+      unchanged_then old mid new first.1 second.1,
+      λ yes t.
+          let version : ShowsVersion c.in_ok-versions.versions.items = search rules in
+          let few : length c.in_ok-devices.devices.items ≤ 1000 = search rules in
+          whole old mid new c.in_ok-versions.versions.items c.in_ok-devices.devices.items t version first.0 first.1 second.0 few,
+    )
 
 pub returns-clause-other : goal.returns-clause-other
 returns-clause-other g c clean none t it =

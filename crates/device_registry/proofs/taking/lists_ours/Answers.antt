@@ -1,4 +1,4 @@
-use Rattle.std.proofs.Common.{rules, arith, ◌≡◌, true, false, ap, sym, ◌∙◌, Ok}
+use Rattle.std.proofs.Common.{rules, arith, ◌≡◌, true}
 use Rattle.sqlite.specs.State.{HasCleanDisk}
 use Rattle.sqlite.specs.Held.{state}
 use Rattle.device_registry.specs.Opening.{are_ours}
@@ -13,10 +13,12 @@ pub returns-clause-ours : goal.returns-clause-ours
 returns-clause-ours g c clean =
     let old = state g.S.Store c.args.conn.now in
     let early : HasCleanDisk old = omega (arith, clean, c.rows_of.ensures.stop.clean) in
-    let show = c.in_ok-rows.ensures.shown clean in
-    (show.1, λ yes.
-      let are : are_ours c.args.meta c.args.devices c.in_ok-rows.rows.items ≡ true = search rules in
-      ours_told old (state g.S.Store c.rows_of.new.conn) c.in_ok-rows.rows.items c.args.meta c.args.devices (c.requires early) show.0 are)
+    let show = c.in_ok-rows.ensures.shown clean in (
+      show.1,
+      λ yes.
+          let are : are_ours c.args.meta c.args.devices c.in_ok-rows.rows.items ≡ true = search rules in
+          ours_told old (state g.S.Store c.rows_of.new.conn) c.in_ok-rows.rows.items c.args.meta c.args.devices (c.requires early) show.0 are,
+    )
 
 pub returns-clause-other : goal.returns-clause-other
 returns-clause-other g c clean rising none listed =
@@ -24,6 +26,6 @@ returns-clause-other g c clean rising none listed =
     let early : HasCleanDisk old = omega (arith, clean, c.rows_of.ensures.stop.clean) in
     let show = c.in_ok-rows.ensures.shown clean in
     let are : are_ours c.args.meta c.args.devices c.in_ok-rows.rows.items ≡ true =
-        ours_shown old (state g.S.Store c.rows_of.new.conn) c.in_ok-rows.rows.items c.args.meta c.args.devices (c.requires early) rising show.0 listed in
+    ours_shown old (state g.S.Store c.rows_of.new.conn) c.in_ok-rows.rows.items c.args.meta c.args.devices (c.requires early) rising show.0 listed in
     let yes : c.are_ours.result ≡ true = search rules in
     absurd (let e = none in cc)

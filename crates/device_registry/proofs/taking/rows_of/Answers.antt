@@ -16,4 +16,4 @@ pub returns-clause-stop : goal.returns-clause-stop
 returns-clause-stop g c =
     let old = state g.S.Store c.args.conn.now in
     survives_weaker old (state g.S.Store c.query_all.new.self) (CommitsShowing c.args.sql.now [] old) (λ _. ⊥)
-      (λ clean trees commits. never_commits c.args.sql.now [] old trees (c.requires (omega (arith, clean, c.query_all.ensures.survives.clean))) commits) c.query_all.ensures.survives
+    (λ clean trees commits. never_commits c.args.sql.now [] old trees (c.requires (omega (arith, clean, c.query_all.ensures.survives.clean))) commits) c.query_all.ensures.survives

@@ -1,11 +1,11 @@
-use Rattle.std.proofs.Common.{rules, arith, ◌≡◌, true, false, ap, sym, ◌∙◌, Ok, Some, None, IsTrue, IfOk, subst, refl}
-use Rattle.sqlite.specs.State.{HasCleanDisk, IsUnchanged}
+use Rattle.std.proofs.Common.{rules, arith, ◌≡◌, sym, Some, IsTrue, subst}
+use Rattle.sqlite.specs.State.{HasCleanDisk}
 use Rattle.sqlite.specs.Effect.{Database}
 use Rattle.sqlite.specs.Held.{state}
-use Rattle.device_registry.specs.Opening.{trees_in, HasTables, AreListedAs}
+use Rattle.device_registry.specs.Opening.{trees_in, HasTables}
 use Rattle.device_registry.proofs.PlaceLemmas.{placed_tables}
 use Rattle.device_registry.proofs.TakingLemmas.{tables_taken, own_found}
-use Rattle.device_registry.proofs.TakeLemmas.{unmoved, taken_if, not_whole}
+use Rattle.device_registry.proofs.TakeLemmas.{taken_if, not_whole}
 use Rattle.device_registry.proofs.taking.stands.Goals as goal
 
 pub returns-in_default-clause-other : goal.returns-in_default-clause-other

@@ -3,6 +3,7 @@ use Rattle.gateway_core.specs.Events.{Piece}
 use Rattle.gateway_main.specs.Counts.{WentWell}
 use Rattle.gateway_main.specs.Progress.{Takes}
 use Rattle.gateway_main.proofs.pieces.take_piece.Given as goal
+
 -- the packets of the bytes so far are handled
 abbrev pub invariant-loop-byte : goal.invariant-loop-byte
 invariant-loop-byte g l =
