@@ -17,8 +17,6 @@ mod registry;
 mod rows;
 mod statements;
 mod taking;
-#[cfg(test)]
-mod tests;
 
 pub use device::Device;
 pub use fault::{LearnFault, OpenFault, StoreFault};

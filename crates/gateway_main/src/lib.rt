@@ -8,6 +8,8 @@ mod gateway_tests;
 pub mod laws;
 mod lines;
 mod pieces;
+#[cfg(test)]
+mod registry_tests;
 mod replaying;
 mod running;
 mod sink;

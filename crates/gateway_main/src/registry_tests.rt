@@ -1,5 +1,5 @@
 //! What a registry holds across opens, and which databases it takes.
-use crate::{Device, LearnFault, OpenFault, Registry};
+use device_registry::{Device, LearnFault, OpenFault, Registry};
 use erp1_telegrams::Eep;
 use sqlite::{Connection, MemStore};
 use std::test::Fail;
