@@ -1,5 +1,5 @@
 -- What a stop leaves after a replay.
-use Rattle.std.proofs.Common.{ℕ, List, [], ◌∷◌, ◌++◌, None, sym, subst}
+use Rattle.std.proofs.Common.{ℕ, List, [], ◌∷◌, ◌++◌, None, subst}
 use Rattle.sqlite.specs.Held.{state}
 use Rattle.sqlite.specs.State.{HasCleanDisk}
 use Rattle.sqlite_trees.specs.declared.store.Store.{Ghosts}
