@@ -1,12 +1,14 @@
 -- The items of events, by the bytes between their lines.
-use Rattle.std.proofs.Common.{◌≡◌, ℕ, List, [], ◌∷◌, ◌++◌, length, drop, map, refl, sym, ap, ◌∙◌, append_assoc}
+use Rattle.std.proofs.Common.{◌≡◌, ℕ, List, [], ◌∷◌, ◌++◌, length, drop, map, refl, sym, ap, subst, ◌∙◌, append_assoc}
 use Rattle.std.proofs.Math.Seq.{drop-append_seam}
 use Rattle.std.proofs.lemmas.List.{append-nil, map-append}
 use Rattle.esp3_frames.specs.Packet.{Packet}
 use Rattle.esp3_frames.specs.Frames.{packets_in, rest_of}
 use Rattle.esp3_frames.proofs.ForCallers.{framing_in_parts}
 use Rattle.gateway_core.specs.Step.{Item, Received, Ordered}
-use Rattle.gateway_core.specs.Events.{Event, Piece, Line, brought, items_of, bytes_in, lines_in, with_front, bytes_between, CutsDoNotMatter}
+use Rattle.gateway_core.specs.Run.{Run}
+use Rattle.gateway_core.specs.Events.{Event, Piece, Line, brought, items_of, bytes_in, lines_in, with_front, bytes_between, CutsDoNotMatter, CutsAreAnsweredAlike}
+use Rattle.gateway_core.proofs.RunLemmas.{same_fates}
 
 -- some bytes bring what they bring behind the rest of the stream
 pub brought-rest : (s w : List ℕ) → brought s w ≡ packets_in (rest_of s ++ w)
@@ -76,3 +78,8 @@ cuts_do_not_matter s events others same_lines same_bytes =
     ∙ ap (λ (xs : List (List ℕ)). spread s xs (lines_in events)) same_bytes
     ∙ ap (λ (ls : List (List ℕ)). spread s (bytes_between others) ls) same_lines
     ∙ sym (items_of-spread s others)
+
+pub cuts_are_answered_alike : CutsAreAnsweredAlike
+cuts_are_answered_alike s events others old left right fates answers more same_lines same_bytes first second =
+    let same = cuts_do_not_matter s events others same_lines same_bytes in
+    same_fates old left right (items_of s events) fates answers more first (subst (λ items. Run old items fates more right) (sym same) second)

@@ -1,5 +1,6 @@
 pub mod BeginningLemmas
 pub mod CallLemmas
+pub mod CountLemmas
 pub mod EventLemmas
 pub mod ForCallers
 pub mod HexTexts

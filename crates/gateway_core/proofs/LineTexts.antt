@@ -1,5 +1,5 @@
 -- The JSON values behind the lines have the texts of the lines, and hold no float.
-use Rattle.std.proofs.Common.{◌≡◌, ℕ, ℤ, pos, negsuc, ◌-ℤ◌, List, [], ◌∷◌, ◌++◌, codes, decimal, true, false, Option, Some, None, refl, sym, ap₂, ◌∙◌, append_assoc}
+use Rattle.std.proofs.Common.{◌≡◌, ℕ, ℤ, pos, negsuc, ◌-ℤ◌, List, [], ◌∷◌, ◌++◌, codes, decimal, true, false, slice_get, Option, Some, None, refl, sym, ap₂, ◌∙◌, append_assoc}
 use Rattle.std.specs.Fmt.{signed_decimal}
 use Rattle.std.specs.List.{join_by, flat_map}
 use Rattle.json.specs.Print.{quoted}
@@ -7,11 +7,14 @@ use Rattle.serde_json.specs.Written.{number_text, compact_text, items_text, has_
 use Rattle.serde_json.specs.Find.{of_integer, is_float}
 use Rattle.serde_json.proofs.OnLiterals.{serde_json_on_literals}
 use Rattle.device_registry.specs.declared.device.Device.{Device}
-use Rattle.gateway_core.specs.Lines.{id_text, eep_text, outcome_text, dbm_text, Entry, entry_text, list_text, ReadingLine, reading_text, maker_text, TeachLine, teach_text, device_text, count_text}
+use Rattle.gateway_core.specs.Lines.{id_text, eep_text, outcome_text, dbm_text, Entry, entry_text, list_text, ReadingLine, reading_text, maker_text, TeachLine, teach_text, device_text, count_text, status_text, code_names, name_text, response_text}
+use Rattle.hex.specs.Hex.{encode_upper}
+use Rattle.gateway_core.specs.Responses.{Response}
+use Rattle.gateway_core.specs.declared.counts.Counts.{Counts}
 use Rattle.gateway_core.specs.declared.lines.teach.Outcome.{Outcome}
 use Rattle.gateway_core.specs.declared.lines.teach.Outcome.TheVariants.{Accepted, Deleted}
 use Rattle.gateway_core.proofs.HexTexts.{plain-id}
-use Rattle.gateway_core.specs.LineData.{IsPlain, dbm_data, entry_data, entries_data, reading_data, maker_data, teach_data, device_data, count_data}
+use Rattle.gateway_core.specs.LineData.{IsPlain, dbm_data, entry_data, entries_data, reading_data, maker_data, teach_data, device_data, count_data, status_data, name_data, response_data}
 
 -- ---- the parts of the lines
 
@@ -145,3 +148,46 @@ text_count count = grouped-count (decimal count)
 
 pub no_float_count : (count : ℕ) → has_float (count_data count) ≡ false
 no_float_count count = refl
+
+-- ---- a status line
+
+-- the parts of the line, grouped as the writer and as the definition group them
+grouped-status : (ignored readings refused responses teach : List ℕ)
+    → (codes "{\"ignored\":" ++ (ignored ++ (codes ",\"mode\":\"closed\",\"readings\":" ++ (readings ++ (codes ",\"refused\":" ++ (refused
+    ++ (codes ",\"responses\":" ++ (responses ++ (codes ",\"teach\":" ++ (teach ++ codes ",\"type\":\"status\"}")))))))))) ++ codes "\n"
+    ≡ codes "{\"ignored\":" ++ ignored ++ codes ",\"mode\":\"closed\",\"readings\":" ++ readings ++ codes ",\"refused\":" ++ refused
+    ++ codes ",\"responses\":" ++ responses ++ codes ",\"teach\":" ++ teach ++ codes ",\"type\":\"status\"}\n"
+grouped-status ignored readings refused responses teach = simp append_assoc
+
+pub text_status : (counts : Counts) → compact_text (status_data counts) ++ codes "\n" ≡ status_text counts
+unfolding serde_json_on_literals
+text_status counts =
+    grouped-status (decimal counts.ignored) (decimal counts.readings) (decimal counts.refused) (decimal counts.responses) (decimal counts.teach)
+
+pub no_float_status : (counts : Counts) → has_float (status_data counts) ≡ false
+no_float_status counts = refl
+
+-- ---- a response line
+
+text-name : (name : Option (List ℕ)) → compact_text (name_data name) ≡ name_text name
+text-name None = refl
+text-name (Some name) = refl
+
+no_float-name : (name : Option (List ℕ)) → has_float (name_data name) ≡ false
+no_float-name None = refl
+no_float-name (Some name) = refl
+
+-- the parts of the line, grouped as the writer and as the definition group them
+grouped-response : (code bytes name : List ℕ)
+    → (codes "{\"code\":" ++ (code ++ (codes ",\"data\":" ++ (bytes ++ (codes ",\"name\":" ++ (name ++ codes ",\"type\":\"response\"}")))))) ++ codes "\n"
+    ≡ codes "{\"code\":" ++ code ++ codes ",\"data\":" ++ bytes ++ codes ",\"name\":" ++ name ++ codes ",\"type\":\"response\"}\n"
+grouped-response code bytes name = simp append_assoc
+
+pub text-response : (response : Response) → compact_text (response_data response) ++ codes "\n" ≡ response_text response
+unfolding serde_json_on_literals
+text-response response =
+    rw (text-name (slice_get code_names response.code))
+    (grouped-response (decimal response.code) (quoted (encode_upper response.bytes)) (name_text (slice_get code_names response.code)))
+
+pub no_float-response : (response : Response) → has_float (response_data response) ≡ false
+no_float-response response = rw (no_float-name (slice_get code_names response.code)) refl

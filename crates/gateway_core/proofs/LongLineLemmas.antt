@@ -9,7 +9,7 @@ use Rattle.device_registry.specs.Holding.{MayFind}
 use Rattle.gateway_core.specs.declared.lines.error.ErrorName.TheVariants.{TooLong}
 use Rattle.gateway_core.specs.Orders.{order_of}
 use Rattle.gateway_core.specs.Step.{State, Ordered, Answer, said, Decision, Denies, decision, decision_answer, order_decision, change_in, with_change}
-use Rattle.gateway_core.specs.Run.{Fate, Taken, Refused, RefusedAtWrite, Run, needs_help, cause_text}
+use Rattle.gateway_core.specs.Run.{Fate, Taken, Refused, RefusedAtWrite, Run, needs_help, cause_text, refused}
 use Rattle.gateway_core.specs.Stops.{Left, nothing_left, told, pending, left_by, Safe}
 use Rattle.gateway_core.specs.Handling.{Sight, Went, Handles}
 
@@ -19,11 +19,11 @@ decision-long devices line h = ap (λ b. if b then Denies TooLong else order_dec
 -- a run on one order hangs on the decision alone
 run_alike : (old new : State) (short long : List ℕ) (fates : List Fate) (answers : List Answer) → decision old.devices short ≡ decision old.devices long → Run old (Ordered short ∷ []) fates answers new → Run old (Ordered long ∷ []) fates answers new
 run_alike old new short long (Taken ∷ fates) (answer ∷ answers) e run =
-    let P : Decision → Type 0 = λ d. Unit {0} × (answer ≡ decision_answer old.devices d) × Run (record old { devices = with_change old.devices (change_in d) }) [] fates answers new in subst P e run
+    let P : Decision → Type 0 = λ d. Unit {0} × (answer ≡ decision_answer old.counts old.devices d) × Run (record { base = old.base; counts = old.counts; devices = with_change old.devices (change_in d) }) [] fates answers new in subst P e run
 run_alike old new short long (Refused cause ∷ fates) (answer ∷ answers) e run =
-    let P : Decision → Type 0 = λ d. IsTrue (needs_help d) × (answer ≡ said (cause_text cause)) × Run old [] fates answers new in subst P e run
+    let P : Decision → Type 0 = λ d. IsTrue (needs_help d) × (answer ≡ said (cause_text cause)) × Run (refused old) [] fates answers new in subst P e run
 run_alike old new short long (RefusedAtWrite cause ∷ fates) (answer ∷ answers) e run =
-    let P : Decision → Type 0 = λ d. IsSome (change_in d) × (answer ≡ said (cause_text cause)) × Run old [] fates answers new in subst P e run
+    let P : Decision → Type 0 = λ d. IsSome (change_in d) × (answer ≡ said (cause_text cause)) × Run (refused old) [] fates answers new in subst P e run
 run_alike old new short long [] [] e run = absurd run
 run_alike old new short long [] (answer ∷ answers) e run = absurd run
 run_alike old new short long (fate ∷ fates) [] e run = absurd run

@@ -12,7 +12,7 @@ use Rattle.hex.specs.declared.error.FromHexError.{FromHexError}
 use Rattle.hex.proofs.HexLemmas.{decode_of-ok, decode_sized-ok, decode_sized-twice}
 use Rattle.erp1_telegrams.specs.declared.eep.Eep.{Eep}
 use Rattle.gateway_core.specs.declared.orders.Order.{Order}
-use Rattle.gateway_core.specs.declared.orders.Order.TheVariants.{Add, Remove, List as ListAll}
+use Rattle.gateway_core.specs.declared.orders.Order.TheVariants.{Add, Remove, List as ListAll, Status}
 use Rattle.gateway_core.specs.declared.orders.OrderFault.{OrderFault}
 use Rattle.gateway_core.specs.declared.orders.OrderFault.TheVariants.{Syntax, Range}
 use Rattle.gateway_core.specs.Orders.{SpellsId, SpellsEep, HasShape, IsInRange, Spells, byte_from, byte_in, id_from, id_in, eep_from, eep_in, add_order, remove_order, order_of, OrdersAreSpelled}
@@ -177,19 +177,20 @@ unfolding Speaks
 speaks-remove line None shape = tt
 speaks-remove line (Some id) shape = speaks_by_range line id (Remove id) (id == 0xFFFF_FFFF) refl (shape id refl) refl
 
-speaks_by_words : (line : List ℕ) (add remove list : Bool) → (starts_with nat_eq line (codes "add ") && slice_index_or line 12 0 == 32) ≡ add
-    → starts_with nat_eq line (codes "remove ") ≡ remove → pointwise nat_eq line (codes "list") ≡ list
-    → Speaks line (if add then add_order (id_in (slice_range line 4 12)) (eep_in (drop 13 line)) else if remove then remove_order (id_in (drop 7 line)) else if list then Ok ListAll else Err Syntax)
+speaks_by_words : (line : List ℕ) (add remove list status : Bool) → (starts_with nat_eq line (codes "add ") && slice_index_or line 12 0 == 32) ≡ add
+    → starts_with nat_eq line (codes "remove ") ≡ remove → pointwise nat_eq line (codes "list") ≡ list → pointwise nat_eq line (codes "status") ≡ status
+    → Speaks line (if add then add_order (id_in (slice_range line 4 12)) (eep_in (drop 13 line)) else if remove then remove_order (id_in (drop 7 line)) else if list then Ok ListAll else if status then Ok Status else Err Syntax)
 unfolding Speaks
-speaks_by_words line true remove list t r l =
+speaks_by_words line true remove list status t r l s =
     speaks-add line _ _ (λ id eep i e. (slice_range line 4 12, drop 13 line, words line t, id_spelled _ id i, eep_spelled _ eep e))
-speaks_by_words line false true list t r l =
+speaks_by_words line false true list status t r l s =
     speaks-remove line _ (λ id i. (drop 7 line, (starts_is Decides-eqb line (codes "remove ") _ refl).0 r, id_spelled _ id i))
-speaks_by_words line false false true t r l = (same_text line (codes "list") (sym l), tt)
-speaks_by_words line false false false t r l = tt
+speaks_by_words line false false true status t r l s = (same_text line (codes "list") (sym l), tt)
+speaks_by_words line false false false true t r l s = (same_text line (codes "status") (sym s), tt)
+speaks_by_words line false false false false t r l s = tt
 
 speaks : (line : List ℕ) → Speaks line (order_of line)
-speaks line = speaks_by_words line _ _ _ refl refl refl
+speaks line = speaks_by_words line _ _ _ _ refl refl refl refl
 
 -- a line with the shape of an order is read as its numbers say
 read-add : (line : List ℕ) (id : ℕ) (eep : Eep) → HasShape line (Add id eep) → order_of line ≡ add_order (Some id) (Some eep)
@@ -221,8 +222,10 @@ orders_are_spelled = record {
     only line (Add id eep) (shape, n) = read-add line id eep shape ∙ in_range id (Add id eep) n
     only line (Remove id) (shape, n) = read-remove line id shape ∙ in_range id (Remove id) n
     only line ListAll (shape, all) = ap order_of shape
+    only line Status (shape, all) = ap order_of shape
 
     no_shape : (line : List ℕ) → order_of line ≡ Err Syntax → (order : Order) → ¬ HasShape line order
     no_shape line e (Add id eep) = λ shape. no_syntax (Add id eep) (id == 0xFFFF_FFFF) (sym (read-add line id eep shape) ∙ e)
     no_shape line e (Remove id) = λ shape. no_syntax (Remove id) (id == 0xFFFF_FFFF) (sym (read-remove line id shape) ∙ e)
     no_shape line e ListAll = λ shape. let z = sym (ap order_of shape) ∙ e in cc
+    no_shape line e Status = λ shape. let z = sym (ap order_of shape) ∙ e in cc

@@ -11,9 +11,11 @@ use Rattle.device_registry.specs.declared.device.Device.{Device}
 use Rattle.device_registry.specs.Devices.{Devices, device_of, all_of}
 use Rattle.gateway_core.specs.declared.refusal.Cause.{Cause}
 use Rattle.gateway_core.specs.declared.refusal.Cause.TheVariants.{Memory, Store}
+use Rattle.gateway_core.specs.declared.counts.Counts.{Counts}
 use Rattle.gateway_core.specs.Contact.{readings_of}
+use Rattle.gateway_core.specs.Responses.{Response, response_in}
 use Rattle.gateway_core.specs.Lines.{Entry, maker_text, outcome_text, TeachLine, teach_text, device_text, count_text, listing_text}
-use Rattle.gateway_core.specs.Step.{Received, Ordered, Answer, said, reading_answer, sender_answer, telegram_answer, data_telegram, Decision, Denies, Learns, Forgets, Lists, decision, decision_answer, change_in}
+use Rattle.gateway_core.specs.Step.{Received, Ordered, Answer, said, Effect, reading_effect, sender_effect, telegram_effect, effect_by, data_telegram, Decision, Denies, Learns, Forgets, Lists, Reports, decision, decision_answer, change_in}
 use Rattle.gateway_core.specs.Run.{Taken, Refused, RefusedAtWrite, cause_text}
 use Rattle.gateway_core.specs.Beginnings.{TeachLinesAreTold}
 
@@ -78,17 +80,22 @@ listing-type known more =
 fourth : (a : Answer) (line : TeachLine) → a ≡ said (teach_text line) → slice_index_or a.desk 3 0 ≡ 101
 fourth a line e = ap (λ (b : Answer). slice_index_or b.desk 3 0) e
 
-reading-other : (t : Telegram) (eep : Eep) (readings : Option (List Entry)) (line : TeachLine) → reading_answer t eep readings ≢ said (teach_text line)
+reading-other : (t : Telegram) (eep : Eep) (readings : Option (List Entry)) (line : TeachLine) → said (reading_effect t eep readings).text ≢ said (teach_text line)
 reading-other t eep None line e = let h : 0 ≡ 101 = fourth _ line e in absurd (omega (arith, h))
 reading-other t eep (Some readings) line e = let h : 98 ≡ 101 = fourth _ line e in absurd (omega (arith, h))
 
-sender-other : (t : Telegram) (known : Option Device) (line : TeachLine) → sender_answer t known ≢ said (teach_text line)
+sender-other : (t : Telegram) (known : Option Device) (line : TeachLine) → said (sender_effect t known).text ≢ said (teach_text line)
 sender-other t None line e = let h : 0 ≡ 101 = fourth _ line e in absurd (omega (arith, h))
 sender-other t (Some known) line e = reading-other t known.eep (readings_of known.eep t) line e
 
-telegram-other : (devices : Devices) (telegram : Option Telegram) (line : TeachLine) → telegram_answer devices telegram ≢ said (teach_text line)
+telegram-other : (devices : Devices) (telegram : Option Telegram) (line : TeachLine) → said (telegram_effect devices telegram).text ≢ said (teach_text line)
 telegram-other devices None line e = let h : 0 ≡ 101 = fourth _ line e in absurd (omega (arith, h))
 telegram-other devices (Some t) line e = sender-other t (device_of devices t.sender) line e
+
+packet-other : (devices : Devices) (response : Option Response) (telegram : Option Telegram) (line : TeachLine)
+    → said (effect_by devices response telegram).text ≢ said (teach_text line)
+packet-other devices None telegram line e = telegram-other devices telegram line e
+packet-other devices (Some response) telegram line e = let h : 111 ≡ 101 = fourth _ line e in absurd (omega (arith, h))
 
 listing-other : (known : List Device) (line : TeachLine) → said (listing_text known) ≢ said (teach_text line)
 listing-other [] line e = let h : 111 ≡ 101 = fourth _ line e in absurd (omega (arith, h))
@@ -104,14 +111,15 @@ cause-other : (cause : Cause) (line : TeachLine) → said (cause_text cause) ≢
 cause-other Memory line e = let h : 114 ≡ 101 = fourth _ line e in absurd (omega (arith, h))
 cause-other Store line e = let h : 114 ≡ 101 = fourth _ line e in absurd (omega (arith, h))
 
-told-decision : (devices : Devices) (d : Decision) (line : TeachLine) → decision_answer devices d ≡ said (teach_text line) → IsSome (change_in d)
-told-decision devices (Denies name) line e = let h : 114 ≡ 101 = fourth _ line e in absurd (omega (arith, h))
-told-decision devices (Learns known) line e = refl
-told-decision devices (Forgets known) line e = refl
-told-decision devices Lists line e = absurd (listing-other (all_of devices) line e)
+told-decision : (counts : Counts) (devices : Devices) (d : Decision) (line : TeachLine) → decision_answer counts devices d ≡ said (teach_text line) → IsSome (change_in d)
+told-decision counts devices (Denies name) line e = let h : 114 ≡ 101 = fourth _ line e in absurd (omega (arith, h))
+told-decision counts devices (Learns known) line e = refl
+told-decision counts devices (Forgets known) line e = refl
+told-decision counts devices Lists line e = absurd (listing-other (all_of devices) line e)
+told-decision counts devices Reports line e = let h : 103 ≡ 101 = fourth _ line e in absurd (omega (arith, h))
 
 pub teach_lines_are_told : TeachLinesAreTold
-teach_lines_are_told state (Received packet) Taken line e = absurd (telegram-other state.devices (data_telegram state.base packet) line e)
-teach_lines_are_told state (Ordered text) Taken line e = told-decision state.devices (decision state.devices text) line e
+teach_lines_are_told state (Received packet) Taken line e = absurd (packet-other state.devices (response_in packet) (data_telegram state.base packet) line e)
+teach_lines_are_told state (Ordered text) Taken line e = told-decision state.counts state.devices (decision state.devices text) line e
 teach_lines_are_told state item (Refused cause) line e = absurd (cause-other cause line e)
 teach_lines_are_told state item (RefusedAtWrite cause) line e = absurd (cause-other cause line e)

@@ -24,14 +24,16 @@ use Rattle.gateway_core.specs.declared.orders.OrderFault.{OrderFault}
 use Rattle.gateway_core.specs.declared.refusal.Cause.{Cause}
 use Rattle.gateway_core.specs.declared.refusal.Refusal.{Refusal}
 use Rattle.gateway_core.specs.declared.refusal.Refusal.TheVariants.{Before, AtWrite}
-use Rattle.gateway_core.specs.declared.reply.Reply.{Reply}
+use Rattle.gateway_core.specs.declared.counts.Counts.{Counts}
+use Rattle.gateway_core.specs.declared.handler.Done.{Done}
 use Rattle.gateway_core.specs.Contact.{is_supported}
+use Rattle.gateway_core.specs.Counts.{raised}
 use Rattle.gateway_core.specs.Orders.{order_of}
-use Rattle.gateway_core.specs.Step.{State, Item, Answer, Decision, Denies, Learns, change_in, said, order_decision, decision, removal, change_of, with_change, state_after}
-use Rattle.gateway_core.specs.Run.{needs, needs_help, cause_text, Taken, Refused, RefusedAtWrite}
+use Rattle.gateway_core.specs.Step.{State, Item, Answer, Decision, Denies, Learns, change_in, said, count_of, order_decision, decision, removal, change_of, with_change, state_after}
+use Rattle.gateway_core.specs.Run.{needs, needs_help, cause_text, Taken, Refused, RefusedAtWrite, refused}
 use Rattle.gateway_core.specs.Stops.{nothing_left, told, pending, Safe}
 use Rattle.gateway_core.specs.Handling.{Sight, Went, Handles}
-use Rattle.gateway_core.specs.Tries.{Wanted, of_item, of_decision, IsMade, IsPending, Comes, Tries, answer_from, Unlearned}
+use Rattle.gateway_core.specs.Tries.{Wanted, of_item, of_decision, IsMade, IsPending, Comes, Tries, answer_from, counts_from, Unlearned}
 
 -- ---- what is kept
 
@@ -113,18 +115,20 @@ device_of-id devices id known is = one (get devices id) is
 module _ {S : Type 0} (g : Ghosts S) where
   -- ---- an item that is tried
 
-  -- over another registry, and the same base ID
-  pub tries : (base : ℕ) (old new : Held S) (wanted : Devices → Wanted) (r : Result Reply Refusal)
+  -- over another registry, with the same base ID and the same counts
+  pub tries : (base : ℕ) (counts : Counts) (old new : Held S) (wanted : Devices → Wanted) (r : Result Done Refusal)
       → (HasCleanDisk (state g new) → HasCleanDisk (state g old)) → (HasCleanDisk (state g new) → AreRegistries (state g new).may_leave)
       → (HasCleanDisk (state g new) → (devices : Devices) → HasDevices (state g old) devices → Comes g old new devices (wanted devices) r)
-      → Tries g (record { base = base; registry = old }) wanted r (record { base = base; registry = new })
-  tries base old new wanted r clean registries comes = record { base = refl; clean = clean; registries = λ honest before. registries honest; comes = comes }
+      → Tries g (record { base = base; counts = counts; registry = old }) wanted r (record { base = base; counts = counts; registry = new })
+  tries base counts old new wanted r clean registries comes =
+      record { base = refl; counts = refl; clean = clean; registries = λ honest before. registries honest; comes = comes }
 
   -- with nothing asked of the registry
-  pub tries-alone : (v : Sight S) (wanted : Devices → Wanted) (r : Result Reply Refusal)
+  pub tries-alone : (v : Sight S) (wanted : Devices → Wanted) (r : Result Done Refusal)
       → ((devices : Devices) → Keeps (state g v.registry) (state g v.registry) devices → Comes g v.registry v.registry devices (wanted devices) r) → Tries g v wanted r v
   tries-alone v wanted r comes = record {
     base = refl;
+    counts = refl;
     clean = λ honest. honest;
     registries = λ honest before. before;
     comes = λ honest devices has. comes devices (keeps-same (state g v.registry) devices has);
@@ -136,16 +140,16 @@ module _ {S : Type 0} (g : Ghosts S) where
   at_write old new devices id eep false full pends = pends
 
   -- a device is not learned
-  pub add-comes : (old new : Held S) (devices : Devices) (id : ℕ) (eep : Eep) (why : LearnFault) (r : Result Reply Refusal) → is_supported eep ≡ true → Unlearned why r
-      → Refuses (state g old) (state g new) (record { id = id; eep = eep; maker = None }) devices why → Comes g old new devices (of_decision devices (order_decision devices (Ok (Add id eep)))) r
-  add-comes old new devices id eep fault.Full r supported (reply, is, says) (full, keeps) = rw (is, supported, full) (says, keeps)
-  add-comes old new devices id eep fault.Store r supported is pends = rw (is, supported) (at_write old new devices id eep (is_full devices id) refl pends)
-  add-comes old new devices id eep fault.Memory r supported is pends = rw (is, supported) (at_write old new devices id eep (is_full devices id) refl pends)
+  pub add-comes : (counts : Counts) (old new : Held S) (devices : Devices) (id : ℕ) (eep : Eep) (why : LearnFault) (r : Result Done Refusal) → is_supported eep ≡ true → Unlearned why r
+      → Refuses (state g old) (state g new) (record { id = id; eep = eep; maker = None }) devices why → Comes g old new devices (of_decision counts devices (order_decision devices (Ok (Add id eep)))) r
+  add-comes counts old new devices id eep fault.Full r supported (done, is, gives) (full, keeps) = rw (is, supported, full) (gives, keeps)
+  add-comes counts old new devices id eep fault.Store r supported is pends = rw (is, supported) (at_write old new devices id eep (is_full devices id) refl pends)
+  add-comes counts old new devices id eep fault.Memory r supported is pends = rw (is, supported) (at_write old new devices id eep (is_full devices id) refl pends)
 
   -- an order behind a line
-  pub tries-order : (old new : Sight S) (line : List ℕ) (r : Result Reply Refusal) (order : Result Order OrderFault) → length line ≤ 200 → order_of line ≡ order
-      → Tries g old (λ devices. of_decision devices (order_decision devices order)) r new → Tries g old (λ devices. of_decision devices (decision devices line)) r new
-  tries-order old new line r order short is tried = rw (le-ltb 200 (length line) short, is) tried
+  pub tries-order : (counts : Counts) (old new : Sight S) (line : List ℕ) (r : Result Done Refusal) (order : Result Order OrderFault) → length line ≤ 200 → order_of line ≡ order
+      → Tries g old (λ devices. of_decision counts devices (order_decision devices order)) r new → Tries g old (λ devices. of_decision counts devices (decision devices line)) r new
+  tries-order counts old new line r order short is tried = rw (le-ltb 200 (length line) short, is) tried
 
   -- ---- an item that was tried is handled
 
@@ -160,51 +164,63 @@ module _ {S : Type 0} (g : Ghosts S) where
   made-safe old new devices (Some change) commits left may = inl (inl (commits.stop left may))
 
   -- what is refused at its write
-  at_write-went : (old new : Sight S) (start : State) (item : Item) (cause : Cause) (change : Option Change) → change_of start item ≡ change → new.base ≡ start.base
+  at_write-went : (old new : Sight S) (start : State) (item : Item) (cause : Cause) (change : Option Change) → change_of start item ≡ change → new.base ≡ start.base → new.counts ≡ (refused start).counts
       → IsPending g old.registry new.registry start.devices (needs start item) change → Went g old start (item ∷ []) (said (cause_text cause) ∷ []) new
-  at_write-went old new start item cause None asks base (help, keeps) = record {
+  at_write-went old new start item cause None asks base counts (help, keeps) = record {
     fates = Refused cause ∷ [];
-    last = start;
+    last = refused start;
     run = (help, refl, refl);
-    at = (base, keeps.now);
+    at = (base, keeps.now, counts);
     stop = λ left may. inr (refl, keeps.stop left may);
   }
-  at_write-went old new start item cause (Some change) asks base pends = record {
+  at_write-went old new start item cause (Some change) asks base counts pends = record {
     fates = RefusedAtWrite cause ∷ [];
-    last = start;
+    last = refused start;
     run = (subst (λ o. IsSome o) (sym asks) refl, refl, refl);
-    at = (base, pends.now);
+    at = (base, pends.now, counts);
     stop = λ left may. subst (λ o. Safe (MayFind (state g old.registry)) (pending nothing_left start.devices o) left) (sym asks)
         (elim (pends.stop left may) [ inl before ↦ inr (refl, before) | inr is ↦ inl (inl is) ]);
   }
 
-  comes-went : (old new : Sight S) (start : State) (item : Item) (r : Result Reply Refusal) → new.base ≡ start.base → Comes g old.registry new.registry start.devices (of_item start item) r
-      → Went g old start (item ∷ []) (answer_from r ∷ []) new
-  comes-went old new start item (Ok reply) base (says, made) = record {
+  comes-went : (old new : Sight S) (start : State) (item : Item) (r : Result Done Refusal) → new.base ≡ start.base → new.counts ≡ counts_from start.counts r
+      → Comes g old.registry new.registry start.devices (of_item start item) r → Went g old start (item ∷ []) (answer_from r ∷ []) new
+  comes-went old new start item (Ok done) base counts ((says, counted), made) = record {
     fates = Taken ∷ [];
     last = state_after start item;
     run = (tt, says, refl);
-    at = (base, made-now old.registry new.registry start.devices (change_of start item) made);
+    at = (base, made-now old.registry new.registry start.devices (change_of start item) made, counts ∙ ap (raised start.counts) counted);
     stop = made-safe old.registry new.registry start.devices (change_of start item) made;
   }
-  comes-went old new start item (Err (Before cause)) base (help, keeps) = record {
+  comes-went old new start item (Err (Before cause)) base counts (help, keeps) = record {
     fates = Refused cause ∷ [];
-    last = start;
+    last = refused start;
     run = (help, refl, refl);
-    at = (base, keeps.now);
+    at = (base, keeps.now, counts);
     stop = λ left may. inr (refl, keeps.stop left may);
   }
-  comes-went old new start item (Err (AtWrite cause)) base pending = at_write-went old new start item cause (change_of start item) refl base pending
+  comes-went old new start item (Err (AtWrite cause)) base counts pending = at_write-went old new start item cause (change_of start item) refl base counts pending
 
-  pub tries-handles : (old new : Sight S) (item : Item) (r : Result Reply Refusal) (answer : Answer) → answer ≡ answer_from r
-      → Tries g old (λ devices. of_item (record { base = old.base; devices = devices }) item) r new → Handles g old (item ∷ []) (answer ∷ []) new
-  tries-handles old new item r answer is tried = record {
-    base = tried.base;
-    clean = tried.clean;
-    registries = tried.registries;
-    went = λ honest start at.
-        let come = tried.comes honest start.devices at.1 in
-        let same : record { base = old.base; devices = start.devices } ≡ start = ap (λ b. let s : State = record { base = b; devices = start.devices } in s) at.0 in
-        let here = subst (λ (s : State). Comes g old.registry new.registry start.devices (of_item s item) r) same come in
-        subst (λ a. Went g old start (item ∷ []) (a ∷ []) new) (sym is) (comes-went old new start item r (tried.base ∙ at.0) here);
-  }
+  -- what was tried is settled: it is counted
+  pub record Settles (mid : Sight S) (r : Result Done Refusal) (answer : Answer) (new : Sight S) : Type 0 where
+    pub answer_is : answer ≡ answer_from r
+    pub base : new.base ≡ mid.base
+    pub counts : new.counts ≡ counts_from mid.counts r
+    pub registry : new.registry ≡ mid.registry
+
+  pub tries-handles : (old mid new : Sight S) (item : Item) (r : Result Done Refusal) (answer : Answer) → Settles mid r answer new
+      → Tries g old (λ devices. of_item (record { base = old.base; counts = old.counts; devices = devices }) item) r mid → Handles g old (item ∷ []) (answer ∷ []) new
+  tries-handles old mid new item r answer settles tries =
+      let Over = λ (registry : Held S). Tries g old (λ devices. of_item (record { base = old.base; counts = old.counts; devices = devices }) item) r
+          (record { base = mid.base; counts = mid.counts; registry = registry }) in
+      let tried : Over new.registry = subst Over (sym settles.registry) tries in
+      record {
+        base = settles.base ∙ tried.base;
+        clean = tried.clean;
+        registries = tried.registries;
+        went = λ honest start at.
+            let come = tried.comes honest start.devices at.1 in
+            let Here = λ (base : ℕ) (counts : Counts). Comes g old.registry new.registry start.devices (of_item (record { base = base; counts = counts; devices = start.devices }) item) r in
+            let here = subst (λ counts. Here start.base counts) at.2 (subst (λ base. Here base old.counts) at.0 come) in
+            subst (λ a. Went g old start (item ∷ []) (a ∷ []) new) (sym settles.answer_is)
+            (comes-went old new start item r (settles.base ∙ tried.base ∙ at.0) (settles.counts ∙ ap (λ c. counts_from c r) (tried.counts ∙ at.2)) here);
+      }

@@ -2,7 +2,8 @@
 use Rattle.std.specs.Prelude.{◌≡◌, ℕ, List, [], ◌∷◌, ◌++◌, length, map, drop}
 use Rattle.esp3_frames.specs.Packet.{Packet}
 use Rattle.esp3_frames.specs.Frames.{packets_in}
-use Rattle.gateway_core.specs.Step.{Item, Received, Ordered}
+use Rattle.gateway_core.specs.Step.{State, Item, Received, Ordered, Answer}
+use Rattle.gateway_core.specs.Run.{Fate, Run}
 
 pub data Event : Type 0 where
   Piece : (bytes : List ℕ) → Event
@@ -45,3 +46,9 @@ bytes_between (Line line ∷ events) = [] ∷ bytes_between events
 abbrev pub CutsDoNotMatter : Type 0
 CutsDoNotMatter = (stream : List ℕ) (events others : List Event) →
     lines_in events ≡ lines_in others → bytes_between events ≡ bytes_between others → items_of stream events ≡ items_of stream others
+
+-- and where the same of them are refused, each for the same cause, the answers are the same, and so is what is known in the end
+abbrev pub CutsAreAnsweredAlike : Type 0
+CutsAreAnsweredAlike = (stream : List ℕ) (events others : List Event) (old left right : State) (fates : List Fate) (answers more : List Answer) →
+    lines_in events ≡ lines_in others → bytes_between events ≡ bytes_between others →
+    Run old (items_of stream events) fates answers left → Run old (items_of stream others) fates more right → (answers ≡ more) × (left ≡ right)

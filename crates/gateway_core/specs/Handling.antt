@@ -7,21 +7,29 @@ use Rattle.sqlite.specs.State.{HasCleanDisk}
 use Rattle.sqlite_trees.specs.declared.store.Store.{Ghosts}
 use Rattle.device_registry.specs.Devices.{Devices}
 use Rattle.device_registry.specs.Holding.{HasDevices, MayFind, AreRegistries}
+use Rattle.gateway_core.specs.declared.counts.Counts.{Counts}
 use Rattle.gateway_core.specs.Step.{State, Item, Answer}
 use Rattle.gateway_core.specs.Run.{Fate, Run}
 use Rattle.gateway_core.specs.Stops.{nothing_left, left_by, Safe}
 
--- the base ID of the radio module, and the registry's connection
+-- the base ID of the radio module, what was counted, and the registry's connection
 pub record Sight (S : Type 0) : Type 0 where
   pub base : ℕ
+  pub counts : Counts
   pub registry : Held S
 
+abbrev counts_code : Coded Counts
+counts_code = code_by (ℕ × (ℕ × (ℕ × (ℕ × ℕ)))) (coded× coded_ℕ (coded× coded_ℕ (coded× coded_ℕ (coded× coded_ℕ coded_ℕ))))
+    (λ c. (c.ignored, (c.readings, (c.refused, (c.responses, c.teach)))))
+    (λ p. record { ignored = p.0; readings = p.1.0; refused = p.1.1.0; responses = p.1.1.1.0; teach = p.1.1.1.1 }) (λ _. refl)
+
 abbrev pub sight_code : {S : Type 0} → Coded S → Coded (Sight S)
-sight_code {S} store = code_by (ℕ × Held S) (coded× coded_ℕ (held_code store)) (λ v. (v.base, v.registry)) (λ p. record { base = p.0; registry = p.1 }) (λ _. refl)
+sight_code {S} store = code_by (ℕ × (Counts × Held S)) (coded× coded_ℕ (coded× counts_code (held_code store))) (λ v. (v.base, (v.counts, v.registry)))
+    (λ p. record { base = p.0; counts = p.1.0; registry = p.1.1 }) (λ _. refl)
 
 -- this is what the gateway knows
 abbrev pub IsAt : {S : Type 0} → Ghosts S → Sight S → State → Type 0
-IsAt g v s = (v.base ≡ s.base) × HasDevices (state g v.registry) s.devices
+IsAt g v s = (v.base ≡ s.base) × HasDevices (state g v.registry) s.devices × (v.counts ≡ s.counts)
 
 module _ {S : Type 0} (g : Ghosts S) where
   -- From what was known at the start, the items are handled with these answers and some fates. The gateway then knows what

@@ -1,6 +1,8 @@
 pub mod Lines
 pub mod LineData
 pub mod Contact
+pub mod Responses
+pub mod Counts
 pub mod TeachIn
 pub mod Orders
 pub mod Address

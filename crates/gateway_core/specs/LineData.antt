@@ -1,11 +1,14 @@
 -- For private clauses: the JSON values whose texts the lines are.
-use Rattle.std.specs.Prelude.{◌≡◌, ℕ, pos, ◌-ℤ◌, List, map, codes, Option, Some, None}
+use Rattle.std.specs.Prelude.{◌≡◌, ℕ, pos, ◌-ℤ◌, List, map, slice_get, codes, Option, Some, None}
 use Rattle.json.specs.Print.{escape}
 use Rattle.serde_json.specs.Data.{Data, unsigned, null, number, string, array, object, Items, member, no_members}
 use Rattle.serde_json.specs.Find.{of_integer}
 use Rattle.serde_json.specs.View.{items_of}
 use Rattle.device_registry.specs.declared.device.Device.{Device}
-use Rattle.gateway_core.specs.Lines.{id_text, eep_text, Entry, ReadingLine, outcome_text, TeachLine}
+use Rattle.hex.specs.Hex.{encode_upper}
+use Rattle.gateway_core.specs.Responses.{Response}
+use Rattle.gateway_core.specs.declared.counts.Counts.{Counts}
+use Rattle.gateway_core.specs.Lines.{id_text, eep_text, Entry, ReadingLine, outcome_text, TeachLine, code_names}
 
 -- the text stands in a JSON string as it is, with no escape
 abbrev pub IsPlain : List ℕ → Type 0
@@ -62,3 +65,27 @@ abbrev pub count_data : ℕ → Data
 count_data count = object (
     member (codes "count") (number (unsigned count)) (
     member (codes "type") (string (codes "list")) no_members))
+
+-- a status line
+abbrev pub status_data : Counts → Data
+status_data counts = object (
+    member (codes "ignored") (number (unsigned counts.ignored)) (
+    member (codes "mode") (string (codes "closed")) (
+    member (codes "readings") (number (unsigned counts.readings)) (
+    member (codes "refused") (number (unsigned counts.refused)) (
+    member (codes "responses") (number (unsigned counts.responses)) (
+    member (codes "teach") (number (unsigned counts.teach)) (
+    member (codes "type") (string (codes "status")) no_members)))))))
+
+-- the name of a return code: a string, or null
+abbrev pub name_data : Option (List ℕ) → Data
+name_data None = null
+name_data (Some name) = string name
+
+-- a response line
+abbrev pub response_data : Response → Data
+response_data response = object (
+    member (codes "code") (number (unsigned response.code)) (
+    member (codes "data") (string (encode_upper response.bytes)) (
+    member (codes "name") (name_data (slice_get code_names response.code)) (
+    member (codes "type") (string (codes "response")) no_members))))

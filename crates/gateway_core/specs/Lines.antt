@@ -1,6 +1,6 @@
 -- The texts of the lines that the desk is sent, as bytes. The layout is this program's own choice: one JSON object
 -- with no space, its members in the byte order of their names, and a line feed at the end.
-use Rattle.std.specs.Prelude.{ℕ, pos, ◌-ℤ◌, List, [], ◌∷◌, ◌++◌, map, length, codes, decimal, Option, Some, None}
+use Rattle.std.specs.Prelude.{ℕ, pos, ◌-ℤ◌, List, [], ◌∷◌, ◌++◌, map, length, slice_get, codes, decimal, Option, Some, None}
 use Rattle.std.specs.Fmt.{signed_decimal}
 use Rattle.std.specs.Int.{w32, to_be_bytes}
 use Rattle.std.specs.List.{join_by, flat_map}
@@ -8,6 +8,8 @@ use Rattle.json.specs.Print.{quoted}
 use Rattle.hex.specs.Hex.{encode_upper}
 use Rattle.erp1_telegrams.specs.declared.eep.Eep.{Eep}
 use Rattle.device_registry.specs.declared.device.Device.{Device}
+use Rattle.gateway_core.specs.Responses.{Response}
+use Rattle.gateway_core.specs.declared.counts.Counts.{Counts}
 use Rattle.gateway_core.specs.declared.lines.error.ErrorName.{ErrorName}
 use Rattle.gateway_core.specs.declared.lines.error.ErrorName.TheVariants.{Syntax, TooLong, Range, UnknownDevice, Full, UnsupportedProfile, Memory, Store}
 use Rattle.gateway_core.specs.declared.lines.reading.Reading.{Reading}
@@ -110,6 +112,37 @@ count_text count = codes "{\"count\":" ++ decimal count ++ codes ",\"type\":\"li
 -- a line for each device, and behind them a line that counts them
 abbrev pub listing_text : List Device → List ℕ
 listing_text known = flat_map device_text known ++ count_text (length known)
+
+-- ---- a status line
+
+-- the mode is always closed: the gateway does not learn by telegrams yet
+abbrev pub status_text : Counts → List ℕ
+status_text counts =
+    codes "{\"ignored\":" ++ decimal counts.ignored
+    ++ codes ",\"mode\":\"closed\",\"readings\":" ++ decimal counts.readings
+    ++ codes ",\"refused\":" ++ decimal counts.refused
+    ++ codes ",\"responses\":" ++ decimal counts.responses
+    ++ codes ",\"teach\":" ++ decimal counts.teach
+    ++ codes ",\"type\":\"status\"}\n"
+
+-- ---- a response line
+
+-- the names of the return codes from 0 on (EnOcean Serial Protocol 3, "Packet type 2: RESPONSE")
+abbrev pub code_names : List (List ℕ)
+code_names = codes "OK" ∷ codes "ERROR" ∷ codes "NOT_SUPPORTED" ∷ codes "WRONG_PARAM" ∷ codes "OPERATION_DENIED" ∷ []
+
+-- the name of a return code, or null where it has none
+abbrev pub name_text : Option (List ℕ) → List ℕ
+name_text None = codes "null"
+name_text (Some name) = quoted name
+
+-- the bytes as upper-case hexadecimal digits
+abbrev pub response_text : Response → List ℕ
+response_text response =
+    codes "{\"code\":" ++ decimal response.code
+    ++ codes ",\"data\":" ++ quoted (encode_upper response.bytes)
+    ++ codes ",\"name\":" ++ name_text (slice_get code_names response.code)
+    ++ codes ",\"type\":\"response\"}\n"
 
 -- ---- an error line
 

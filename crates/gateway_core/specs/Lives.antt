@@ -3,6 +3,7 @@ use Rattle.std.specs.Prelude.{◌≡◌, ◌≢◌, ℕ, List, [], ◌∷◌, �
 use Rattle.std.specs.List.{AllByRecursion}
 use Rattle.std.specs.FinMap.{get}
 use Rattle.device_registry.specs.Devices.{Devices, Change}
+use Rattle.gateway_core.specs.Counts.{none_counted}
 use Rattle.gateway_core.specs.Step.{State, Item, Answer, change_of, state_after}
 use Rattle.gateway_core.specs.Run.{Fate, Taken, Refused, RefusedAtWrite, state_with, Run}
 use Rattle.gateway_core.specs.Stops.{Left, nothing_left, pending, left_by, Safe}
@@ -19,9 +20,9 @@ pub record Life : Type 0 where
   pub stopped : Option Item
   pub left : Devices
 
--- a life begins with the devices found
+-- a life begins with the devices found, and with nothing counted
 abbrev pub begun : ℕ → Devices → State
-begun base devices = record { base = base; devices = devices }
+begun base devices = record { base = base; counts = none_counted; devices = devices }
 
 -- the item in work may be done, and may not
 abbrev pub stopped_in : Left → State → Option Item → Left

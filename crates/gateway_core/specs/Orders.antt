@@ -7,7 +7,7 @@ use Rattle.hex.specs.declared.error.FromHexError.{FromHexError}
 use Rattle.std.specs.Int.{w32, from_be_bytes}
 use Rattle.erp1_telegrams.specs.declared.eep.Eep.{Eep}
 use Rattle.gateway_core.specs.declared.orders.Order.{Order}
-use Rattle.gateway_core.specs.declared.orders.Order.TheVariants.{Add, Remove, List as ListAll}
+use Rattle.gateway_core.specs.declared.orders.Order.TheVariants.{Add, Remove, List as ListAll, Status}
 use Rattle.gateway_core.specs.declared.orders.OrderFault.{OrderFault}
 use Rattle.gateway_core.specs.declared.orders.OrderFault.TheVariants.{Syntax, Range}
 
@@ -30,12 +30,14 @@ abbrev pub HasShape : List ℕ → Order → Type 0
 HasShape line (Add id eep) = (digits text : List ℕ) × (line ≡ codes "add " ++ digits ++ codes " " ++ text) × SpellsId digits id × SpellsEep text eep
 HasShape line (Remove id) = (digits : List ℕ) × (line ≡ codes "remove " ++ digits) × SpellsId digits id
 HasShape line ListAll = line ≡ codes "list"
+HasShape line Status = line ≡ codes "status"
 
 -- the order's numbers are in range: no device has the ID of all
 abbrev pub IsInRange : Order → Type 0
 IsInRange (Add id eep) = id ≢ 0xFFFF_FFFF
 IsInRange (Remove id) = id ≢ 0xFFFF_FFFF
 IsInRange ListAll = Unit {0}
+IsInRange Status = Unit {0}
 
 -- the line spells the order
 abbrev pub Spells : List ℕ → Order → Type 0
@@ -81,6 +83,7 @@ order_of line =
     if starts_with nat_eq line (codes "add ") && slice_index_or line 12 0 == 32 then add_order (id_in (slice_range line 4 12)) (eep_in (drop 13 line))
     else if starts_with nat_eq line (codes "remove ") then remove_order (id_in (drop 7 line))
     else if pointwise nat_eq line (codes "list") then Ok ListAll
+    else if pointwise nat_eq line (codes "status") then Ok Status
     else Err Syntax
 
 -- A line that spells no order is out of range where it has the shape of one, and else no order at all.

@@ -1,11 +1,14 @@
 -- What the gateway does with many items, of which some may be refused.
-use Rattle.std.specs.Prelude.{◌≡◌, if◌then◌else◌, Bool, true, false, is_some, IsTrue, IsSome, ℕ, List, [], ◌∷◌}
+use Rattle.std.specs.Prelude.{◌≡◌, if◌then◌else◌, ◌||◌, Bool, true, false, is_some, IsTrue, IsSome, ℕ, ◌+◌, ◌^◌, ◌<◌, List, [], ◌∷◌}
+use Rattle.gateway_core.specs.declared.counts.Count.TheVariants as count
 use Rattle.gateway_core.specs.declared.lines.error.ErrorName.{ErrorName}
 use Rattle.gateway_core.specs.declared.lines.error.ErrorName.TheVariants as error
 use Rattle.gateway_core.specs.declared.refusal.Cause.{Cause}
 use Rattle.gateway_core.specs.declared.refusal.Cause.TheVariants.{Memory, Store}
+use Rattle.gateway_core.specs.Counts.{counted, count_with}
 use Rattle.gateway_core.specs.Lines.{error_text}
-use Rattle.gateway_core.specs.Step.{State, Item, Received, Ordered, Answer, said, Decision, Denies, Learns, Forgets, Lists, decision, data_telegram, answer_to, change_of, state_after}
+use Rattle.gateway_core.specs.Responses.{response_in}
+use Rattle.gateway_core.specs.Step.{State, Item, Received, Ordered, Answer, said, Decision, Denies, Learns, Forgets, Lists, Reports, decision, data_telegram, answer_to, change_of, state_after}
 
 -- the errors that are told by the line alone; the others are told by the devices
 abbrev pub is_of_line : ErrorName → Bool
@@ -24,10 +27,11 @@ needs_help (Denies name) = if is_of_line name then false else true
 needs_help (Learns known) = true
 needs_help (Forgets known) = true
 needs_help Lists = true
+needs_help Reports = true
 
 -- the items that need memory or the store
 abbrev pub needs : State → Item → Bool
-needs state (Received packet) = is_some (data_telegram state.base packet)
+needs state (Received packet) = is_some (response_in packet) || is_some (data_telegram state.base packet)
 needs state (Ordered line) = needs_help (decision state.devices line)
 
 -- an item is taken, or it is refused before its write to the registry, or at that write
@@ -52,11 +56,15 @@ answer_with state item Taken = answer_to state item
 answer_with state item (Refused cause) = said (cause_text cause)
 answer_with state item (RefusedAtWrite cause) = said (cause_text cause)
 
+-- what is known after an item that is refused: no more than that it was
+abbrev pub refused : State → State
+refused state = record { base = state.base; counts = counted state.counts count.Refused; devices = state.devices }
+
 -- what is known after an item with this fate
 abbrev pub state_with : State → Item → Fate → State
 state_with state item Taken = state_after state item
-state_with state item (Refused cause) = state
-state_with state item (RefusedAtWrite cause) = state
+state_with state item (Refused cause) = refused state
+state_with state item (RefusedAtWrite cause) = refused state
 
 -- the items are handled one after another, with these fates and these answers
 abbrev pub Run : State → List Item → List Fate → List Answer → State → Type 0
@@ -69,3 +77,15 @@ Run old items fates answers new = ⊥
 abbrev pub SameFates : Type 0
 SameFates = (old left right : State) (items : List Item) (fates : List Fate) (answers others : List Answer) →
     Run old items fates answers left → Run old items fates others right → (answers ≡ others) × (left ≡ right)
+
+-- how many of the fates are refusals
+abbrev pub refusals : List Fate → ℕ
+refusals [] = 0
+refusals (Taken ∷ fates) = refusals fates
+refusals (Refused cause ∷ fates) = 1 + refusals fates
+refusals (RefusedAtWrite cause ∷ fates) = 1 + refusals fates
+
+-- the count of refused items is raised once for each of them, and by nothing else
+abbrev pub RefusalsAreCounted : Type 0
+RefusalsAreCounted = (old new : State) (items : List Item) (fates : List Fate) (answers : List Answer) →
+    Run old items fates answers new → old.counts.refused < 2 ^ 64 → new.counts.refused ≡ count_with old.counts.refused (refusals fates)

@@ -6,23 +6,29 @@ use Rattle.erp1_telegrams.specs.declared.telegram.TelegramFault.{TelegramFault}
 use Rattle.erp1_telegrams.specs.Telegram.{Telegram, telegram_of}
 use Rattle.device_registry.specs.declared.device.Device.{Device}
 use Rattle.device_registry.specs.Devices.{Devices, device_of, all_of, is_full, Change, learned, forgotten, changed}
+use Rattle.gateway_core.specs.declared.counts.Count.{Count}
+use Rattle.gateway_core.specs.declared.counts.Count.TheVariants as count
+use Rattle.gateway_core.specs.declared.counts.Counts.{Counts}
 use Rattle.gateway_core.specs.declared.lines.error.ErrorName.{ErrorName}
 use Rattle.gateway_core.specs.declared.lines.error.ErrorName.TheVariants as error
 use Rattle.gateway_core.specs.declared.lines.teach.Outcome.{Outcome}
 use Rattle.gateway_core.specs.declared.lines.teach.Outcome.TheVariants.{Accepted, Deleted}
 use Rattle.gateway_core.specs.declared.orders.Order.{Order}
-use Rattle.gateway_core.specs.declared.orders.Order.TheVariants.{Add, Remove, List as ListAll}
+use Rattle.gateway_core.specs.declared.orders.Order.TheVariants.{Add, Remove, List as ListAll, Status}
 use Rattle.gateway_core.specs.declared.orders.OrderFault.{OrderFault}
 use Rattle.gateway_core.specs.declared.orders.OrderFault.TheVariants.{Syntax, Range}
 use Rattle.gateway_core.specs.Address.{is_passed_over}
 use Rattle.gateway_core.specs.Contact.{is_supported, readings_of}
-use Rattle.gateway_core.specs.Lines.{Entry, reading_text, TeachLine, teach_text, listing_text, error_text}
+use Rattle.gateway_core.specs.Counts.{raised}
+use Rattle.gateway_core.specs.Lines.{Entry, reading_text, TeachLine, teach_text, listing_text, status_text, response_text, error_text}
 use Rattle.gateway_core.specs.Orders.{order_of}
+use Rattle.gateway_core.specs.Responses.{Response, response_in}
 use Rattle.gateway_core.specs.TeachIn.{is_teach_in}
 
--- what the gateway knows: the base ID of its radio module, which no item changes, and the learned devices
+-- what the gateway knows: the base ID of its radio module, which no item changes, what it has counted, and the learned devices
 pub record State : Type 0 where
   pub base : ℕ
+  pub counts : Counts
   pub devices : Devices
 
 -- what the gateway handles: a packet of the serial line, or a line of the desk
@@ -40,6 +46,14 @@ said text = record { radio = None; desk = text }
 
 -- ---- a packet
 
+-- what comes of a packet that is not refused: the one count that it raises, and what the desk is told
+pub record Effect : Type 0 where
+  pub count : Count
+  pub text : List ℕ
+
+abbrev pub ignored : Effect
+ignored = record { count = count.Ignored; text = [] }
+
 -- a telegram is looked at unless it is passed over, or is a teach-in telegram: nobody teaches while the gateway is not learning
 abbrev pub looked_at : ℕ → Result Telegram TelegramFault → Option Telegram
 looked_at base (Err fault) = None
@@ -49,26 +63,36 @@ abbrev pub data_telegram : ℕ → Packet → Option Telegram
 data_telegram base packet = looked_at base (telegram_of packet)
 
 -- the line of what a telegram tells, if its sender's profile can read it
-abbrev pub reading_answer : Telegram → Eep → Option (List Entry) → Answer
-reading_answer t eep None = said []
-reading_answer t eep (Some readings) = said (reading_text (record { dbm = t.dbm; eep = eep; id = t.sender; readings = readings }))
+abbrev pub reading_effect : Telegram → Eep → Option (List Entry) → Effect
+reading_effect t eep None = ignored
+reading_effect t eep (Some readings) =
+    record { count = count.Reading; text = reading_text (record { dbm = t.dbm; eep = eep; id = t.sender; readings = readings }) }
 
-abbrev pub sender_answer : Telegram → Option Device → Answer
-sender_answer t None = said []
-sender_answer t (Some known) = reading_answer t known.eep (readings_of known.eep t)
+abbrev pub sender_effect : Telegram → Option Device → Effect
+sender_effect t None = ignored
+sender_effect t (Some known) = reading_effect t known.eep (readings_of known.eep t)
 
-abbrev pub telegram_answer : Devices → Option Telegram → Answer
-telegram_answer devices None = said []
-telegram_answer devices (Some t) = sender_answer t (device_of devices t.sender)
+abbrev pub telegram_effect : Devices → Option Telegram → Effect
+telegram_effect devices None = ignored
+telegram_effect devices (Some t) = sender_effect t (device_of devices t.sender)
+
+-- a packet is a response, or has a telegram, or is ignored
+abbrev pub effect_by : Devices → Option Response → Option Telegram → Effect
+effect_by devices (Some response) telegram = record { count = count.Response; text = response_text response }
+effect_by devices None telegram = telegram_effect devices telegram
+
+abbrev pub packet_effect : State → Packet → Effect
+packet_effect state packet = effect_by state.devices (response_in packet) (data_telegram state.base packet)
 
 -- ---- a line
 
--- what becomes of a line: it is answered with an error, a device is learned or forgotten, or all are listed
+-- what becomes of a line: it is answered with an error, a device is learned or forgotten, all are listed, or the counts are told
 pub data Decision : Type 0 where
   Denies : (name : ErrorName) → Decision
   Learns : (known : Device) → Decision
   Forgets : (known : Device) → Decision
   Lists : Decision
+  Reports : Decision
 
 abbrev pub removal : Option Device → Decision
 removal None = Denies error.UnknownDevice
@@ -83,6 +107,7 @@ order_decision devices (Ok (Add id eep)) =
     else Denies error.UnsupportedProfile
 order_decision devices (Ok (Remove id)) = removal (device_of devices id)
 order_decision devices (Ok ListAll) = Lists
+order_decision devices (Ok Status) = Reports
 
 abbrev pub decision : Devices → List ℕ → Decision
 decision devices line = if nat_lt 200 (length line) then Denies error.TooLong else order_decision devices (order_of line)
@@ -91,11 +116,12 @@ decision devices line = if nat_lt 200 (length line) then Denies error.TooLong el
 abbrev pub told_of : Device → Outcome → TeachLine
 told_of known outcome = record { eep = known.eep; id = known.id; maker = known.maker; outcome = outcome }
 
-abbrev pub decision_answer : Devices → Decision → Answer
-decision_answer devices (Denies name) = said (error_text name)
-decision_answer devices (Learns known) = said (teach_text (told_of known Accepted))
-decision_answer devices (Forgets known) = said (teach_text (told_of known Deleted))
-decision_answer devices Lists = said (listing_text (all_of devices))
+abbrev pub decision_answer : Counts → Devices → Decision → Answer
+decision_answer counts devices (Denies name) = said (error_text name)
+decision_answer counts devices (Learns known) = said (teach_text (told_of known Accepted))
+decision_answer counts devices (Forgets known) = said (teach_text (told_of known Deleted))
+decision_answer counts devices Lists = said (listing_text (all_of devices))
+decision_answer counts devices Reports = said (status_text counts)
 
 -- what is written for it, if anything
 abbrev pub change_in : Decision → Option Change
@@ -103,13 +129,19 @@ change_in (Denies name) = None
 change_in (Learns known) = Some (learned known)
 change_in (Forgets known) = Some (forgotten known.id)
 change_in Lists = None
+change_in Reports = None
 
 -- ---- an item
 
 -- the answer to an item that is taken
 abbrev pub answer_to : State → Item → Answer
-answer_to state (Received packet) = telegram_answer state.devices (data_telegram state.base packet)
-answer_to state (Ordered line) = decision_answer state.devices (decision state.devices line)
+answer_to state (Received packet) = said (packet_effect state packet).text
+answer_to state (Ordered line) = decision_answer state.counts state.devices (decision state.devices line)
+
+-- the count that an item raises that is taken: each packet raises one, and no order does
+abbrev pub count_of : State → Item → Option Count
+count_of state (Received packet) = Some (packet_effect state packet).count
+count_of state (Ordered line) = None
 
 -- the change that an item asks for: of what is known of one sender
 abbrev pub change_of : State → Item → Option Change
@@ -122,4 +154,4 @@ with_change devices (Some change) = changed devices change
 
 -- what is known after an item that is taken
 abbrev pub state_after : State → Item → State
-state_after state item = record state { devices = with_change state.devices (change_of state item) }
+state_after state item = record { base = state.base; counts = raised state.counts (count_of state item); devices = with_change state.devices (change_of state item) }

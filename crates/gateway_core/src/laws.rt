@@ -5,12 +5,12 @@ ghost use Rattle.esp3_frames.specs.Frames.{packets_in, rest_of};
 ghost use Rattle.device_registry.specs.Holding.{MayFind};
 ghost use Rattle.gateway_core.specs.Beginnings.{CallsLeaveALife, StopsLeaveALife, TeachLinesAreTold};
 ghost use Rattle.gateway_core.specs.Calls.{CallsAreARun};
-ghost use Rattle.gateway_core.specs.Events.{CutsDoNotMatter, Event, brought, bytes_in, items_of};
+ghost use Rattle.gateway_core.specs.Events.{CutsAreAnsweredAlike, CutsDoNotMatter, Event, brought, bytes_in, items_of};
 ghost use Rattle.gateway_core.specs.Handling.{Handles, Sight};
 ghost use Rattle.gateway_core.specs.Lives.{LivesKeep};
 ghost use Rattle.gateway_core.specs.Orders.{OrdersAreSpelled};
 ghost use Rattle.gateway_core.specs.Prefixes.{LeftIsPrefix, SafeIsPrefix};
-ghost use Rattle.gateway_core.specs.Run.{SameFates};
+ghost use Rattle.gateway_core.specs.Run.{RefusalsAreCounted, SameFates};
 ghost use Rattle.gateway_core.specs.Step.{Answer, Item};
 ghost use Rattle.gateway_core.specs.Stops.{SafeJoins};
 
@@ -44,6 +44,17 @@ pub fn handles_join<S: Alter>()
 /// Where the same items are refused, each for the same cause, the answers are the same.
 pub fn same_fates()
     ensures { SameFates }
+{}
+
+/// However the bytes between two lines are cut into pieces, the answers are the same where the same items are refused, each
+/// for the same cause.
+pub fn cuts_are_answered_alike()
+    ensures { CutsAreAnsweredAlike }
+{}
+
+/// The count of refused items is raised once for each of them, and by nothing else.
+pub fn refusals_are_counted()
+    ensures { RefusalsAreCounted }
 {}
 
 /// Whatever is called of a new gateway, in whatever order: the packets handled, and behind them those that wait, are the

@@ -5,6 +5,7 @@
 
 mod address;
 mod contact;
+mod counts;
 mod gateway;
 mod handler;
 pub mod laws;
@@ -12,6 +13,7 @@ mod lines;
 mod orders;
 mod refusal;
 mod reply;
+mod response;
 mod teach_in;
 mod verdict;
 

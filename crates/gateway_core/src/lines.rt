@@ -6,6 +6,8 @@ pub mod error;
 mod identity;
 pub mod line;
 pub mod reading;
+pub mod response;
+pub mod status;
 pub mod teach;
 #[cfg(test)]
 mod tests;

@@ -14,6 +14,8 @@ pub enum Order {
     Remove(u32),
     /// `list`: tell all devices.
     List,
+    /// `status`: tell the counts.
+    Status,
 }
 
 /// Why a line is no order.
@@ -86,6 +88,9 @@ pub fn parse(line: &[u8]) -> Result<Order, OrderFault>
     }
     if line == b"list".as_slice() {
         return Ok(Order::List);
+    }
+    if line == b"status".as_slice() {
+        return Ok(Order::Status);
     }
     Err(OrderFault::Syntax)
 }

@@ -2,7 +2,8 @@
 use Rattle.std.proofs.Common.{◌≡◌, ℕ, ◌+◌, ◌<◌, ◌≤◌, ap, ◌∙◌, arith, false}
 use Rattle.std.specs.Prelude.{Ok, ◌==◌, if◌then◌else◌}
 use Rattle.std.proofs.lemmas.Bool.{ne_eqb}
-use Rattle.gateway_main.specs.Counts.{Counts, counted, count_with, one_more, WentWell, Made}
+use Rattle.gateway_core.specs.Counts.{count_with, one_more}
+use Rattle.gateway_main.specs.Counts.{Counts, counted, WentWell, Made}
 
 pub went_on : (old mid new : Counts) → WentWell old mid → WentWell mid new → WentWell old new
 went_on old mid new first second = (second.0 ∙ first.0, second.1 ∙ first.1)
@@ -23,6 +24,3 @@ made_more old mid new n before e fits = let h = before fits in omega (arith, h, 
 
 pub made_within : (old mid new : Counts) (n turns : ℕ) → n < turns → Made old mid n → new.calls ≡ one_more mid.calls → (m : ℕ) × (m ≤ turns) × Made old new m
 made_within old mid new n turns below before e = (n + 1, omega arith, made_more old mid new n before e)
-
-pub count_on : (a b c n m : ℕ) → b ≡ count_with a n → c ≡ count_with b m → c ≡ count_with a (n + m)
-count_on a b c n m e f = omega (arith, e, f)

@@ -10,11 +10,11 @@ use Rattle.std.proofs.lemmas.List.{map-append, nil_from_length, length-take}
 use Rattle.gateway_core.specs.Calls.{Value}
 use Rattle.gateway_core.specs.Events.{Event, items_of}
 use Rattle.gateway_core.proofs.ForCallers.{items_behind}
-use Rattle.gateway_main.specs.Counts.{count_with}
+use Rattle.gateway_core.specs.Counts.{count_with}
 use Rattle.gateway_main.specs.Script.{event_of, script}
 use Rattle.gateway_main.specs.Replayed.{IsIdle, Replays, BreaksOff, ReplaysClosed, ReplaysPart}
 use Rattle.gateway_main.specs.Progress.{Takes, Progress, IsOneLine, ended, events_of}
-use Rattle.gateway_main.proofs.CountLemmas.{count_on}
+use Rattle.gateway_core.proofs.ForCallers.{count_on}
 use Rattle.gateway_main.proofs.ReplayLemmas.{replays_nothing, replays-append, replays-break}
 use Rattle.gateway_main.proofs.LineLemmas.{script-first, script-last, script-ended, closed_of_lines, only, only_line}
 use Rattle.sqlite_trees.specs.declared.store.Store.{Ghosts}

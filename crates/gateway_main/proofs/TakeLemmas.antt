@@ -11,12 +11,12 @@ use Rattle.gateway_core.specs.Handling.{Sight}
 use Rattle.gateway_core.specs.Calls.{Value, Moves, Next, Byte, Order}
 use Rattle.gateway_core.specs.Events.{Piece, Line, items_of}
 use Rattle.gateway_core.proofs.ForCallers.{brought-rest, cuts_do_not_matter, rest_goes_on, items_behind, rest_behind}
-use Rattle.gateway_main.specs.Counts.{count_with}
+use Rattle.gateway_core.specs.Counts.{count_with}
 use Rattle.gateway_main.specs.Writes.{AppendsPart}
 use Rattle.gateway_main.specs.Written.{text_of}
 use Rattle.gateway_main.specs.Replayed.{IsIdle, Answers, AnswersPart, Replays, BreaksOff}
 use Rattle.gateway_main.specs.Progress.{Drains, DrainsPart, Takes}
-use Rattle.gateway_main.proofs.CountLemmas.{count_on}
+use Rattle.gateway_core.proofs.ForCallers.{count_on}
 use Rattle.gateway_main.proofs.AnswerLemmas.{answers_nothing, answers_one, answers-append, part_one, answers-part}
 use Rattle.gateway_main.proofs.ReplayLemmas.{replays_nothing, replays-append}
 use Rattle.sqlite_trees.specs.declared.store.Store.{Ghosts}

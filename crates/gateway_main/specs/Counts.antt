@@ -1,5 +1,6 @@
 -- How the calls of a source or of a sink went.
-use Rattle.std.specs.Prelude.{◌≡◌, ℕ, ◌+◌, ◌-◌, ◌^◌, ◌==◌, ◌<◌, ◌⊎◌, min, if◌then◌else◌, Result, Ok, Err, MatchResult}
+use Rattle.std.specs.Prelude.{◌≡◌, ℕ, ◌+◌, ◌^◌, ◌==◌, ◌<◌, ◌⊎◌, if◌then◌else◌, Result, Ok, Err, MatchResult}
+use Rattle.gateway_core.specs.Counts.{count_with, one_more}
 
 -- how many calls were made, how many of them failed, and how many answered 0 bytes; each stays at its greatest value
 pub record Counts : Type 0 where
@@ -9,13 +10,6 @@ pub record Counts : Type 0 where
 
 abbrev pub none_yet : Counts
 none_yet = record { calls = 0; failed = 0; empty = 0 }
-
--- a count of 64 bits, and n more
-abbrev pub count_with : ℕ → ℕ → ℕ
-count_with count n = min (count + n) (2 ^ 64 - 1)
-
-abbrev pub one_more : ℕ → ℕ
-one_more count = count_with count 1
 
 -- the counts after a call with this answer
 abbrev pub counted : {E : Type 0} → Counts → Result ℕ E → Counts

@@ -6,7 +6,7 @@ use Rattle.gateway_core.specs.Step.{Received}
 use Rattle.gateway_core.specs.Calls.{Value}
 use Rattle.gateway_core.specs.Events.{Event, items_of}
 use Rattle.esp3_frames.specs.Packet.{Packet}
-use Rattle.gateway_main.specs.Counts.{count_with}
+use Rattle.gateway_core.specs.Counts.{count_with}
 use Rattle.gateway_main.specs.Script.{event_of}
 use Rattle.gateway_main.specs.Replayed.{Answers, AnswersPart, Replays, BreaksOff}
 use Rattle.sqlite_trees.specs.declared.store.Store.{Ghosts}

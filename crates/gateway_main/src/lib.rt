@@ -2,6 +2,8 @@
 #![tactic(auto)]
 
 pub mod command_line;
+#[cfg(test)]
+mod cut_tests;
 pub mod fault;
 #[cfg(test)]
 mod gateway_tests;

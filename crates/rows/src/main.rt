@@ -11,7 +11,7 @@ use std::process::ExitCode;
 const BASE: u32 = 0xFF80_0000;
 
 /// More reads than any row takes.
-const TURNS: u64 = 1000;
+const TURNS: u64 = 100_000;
 
 /// Whether the script `NAME.in` is replayed to its end, and what is written for it is `NAME.out`.
 fn is_well(rt: &HostRuntime, name: &str) -> Result<bool> {

@@ -1,7 +1,9 @@
-use Rattle.gateway_core.specs.Step.{Received}
 use Rattle.esp3_frames.specs.Outcome.{packet_of}
+use Rattle.gateway_core.specs.Step.{Received}
 use Rattle.gateway_core.proofs.TryLemmas.{tries-handles}
 use Rattle.gateway_core.proofs.handler.Handler.packet.Goals as goal
 
 pub returns : goal.returns
-returns g c = tries-handles g.S.Store _ _ (Received (packet_of c.args.packet.now)) _ _ c.answered.ensures c.try_packet.ensures
+returns g c =
+    tries-handles g.S.Store _ _ _ (Received (packet_of c.args.packet.now)) _ _
+    (record { answer_is = c.settle.ensures.answer; base = c.settle.ensures.base; counts = c.settle.ensures.counts; registry = c.settle.ensures.registry }) c.try_packet-tried.ensures

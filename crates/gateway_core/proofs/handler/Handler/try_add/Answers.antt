@@ -19,13 +19,13 @@ returns-in_err-draft g c =
 pub returns-in-Err : goal.returns-in-Err
 returns-in-Err g c =
     let supported : is_supported c.args.eep ≡ true = cc in
-    rw (← c.self.view_is) (tries g.S.Store _ _ _ _ _ c.learn.ensures.clean c.learn.ensures.registries
-    (λ honest devices has. add-comes g.S.Store c.self.inside.registry c.learn.new.self devices c.args.id c.args.eep _ _ supported c.unlearned.ensures (c.in-Err.ensures.devices honest devices has)))
+    rw (← c.self.view_is) (tries g.S.Store _ _ _ _ _ _ c.learn.ensures.clean c.learn.ensures.registries
+    (λ honest devices has. add-comes g.S.Store _ c.self.inside.registry c.learn.new.self devices c.args.id c.args.eep _ _ supported c.unlearned.ensures (c.in-Err.ensures.devices honest devices has)))
 
 pub returns : goal.returns
 returns g c =
     let supported : is_supported c.args.eep ≡ true = cc in
-    rw (← c.self.view_is) (tries g.S.Store _ _ _ _ _ c.learn.ensures.clean c.learn.ensures.registries
+    rw (← c.self.view_is) (tries g.S.Store _ _ _ _ _ _ c.learn.ensures.clean c.learn.ensures.registries
     (λ honest devices has.
     let done = c.in-Ok.ensures.devices honest devices has in
-    rw (supported, done.0) (c.told.ensures ∙ ap said (c.tell-line.ensures ∙ c.in_ok-draft.ensures.line), done.1)))
+    rw (supported, done.0) ((c.told.ensures.0 ∙ ap said (c.tell-line.ensures ∙ c.in_ok-draft.ensures.line), c.told.ensures.1), done.1)))

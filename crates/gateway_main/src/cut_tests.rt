@@ -1,0 +1,120 @@
+//! Streams that are made up, each cut in three ways: whatever the cuts, the same is written.
+use crate::{OverRead, OverWrite, replay, start};
+use sqlite::Connection;
+use std::alloc::Global;
+use std::test::Fail;
+
+/// A contact telegram of the device that each script learns first.
+const CONTACT: [u8; 21] = [
+    0x55, 0x00, 0x07, 0x07, 0x01, 0x7A, 0xD5, 0x09, 0x01, 0x80, 0x0A, 0xBC, 0x00, 0x01, 0xFF, 0xFF,
+    0xFF, 0xFF, 0x2D, 0x00, 0x1F,
+];
+
+/// A response with four bytes behind its return code.
+const RESPONSE: [u8; 12] = [
+    0x55, 0x00, 0x05, 0x00, 0x02, 0xCE, 0x00, 0xFF, 0x80, 0x00, 0x00, 0xDA,
+];
+
+/// A header with a right check that announces 63 bytes.
+const FALSE_HEADER: [u8; 6] = [0x55, 0x00, 0x3F, 0x00, 0x01, 0xA1];
+
+const FIRST: &[u8] = b"add 01800ABC D5-00-01\n";
+
+/// Numbers without a pattern: a linear congruential generator.
+#[derive(Drop)]
+struct Chance {
+    state: u32,
+}
+
+impl Chance {
+    fn next(&mut self) -> usize {
+        self.state = self.state.wrapping_mul(1_664_525).wrapping_add(1_013_904_223);
+        (self.state >> 16) as usize
+    }
+}
+
+// Eight parts, each a packet, a false header, a first part of a packet, or noise.
+fn stream(alloc: Global, chance: &mut Chance) -> Result<Vec<u8>, Fail> {
+    let mut bytes = Vec::new(alloc);
+    for _ in 0..8 {
+        match chance.next() % 6 {
+            0 | 1 => bytes.extend_from_slice(&CONTACT)?,
+            2 => bytes.extend_from_slice(&RESPONSE)?,
+            3 => bytes.extend_from_slice(&CONTACT[..chance.next() % 21])?,
+            4 => bytes.extend_from_slice(&FALSE_HEADER)?,
+            _ => {
+                for _ in 0..chance.next() % 9 {
+                    bytes.push((chance.next() % 256) as u8)?;
+                }
+            }
+        }
+    }
+    Ok(bytes)
+}
+
+// Puts a piece of serial bytes behind a script.
+fn add_piece(script: &mut Vec<u8>, piece: &[u8]) -> Result<(), Fail> {
+    const DIGITS: &[u8; 16] = b"0123456789ABCDEF";
+    script.extend_from_slice(b"S ")?;
+    for byte in piece {
+        script.push(DIGITS[usize::from(byte >> 4)])?;
+        script.push(DIGITS[usize::from(byte & 15)])?;
+    }
+    script.push(b'\n')?;
+    Ok(())
+}
+
+// The script of a stream: one device is learned, then the pieces come, and then the counts are told. A longest piece of 0
+// bytes leaves the lengths to chance.
+fn script(
+    alloc: Global,
+    bytes: &[u8],
+    longest: usize,
+    chance: &mut Chance,
+) -> Result<Vec<u8>, Fail> {
+    let mut script = Vec::new(alloc);
+    script.extend_from_slice(FIRST)?;
+    let mut rest = bytes;
+    for _ in 0..bytes.len() {
+        let len = if longest == 0 {
+            chance.next() % 40
+        } else {
+            longest
+        };
+        let (piece, behind) = rest.split_at(len.min(rest.len()));
+        add_piece(&mut script, piece)?;
+        rest = behind;
+    }
+    add_piece(&mut script, rest)?;
+    script.extend_from_slice(b"status\n")?;
+    Ok(script)
+}
+
+// What is written for a script.
+fn written(alloc: Global, script: &[u8]) -> Result<Vec<u8>, Fail> {
+    let mut gateway = start(alloc, Connection::open_in_memory(alloc)?, 0xFF80_0000)?;
+    let mut out = Vec::new(alloc);
+    let mut reader = OverRead::new(script);
+    replay(&mut reader, &mut OverWrite::new(&mut out), &mut gateway, 1000)?;
+    Ok(out)
+}
+
+#[test]
+fn cuts_do_not_matter(rt: HostRuntime) -> Result<(), Fail> {
+    let alloc = rt.alloc();
+    let mut chance = Chance { state: 2026 };
+    let mut told = 0;
+    for _ in 0..1000 {
+        let bytes = stream(alloc, &mut chance)?;
+        let whole = written(alloc, script(alloc, bytes.as_slice(), 99, &mut chance)?.as_slice())?;
+        let single = written(alloc, script(alloc, bytes.as_slice(), 1, &mut chance)?.as_slice())?;
+        let mixed = written(alloc, script(alloc, bytes.as_slice(), 0, &mut chance)?.as_slice())?;
+        assert_eq!(rt; single.as_slice(), whole.as_slice());
+        assert_eq!(rt; mixed.as_slice(), whole.as_slice());
+        if whole.len() > 300 {
+            told += 1;
+        }
+    }
+    assert!(rt; told > 100);
+    Ok(())
+}
