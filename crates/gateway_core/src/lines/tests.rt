@@ -1,6 +1,9 @@
+use crate::counts::{Count, Counts};
 use crate::lines::devices::device_lines;
 use crate::lines::error::ErrorName;
 use crate::lines::reading::{Reading, reading_line};
+use crate::lines::response::response_line;
+use crate::lines::status::status_line;
 use device_registry::Device;
 use erp1_telegrams::Eep;
 use std::test::Fail;
@@ -46,6 +49,40 @@ fn reading_lines(rt: HostRuntime) -> Result<(), Fail> {
     assert!(rt;
         line.as_bytes()
             == b"{\"dbm\":0,\"eep\":\"F6-02-1F\",\"id\":\"FF800000\",\"readings\":[{\"name\":\"R1\",\"word\":\"AI\"},{\"name\":\"EB\",\"word\":\"pressed\"}],\"type\":\"reading\"}\n".as_slice()
+    );
+    Ok(())
+}
+
+#[test]
+fn response_lines(rt: HostRuntime) -> Result<(), Fail> {
+    let line = response_line(rt.alloc(), 0, &[0xFF, 0x80, 0, 0])?;
+    assert!(rt;
+        line.as_bytes()
+            == b"{\"code\":0,\"data\":\"FF800000\",\"name\":\"OK\",\"type\":\"response\"}\n".as_slice()
+    );
+    let line = response_line(rt.alloc(), 5, &[])?;
+    assert!(rt;
+        line.as_bytes()
+            == b"{\"code\":5,\"data\":\"\",\"name\":null,\"type\":\"response\"}\n".as_slice()
+    );
+    Ok(())
+}
+
+#[test]
+fn status_lines(rt: HostRuntime) -> Result<(), Fail> {
+    let mut counts = Counts {
+        ignored: 1,
+        readings: u64::MAX,
+        refused: 3,
+        responses: 4,
+        teach: 5,
+    };
+    counts.raise(Count::Reading);
+    counts.raise(Count::Ignored);
+    let line = status_line(rt.alloc(), &counts)?;
+    assert!(rt;
+        line.as_bytes()
+            == b"{\"ignored\":2,\"mode\":\"closed\",\"readings\":18446744073709551615,\"refused\":3,\"responses\":4,\"teach\":5,\"type\":\"status\"}\n".as_slice()
     );
     Ok(())
 }
