@@ -1,0 +1,5 @@
+mod Numbers
+mod Bytes
+mod Cut
+mod Middle
+mod FieldLemmas

@@ -1,0 +1,78 @@
+-- Greatest common divisors.
+use Rattle.std.proofs.Common.{◌≡◌, ℕ, ◌+◌, ◌*◌, ◌/◌, ◌%◌, ◌<◌, ◌≤◌, refl, sym, ap, ◌∙◌, arith, subst, suc, zero, eqb, Bool, true, false, cond, ◌&&◌}
+use Rattle.std.specs.Int.{IsGcd}
+use Prim.Native.Nat.{◌∣◌}
+use Rattle.std.proofs.lemmas.Nat.Gcd.{le_of_dvd, dvd_of_mod-eq-zero, mod-eq-zero_of_dvd, same_from_IsGcd, IsGcd-from_zero, IsGcd-from_mod}
+use Rattle.std.proofs.Math.Nat.{div-mul_cancel, mul-dvd-mul_right, dvd_of_mul-dvd-mul_right, one-dvd, mul_assoc, dvd-mul_right, add-mul, mod-add-div', dvd-add_iff_left, dvd-mul_left_of_dvd}
+use Rattle.std.proofs.lemmas.Bool.Decides.{nat_tests}
+use Rattle.exact_values.specs.Ratio.{greatest_divisor}
+
+-- the parts without their greatest common divisor have none but 1
+pub IsGcd-divided : (a b g : ℕ) → 0 < g → IsGcd a b g → IsGcd (a / g) (b / g) 1
+IsGcd-divided a b g p h = (
+  one-dvd (a / g),
+  one-dvd (b / g),
+  λ d da db.
+      let ta : d * g ∣ a = subst (λ (n : ℕ). d * g ∣ n) (div-mul_cancel g h.0) (mul-dvd-mul_right d da g) in
+      let tb : d * g ∣ b = subst (λ (n : ℕ). d * g ∣ n) (div-mul_cancel g h.1) (mul-dvd-mul_right d db g) in
+      let t : d * g ∣ g = h.2 (d * g) ta tb in
+      let one_g : 1 * g ≡ g = omega arith in
+      dvd_of_mul-dvd-mul_right d p (subst (λ (n : ℕ). d * g ∣ n) (sym one_g) t),
+)
+
+not_there : (a b g m : ℕ) → a % g ≡ 0 → b % g ≡ 0 → eqb (a % m) 0 && eqb (b % m) 0 ≡ false → g ≡ m → ⊥
+not_there a b g m ma mb e q =
+    let ea : a % m ≡ 0 = subst (λ (n : ℕ). a % n ≡ 0) q ma in
+    let eb : b % m ≡ 0 = subst (λ (n : ℕ). b % n ≡ 0) q mb in
+    let t : eqb (a % m) 0 && eqb (b % m) 0 ≡ true = rw (ea, eb) refl in
+    cc
+
+greatest_divisor_step : (k a b g : ℕ) → g ≤ suc k → 0 < g → IsGcd a b g → (g ≤ k → 0 < g → IsGcd a b g → greatest_divisor k a b ≡ g) →
+    cond (eqb (a % suc k) 0 && eqb (b % suc k) 0) (suc k) (greatest_divisor k a b) ≡ g
+greatest_divisor_step k a b g l p h lower = by_cases (eqb (a % suc k) 0 && eqb (b % suc k) 0) refl
+  where
+    by_cases : (t : Bool) → (eqb (a % suc k) 0 && eqb (b % suc k) 0) ≡ t → cond t (suc k) (greatest_divisor k a b) ≡ g
+    by_cases true e =
+        let both : (a % suc k ≡ 0) × (b % suc k ≡ 0) = grind (arith, nat_tests, e) in
+        let d : suc k ∣ g = h.2 (suc k) (dvd_of_mod-eq-zero (suc k) both.0) (dvd_of_mod-eq-zero (suc k) both.1) in
+        let least : suc k ≤ g = le_of_dvd p d in
+        omega arith
+    by_cases false e =
+        let other : g ≡ suc k → ⊥ = not_there a b g (suc k) (mod-eq-zero_of_dvd g h.0) (mod-eq-zero_of_dvd g h.1) e in
+        lower (omega (arith, other)) p h
+
+-- the search downward finds it
+pub greatest_divisor_is : (k a b g : ℕ) → g ≤ k → 0 < g → IsGcd a b g → greatest_divisor k a b ≡ g
+unfolding greatest_divisor
+greatest_divisor_is zero a b g l p h = absurd (omega arith)
+greatest_divisor_is (suc k) a b g l p h = greatest_divisor_step k a b g l p h (greatest_divisor_is k a b g)
+
+pub dvd_of_quotient : (b g : ℕ) → g ∣ b → b / g ∣ b
+dvd_of_quotient b g d = subst (λ (n : ℕ). b / g ∣ n) (div-mul_cancel g d) (dvd-mul_right (b / g) g)
+
+pub positive_divisor : (b g : ℕ) → 0 < b → g ∣ b → 0 < g
+positive_divisor b zero p d = absurd (omega (arith, div-mul_cancel zero d))
+positive_divisor b (suc g) p d = omega arith
+
+-- what divides the products of two numbers with c divides that of their greatest common divisor with c, as Euclid's
+-- steps show
+product_divisor : (k a b c : ℕ) → b ≤ k → (g : ℕ) × IsGcd a b g × ((d : ℕ) → d ∣ a * c → d ∣ b * c → d ∣ g * c)
+product_divisor k a zero c l = (a, IsGcd-from_zero a 0 refl, λ d p q. p)
+product_divisor zero a (suc b) c l = absurd (omega arith)
+product_divisor (suc k) a (suc b) c l =
+    let lower = product_divisor k (suc b) (a % suc b) c (omega arith) in
+    let m : a % suc b + a / suc b * suc b ≡ a = mod-add-div' a (suc b) in
+    let e : a % suc b * c + a / suc b * (suc b * c) ≡ a * c = rw (← mul_assoc (a / suc b) (suc b) c) (sym (add-mul (a % suc b) (a / suc b * suc b) c) ∙ ap (λ n. n * c) m) in (
+      lower.0,
+      IsGcd-from_mod a (suc b) lower.0 lower.1,
+      λ d p q.
+          lower.2 d q ((dvd-add_iff_left d (dvd-mul_left_of_dvd d q (a / suc b))).1 (subst (λ (n : ℕ). d ∣ n) (sym e) p)),
+    )
+
+-- what divides a product and has no common divisor with the first factor but 1 divides the other
+pub dvd_of_coprime : (a d c : ℕ) → IsGcd a d 1 → d ∣ a * c → d ∣ c
+dvd_of_coprime a d c h p =
+    let found = product_divisor d a d c (omega arith) in
+    let one : found.0 ≡ 1 = same_from_IsGcd a d found.0 1 found.1 h in
+    let same : found.0 * c ≡ c = ap (λ n. n * c) one ∙ omega arith in
+    subst (λ (n : ℕ). d ∣ n) same (found.2 d p (dvd-mul_right d c))

@@ -1,0 +1,3 @@
+mod Divisors
+mod Lowest
+mod Line
