@@ -5,9 +5,9 @@ use Rattle.erp1_telegrams.specs.Telegram.{Telegram}
 use Rattle.device_registry.specs.declared.device.Device.{Device}
 use Rattle.device_registry.specs.Devices.{Devices, device_of}
 use Rattle.gateway_core.specs.declared.counts.Counts.{Counts}
-use Rattle.gateway_core.specs.Contact.{readings_of}
+use Rattle.gateway_core.specs.Profiles.{readings_of}
 use Rattle.gateway_core.specs.Counts.{count_with, one_more, counted, raised}
-use Rattle.gateway_core.specs.Lines.{Entry}
+use Rattle.profiles_rps.specs.Reading.{Entry}
 use Rattle.gateway_core.specs.Responses.{Response, response_in}
 use Rattle.gateway_core.specs.Step.{State, Item, Received, Ordered, Answer, Effect, reading_effect, sender_effect, telegram_effect, effect_by, data_telegram, count_of}
 use Rattle.gateway_core.specs.Run.{Fate, Taken, Refused, RefusedAtWrite, Run, state_with, refusals, RefusalsAreCounted}

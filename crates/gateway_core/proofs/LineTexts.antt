@@ -6,15 +6,16 @@ use Rattle.json.specs.Print.{quoted}
 use Rattle.serde_json.specs.Written.{number_text, compact_text, items_text, has_float, items_have_float}
 use Rattle.serde_json.specs.Find.{of_integer, is_float}
 use Rattle.serde_json.proofs.OnLiterals.{serde_json_on_literals}
+use Rattle.profiles_rps.specs.Reading.{Meaning, value, word, raw, out_of_range, Entry}
 use Rattle.device_registry.specs.declared.device.Device.{Device}
-use Rattle.gateway_core.specs.Lines.{id_text, eep_text, outcome_text, dbm_text, Entry, entry_text, list_text, ReadingLine, reading_text, maker_text, TeachLine, teach_text, device_text, count_text, status_text, code_names, name_text, response_text}
+use Rattle.gateway_core.specs.Lines.{id_text, eep_text, outcome_text, dbm_text, named_text, entry_text, list_text, ReadingLine, reading_text, maker_text, TeachLine, teach_text, device_text, count_text, status_text, code_names, name_text, response_text}
 use Rattle.hex.specs.Hex.{encode_upper}
 use Rattle.gateway_core.specs.Responses.{Response}
 use Rattle.gateway_core.specs.declared.counts.Counts.{Counts}
 use Rattle.gateway_core.specs.declared.lines.teach.Outcome.{Outcome}
 use Rattle.gateway_core.specs.declared.lines.teach.Outcome.TheVariants.{Accepted, Deleted}
 use Rattle.gateway_core.proofs.HexTexts.{plain-id}
-use Rattle.gateway_core.specs.LineData.{IsPlain, dbm_data, entry_data, entries_data, reading_data, maker_data, teach_data, device_data, count_data, status_data, name_data, response_data}
+use Rattle.gateway_core.specs.LineData.{IsPlain, dbm_data, named_data, entry_data, entries_data, reading_data, maker_data, teach_data, device_data, count_data, status_data, name_data, response_data}
 
 -- ---- the parts of the lines
 
@@ -51,15 +52,45 @@ plain-outcome Deleted = refl
 
 -- ---- the list of readings
 
--- the parts of an entry, grouped as the writer and as the definition group them
-grouped-entry : (name word : List ℕ)
-    → codes "{\"name\":" ++ (name ++ (codes ",\"word\":" ++ (word ++ codes "}")))
-    ≡ codes "{\"name\":" ++ name ++ codes ",\"word\":" ++ word ++ codes "}"
-grouped-entry name word = simp append_assoc
+-- the parts of a reading, grouped as the writer and as the definition group them
+grouped-value : (den name num unit : List ℕ)
+    → codes "{\"den\":" ++ (den ++ (codes ",\"name\":" ++ (name ++ (codes ",\"num\":" ++ (num ++ (codes ",\"unit\":" ++ (unit ++ codes "}")))))))
+    ≡ codes "{\"den\":" ++ den ++ codes ",\"name\":" ++ name ++ codes ",\"num\":" ++ num ++ codes ",\"unit\":" ++ unit ++ codes "}"
+grouped-value den name num unit = simp append_assoc
+
+grouped-word : (name text : List ℕ)
+    → codes "{\"name\":" ++ (name ++ (codes ",\"word\":" ++ (text ++ codes "}")))
+    ≡ codes "{\"name\":" ++ name ++ codes ",\"word\":" ++ text ++ codes "}"
+grouped-word name text = simp append_assoc
+
+grouped-raw : (name digits : List ℕ)
+    → codes "{\"name\":" ++ (name ++ (codes ",\"raw\":" ++ (digits ++ codes "}")))
+    ≡ codes "{\"name\":" ++ name ++ codes ",\"raw\":" ++ digits ++ codes "}"
+grouped-raw name digits = simp append_assoc
+
+grouped-out_of_range : (name digits : List ℕ)
+    → codes "{\"name\":" ++ (name ++ (codes ",\"out_of_range\":" ++ (digits ++ codes "}")))
+    ≡ codes "{\"name\":" ++ name ++ codes ",\"out_of_range\":" ++ digits ++ codes "}"
+grouped-out_of_range name digits = simp append_assoc
+
+text-named : (name : List ℕ) (meaning : Meaning) → compact_text (named_data name meaning) ≡ named_text name meaning
+unfolding serde_json_on_literals
+text-named name (value ratio unit) = rw (digits_of ratio.num) (grouped-value (decimal ratio.den) (quoted name) (signed_decimal ratio.num) (quoted unit))
+text-named name (word text) = grouped-word (quoted name) (quoted text)
+text-named name (raw n) = grouped-raw (quoted name) (decimal n)
+text-named name (out_of_range n) = grouped-out_of_range (quoted name) (decimal n)
 
 text-entry : (entry : Entry) → compact_text (entry_data entry) ≡ entry_text entry
-unfolding serde_json_on_literals
-text-entry entry = grouped-entry (quoted entry.name) (quoted entry.word)
+text-entry entry = text-named entry.name entry.meaning
+
+no_float-entry : (entry : Entry) → has_float (entry_data entry) ≡ false
+no_float-entry entry = one entry.name entry.meaning
+  where
+    one : (name : List ℕ) (meaning : Meaning) → has_float (named_data name meaning) ≡ false
+    one name (value ratio unit) = rw (no_float-integer ratio.num) refl
+    one name (word text) = refl
+    one name (raw n) = refl
+    one name (out_of_range n) = refl
 
 -- the entries after the first, each with a comma before it
 text-rest : (list : List Entry)
@@ -77,7 +108,7 @@ text-items (entry ∷ list) =
 
 no_float-items : (list : List Entry) → items_have_float (entries_data list) ≡ false
 no_float-items [] = refl
-no_float-items (entry ∷ list) = no_float-items list
+no_float-items (entry ∷ list) = rw (no_float-entry entry) (no_float-items list)
 
 -- ---- a reading line
 

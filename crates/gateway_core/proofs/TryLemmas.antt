@@ -26,7 +26,7 @@ use Rattle.gateway_core.specs.declared.refusal.Refusal.{Refusal}
 use Rattle.gateway_core.specs.declared.refusal.Refusal.TheVariants.{Before, AtWrite}
 use Rattle.gateway_core.specs.declared.counts.Counts.{Counts}
 use Rattle.gateway_core.specs.declared.handler.Done.{Done}
-use Rattle.gateway_core.specs.Contact.{is_supported}
+use Rattle.gateway_core.specs.Profiles.{is_supported}
 use Rattle.gateway_core.specs.Counts.{raised}
 use Rattle.gateway_core.specs.Orders.{order_of}
 use Rattle.gateway_core.specs.Step.{State, Item, Answer, Decision, Denies, Learns, change_in, said, count_of, order_decision, decision, removal, change_of, with_change, state_after}
@@ -211,7 +211,7 @@ module _ {S : Type 0} (g : Ghosts S) where
       → Tries g old (λ devices. of_item (record { base = old.base; counts = old.counts; devices = devices }) item) r mid → Handles g old (item ∷ []) (answer ∷ []) new
   tries-handles old mid new item r answer settles tries =
       let Over = λ (registry : Held S). Tries g old (λ devices. of_item (record { base = old.base; counts = old.counts; devices = devices }) item) r
-          (record { base = mid.base; counts = mid.counts; registry = registry }) in
+      (record { base = mid.base; counts = mid.counts; registry = registry }) in
       let tried : Over new.registry = subst Over (sym settles.registry) tries in
       record {
         base = settles.base ∙ tried.base;

@@ -1,6 +1,6 @@
 pub mod Lines
 pub mod LineData
-pub mod Contact
+pub mod Profiles
 pub mod Responses
 pub mod Counts
 pub mod TeachIn

@@ -4,11 +4,12 @@ use Rattle.json.specs.Print.{escape}
 use Rattle.serde_json.specs.Data.{Data, unsigned, null, number, string, array, object, Items, member, no_members}
 use Rattle.serde_json.specs.Find.{of_integer}
 use Rattle.serde_json.specs.View.{items_of}
+use Rattle.profiles_rps.specs.Reading.{Meaning, value, word, raw, out_of_range, Entry}
 use Rattle.device_registry.specs.declared.device.Device.{Device}
 use Rattle.hex.specs.Hex.{encode_upper}
 use Rattle.gateway_core.specs.Responses.{Response}
 use Rattle.gateway_core.specs.declared.counts.Counts.{Counts}
-use Rattle.gateway_core.specs.Lines.{id_text, eep_text, Entry, ReadingLine, outcome_text, TeachLine, code_names}
+use Rattle.gateway_core.specs.Lines.{id_text, eep_text, ReadingLine, outcome_text, TeachLine, code_names}
 
 -- the text stands in a JSON string as it is, with no escape
 abbrev pub IsPlain : List ℕ → Type 0
@@ -19,11 +20,25 @@ abbrev pub dbm_data : Option ℕ → Data
 dbm_data None = null
 dbm_data (Some byte) = number (of_integer (pos 0 -ℤ pos byte))
 
--- an entry: an object of two strings
+-- a reading
+abbrev pub named_data : List ℕ → Meaning → Data
+named_data name (value ratio unit) = object (
+    member (codes "den") (number (unsigned ratio.den)) (
+    member (codes "name") (string name) (
+    member (codes "num") (number (of_integer ratio.num)) (
+    member (codes "unit") (string unit) no_members))))
+named_data name (word text) = object (
+    member (codes "name") (string name) (
+    member (codes "word") (string text) no_members))
+named_data name (raw n) = object (
+    member (codes "name") (string name) (
+    member (codes "raw") (number (unsigned n)) no_members))
+named_data name (out_of_range n) = object (
+    member (codes "name") (string name) (
+    member (codes "out_of_range") (number (unsigned n)) no_members))
+
 abbrev pub entry_data : Entry → Data
-entry_data entry = object (
-    member (codes "name") (string entry.name) (
-    member (codes "word") (string entry.word) no_members))
+entry_data entry = named_data entry.name entry.meaning
 
 -- the entries in their order
 abbrev pub entries_data : List Entry → Items

@@ -1,18 +1,18 @@
 -- The texts of the lines that the desk is sent, as bytes. The layout is this program's own choice: one JSON object
 -- with no space, its members in the byte order of their names, and a line feed at the end.
-use Rattle.std.specs.Prelude.{ℕ, pos, ◌-ℤ◌, List, [], ◌∷◌, ◌++◌, map, length, slice_get, codes, decimal, Option, Some, None}
+use Rattle.std.specs.Prelude.{ℕ, pos, ◌-ℤ◌, List, [], ◌∷◌, ◌++◌, length, slice_get, codes, decimal, Option, Some, None}
 use Rattle.std.specs.Fmt.{signed_decimal}
 use Rattle.std.specs.Int.{w32, to_be_bytes}
 use Rattle.std.specs.List.{join_by, flat_map}
 use Rattle.json.specs.Print.{quoted}
 use Rattle.hex.specs.Hex.{encode_upper}
 use Rattle.erp1_telegrams.specs.declared.eep.Eep.{Eep}
+use Rattle.profiles_rps.specs.Reading.{Meaning, value, word, raw, out_of_range, Entry}
 use Rattle.device_registry.specs.declared.device.Device.{Device}
 use Rattle.gateway_core.specs.Responses.{Response}
 use Rattle.gateway_core.specs.declared.counts.Counts.{Counts}
 use Rattle.gateway_core.specs.declared.lines.error.ErrorName.{ErrorName}
 use Rattle.gateway_core.specs.declared.lines.error.ErrorName.TheVariants.{Syntax, TooLong, Range, UnknownDevice, Full, UnsupportedProfile, Memory, Store}
-use Rattle.gateway_core.specs.declared.lines.reading.Reading.{Reading}
 use Rattle.gateway_core.specs.declared.lines.teach.Outcome.{Outcome}
 use Rattle.gateway_core.specs.declared.lines.teach.Outcome.TheVariants.{Accepted, Deleted}
 
@@ -35,21 +35,17 @@ abbrev pub dbm_text : Option ℕ → List ℕ
 dbm_text None = codes "null"
 dbm_text (Some byte) = signed_decimal (pos 0 -ℤ pos byte)
 
--- a reading as its line tells it
-pub record Entry : Type 0 where
-  pub name : List ℕ
-  pub word : List ℕ
+-- a reading as an object: a value in a unit, a word, a number, or a number out of range; `quoted` writes JSON's shortest escapes
+abbrev pub named_text : List ℕ → Meaning → List ℕ
+named_text name (value ratio unit) =
+    codes "{\"den\":" ++ decimal ratio.den ++ codes ",\"name\":" ++ quoted name
+    ++ codes ",\"num\":" ++ signed_decimal ratio.num ++ codes ",\"unit\":" ++ quoted unit ++ codes "}"
+named_text name (word text) = codes "{\"name\":" ++ quoted name ++ codes ",\"word\":" ++ quoted text ++ codes "}"
+named_text name (raw n) = codes "{\"name\":" ++ quoted name ++ codes ",\"raw\":" ++ decimal n ++ codes "}"
+named_text name (out_of_range n) = codes "{\"name\":" ++ quoted name ++ codes ",\"out_of_range\":" ++ decimal n ++ codes "}"
 
-abbrev pub entry_of : Reading → Entry
-entry_of reading = record { name = reading.name.now; word = reading.word.now }
-
--- the readings in their order
-abbrev pub entries : List Reading → List Entry
-entries = map entry_of
-
--- an object of two strings; `quoted` writes JSON's shortest escapes
 abbrev pub entry_text : Entry → List ℕ
-entry_text entry = codes "{\"name\":" ++ quoted entry.name ++ codes ",\"word\":" ++ quoted entry.word ++ codes "}"
+entry_text entry = named_text entry.name entry.meaning
 
 -- a list of the entries, with a comma between each two
 abbrev pub list_text : List Entry → List ℕ

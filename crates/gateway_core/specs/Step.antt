@@ -18,9 +18,10 @@ use Rattle.gateway_core.specs.declared.orders.Order.TheVariants.{Add, Remove, Li
 use Rattle.gateway_core.specs.declared.orders.OrderFault.{OrderFault}
 use Rattle.gateway_core.specs.declared.orders.OrderFault.TheVariants.{Syntax, Range}
 use Rattle.gateway_core.specs.Address.{is_passed_over}
-use Rattle.gateway_core.specs.Contact.{is_supported, readings_of}
+use Rattle.gateway_core.specs.Profiles.{is_supported, readings_of}
 use Rattle.gateway_core.specs.Counts.{raised}
-use Rattle.gateway_core.specs.Lines.{Entry, reading_text, TeachLine, teach_text, listing_text, status_text, response_text, error_text}
+use Rattle.profiles_rps.specs.Reading.{Entry}
+use Rattle.gateway_core.specs.Lines.{reading_text, TeachLine, teach_text, listing_text, status_text, response_text, error_text}
 use Rattle.gateway_core.specs.Orders.{order_of}
 use Rattle.gateway_core.specs.Responses.{Response, response_in}
 use Rattle.gateway_core.specs.TeachIn.{is_teach_in}

@@ -16,7 +16,6 @@ ghost use Rattle.gateway_core.specs.Step.{Lists, Ordered, Received, Reports, dat
 ghost use Rattle.gateway_core.specs.Tries.{Gives, Has, Tries, Unlearned, answer_from, counts_from, of_decision, of_packet, of_telegram};
 
 use crate::address::is_passed_over;
-use crate::contact;
 use crate::counts::{Count, Counts};
 use crate::lines::devices::device_lines;
 use crate::lines::error::ErrorName;
@@ -25,6 +24,7 @@ use crate::lines::response::response_line;
 use crate::lines::status::status_line;
 use crate::lines::teach::{Outcome, teach_line};
 use crate::orders::{Order, OrderFault, parse};
+use crate::profiles;
 use crate::refusal::{Cause, Refusal};
 use crate::reply::{Desk, Reply};
 use crate::response::response_in;
@@ -123,11 +123,11 @@ fn unlearned(fault: LearnFault) -> Result<Done, Refusal>
 fn reading(alloc: Global, telegram: &Telegram, device: Device) -> Result<Done, AllocError>
     ensures { IfOk result (λ done. Has done (sender_effect telegram.now (Some device))) }
 {
-    let Some(reading) = contact::read(device.eep, telegram) else {
+    let Some(readings) = profiles::read(device.eep, telegram) else {
         return Ok(counted(Count::Ignored, Desk::Nothing));
     };
     let sender = telegram.sender();
-    let line = reading_line(alloc, telegram.dbm(), sender, device.eep, &[reading])?;
+    let line = reading_line(alloc, telegram.dbm(), sender, device.eep, &readings)?;
     Ok(counted(Count::Reading, Desk::Owned(line)))
 }
 
@@ -197,7 +197,7 @@ impl<S: Alter> Handler<S> {
         ensures { Tries S.Store self.old
             (λ devices. of_decision self.old.counts devices (order_decision devices (Ok (Order.Add id eep)))) result self.new }
     {
-        if !contact::is_supported(eep) {
+        if !profiles::is_supported(eep) {
             return Ok(denied(ErrorName::UnsupportedProfile));
         }
         let draft = teach_line(self.alloc, id, eep, None, Outcome::Accepted)?;

@@ -4,13 +4,13 @@
 #![tactic(auto)]
 
 mod address;
-mod contact;
 mod counts;
 mod gateway;
 mod handler;
 pub mod laws;
 mod lines;
 mod orders;
+mod profiles;
 mod refusal;
 mod reply;
 mod response;

@@ -28,7 +28,10 @@ struct Chance {
 
 impl Chance {
     fn next(&mut self) -> usize {
-        self.state = self.state.wrapping_mul(1_664_525).wrapping_add(1_013_904_223);
+        self.state = self
+            .state
+            .wrapping_mul(1_664_525)
+            .wrapping_add(1_013_904_223);
         (self.state >> 16) as usize
     }
 }
@@ -95,7 +98,12 @@ fn written(alloc: Global, script: &[u8]) -> Result<Vec<u8>, Fail> {
     let mut gateway = start(alloc, Connection::open_in_memory(alloc)?, 0xFF80_0000)?;
     let mut out = Vec::new(alloc);
     let mut reader = OverRead::new(script);
-    replay(&mut reader, &mut OverWrite::new(&mut out), &mut gateway, 1000)?;
+    replay(
+        &mut reader,
+        &mut OverWrite::new(&mut out),
+        &mut gateway,
+        1000,
+    )?;
     Ok(out)
 }
 
@@ -106,9 +114,18 @@ fn cuts_do_not_matter(rt: HostRuntime) -> Result<(), Fail> {
     let mut told = 0;
     for _ in 0..1000 {
         let bytes = stream(alloc, &mut chance)?;
-        let whole = written(alloc, script(alloc, bytes.as_slice(), 99, &mut chance)?.as_slice())?;
-        let single = written(alloc, script(alloc, bytes.as_slice(), 1, &mut chance)?.as_slice())?;
-        let mixed = written(alloc, script(alloc, bytes.as_slice(), 0, &mut chance)?.as_slice())?;
+        let whole = written(
+            alloc,
+            script(alloc, bytes.as_slice(), 99, &mut chance)?.as_slice(),
+        )?;
+        let single = written(
+            alloc,
+            script(alloc, bytes.as_slice(), 1, &mut chance)?.as_slice(),
+        )?;
+        let mixed = written(
+            alloc,
+            script(alloc, bytes.as_slice(), 0, &mut chance)?.as_slice(),
+        )?;
         assert_eq!(rt; single.as_slice(), whole.as_slice());
         assert_eq!(rt; mixed.as_slice(), whole.as_slice());
         if whole.len() > 300 {

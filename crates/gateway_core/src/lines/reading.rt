@@ -2,21 +2,16 @@
 
 ghost use Rattle.std.specs.Prelude.{◌≡◌, IfOk, OnOk};
 ghost use Rattle.serde_json.specs.View.{view, items_view};
-ghost use Rattle.gateway_core.specs.Lines.{eep_text, entry_of, entries, reading_text};
+ghost use Rattle.profiles_rps.specs.Reading.{entries, entry_of};
+ghost use Rattle.gateway_core.specs.Lines.{eep_text, reading_text};
 ghost use Rattle.gateway_core.specs.LineData.{IsPlain, dbm_data, entry_data, entries_data, reading_data};
 
 use crate::lines::identity::{eep_string, id_string};
 use crate::lines::line::{Line, line_of_value};
 use erp1_telegrams::Eep;
+use profiles_rps::{Reading, Readings, What};
 use serde_json::{Value, json};
 use std::alloc::{AllocError, Global};
-
-/// One reading of a telegram: the name of what was read, and the word for it, as `CO` and `closed`.
-#[derive(Clone, Copy, Debug, PartialEq, Eq)]
-pub struct Reading {
-    pub name: &'static str,
-    pub word: &'static str,
-}
 
 // The signal strength, or null.
 fn dbm_value(dbm: Option<u8>) -> Value
@@ -29,19 +24,30 @@ fn dbm_value(dbm: Option<u8>) -> Value
 }
 
 // One reading.
-fn entry_value(alloc: Global, reading: Reading) -> Result<Value, AllocError>
-    ensures { IfOk result (λ value. view value ≡ entry_data (entry_of reading)) }
+fn entry_value(alloc: Global, reading: &Reading) -> Result<Value, AllocError>
+    ensures { IfOk result (λ value. view value ≡ entry_data (entry_of reading.now)) }
 {
-    json!(in alloc; {"name": reading.name, "word": reading.word})
+    let name = reading.name;
+    match reading.what {
+        What::Value(fraction, unit) => json!(in alloc; {
+            "den": fraction.den(),
+            "name": name,
+            "num": fraction.num(),
+            "unit": unit
+        }),
+        What::Word(word) => json!(in alloc; {"name": name, "word": word}),
+        What::Raw(raw) => json!(in alloc; {"name": name, "raw": raw}),
+        What::OutOfRange(raw) => json!(in alloc; {"name": name, "out_of_range": raw}),
+    }
 }
 
 // The readings in their order.
-fn entries_value(alloc: Global, readings: &[Reading]) -> Result<Vec<Value>, AllocError>
-    ensures { IfOk result (λ values. items_view values.items ≡ entries_data (entries readings.now)) }
+fn entries_value(alloc: Global, readings: &Readings) -> Result<Vec<Value>, AllocError>
+    ensures { IfOk result (λ values. items_view values.items ≡ entries_data (entries readings.now.items)) }
 {
     let mut list = Vec::new(alloc);
-    for reading in readings {
-        list.push(entry_value(alloc, *reading)?)?;
+    for reading in readings.as_slice() {
+        list.push(entry_value(alloc, reading)?)?;
     }
     Ok(list)
 }
@@ -52,10 +58,10 @@ fn reading_value(
     dbm: Option<u8>,
     id: u32,
     eep: Eep,
-    readings: &[Reading],
+    readings: &Readings,
 ) -> Result<Value, AllocError>
     ensures value { IfOk result (λ value. view value ≡ reading_data
-        (record { dbm = dbm; eep = eep; id = id; readings = entries readings.now })) }
+        (record { dbm = dbm; eep = eep; id = id; readings = entries readings.now.items })) }
     ensures plain { OnOk result (IsPlain (eep_text eep)) }
 {
     let list = entries_value(alloc, readings)?;
@@ -77,10 +83,10 @@ pub fn reading_line(
     dbm: Option<u8>,
     id: u32,
     eep: Eep,
-    readings: &[Reading],
+    readings: &Readings,
 ) -> Result<Line, AllocError>
     ensures { IfOk result (λ line. line ≡ reading_text
-        (record { dbm = dbm; eep = eep; id = id; readings = entries readings.now })) }
+        (record { dbm = dbm; eep = eep; id = id; readings = entries readings.now.items })) }
 {
     let value = reading_value(alloc, dbm, id, eep, readings)?;
     line_of_value(alloc, &value)

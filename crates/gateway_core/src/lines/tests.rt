@@ -1,11 +1,14 @@
 use crate::counts::{Count, Counts};
 use crate::lines::devices::device_lines;
 use crate::lines::error::ErrorName;
-use crate::lines::reading::{Reading, reading_line};
+use crate::lines::reading::reading_line;
 use crate::lines::response::response_line;
 use crate::lines::status::status_line;
+use arrayvec::ArrayVec;
 use device_registry::Device;
 use erp1_telegrams::Eep;
+use exact_values::over;
+use profiles_rps::{Reading, What};
 use std::test::Fail;
 
 const CONTACT: Eep = Eep {
@@ -16,39 +19,43 @@ const CONTACT: Eep = Eep {
 
 #[test]
 fn reading_lines(rt: HostRuntime) -> Result<(), Fail> {
-    let closed = [Reading {
-        name: "CO",
-        word: "closed",
-    }];
-    let line = reading_line(rt.alloc(), Some(45), 0x01800ABC, CONTACT, &closed[..])?;
-    assert!(rt;
-        line.as_bytes()
-            == b"{\"dbm\":-45,\"eep\":\"D5-00-01\",\"id\":\"01800ABC\",\"readings\":[{\"name\":\"CO\",\"word\":\"closed\"}],\"type\":\"reading\"}\n".as_slice()
-    );
-    let line = reading_line(rt.alloc(), None, 1, CONTACT, &[])?;
+    let mut readings = ArrayVec::new();
+    let line = reading_line(rt.alloc(), None, 1, CONTACT, &readings)?;
     assert!(rt;
         line.as_bytes()
             == b"{\"dbm\":null,\"eep\":\"D5-00-01\",\"id\":\"00000001\",\"readings\":[],\"type\":\"reading\"}\n".as_slice()
     );
-    let rocker = Eep {
-        rorg: 0xF6,
-        func: 2,
-        typ: 0x1F,
-    };
-    let pressed = [
-        Reading {
-            name: "R1",
-            word: "AI",
-        },
-        Reading {
-            name: "EB",
-            word: "pressed",
-        },
-    ];
-    let line = reading_line(rt.alloc(), Some(0), 0xFF800000, rocker, &pressed[..])?;
+    readings.push(Reading {
+        name: "CO",
+        what: What::Word("closed"),
+    });
+    let line = reading_line(rt.alloc(), Some(45), 0x01800ABC, CONTACT, &readings)?;
     assert!(rt;
         line.as_bytes()
-            == b"{\"dbm\":0,\"eep\":\"F6-02-1F\",\"id\":\"FF800000\",\"readings\":[{\"name\":\"R1\",\"word\":\"AI\"},{\"name\":\"EB\",\"word\":\"pressed\"}],\"type\":\"reading\"}\n".as_slice()
+            == b"{\"dbm\":-45,\"eep\":\"D5-00-01\",\"id\":\"01800ABC\",\"readings\":[{\"name\":\"CO\",\"word\":\"closed\"}],\"type\":\"reading\"}\n".as_slice()
+    );
+    Ok(())
+}
+
+#[test]
+fn lines_of_all_kinds_of_readings(rt: HostRuntime) -> Result<(), Fail> {
+    let mut readings = ArrayVec::new();
+    readings.push(Reading {
+        name: "TMP",
+        what: What::Value(over(1024, 51), "C"),
+    });
+    readings.push(Reading {
+        name: "TI",
+        what: What::Raw(15),
+    });
+    readings.push(Reading {
+        name: "HUM",
+        what: What::OutOfRange(251),
+    });
+    let line = reading_line(rt.alloc(), Some(0), 0xFF800000, CONTACT, &readings)?;
+    assert!(rt;
+        line.as_bytes()
+            == b"{\"dbm\":0,\"eep\":\"D5-00-01\",\"id\":\"FF800000\",\"readings\":[{\"den\":51,\"name\":\"TMP\",\"num\":1024,\"unit\":\"C\"},{\"name\":\"TI\",\"raw\":15},{\"name\":\"HUM\",\"out_of_range\":251}],\"type\":\"reading\"}\n".as_slice()
     );
     Ok(())
 }

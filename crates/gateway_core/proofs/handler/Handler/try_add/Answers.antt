@@ -1,6 +1,6 @@
 use Rattle.std.proofs.Common.{◌≡◌, true, false, ap, ◌∙◌}
 use Rattle.std.proofs.lemmas.Result.{err_from_is_err_and}
-use Rattle.gateway_core.specs.Contact.{is_supported}
+use Rattle.gateway_core.specs.Profiles.{is_supported}
 use Rattle.gateway_core.specs.Step.{said}
 use Rattle.gateway_core.proofs.TryLemmas.{tries, tries-alone, add-help, add-comes}
 use Rattle.gateway_core.proofs.handler.Handler.try_add.Goals as goal

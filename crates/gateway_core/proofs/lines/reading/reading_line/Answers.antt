@@ -1,7 +1,8 @@
 use Rattle.std.proofs.Common.{◌++◌, codes, ap, ◌∙◌}
 use Rattle.std.proofs.lemmas.Result.{IfOk-weaker}
 use Rattle.serde_json.specs.Written.{compact_text, has_float}
-use Rattle.gateway_core.specs.Lines.{entries, ReadingLine}
+use Rattle.profiles_rps.specs.Reading.{entries}
+use Rattle.gateway_core.specs.Lines.{ReadingLine}
 use Rattle.gateway_core.proofs.LineTexts.{text-reading, no_float-reading}
 use Rattle.gateway_core.proofs.lines.reading.reading_line.Goals as goal
 
@@ -11,7 +12,7 @@ line_of_value-requires c =
       dbm = c.args.dbm;
       eep = c.args.eep;
       id = c.args.id;
-      readings = entries c.args.readings.now;
+      readings = entries c.args.readings.now.items;
     } in
     ap has_float c.in_ok-value.ensures.value ∙ no_float-reading line
 
@@ -21,7 +22,7 @@ returns c =
       dbm = c.args.dbm;
       eep = c.args.eep;
       id = c.args.id;
-      readings = entries c.args.readings.now;
+      readings = entries c.args.readings.now.items;
     } in
     let text = ap (λ value. compact_text value ++ codes "\n") c.in_ok-value.ensures.value
     ∙ text-reading line c.in_ok-value.ensures.plain in

@@ -1,0 +1,10 @@
+-- What a call that reads answers, and leaves.
+use Rattle.std.specs.Prelude.{List, Result, Ok, Err}
+use Rattle.profiles_rps.specs.Reading.{Entry, entries}
+use Rattle.profiles_rps.specs.declared.reading.Reading.{Reading}
+use Rattle.profiles_rps.specs.declared.unreadable.Unreadable.{Unreadable}
+
+-- a refusal, or else the readings that the call leaves
+abbrev pub told : Result (Unit {0}) Unreadable → List Reading → Result (List Entry) Unreadable
+told (Ok done) readings = Ok (entries readings)
+told (Err refusal) readings = Err refusal

@@ -1,0 +1,96 @@
+//! The RPS and 1BS profiles, and what a telegram says by one of them.
+
+ghost use Rattle.std.specs.Prelude.{◌≡◌, option_map, OnErr};
+ghost use Rattle.std.specs.Result.{result_map_both};
+ghost use Rattle.profiles_rps.specs.Reading.{entries};
+ghost use Rattle.profiles_rps.specs.Rows.{rows_entries};
+ghost use Rattle.profiles_rps.specs.Answer.{told};
+ghost use Rattle.profiles_rps.specs.Profiles.{rows_of, supported, readings_of};
+
+use crate::{Readings, Unreadable, read_profiles};
+use bit_fields::get;
+use erp1_telegrams::{Eep, Telegram};
+
+const RELEASED_OR_PRESSED: [(u32, &str); 2] = [(0, "released"), (1, "pressed")];
+
+const ROCKERS_AB: [(u32, &str); 4] = [(0, "AI"), (1, "A0"), (2, "BI"), (3, "B0")];
+
+const ROCKERS_ABCD: [(u32, &str); 8] = [
+    (0, "AI"),
+    (1, "A0"),
+    (2, "BI"),
+    (3, "B0"),
+    (4, "CI"),
+    (5, "C0"),
+    (6, "DI"),
+    (7, "D0"),
+];
+
+/// The readings of a payload by the rows of a profile, where there are rows.
+fn readings_by(eep: Eep, status: u8, bytes: &[u8; 1]) -> Option<Readings>
+    ensures { option_map (λ readings. entries readings.items) result
+        ≡ option_map (rows_entries status bytes.now) (rows_of eep) }
+{
+    let nu = get::<1, 3, 1>(&[status]);
+    read_profiles! { eep, bytes, 1;
+        (0xF6, 0x01, [0x01]) => {
+            "PB" (3, 1) [] words(&RELEASED_OR_PRESSED);
+        }
+        (0xF6, 0x02, [0x01, 0x02]) => {
+            "R1" (0, 3) [nu = 1] words(&ROCKERS_AB);
+            "buttons" (0, 3) [nu = 0] words(&[(0, "none"), (3, "three_or_four")]);
+            "EB" (3, 1) [] words(&RELEASED_OR_PRESSED);
+            "R2" (4, 3) [nu = 1 and (7, 1) = 1] words(&ROCKERS_AB);
+        }
+        (0xF6, 0x03, [0x01, 0x02]) => {
+            "R1" (0, 3) [nu = 1] words(&ROCKERS_ABCD);
+            "buttons" (0, 3) [nu = 0] number();
+            "EB" (3, 1) [] words(&RELEASED_OR_PRESSED);
+            "R2" (4, 3) [nu = 1 and (7, 1) = 1] words(&ROCKERS_ABCD);
+        }
+        (0xD5, 0x00, [0x01]) => {
+            "CO" (7, 1) [(4, 1) = 1] words(&[(0, "open"), (1, "closed")]);
+        }
+    }
+}
+
+/// Whether telegrams of a profile are read: whether the profile stands in `table` of `specs/Profiles.antt`. `read` answers
+/// `NotSupported` exactly where it does not.
+pub fn supports(eep: Eep) -> bool
+    ensures { result ≡ supported eep }
+{
+    readings_by(eep, 0, &[0]).is_some()
+}
+
+/// The readings of a telegram, or the first refusal.
+fn readings_of(eep: Eep, telegram: &Telegram) -> Result<Readings, Unreadable>
+    ensures { result_map_both (λ readings. entries readings.items) (λ refusal. refusal) result
+        ≡ readings_of eep telegram.now }
+{
+    if !supports(eep) {
+        return Err(Unreadable::NotSupported);
+    }
+    if telegram.rorg() != eep.rorg {
+        return Err(Unreadable::WrongKind);
+    }
+    let [byte] = telegram.payload() else {
+        return Err(Unreadable::WrongLength);
+    };
+    let bytes = [*byte];
+    if eep.rorg == 0xD5 && get::<1, 4, 1>(&bytes) == 0 {
+        return Err(Unreadable::OtherMessage);
+    }
+    readings_by(eep, telegram.status(), &bytes).ok_or(Unreadable::NotSupported)
+}
+
+/// Reads a telegram by a profile: `readings` is what it says, in the order of the profile's rows (EnOcean Equipment Profiles
+/// 2.6). On a refusal `readings` stays as it was. The refusals come in this order: `NotSupported` where the profile is not
+/// read, `WrongKind` where the telegram's RORG is not the profile's, `WrongLength` where the payload has not one byte, and
+/// `OtherMessage` where the telegram is a 1BS teach-in.
+pub fn read(eep: Eep, telegram: &Telegram, readings: &mut Readings) -> Result<(), Unreadable>
+    ensures exact { told result readings.new.items ≡ readings_of eep telegram.now }
+    ensures err { OnErr result (readings.new ≡ readings.old) }
+{
+    *readings = readings_of(eep, telegram)?;
+    Ok(())
+}
