@@ -108,3 +108,7 @@ row_entries status payload row =
 -- what rows read, in their order
 abbrev pub rows_entries : ℕ → List ℕ → List Row → List Entry
 rows_entries status payload rows = flat_map (row_entries status payload) rows
+
+-- what rows read in a payload, where none of them asks for the status
+abbrev pub entries_of : List ℕ → List Row → List Entry
+entries_of payload rows = rows_entries 0 payload rows

@@ -1,0 +1,13 @@
+-- The rows of the message of D2-05-00 that is read (EnOcean Equipment Profiles 2.6, "D2-05-00", the command 4: Blinds Control
+-- for Position and Angle).
+use Rattle.std.specs.Prelude.{List, [], ◌∷◌, codes}
+use Rattle.profiles_rps.specs.Rows.{Row, percent_or, number, always}
+
+-- Reply Position and Angle (CMD 4): position, angle, locking mode, channel
+abbrev pub position_and_angle : List Row
+position_and_angle =
+    record { name = codes "POS"; offset = 1; len = 7; condition = always; kind = percent_or (codes "unknown") }
+    ∷ record { name = codes "ANG"; offset = 9; len = 7; condition = always; kind = percent_or (codes "unknown") }
+    ∷ record { name = codes "LOCK"; offset = 21; len = 3; condition = always; kind = number }
+    ∷ record { name = codes "CHN"; offset = 24; len = 4; condition = always; kind = number }
+    ∷ []

@@ -1,0 +1,4 @@
+pub mod ElectronicSwitches
+pub mod BlindsControl
+pub mod Payload
+pub mod Profiles

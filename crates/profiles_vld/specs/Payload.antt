@@ -1,0 +1,10 @@
+-- What rows read in the payload of a message.
+use Rattle.std.specs.Prelude.{ℕ, List, length, ◌==◌, if◌then◌else◌, Result, Ok, Err}
+use Rattle.profiles_rps.specs.Reading.{Entry}
+use Rattle.profiles_rps.specs.Rows.{Row, entries_of}
+use Rattle.profiles_rps.specs.declared.unreadable.Unreadable.{Unreadable}
+use Rattle.profiles_rps.specs.declared.unreadable.Unreadable.TheVariants as refusals
+
+-- what rows read in a payload of so many bytes; another length is refused
+abbrev pub of_length : ℕ → List ℕ → List Row → Result (List Entry) Unreadable
+of_length n payload rows = if length payload == n then Ok (entries_of payload rows) else Err refusals.WrongLength

@@ -1,0 +1,11 @@
+//! What VLD telegrams say by their profiles (EnOcean Equipment Profiles 2.6).
+#![tactic(auto)]
+
+mod blinds_control;
+mod electronic_switches;
+mod profiles;
+
+pub use crate::profiles::{read, supports};
+
+#[cfg(test)]
+mod tests;

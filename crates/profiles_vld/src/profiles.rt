@@ -1,0 +1,57 @@
+//! The VLD profiles, and what a telegram says by one of them.
+
+ghost use Rattle.std.specs.Prelude.{◌≡◌, option_map, OnErr};
+ghost use Rattle.std.specs.Result.{result_map_both};
+ghost use Rattle.profiles_rps.specs.Reading.{entries};
+ghost use Rattle.profiles_rps.specs.Answer.{told};
+ghost use Rattle.profiles_vld.specs.Profiles.{profile_says, supported, readings_of};
+
+use crate::{blinds_control, electronic_switches};
+use erp1_telegrams::{Eep, Telegram};
+use profiles_rps::{Readings, Unreadable};
+
+/// What a payload says by a profile, where the profile is read.
+fn readings_by(eep: Eep, payload: &[u8]) -> Option<Result<Readings, Unreadable>>
+    ensures { option_map (result_map_both (λ readings. entries readings.items) (λ refusal. refusal)) result
+        ≡ option_map (λ says. says payload.now) (profile_says eep) }
+{
+    match (eep.rorg, eep.func, eep.typ) {
+        (0xD2, 0x01, 0x00..=0x12) => Some(electronic_switches::readings_of(payload)),
+        (0xD2, 0x05, 0x00) => Some(blinds_control::readings_of(payload)),
+        _ => None,
+    }
+}
+
+/// Whether telegrams of a profile are read: D2-01-00 to D2-01-12 and D2-05-00.
+pub fn supports(eep: Eep) -> bool
+    ensures { result ≡ supported eep }
+{
+    readings_by(eep, &[]).is_some()
+}
+
+/// The readings of a telegram, or the first refusal.
+fn readings_of(eep: Eep, telegram: &Telegram) -> Result<Readings, Unreadable>
+    ensures { result_map_both (λ readings. entries readings.items) (λ refusal. refusal) result
+        ≡ readings_of eep telegram.now }
+{
+    let Some(answer) = readings_by(eep, telegram.payload()) else {
+        return Err(Unreadable::NotSupported);
+    };
+    if telegram.rorg() != eep.rorg {
+        return Err(Unreadable::WrongKind);
+    }
+    answer
+}
+
+/// Reads a telegram by a profile: `readings` is what it says, in the order of the profile's rows (EnOcean Equipment Profiles
+/// 2.6). On a refusal `readings` stays as it was. The refusals come in this order: `NotSupported` where the profile is not
+/// read and `WrongKind` where the telegram's RORG is not the profile's. Then, for D2-01, `OtherMessage` where the command is
+/// neither 4 nor 7, and `WrongLength` where the payload has not three bytes at the command 4, or six at the command 7; for
+/// D2-05-00, `WrongLength` where the payload has not four bytes, and `OtherMessage` where the command is not 4.
+pub fn read(eep: Eep, telegram: &Telegram, readings: &mut Readings) -> Result<(), Unreadable>
+    ensures exact { told result readings.new.items ≡ readings_of eep telegram.now }
+    ensures err { OnErr result (readings.new ≡ readings.old) }
+{
+    *readings = readings_of(eep, telegram)?;
+    Ok(())
+}

@@ -1,0 +1,204 @@
+//! Telegrams whose readings are known, and each refusal.
+use crate::{read, supports};
+use erp1_telegrams::{BROADCAST, Eep, Telegram};
+use profiles_rps::{Reading, Readings, Unreadable, What};
+use std::process::Abort;
+use std::test::Fail;
+
+/// An electronic switch.
+const SWITCH: Eep = Eep {
+    rorg: 0xD2,
+    func: 0x01,
+    typ: 0x12,
+};
+
+/// Blinds.
+const BLINDS: Eep = Eep {
+    rorg: 0xD2,
+    func: 0x05,
+    typ: 0x00,
+};
+
+/// What a reading is expected to say: a value has a numerator, a denominator and a unit.
+#[derive(Clone, Copy, Debug, PartialEq, Eq)]
+enum Wanted {
+    Value(i64, i64, &'static str),
+    Word(&'static str),
+    Raw(u32),
+    OutOfRange(u32),
+}
+
+use Wanted::{OutOfRange, Raw, Value, Word};
+
+fn said(reading: &Reading) -> (&'static str, Wanted) {
+    let said = match reading.what {
+        What::Value(fraction, unit) => Value(fraction.num(), fraction.den(), unit),
+        What::Word(word) => Word(word),
+        What::Raw(raw) => Raw(raw),
+        What::OutOfRange(raw) => OutOfRange(raw),
+    };
+    (reading.name, said)
+}
+
+fn telegram(rorg: u8, payload: &[u8]) -> Result<Telegram, Fail> {
+    Ok(Telegram::new(rorg, payload, 0x0180_0ABC, 0x00, BROADCAST, None)?)
+}
+
+/// A payload is read as it is expected.
+fn check(
+    rt: &impl Abort,
+    eep: Eep,
+    payload: &[u8],
+    expected: &[(&'static str, Wanted)],
+) -> Result<(), Fail> {
+    let mut readings = Readings::new();
+    assert_eq!(rt; read(eep, &telegram(0xD2, payload)?, &mut readings), Ok(()));
+    assert_eq!(rt; readings.len(), expected.len());
+    for (reading, wanted) in readings.as_slice().iter().zip(expected.iter()) {
+        assert_eq!(rt; said(reading), *wanted);
+    }
+    Ok(())
+}
+
+#[test]
+fn states_of_switches(rt: HostRuntime) -> Result<(), Fail> {
+    check(
+        &rt,
+        SWITCH,
+        &[0x04, 0x60, 0xE4],
+        &[
+            ("PF", Raw(0)),
+            ("PFD", Raw(0)),
+            ("OC", Raw(0)),
+            ("EL", Word("not_supported")),
+            ("IO", Raw(0)),
+            ("LC", Raw(1)),
+            ("OV", Value(100, 1, "%")),
+        ],
+    )?;
+    check(
+        &rt,
+        SWITCH,
+        &[0xC4, 0xA7, 0x65],
+        &[
+            ("PF", Raw(1)),
+            ("PFD", Raw(1)),
+            ("OC", Raw(1)),
+            ("EL", Word("warning")),
+            ("IO", Raw(7)),
+            ("LC", Raw(0)),
+            ("OV", OutOfRange(101)),
+        ],
+    )?;
+    check(
+        &rt,
+        SWITCH,
+        &[0x84, 0x1E, 0x7F],
+        &[
+            ("PF", Raw(1)),
+            ("PFD", Raw(0)),
+            ("OC", Raw(0)),
+            ("EL", Word("ok")),
+            ("IO", Raw(30)),
+            ("LC", Raw(0)),
+            ("OV", Word("not_applicable")),
+        ],
+    )
+}
+
+#[test]
+fn measurements(rt: HostRuntime) -> Result<(), Fail> {
+    check(
+        &rt,
+        SWITCH,
+        &[0x07, 0x60, 0x00, 0x00, 0x04, 0xD2],
+        &[("IO", Raw(0)), ("MV", Value(1234, 1, "W"))],
+    )?;
+    check(
+        &rt,
+        SWITCH,
+        &[0x07, 0xA1, 0x00, 0x00, 0x04, 0xD2],
+        &[("IO", Raw(1)), ("UN", OutOfRange(5)), ("MV", Raw(1234))],
+    )
+}
+
+#[test]
+fn positions_of_blinds(rt: HostRuntime) -> Result<(), Fail> {
+    check(
+        &rt,
+        BLINDS,
+        &[0x32, 0x7F, 0x00, 0x04],
+        &[
+            ("POS", Value(50, 1, "%")),
+            ("ANG", Word("unknown")),
+            ("LOCK", Raw(0)),
+            ("CHN", Raw(0)),
+        ],
+    )?;
+    check(
+        &rt,
+        BLINDS,
+        &[0x65, 0x00, 0x07, 0x34],
+        &[
+            ("POS", OutOfRange(101)),
+            ("ANG", Value(0, 1, "%")),
+            ("LOCK", Raw(7)),
+            ("CHN", Raw(3)),
+        ],
+    )
+}
+
+#[test]
+fn refusals(rt: HostRuntime) -> Result<(), Fail> {
+    let other = Eep {
+        typ: 0x13,
+        ..SWITCH
+    };
+    let cases: [(Eep, u8, &[u8], Unreadable); 9] = [
+        (other, 0xD2, &[0x04, 0x60, 0xE4], Unreadable::NotSupported),
+        (other, 0xF6, &[0x04], Unreadable::NotSupported),
+        (SWITCH, 0xF6, &[0x02], Unreadable::WrongKind),
+        (SWITCH, 0xD2, &[0x02], Unreadable::OtherMessage),
+        (SWITCH, 0xD2, &[0x04], Unreadable::WrongLength),
+        (SWITCH, 0xD2, &[0x04, 0x60], Unreadable::WrongLength),
+        (SWITCH, 0xD2, &[0x07, 0x60, 0xE4], Unreadable::WrongLength),
+        (BLINDS, 0xD2, &[0x32, 0x7F, 0x01], Unreadable::WrongLength),
+        (
+            BLINDS,
+            0xD2,
+            &[0x32, 0x7F, 0x00, 0x01],
+            Unreadable::OtherMessage,
+        ),
+    ];
+    let before = Reading {
+        name: "IO",
+        what: What::Raw(1),
+    };
+    let mut readings = Readings::new();
+    readings.push(before);
+    for (eep, rorg, payload, refusal) in cases {
+        assert_eq!(rt;
+            read(eep, &telegram(rorg, payload)?, &mut readings),
+            Err(refusal)
+        );
+        assert_eq!(rt; readings.as_slice(), [before].as_slice());
+    }
+    Ok(())
+}
+
+#[test]
+fn supported_profiles(rt: HostRuntime) {
+    for typ in 0x00..=0x12 {
+        assert!(rt; supports(Eep { typ, ..SWITCH }));
+    }
+    assert!(rt; supports(BLINDS));
+    let others: [(u8, u8, u8); 4] = [
+        (0xD2, 0x01, 0x13),
+        (0xD2, 0x05, 0x01),
+        (0xD2, 0x00, 0x00),
+        (0xA5, 0x05, 0x00),
+    ];
+    for (rorg, func, typ) in others {
+        assert!(rt; !supports(Eep { rorg, func, typ }));
+    }
+}
