@@ -1,0 +1,19 @@
+-- The temperature and humidity sensors (EnOcean Equipment Profiles 2.6, "A5-04: Temperature and Humidity Sensor").
+use Rattle.std.specs.Prelude.{ℤ, pos, List, [], ◌∷◌, codes}
+use Rattle.profiles_rps.specs.Rows.{Row, range, always, where_field}
+use Rattle.profiles_rps.specs.Profile.{Profiles}
+use Rattle.profiles_4bs.specs.Tenths.{minus}
+
+-- the humidity, and between two ends, in tenths, the temperature, where there is a temperature sensor
+abbrev pub humidity_and_temperature : ℤ → ℤ → List Row
+humidity_and_temperature coldest hottest =
+    record { name = codes "HUM"; offset = 8; len = 8; condition = always; kind = range 0 250 (pos 0) (pos 1000) (codes "%") }
+    ∷ record { name = codes "TMP"; offset = 16; len = 8; condition = where_field 30 1 1; kind = range 0 250 coldest hottest (codes "C") }
+    ∷ []
+
+-- A5-04-01: 0 to 40 C, A5-04-02: -20 to 60 C
+abbrev pub humidity : List Profiles
+humidity =
+    record { rorg = 0xA5; func = 0x04; types = 0x01 ∷ []; rows = humidity_and_temperature (pos 0) (pos 400) }
+    ∷ record { rorg = 0xA5; func = 0x04; types = 0x02 ∷ []; rows = humidity_and_temperature (minus 200) (pos 600) }
+    ∷ []

@@ -1,0 +1,11 @@
+pub mod Tenths
+pub mod OccupancyButton
+pub mod Temperature
+pub mod Humidity
+pub mod Light
+pub mod Occupancy
+pub mod LightTemperatureOccupancy
+pub mod Gas
+pub mod RoomOperatingPanel
+pub mod Meter
+pub mod Profiles

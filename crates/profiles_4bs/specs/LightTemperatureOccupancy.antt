@@ -1,0 +1,30 @@
+-- The light, temperature and occupancy sensors (EnOcean Equipment Profiles 2.6, "A5-08: Light, Temperature and Occupancy
+-- Sensor").
+use Rattle.std.specs.Prelude.{ℕ, ℤ, pos, List, [], ◌∷◌, codes}
+use Rattle.profiles_rps.specs.Rows.{Row, range, words, always}
+use Rattle.profiles_rps.specs.Profile.{Profiles}
+use Rattle.profiles_4bs.specs.Tenths.{minus}
+use Rattle.profiles_4bs.specs.OccupancyButton.{pressed_or_released}
+
+-- the words of the motion sensor
+abbrev pub on_or_off : List (ℕ × List ℕ)
+on_or_off = (0, codes "on") ∷ (1, codes "off") ∷ []
+
+-- the supply voltage, the light up to an end, the temperature between two ends, the motion and the occupancy
+-- button; the ends are in tenths
+abbrev pub all_in_one : ℤ → ℤ → ℤ → List Row
+all_in_one brightest coldest hottest =
+    record { name = codes "SVC"; offset = 0; len = 8; condition = always; kind = range 0 255 (pos 0) (pos 51) (codes "V") }
+    ∷ record { name = codes "ILL"; offset = 8; len = 8; condition = always; kind = range 0 255 (pos 0) brightest (codes "lx") }
+    ∷ record { name = codes "TMP"; offset = 16; len = 8; condition = always; kind = range 0 255 coldest hottest (codes "C") }
+    ∷ record { name = codes "PIRS"; offset = 30; len = 1; condition = always; kind = words on_or_off }
+    ∷ record { name = codes "OCC"; offset = 31; len = 1; condition = always; kind = words pressed_or_released }
+    ∷ []
+
+-- A5-08-01: up to 510 lx, 0 to 51 C, A5-08-02: up to 1020 lx, 0 to 51 C, A5-08-03: up to 1530 lx, -30 to 50 C
+abbrev pub light_temperature_occupancy : List Profiles
+light_temperature_occupancy =
+    record { rorg = 0xA5; func = 0x08; types = 0x01 ∷ []; rows = all_in_one (pos 5100) (pos 0) (pos 510) }
+    ∷ record { rorg = 0xA5; func = 0x08; types = 0x02 ∷ []; rows = all_in_one (pos 10200) (pos 0) (pos 510) }
+    ∷ record { rorg = 0xA5; func = 0x08; types = 0x03 ∷ []; rows = all_in_one (pos 15300) (minus 300) (pos 500) }
+    ∷ []

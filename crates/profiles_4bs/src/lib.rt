@@ -1,0 +1,18 @@
+//! What 4BS telegrams say by their profiles (EnOcean Equipment Profiles 2.6).
+#![tactic(auto)]
+
+mod gas;
+mod humidity;
+mod light;
+mod light_temperature_occupancy;
+mod meter;
+mod occupancy;
+mod occupancy_button;
+mod profiles;
+mod room_operating_panel;
+mod temperature;
+
+pub use crate::profiles::{read, supports};
+
+#[cfg(test)]
+mod tests;

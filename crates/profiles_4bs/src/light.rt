@@ -1,0 +1,29 @@
+//! Light sensors.
+
+ghost use Rattle.std.specs.Prelude.{◌≡◌, option_map};
+ghost use Rattle.profiles_rps.specs.Reading.{entries};
+ghost use Rattle.profiles_rps.specs.Profile.{rows_in};
+ghost use Rattle.profiles_rps.specs.Rows.{entries_of};
+ghost use Rattle.profiles_4bs.specs.Light.{light};
+
+use erp1_telegrams::Eep;
+use profiles_rps::{Readings, read_profiles};
+
+/// The readings of a payload by the rows of a profile A5-06, where there are rows.
+pub(crate) fn readings_by(eep: Eep, bytes: &[u8; 4]) -> Option<Readings>
+    ensures { option_map (λ readings. entries readings.items) result
+        ≡ option_map (entries_of bytes.now) (rows_in light eep) }
+{
+    read_profiles! { eep, bytes, 4;
+        (0xA5, 0x06, [0x01]) => {
+            "SVC" (0, 8) [] range(0, 255, 0, 51, "V");
+            "ILL2" (8, 8) [(31, 1) = 1] range(0, 255, 3000, 300000, "lx");
+            "ILL1" (16, 8) [(31, 1) = 0] range(0, 255, 6000, 600000, "lx");
+        }
+        (0xA5, 0x06, [0x02]) => {
+            "SVC" (0, 8) [] range(0, 255, 0, 51, "V");
+            "ILL2" (8, 8) [(31, 1) = 1] range(0, 255, 0, 5100, "lx");
+            "ILL1" (16, 8) [(31, 1) = 0] range(0, 255, 0, 10200, "lx");
+        }
+    }
+}

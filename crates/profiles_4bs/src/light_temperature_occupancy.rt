@@ -1,0 +1,44 @@
+//! Light, temperature and occupancy sensors.
+
+ghost use Rattle.std.specs.Prelude.{◌≡◌, option_map};
+ghost use Rattle.profiles_rps.specs.Reading.{entries};
+ghost use Rattle.profiles_rps.specs.Profile.{rows_in};
+ghost use Rattle.profiles_rps.specs.Rows.{entries_of};
+ghost use Rattle.profiles_4bs.specs.LightTemperatureOccupancy.{light_temperature_occupancy};
+
+use crate::occupancy_button::PRESSED_OR_RELEASED;
+use erp1_telegrams::Eep;
+use profiles_rps::{Readings, read_profiles};
+
+/// The words of the motion sensor.
+const ON_OR_OFF: [(u32, &str); 2] = [(0, "on"), (1, "off")];
+
+/// The readings of a payload by the rows of a profile A5-08, where there are rows.
+pub(crate) fn readings_by(eep: Eep, bytes: &[u8; 4]) -> Option<Readings>
+    ensures { option_map (λ readings. entries readings.items) result
+        ≡ option_map (entries_of bytes.now) (rows_in light_temperature_occupancy eep) }
+{
+    read_profiles! { eep, bytes, 4;
+        (0xA5, 0x08, [0x01]) => {
+            "SVC" (0, 8) [] range(0, 255, 0, 51, "V");
+            "ILL" (8, 8) [] range(0, 255, 0, 5100, "lx");
+            "TMP" (16, 8) [] range(0, 255, 0, 510, "C");
+            "PIRS" (30, 1) [] words(&ON_OR_OFF);
+            "OCC" (31, 1) [] words(&PRESSED_OR_RELEASED);
+        }
+        (0xA5, 0x08, [0x02]) => {
+            "SVC" (0, 8) [] range(0, 255, 0, 51, "V");
+            "ILL" (8, 8) [] range(0, 255, 0, 10200, "lx");
+            "TMP" (16, 8) [] range(0, 255, 0, 510, "C");
+            "PIRS" (30, 1) [] words(&ON_OR_OFF);
+            "OCC" (31, 1) [] words(&PRESSED_OR_RELEASED);
+        }
+        (0xA5, 0x08, [0x03]) => {
+            "SVC" (0, 8) [] range(0, 255, 0, 51, "V");
+            "ILL" (8, 8) [] range(0, 255, 0, 15300, "lx");
+            "TMP" (16, 8) [] range(0, 255, -300, 500, "C");
+            "PIRS" (30, 1) [] words(&ON_OR_OFF);
+            "OCC" (31, 1) [] words(&PRESSED_OR_RELEASED);
+        }
+    }
+}

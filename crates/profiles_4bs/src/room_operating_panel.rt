@@ -1,0 +1,29 @@
+//! Room operating panels.
+
+ghost use Rattle.std.specs.Prelude.{◌≡◌, option_map};
+ghost use Rattle.profiles_rps.specs.Reading.{entries};
+ghost use Rattle.profiles_rps.specs.Profile.{rows_in};
+ghost use Rattle.profiles_rps.specs.Rows.{entries_of};
+ghost use Rattle.profiles_4bs.specs.RoomOperatingPanel.{room_operating_panel};
+
+use crate::occupancy_button::PRESSED_OR_RELEASED;
+use erp1_telegrams::Eep;
+use profiles_rps::{Readings, read_profiles};
+
+/// The readings of a payload by the rows of a profile A5-10, where there are rows.
+pub(crate) fn readings_by(eep: Eep, bytes: &[u8; 4]) -> Option<Readings>
+    ensures { option_map (λ readings. entries readings.items) result
+        ≡ option_map (entries_of bytes.now) (rows_in room_operating_panel eep) }
+{
+    read_profiles! { eep, bytes, 4;
+        (0xA5, 0x10, [0x03]) => {
+            "SP" (8, 8) [] number();
+            "TMP" (16, 8) [] range(255, 0, 0, 400, "C");
+        }
+        (0xA5, 0x10, [0x05]) => {
+            "SP" (8, 8) [] number();
+            "TMP" (16, 8) [] range(255, 0, 0, 400, "C");
+            "OCC" (31, 1) [] words(&PRESSED_OR_RELEASED);
+        }
+    }
+}

@@ -1,0 +1,44 @@
+//! Temperature sensors.
+
+ghost use Rattle.std.specs.Prelude.{◌≡◌, option_map};
+ghost use Rattle.profiles_rps.specs.Reading.{entries};
+ghost use Rattle.profiles_rps.specs.Profile.{rows_in};
+ghost use Rattle.profiles_rps.specs.Rows.{entries_of};
+ghost use Rattle.profiles_4bs.specs.Temperature.{temperature};
+
+use erp1_telegrams::Eep;
+use profiles_rps::{Readings, read_profiles};
+
+/// The readings of a payload by the rows of a profile A5-02, where there are rows.
+pub(crate) fn readings_by(eep: Eep, bytes: &[u8; 4]) -> Option<Readings>
+    ensures { option_map (λ readings. entries readings.items) result
+        ≡ option_map (entries_of bytes.now) (rows_in temperature eep) }
+{
+    read_profiles! { eep, bytes, 4;
+        (0xA5, 0x02, [0x01]) => { "TMP" (16, 8) [] range(255, 0, -400, 0, "C"); }
+        (0xA5, 0x02, [0x02]) => { "TMP" (16, 8) [] range(255, 0, -300, 100, "C"); }
+        (0xA5, 0x02, [0x03]) => { "TMP" (16, 8) [] range(255, 0, -200, 200, "C"); }
+        (0xA5, 0x02, [0x04]) => { "TMP" (16, 8) [] range(255, 0, -100, 300, "C"); }
+        (0xA5, 0x02, [0x05]) => { "TMP" (16, 8) [] range(255, 0, 0, 400, "C"); }
+        (0xA5, 0x02, [0x06]) => { "TMP" (16, 8) [] range(255, 0, 100, 500, "C"); }
+        (0xA5, 0x02, [0x07]) => { "TMP" (16, 8) [] range(255, 0, 200, 600, "C"); }
+        (0xA5, 0x02, [0x08]) => { "TMP" (16, 8) [] range(255, 0, 300, 700, "C"); }
+        (0xA5, 0x02, [0x09]) => { "TMP" (16, 8) [] range(255, 0, 400, 800, "C"); }
+        (0xA5, 0x02, [0x0A]) => { "TMP" (16, 8) [] range(255, 0, 500, 900, "C"); }
+        (0xA5, 0x02, [0x0B]) => { "TMP" (16, 8) [] range(255, 0, 600, 1000, "C"); }
+        (0xA5, 0x02, [0x10]) => { "TMP" (16, 8) [] range(255, 0, -600, 200, "C"); }
+        (0xA5, 0x02, [0x11]) => { "TMP" (16, 8) [] range(255, 0, -500, 300, "C"); }
+        (0xA5, 0x02, [0x12]) => { "TMP" (16, 8) [] range(255, 0, -400, 400, "C"); }
+        (0xA5, 0x02, [0x13]) => { "TMP" (16, 8) [] range(255, 0, -300, 500, "C"); }
+        (0xA5, 0x02, [0x14]) => { "TMP" (16, 8) [] range(255, 0, -200, 600, "C"); }
+        (0xA5, 0x02, [0x15]) => { "TMP" (16, 8) [] range(255, 0, -100, 700, "C"); }
+        (0xA5, 0x02, [0x16]) => { "TMP" (16, 8) [] range(255, 0, 0, 800, "C"); }
+        (0xA5, 0x02, [0x17]) => { "TMP" (16, 8) [] range(255, 0, 100, 900, "C"); }
+        (0xA5, 0x02, [0x18]) => { "TMP" (16, 8) [] range(255, 0, 200, 1000, "C"); }
+        (0xA5, 0x02, [0x19]) => { "TMP" (16, 8) [] range(255, 0, 300, 1100, "C"); }
+        (0xA5, 0x02, [0x1A]) => { "TMP" (16, 8) [] range(255, 0, 400, 1200, "C"); }
+        (0xA5, 0x02, [0x1B]) => { "TMP" (16, 8) [] range(255, 0, 500, 1300, "C"); }
+        (0xA5, 0x02, [0x20]) => { "TMP" (14, 10) [] range(1023, 0, -100, 412, "C"); }
+        (0xA5, 0x02, [0x30]) => { "TMP" (14, 10) [] range(1023, 0, -400, 623, "C"); }
+    }
+}

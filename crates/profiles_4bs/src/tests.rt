@@ -1,0 +1,230 @@
+//! Telegrams whose readings are known, and each refusal.
+use crate::{read, supports};
+use erp1_telegrams::{BROADCAST, Eep, Telegram};
+use profiles_rps::{Reading, Readings, Unreadable, What};
+use std::process::Abort;
+use std::test::Fail;
+
+/// A temperature sensor of 0 to 40 C.
+const TEMPERATURE: Eep = Eep {
+    rorg: 0xA5,
+    func: 0x02,
+    typ: 0x05,
+};
+
+fn eep(func: u8, typ: u8) -> Eep {
+    Eep {
+        rorg: 0xA5,
+        func,
+        typ,
+    }
+}
+
+fn telegram(payload: u32) -> Result<Telegram, Fail> {
+    Ok(Telegram::new(
+        0xA5,
+        &payload.to_be_bytes(),
+        0x0180_0ABC,
+        0x00,
+        BROADCAST,
+        None,
+    )?)
+}
+
+/// What a reading is expected to say: a value has a numerator, a denominator and a unit.
+#[derive(Clone, Copy, Debug, PartialEq, Eq)]
+enum Wanted {
+    Value(i64, i64, &'static str),
+    Word(&'static str),
+    Raw(u32),
+    OutOfRange(u32),
+}
+
+use Wanted::{OutOfRange, Raw, Value, Word};
+
+fn said(reading: &Reading) -> (&'static str, Wanted) {
+    let said = match reading.what {
+        What::Value(fraction, unit) => Value(fraction.num(), fraction.den(), unit),
+        What::Word(word) => Word(word),
+        What::Raw(raw) => Raw(raw),
+        What::OutOfRange(raw) => OutOfRange(raw),
+    };
+    (reading.name, said)
+}
+
+/// A payload, its first byte the highest, is read as it is expected.
+fn check(
+    rt: &impl Abort,
+    eep: Eep,
+    payload: u32,
+    expected: &[(&'static str, Wanted)],
+) -> Result<(), Fail> {
+    let mut readings = Readings::new();
+    assert_eq!(rt; read(eep, &telegram(payload)?, &mut readings), Ok(()));
+    assert_eq!(rt; readings.len(), expected.len());
+    for (reading, wanted) in readings.as_slice().iter().zip(expected.iter()) {
+        assert_eq!(rt; said(reading), *wanted);
+    }
+    Ok(())
+}
+
+#[test]
+fn worked_readings(rt: HostRuntime) -> Result<(), Fail> {
+    let humidity = eep(0x04, 0x01);
+    let past_its_range = ("HUM", OutOfRange(251));
+    let meter = ("MR", Value(3355443, 200, "kWh"));
+    check(&rt, TEMPERATURE, 0x0000_0008, &[("TMP", Value(40, 1, "C"))])?;
+    check(
+        &rt,
+        TEMPERATURE,
+        0x0000_7F08,
+        &[("TMP", Value(1024, 51, "C"))],
+    )?;
+    check(&rt, TEMPERATURE, 0x0000_FF08, &[("TMP", Value(0, 1, "C"))])?;
+    check(
+        &rt,
+        eep(0x02, 0x20),
+        0x0000_0008,
+        &[("TMP", Value(206, 5, "C"))],
+    )?;
+    check(
+        &rt,
+        humidity,
+        0x00FB_7D0A,
+        &[past_its_range, ("TMP", Value(20, 1, "C"))],
+    )?;
+    check(&rt, humidity, 0x00FB_7D08, &[past_its_range])?;
+    check(&rt, eep(0x12, 0x01), 0xFFFF_FF0B, &[meter, ("TI", Raw(0))])
+}
+
+#[test]
+fn temperature_humidity_and_light(rt: HostRuntime) -> Result<(), Fail> {
+    let humidity = ("HUM", Value(100, 1, "%"));
+    let empty = ("SVC", Value(0, 1, "V"));
+    let full = ("SVC", Value(51, 10, "V"));
+    check(
+        &rt,
+        eep(0x02, 0x30),
+        0x0003_FF08,
+        &[("TMP", Value(-40, 1, "C"))],
+    )?;
+    check(
+        &rt,
+        eep(0x04, 0x02),
+        0x00FA_000A,
+        &[humidity, ("TMP", Value(-20, 1, "C"))],
+    )?;
+    check(
+        &rt,
+        eep(0x06, 0x01),
+        0xFFFF_0009,
+        &[full, ("ILL2", Value(30000, 1, "lx"))],
+    )?;
+    check(
+        &rt,
+        eep(0x06, 0x02),
+        0x0000_FF08,
+        &[empty, ("ILL1", Value(1020, 1, "lx"))],
+    )
+}
+
+#[test]
+fn occupancy(rt: HostRuntime) -> Result<(), Fail> {
+    let full = ("SVC", Value(51, 10, "V"));
+    let light = ("ILL", Value(1530, 1, "lx"));
+    let temperature = ("TMP", Value(-30, 1, "C"));
+    let on = ("PIRS", Word("on"));
+    let released = ("OCC", Word("released"));
+    check(
+        &rt,
+        eep(0x07, 0x01),
+        0xFA00_8009,
+        &[("SVC", Value(5, 1, "V")), on],
+    )?;
+    check(&rt, eep(0x07, 0x01), 0xFA00_7F08, &[("PIRS", Word("off"))])?;
+    check(
+        &rt,
+        eep(0x08, 0x03),
+        0xFFFF_0009,
+        &[full, light, temperature, on, released],
+    )
+}
+
+#[test]
+fn gas_panel_and_meter(rt: HostRuntime) -> Result<(), Fail> {
+    let humidity = ("HUM", Value(100, 1, "%"));
+    let concentration = ("CONC", Value(2550, 1, "ppm"));
+    let temperature = ("TMP", Value(40, 1, "C"));
+    let pressed = ("OCC", Word("pressed"));
+    let flow = ("MR", Value(7, 1, "l/s"));
+    let warmest = ("TMP", Value(51, 1, "C"));
+    check(
+        &rt,
+        eep(0x09, 0x04),
+        0xC8FF_FF0E,
+        &[humidity, concentration, warmest],
+    )?;
+    check(
+        &rt,
+        eep(0x10, 0x05),
+        0x002A_0008,
+        &[("SP", Raw(42)), temperature, pressed],
+    )?;
+    check(&rt, eep(0x12, 0x02), 0x0000_071C, &[flow, ("TI", Raw(1))])
+}
+
+#[test]
+fn refusals(rt: HostRuntime) -> Result<(), Fail> {
+    let contact = Telegram::new(0xD5, &[0x00], 0x0180_0ABC, 0x00, BROADCAST, None)?;
+    let teach_in = telegram(0x0828_4680)?;
+    let cases: [(Eep, &Telegram, Unreadable); 4] = [
+        (eep(0x38, 0x08), &contact, Unreadable::NotSupported),
+        (eep(0x38, 0x08), &teach_in, Unreadable::NotSupported),
+        (TEMPERATURE, &contact, Unreadable::WrongKind),
+        (TEMPERATURE, &teach_in, Unreadable::OtherMessage),
+    ];
+    let before = Reading {
+        name: "TI",
+        what: What::Raw(7),
+    };
+    let mut readings = Readings::new();
+    readings.push(before);
+    for (eep, telegram, refusal) in cases {
+        assert_eq!(rt; read(eep, telegram, &mut readings), Err(refusal));
+        assert_eq!(rt; readings.as_slice(), [before].as_slice());
+    }
+    Ok(())
+}
+
+#[test]
+fn supported_profiles(rt: HostRuntime) {
+    let supported: [(u8, &[u8]); 8] = [
+        (
+            0x02,
+            &[
+                0x01, 0x02, 0x03, 0x04, 0x05, 0x06, 0x07, 0x08, 0x09, 0x0A, 0x0B, 0x10, 0x11, 0x12,
+                0x13, 0x14, 0x15, 0x16, 0x17, 0x18, 0x19, 0x1A, 0x1B, 0x20, 0x30,
+            ],
+        ),
+        (0x04, &[0x01, 0x02]),
+        (0x06, &[0x01, 0x02]),
+        (0x07, &[0x01]),
+        (0x08, &[0x01, 0x02, 0x03]),
+        (0x09, &[0x04]),
+        (0x10, &[0x03, 0x05]),
+        (0x12, &[0x01, 0x02, 0x03]),
+    ];
+    for (func, types) in supported {
+        for typ in 0..=0x7Fu8 {
+            assert_eq!(rt; supports(eep(func, typ)), types.contains(&typ));
+        }
+    }
+    assert!(rt; !supports(eep(0x38, 0x08)));
+    assert!(rt;
+        !supports(Eep {
+            rorg: 0xD5,
+            func: 0x12,
+            typ: 0x01
+        })
+    );
+}
