@@ -9,8 +9,8 @@ use Rattle.gateway_core.specs.Profiles.{readings_of}
 use Rattle.gateway_core.specs.Counts.{count_with, one_more, counted, raised}
 use Rattle.profiles_rps.specs.Reading.{Entry}
 use Rattle.gateway_core.specs.Responses.{Response, response_in}
-use Rattle.gateway_core.specs.Step.{State, Item, Received, Ordered, Answer, Effect, reading_effect, sender_effect, telegram_effect, effect_by, data_telegram, count_of}
-use Rattle.gateway_core.specs.Run.{Fate, Taken, Refused, RefusedAtWrite, Run, state_with, refusals, RefusalsAreCounted}
+use Rattle.gateway_core.specs.Step.{State, Item, Received, Ordered, reading_effect, sender_effect, effect_by, data_telegram, count_of}
+use Rattle.gateway_core.specs.Run.{Taken, Refused, RefusedAtWrite, state_with, refusals, RefusalsAreCounted}
 
 pub count_on : (a b c n m : ℕ) → b ≡ count_with a n → c ≡ count_with b m → c ≡ count_with a (n + m)
 count_on a b c n m is on = omega (arith, is, on)

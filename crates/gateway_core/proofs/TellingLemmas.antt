@@ -16,7 +16,7 @@ use Rattle.gateway_core.specs.Profiles.{readings_of}
 use Rattle.gateway_core.specs.Responses.{Response, response_in}
 use Rattle.profiles_rps.specs.Reading.{Entry}
 use Rattle.gateway_core.specs.Lines.{maker_text, outcome_text, TeachLine, teach_text, device_text, count_text, listing_text}
-use Rattle.gateway_core.specs.Step.{Received, Ordered, Answer, said, Effect, reading_effect, sender_effect, telegram_effect, effect_by, data_telegram, Decision, Denies, Learns, Forgets, Lists, Reports, decision, decision_answer, change_in}
+use Rattle.gateway_core.specs.Step.{Received, Ordered, Answer, said, reading_effect, sender_effect, telegram_effect, effect_by, data_telegram, Decision, Denies, Learns, Forgets, Lists, Reports, decision, decision_answer, change_in}
 use Rattle.gateway_core.specs.Run.{Taken, Refused, RefusedAtWrite, cause_text}
 use Rattle.gateway_core.specs.Beginnings.{TeachLinesAreTold}
 

@@ -29,7 +29,7 @@ use Rattle.gateway_core.specs.declared.handler.Done.{Done}
 use Rattle.gateway_core.specs.Profiles.{is_supported}
 use Rattle.gateway_core.specs.Counts.{raised}
 use Rattle.gateway_core.specs.Orders.{order_of}
-use Rattle.gateway_core.specs.Step.{State, Item, Answer, Decision, Denies, Learns, change_in, said, count_of, order_decision, decision, removal, change_of, with_change, state_after}
+use Rattle.gateway_core.specs.Step.{State, Item, Answer, Decision, Denies, Learns, change_in, said, order_decision, decision, removal, change_of, with_change, state_after}
 use Rattle.gateway_core.specs.Run.{needs, needs_help, cause_text, Taken, Refused, RefusedAtWrite, refused}
 use Rattle.gateway_core.specs.Stops.{nothing_left, told, pending, Safe}
 use Rattle.gateway_core.specs.Handling.{Sight, Went, Handles}

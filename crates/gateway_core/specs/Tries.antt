@@ -3,7 +3,6 @@ use Rattle.std.specs.Prelude.{◌≡◌, Bool, ◌||◌, is_some, IsTrue, Option
 use Rattle.sqlite.specs.Held.{Held, state}
 use Rattle.sqlite.specs.State.{HasCleanDisk}
 use Rattle.sqlite_trees.specs.declared.store.Store.{Ghosts}
-use Rattle.esp3_frames.specs.Packet.{Packet}
 use Rattle.erp1_telegrams.specs.Telegram.{Telegram}
 use Rattle.device_registry.specs.declared.fault.LearnFault.{LearnFault}
 use Rattle.device_registry.specs.declared.fault.LearnFault.TheVariants as fault

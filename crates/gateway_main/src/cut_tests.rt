@@ -111,7 +111,7 @@ fn written(alloc: Global, script: &[u8]) -> Result<Vec<u8>, Fail> {
 fn cuts_do_not_matter(rt: HostRuntime) -> Result<(), Fail> {
     let alloc = rt.alloc();
     let mut chance = Chance { state: 2026 };
-    let mut told = 0;
+    let mut told = 0u32;
     for _ in 0..1000 {
         let bytes = stream(alloc, &mut chance)?;
         let whole = written(
@@ -129,7 +129,7 @@ fn cuts_do_not_matter(rt: HostRuntime) -> Result<(), Fail> {
         assert_eq!(rt; single.as_slice(), whole.as_slice());
         assert_eq!(rt; mixed.as_slice(), whole.as_slice());
         if whole.len() > 300 {
-            told += 1;
+            told = told.saturating_add(1);
         }
     }
     assert!(rt; told > 100);
