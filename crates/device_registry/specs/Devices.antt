@@ -26,9 +26,13 @@ device_of devices id = option_map (device id) (get devices id)
 abbrev pub all_of : Devices → List Device
 all_of devices = map (λ entry. device entry.0 entry.1) (entries devices)
 
--- there is no room for this sender: 1,000 others are learned. Own choice
+-- the most devices that are kept. Own choice
+abbrev pub most_devices : ℕ
+most_devices = 1000
+
+-- there is no room for this sender: so many others are learned
 abbrev pub is_full : Devices → ℕ → Bool
-is_full devices id = nat_le 1000 (len (remove devices id))
+is_full devices id = nat_le most_devices (len (remove devices id))
 
 -- what is written of a sender: what is known of it from then on, or nothing, where it is forgotten
 pub record Change : Type 0 where

@@ -1,12 +1,15 @@
 -- What a registry holds, what a stop may leave of it, and how its calls move both.
-use Rattle.std.specs.Prelude.{◌≡◌, ◌⊎◌, IsTrue}
+use Rattle.std.specs.Prelude.{◌≡◌, ◌⊎◌, ℕ, false, IsTrue, IfOk, MatchResult, Option, Result, Vec}
+use Rattle.std.specs.declared.alloc.Global.{Global}
 use Rattle.std.specs.FinMap.{empty}
 use Rattle.sqlite.specs.State.{State, HasCleanDisk}
 use Rattle.sqlite_trees.specs.Tree.{Trees}
 use Rattle.device_registry.specs.declared.device.Device.{Device}
 use Rattle.device_registry.specs.declared.fault.LearnFault.{LearnFault}
-use Rattle.device_registry.specs.declared.fault.LearnFault.TheVariants.{Full, Store, Memory}
-use Rattle.device_registry.specs.Devices.{Devices, is_full, Change, changed, learned}
+use Rattle.device_registry.specs.declared.fault.LearnFault.TheVariants.{Full, Refused}
+use Rattle.device_registry.specs.declared.fault.StoreFault.{StoreFault}
+use Rattle.device_registry.specs.declared.receipt.Receipt.{Receipt}
+use Rattle.device_registry.specs.Devices.{Devices, device_of, all_of, is_full, Change, changed, learned, forgotten}
 use Rattle.device_registry.specs.Stored.{Registers, Holds, IsHeld, IsBare}
 
 -- while the disk is honest and the connection is open, the registry holds these devices
@@ -31,10 +34,18 @@ pub record Commits (new : State) (change : Change) (devices : Devices) : Type 0 
   pub now : HasDevices new (changed devices change)
   pub stop : (left : Devices) → MayFind new left → left ≡ changed devices change
 
+-- a stop may leave what it could leave before, or the devices with the change, and nothing else
+abbrev pub MayLeave : State → State → Change → Devices → Type 0
+MayLeave old new change devices = (left : Devices) → MayFind new left → MayFind old left ⊎ (left ≡ changed devices change)
+
 -- the write is refused: the devices are as they were, but a stop may leave them with the change
 pub record Pends (old new : State) (change : Change) (devices : Devices) : Type 0 where
   pub now : HasDevices new devices
-  pub stop : (left : Devices) → MayFind new left → MayFind old left ⊎ (left ≡ changed devices change)
+  pub stop : MayLeave old new change devices
+
+-- what the registry holds is what is committed
+abbrev pub IsCommitted : State → Type 0
+IsCommitted s = HasCleanDisk s → IsTrue s.is_open → (devices : Devices) → HasDevices s devices → Holds s.committed.trees devices
 
 -- a database with these trees is a registry of these devices, or has neither table yet, which is to hold none
 abbrev pub Finds : Trees → Devices → Type 0
@@ -42,12 +53,49 @@ Finds trees devices = Holds trees devices ⊎ (IsBare trees × (devices ≡ empt
 
 -- The registry is opened: it has the devices that were committed last, and a stop leaves these and nothing else.
 pub record Opens (old new : State) (devices : Devices) : Type 0 where
+  pub was_open : IsTrue old.is_open
   pub found : Finds old.committed.trees devices
   pub now : HasDevices new devices
   pub stop : (left : Devices) → MayFind new left → left ≡ devices
 
 -- A device is not learned. Full is told where 1,000 others are, and nothing was tried; else the write was refused.
-abbrev pub Refuses : State → State → Device → Devices → LearnFault → Type 0
-Refuses old new it devices Full = IsTrue (is_full devices it.id) × Keeps old new devices
-Refuses old new it devices Store = Pends old new (learned it) devices
-Refuses old new it devices Memory = Pends old new (learned it) devices
+abbrev pub RefusesToLearn : State → State → Device → Devices → LearnFault → Type 0
+RefusesToLearn old new it devices Full = IsTrue (is_full devices it.id) × Keeps old new devices
+RefusesToLearn old new it devices (Refused fault) = Pends old new (learned it) devices
+
+-- ---- the calls, from the state before to the one after
+
+-- a sender is looked up
+pub record LooksUp (old new : State) (id : ℕ) (result : Result (Option Device) StoreFault) : Type 0 where
+  pub clean : HasCleanDisk new → HasCleanDisk old
+  pub registries : HasCleanDisk new → AreRegistries new.may_leave
+  pub devices : HasCleanDisk new → (devices : Devices) → HasDevices old devices
+      → MatchResult result (λ found. (found ≡ device_of devices id) × Keeps old new devices) (λ _. Keeps old new devices)
+
+-- a device is learned, in place of what was known of its sender
+pub record Learns (old new : State) (it : Device) (result : Result Receipt LearnFault) : Type 0 where
+  pub clean : HasCleanDisk new → HasCleanDisk old
+  pub registries : HasCleanDisk new → AreRegistries new.may_leave
+  pub receipt : IfOk result (λ receipt. (receipt.id ≡ it.id) × IsTrue receipt.is_learned)
+  pub devices : HasCleanDisk new → (devices : Devices) → HasDevices old devices
+      → MatchResult result (λ _. (is_full devices it.id ≡ false) × Commits new (learned it) devices) (RefusesToLearn old new it devices)
+
+-- a sender is forgotten, also one of which nothing is known
+pub record Forgets (old new : State) (id : ℕ) (result : Result Receipt StoreFault) : Type 0 where
+  pub clean : HasCleanDisk new → HasCleanDisk old
+  pub registries : HasCleanDisk new → AreRegistries new.may_leave
+  pub receipt : IfOk result (λ receipt. (receipt.id ≡ id) × (receipt.is_learned ≡ false))
+  pub devices : HasCleanDisk new → (devices : Devices) → HasDevices old devices
+      → MatchResult result (λ _. Commits new (forgotten id) devices) (λ _. Pends old new (forgotten id) devices)
+
+-- all devices are listed
+pub record ListsAll (old new : State) (result : Result (Vec Device Global) StoreFault) : Type 0 where
+  pub clean : HasCleanDisk new → HasCleanDisk old
+  pub registries : HasCleanDisk new → AreRegistries new.may_leave
+  pub devices : HasCleanDisk new → (devices : Devices) → HasDevices old devices
+      → MatchResult result (λ all. (all.items ≡ all_of devices) × Keeps old new devices) (λ _. Keeps old new devices)
+
+-- the connection is handed on, between two transactions, with what the registry holds committed
+pub record HandsOn (s : State) : Type 0 where
+  pub idle : HasCleanDisk s → IsTrue s.is_open → s.in_transaction ≡ false
+  pub committed : IsCommitted s

@@ -1,6 +1,10 @@
 pub mod Devices
 pub mod Tables
 pub mod Stored
+pub mod Faults
 pub mod Holding
 pub mod Ready
 pub mod Opening
+pub mod Places
+pub mod Listing
+pub mod Cached

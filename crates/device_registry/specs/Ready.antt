@@ -2,6 +2,8 @@
 use Rattle.std.specs.Prelude.{◌≡◌, ◌⊎◌, false, Result, OnOk, OnErr, IsTrue, List, [], ◌∷◌, Option, Some, None}
 use Rattle.sqlite.specs.State.{State, HasCleanDisk}
 use Rattle.sqlite.specs.Effect.{IsDatabase}
+use Rattle.sqlite.specs.Table.{Table}
+use Rattle.sqlite_rules.specs.Lists.{Has}
 use Rattle.sqlite.specs.Order.{Row, column}
 use Rattle.sqlite_trees.specs.Tree.{Trees}
 use Rattle.device_registry.specs.Devices.{Devices, Learned, Change, changed, device}
@@ -40,6 +42,11 @@ pub record Turns {T E : Type 0} (old new : State) (change : Change) (result : Re
   pub stop : HasCleanDisk new → (trees : Trees) → new.may_leave trees → old.may_leave trees ⊎ (IsTrue old.is_open × ((devices : Devices) → Shows old devices → Holds trees (changed devices change)))
   pub made : HasCleanDisk new → OnOk result ((devices : Devices) → Shows old devices → Shows new (changed devices change))
   pub refused : HasCleanDisk new → OnErr result (GoesOn old new)
+
+-- each table has the rows that it had
+pub record KeepsRows (old new : State) : Type 0 where
+  pub schema : new.now.schema ≡ old.now.schema
+  pub rows : (table : Table) → Has old.now.schema.tables table → new.now.trees table.tree ≡ old.now.trees table.tree
 
 -- ---- what a query shows
 

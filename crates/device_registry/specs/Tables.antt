@@ -79,10 +79,10 @@ abbrev pub all_text : List ℕ
 all_text = codes "SELECT id, eep, maker FROM enogate_device ORDER BY id"
 
 abbrev pub list_text : List ℕ
-list_text = codes "SELECT rowid, type, sql FROM sqlite_schema ORDER BY rowid"
+list_text = codes "SELECT name, type, sql FROM sqlite_schema ORDER BY rowid"
 
 abbrev pub version_text : List ℕ
 version_text = codes "INSERT INTO enogate_meta (k, version) VALUES (1, 1)"
 
 abbrev pub read_version_text : List ℕ
-read_version_text = codes "SELECT version FROM enogate_meta"
+read_version_text = codes "SELECT k, version FROM enogate_meta"

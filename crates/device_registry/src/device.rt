@@ -1,6 +1,9 @@
 //! A learned device.
 use erp1_telegrams::Eep;
 
+/// The most devices that are kept. Own choice.
+pub const MOST_DEVICES: usize = 1000;
+
 /// What is known of a sender. It copies plain numbers.
 #[derive(Clone, Copy, Debug, PartialEq, Eq)]
 pub struct Device {

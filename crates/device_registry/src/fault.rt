@@ -1,68 +1,57 @@
 //! Why a call of the registry is refused.
-ghost use Rattle.std.specs.Prelude.{◌≢◌};
+ghost use Rattle.std.specs.Prelude.{◌≡◌};
 
 use crate::device::Device;
 use sqlite::{Error, ErrorCode};
 use std::alloc::{AllocError, AllocFailed};
 
-/// Why no registry is opened.
+/// Why the store does not answer: it had no memory, or it refused. Only what the store or the allocator answered makes one.
 #[derive(Clone, Copy, Debug, PartialEq, Eq)]
-pub enum OpenFault {
-    /// The database holds something else, or something that is no version 1 registry under its names.
-    NotARegistry,
-    /// The store refused.
-    Store,
-    /// There is no memory.
-    Memory,
+pub struct StoreFault {
+    is_memory: bool,
 }
 
-impl From<Error> for OpenFault {
-    ghost use Rattle.std.specs.Prelude.{◌≡◌};
-    ghost use Rattle.device_registry.specs.Opening.{fault_of};
-
-    ghost from_gives = { λ error fault. fault ≡ fault_of error };
-
-    fn from(error: Error) -> OpenFault {
-        match error {
-            Error::SqliteFailure(ErrorCode::OutOfMemory) => OpenFault::Memory,
-            _ => OpenFault::Store,
-        }
+impl StoreFault {
+    /// Whether there was no memory.
+    pub fn is_memory(&self) -> bool
+        ensures { result ≡ self.now.is_memory }
+    {
+        self.is_memory
     }
 }
 
-/// Why the store does not answer.
-#[derive(Clone, Copy, Debug, PartialEq, Eq)]
-pub enum StoreFault {
-    /// The store refused.
-    Store,
-    /// There is no memory.
-    Memory,
-}
-
 impl From<Error> for StoreFault {
-    ghost from_gives = { λ _ _. Unit {0} };
+    ghost use Rattle.std.specs.Prelude.{◌≡◌};
+    ghost use Rattle.device_registry.specs.Faults.{fault_of};
+
+    ghost from_gives = { λ error fault. fault ≡ fault_of error };
 
     fn from(error: Error) -> StoreFault {
-        match error {
-            Error::SqliteFailure(ErrorCode::OutOfMemory) => StoreFault::Memory,
-            _ => StoreFault::Store,
+        StoreFault {
+            is_memory: matches!(error, Error::SqliteFailure(ErrorCode::OutOfMemory)),
         }
     }
 }
 
 impl From<AllocError> for StoreFault {
-    ghost from_gives = { λ _ _. Unit {0} };
+    ghost use Rattle.std.specs.Prelude.{◌≡◌};
+    ghost use Rattle.device_registry.specs.Faults.{no_memory};
+
+    ghost from_gives = { λ _ fault. fault ≡ no_memory };
 
     fn from(_error: AllocError) -> StoreFault {
-        StoreFault::Memory
+        StoreFault { is_memory: true }
     }
 }
 
 impl From<AllocFailed<Device>> for StoreFault {
-    ghost from_gives = { λ _ _. Unit {0} };
+    ghost use Rattle.std.specs.Prelude.{◌≡◌};
+    ghost use Rattle.device_registry.specs.Faults.{no_memory};
+
+    ghost from_gives = { λ _ fault. fault ≡ no_memory };
 
     fn from(_failed: AllocFailed<Device>) -> StoreFault {
-        StoreFault::Memory
+        StoreFault { is_memory: true }
     }
 }
 
@@ -71,33 +60,62 @@ impl From<AllocFailed<Device>> for StoreFault {
 pub enum LearnFault {
     /// 1,000 other devices are learned.
     Full,
-    /// The store refused.
-    Store,
-    /// There is no memory.
-    Memory,
+    /// The store does not answer.
+    Refused(StoreFault),
 }
 
 impl From<StoreFault> for LearnFault {
-    ghost use Rattle.std.specs.Prelude.{◌≢◌};
-    ghost use Rattle.device_registry.specs.declared.fault.LearnFault.TheVariants.{Full};
+    ghost use Rattle.std.specs.Prelude.{◌≡◌};
+    ghost use Rattle.device_registry.specs.declared.fault.LearnFault.TheVariants.{Refused};
 
-    ghost from_gives = { λ _ why. why ≢ Full };
+    ghost from_gives = { λ fault why. why ≡ Refused fault };
 
     fn from(fault: StoreFault) -> LearnFault {
-        match fault {
-            StoreFault::Store => LearnFault::Store,
-            StoreFault::Memory => LearnFault::Memory,
-        }
+        LearnFault::Refused(fault)
     }
 }
 
 impl From<Error> for LearnFault {
-    ghost use Rattle.std.specs.Prelude.{◌≢◌};
-    ghost use Rattle.device_registry.specs.declared.fault.LearnFault.TheVariants.{Full};
+    ghost use Rattle.std.specs.Prelude.{◌≡◌};
+    ghost use Rattle.device_registry.specs.Faults.{fault_of};
+    ghost use Rattle.device_registry.specs.declared.fault.LearnFault.TheVariants.{Refused};
 
-    ghost from_gives = { λ _ why. why ≢ Full };
+    ghost from_gives = { λ error why. why ≡ Refused (fault_of error) };
 
     fn from(error: Error) -> LearnFault {
-        LearnFault::from(StoreFault::from(error))
+        LearnFault::Refused(StoreFault::from(error))
+    }
+}
+
+/// Why a database is not prepared, and no registry is opened.
+#[derive(Clone, Copy, Debug, PartialEq, Eq)]
+pub enum OpenFault {
+    /// The database holds something else, or something that is no version 1 registry under its names.
+    NotARegistry,
+    /// The store does not answer.
+    Refused(StoreFault),
+}
+
+impl From<Error> for OpenFault {
+    ghost use Rattle.std.specs.Prelude.{◌≡◌};
+    ghost use Rattle.device_registry.specs.Faults.{fault_of};
+    ghost use Rattle.device_registry.specs.declared.fault.OpenFault.TheVariants.{Refused};
+
+    ghost from_gives = { λ error why. why ≡ Refused (fault_of error) };
+
+    fn from(error: Error) -> OpenFault {
+        OpenFault::Refused(StoreFault::from(error))
+    }
+}
+
+impl From<AllocError> for OpenFault {
+    ghost use Rattle.std.specs.Prelude.{◌≡◌};
+    ghost use Rattle.device_registry.specs.Faults.{no_memory};
+    ghost use Rattle.device_registry.specs.declared.fault.OpenFault.TheVariants.{Refused};
+
+    ghost from_gives = { λ _ why. why ≡ Refused no_memory };
+
+    fn from(error: AllocError) -> OpenFault {
+        OpenFault::Refused(StoreFault::from(error))
     }
 }

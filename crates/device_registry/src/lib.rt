@@ -1,11 +1,13 @@
-//! The learned devices, in a SQLite database. What a call answers, the database holds: nothing is kept beside it. A change
-//! is answered once it is committed, with a receipt that nothing else makes.
+//! The learned devices, in a SQLite database. What a call answers, the database holds; the senders that were looked up last are
+//! remembered besides. A change is answered once it is committed, with a receipt that nothing else makes.
 //!
 //! Every word on what is stored has one premise, the store's own: so far the disk has returned what was written
 //! (`HasCleanDisk`).
 #![tactic(auto)]
 
+mod cache;
 mod device;
+mod device_table;
 mod fault;
 pub mod laws;
 mod listing;
@@ -16,9 +18,13 @@ mod receipt;
 mod registry;
 mod rows;
 mod statements;
+mod tables;
 mod taking;
+#[cfg(test)]
+mod tests;
 
-pub use device::Device;
+pub use device::{Device, MOST_DEVICES};
 pub use fault::{LearnFault, OpenFault, StoreFault};
+pub use opening::prepare;
 pub use receipt::Receipt;
 pub use registry::Registry;

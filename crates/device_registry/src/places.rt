@@ -3,14 +3,11 @@ ghost use Rattle.std.specs.Prelude.{◌≡◌};
 ghost use Rattle.std.specs.List.{list_any};
 ghost use Rattle.sqlite.specs.Table.{Table};
 ghost use Rattle.sqlite_catalog.specs.Change.{is_used};
-ghost use Rattle.device_registry.specs.Opening.{refers, is_referred, is_indexed, lacks_counts, is_clear, is_left_alone, tree_named, trees_in};
+ghost use Rattle.device_registry.specs.Places.{refers, is_referred, is_indexed, lacks_counts, is_clear, is_lone, is_left_alone, tree_named, trees_in};
 
+use crate::tables::{DEVICE, META};
 use sqlite_schema::names::same_name;
 use sqlite_schema::schema::{Schema, Table};
-
-const META: &[u8] = b"enogate_meta";
-
-const DEVICE: &[u8] = b"enogate_device";
 
 fn is_used(schema: &Schema, name: &[u8]) -> bool
     ensures { result ≡ is_used schema.now name.now }
@@ -79,6 +76,14 @@ pub fn is_clear(schema: &Schema) -> bool
         && !lacks_counts(schema)
 }
 
+/// Whether no table but that of this name lies in the tree.
+fn is_lone(schema: &Schema, name: &[u8], tree: u32) -> bool
+    ensures { result ≡ is_lone schema.now name.now tree }
+{
+    schema.tables.as_slice().iter().all(|table| table.tree != tree
+        || same_name(table.name.as_slice(), name))
+}
+
 fn is_left_alone(schema: &Schema, meta: u32, devices: u32) -> bool
     ensures { result ≡ is_left_alone schema.now meta devices }
 {
@@ -86,6 +91,8 @@ fn is_left_alone(schema: &Schema, meta: u32, devices: u32) -> bool
         && !is_referred(schema, DEVICE)
         && !is_indexed(schema, meta)
         && !is_indexed(schema, devices)
+        && is_lone(schema, META, meta)
+        && is_lone(schema, DEVICE, devices)
 }
 
 fn tree_named(schema: &Schema, name: &[u8]) -> Option<u32>

@@ -1,104 +1,115 @@
 //! The registry.
-ghost use Rattle.std.specs.Prelude.{◌≡◌, [], false, IsTrue, IfOk, MatchResult};
+ghost use Rattle.std.specs.Prelude.{◌≡◌};
 ghost use Rattle.sqlite.specs.Held.{state};
-ghost use Rattle.sqlite.specs.State.{HasCleanDisk};
-ghost use Rattle.device_registry.specs.Devices.{Devices, device_of, all_of, is_full, learned, forgotten};
-ghost use Rattle.device_registry.specs.Holding.{HasDevices, AreRegistries, Keeps, Commits, Pends, Refuses};
+ghost use Rattle.device_registry.specs.Holding.{LooksUp, Learns, Forgets, ListsAll, HandsOn};
 
+use crate::cache::{Cache, cached, forget_entry, remember};
 use crate::device::Device;
+use crate::device_table::DeviceTable;
 use crate::fault::{LearnFault, StoreFault};
 use crate::receipt::Receipt;
-use crate::rows::{all_listed, found};
-use crate::statements::{clear_or_renew, has_no_room, list, look_up, put};
 use sqlite::{Alter, Connection};
-use std::alloc::Global;
 use std::marker::Model;
 
-/// The learned devices, over a connection that no one else uses.
+/// The learned devices, over a connection that no one else uses, and the senders that were looked up last, known or not. What
+/// is remembered is answered with no call of the store. It is forgotten where the store does not answer, so it tells that the
+/// connection is open.
 #[derive(Drop)]
 pub struct Registry<S: Alter> {
-    pub(crate) alloc: Global,
-    pub(crate) conn: Connection<S>,
+    pub(crate) table: DeviceTable<S>,
+    pub(crate) cache: Cache,
 }
 
 impl<S: Alter> Model for Registry<S> {
     ghost use Rattle.sqlite.specs.Held.{Held, held_code, state};
     ghost use Rattle.sqlite.specs.State.{HasCleanDisk};
     ghost use Rattle.device_registry.specs.Holding.{AreRegistries};
-    ghost use Rattle.device_registry.specs.Ready.{StaysReady};
+    ghost use Rattle.device_registry.specs.Cached.{CacheAgrees};
 
     ghost Value = { Held S };
 
     ghost coded = { held_code S.code };
 
-    ghost view = { λ r. r.conn };
+    ghost view = { λ registry. registry.table };
 
-    ghost invariant = { λ r. (HasCleanDisk (state S.Store r.conn) → AreRegistries (state S.Store r.conn).may_leave) × StaysReady (state S.Store r.conn) };
+    ghost invariant = { λ registry. (HasCleanDisk (state S.Store registry.table) → AreRegistries (state S.Store registry.table).may_leave)
+        × CacheAgrees (state S.Store registry.table) registry.cache.entries };
 }
 
 impl<S: Alter> Registry<S> {
     /// The device of a sender, if it is learned.
     pub fn find(&mut self, id: u32) -> Result<Option<Device>, StoreFault>
-        ensures clean { HasCleanDisk (state S.Store self.new) → HasCleanDisk (state S.Store self.old) }
-        ensures registries { HasCleanDisk (state S.Store self.new) → AreRegistries (state S.Store self.new).may_leave }
-        ensures devices { HasCleanDisk (state S.Store self.new) → (devices : Devices) → HasDevices (state S.Store self.old) devices →
-            MatchResult result (λ found. (found ≡ device_of devices id) × Keeps (state S.Store self.old) (state S.Store self.new) devices) (λ _. Keeps (state S.Store self.old) (state S.Store self.new) devices) }
+        ensures { LooksUp (state S.Store self.old) (state S.Store self.new) id result }
     {
-        let rows = look_up(&mut self.conn, id)?;
-        found(id, &rows)
+        if let Some(known) = cached(&mut self.cache, id) {
+            return Ok(known);
+        }
+        match self.table.find(id) {
+            Ok(known) => {
+                remember(&mut self.cache, id, known);
+                Ok(known)
+            }
+            Err(fault) => {
+                self.cache.clear();
+                Err(fault)
+            }
+        }
     }
 
-    /// Learns a device, in place of what was known of its sender.
+    /// Learns a device, in place of what was known of its sender. `Full` says that 1,000 others are learned.
     pub fn learn(&mut self, device: Device) -> Result<Receipt, LearnFault>
-        ensures clean { HasCleanDisk (state S.Store self.new) → HasCleanDisk (state S.Store self.old) }
-        ensures registries { HasCleanDisk (state S.Store self.new) → AreRegistries (state S.Store self.new).may_leave }
-        ensures receipt { IfOk result (λ r. (r.id ≡ device.id) × IsTrue r.is_learned) }
-        ensures devices { HasCleanDisk (state S.Store self.new) → (devices : Devices) → HasDevices (state S.Store self.old) devices →
-            MatchResult result (λ _. (is_full devices device.id ≡ false) × Commits (state S.Store self.new) (learned device) devices) (Refuses (state S.Store self.old) (state S.Store self.new) device devices) }
+        ensures { Learns (state S.Store self.old) (state S.Store self.new) device result }
     {
-        if has_no_room(&mut self.conn, device.id)? {
-            return Err(LearnFault::Full);
+        forget_entry(&mut self.cache, device.id);
+        match self.table.learn(device) {
+            Ok(receipt) => {
+                remember(&mut self.cache, device.id, Some(device));
+                Ok(receipt)
+            }
+            Err(LearnFault::Full) => Err(LearnFault::Full),
+            Err(fault) => {
+                self.cache.clear();
+                Err(fault)
+            }
         }
-        put(&mut self.conn, device)?;
-        Ok(Receipt {
-            id: device.id,
-            is_learned: true,
-        })
     }
 
     /// Forgets a sender. It commits also where nothing is known of it.
     pub fn forget(&mut self, id: u32) -> Result<Receipt, StoreFault>
-        ensures clean { HasCleanDisk (state S.Store self.new) → HasCleanDisk (state S.Store self.old) }
-        ensures registries { HasCleanDisk (state S.Store self.new) → AreRegistries (state S.Store self.new).may_leave }
-        ensures receipt { IfOk result (λ r. (r.id ≡ id) × (r.is_learned ≡ false)) }
-        ensures devices { HasCleanDisk (state S.Store self.new) → (devices : Devices) → HasDevices (state S.Store self.old) devices →
-            MatchResult result (λ _. Commits (state S.Store self.new) (forgotten id) devices) (λ _. Pends (state S.Store self.old) (state S.Store self.new) (forgotten id) devices) }
+        ensures { Forgets (state S.Store self.old) (state S.Store self.new) id result }
     {
-        let rows = look_up(&mut self.conn, id)?;
-        clear_or_renew(&mut self.conn, id, &rows)?;
-        Ok(Receipt {
-            id,
-            is_learned: false,
-        })
+        forget_entry(&mut self.cache, id);
+        match self.table.forget(id) {
+            Ok(receipt) => {
+                remember(&mut self.cache, id, None);
+                Ok(receipt)
+            }
+            Err(fault) => {
+                self.cache.clear();
+                Err(fault)
+            }
+        }
     }
 
     /// All devices, by rising ID.
     pub fn all(&mut self) -> Result<Vec<Device>, StoreFault>
-        ensures clean { HasCleanDisk (state S.Store self.new) → HasCleanDisk (state S.Store self.old) }
-        ensures registries { HasCleanDisk (state S.Store self.new) → AreRegistries (state S.Store self.new).may_leave }
-        ensures devices { HasCleanDisk (state S.Store self.new) → (devices : Devices) → HasDevices (state S.Store self.old) devices →
-            MatchResult result (λ all. (all.items ≡ all_of devices) × Keeps (state S.Store self.old) (state S.Store self.new) devices) (λ _. Keeps (state S.Store self.old) (state S.Store self.new) devices) }
+        ensures { ListsAll (state S.Store self.old) (state S.Store self.new) result }
     {
-        let rows = list(&mut self.conn)?;
-        all_listed(self.alloc, &rows)
+        match self.table.all() {
+            Ok(all) => Ok(all),
+            Err(fault) => {
+                self.cache.clear();
+                Err(fault)
+            }
+        }
     }
 
-    /// Hands the connection on, as it is, with no open transaction.
+    /// Hands the connection on, as it is, with no open transaction. What the registry holds is committed.
     pub fn close(self) -> Connection<S>
         ensures same { result ≡ self }
-        ensures idle { HasCleanDisk (state S.Store self) → IsTrue (state S.Store self).is_open → (state S.Store self).in_transaction ≡ false }
+        ensures hands_on { HandsOn (state S.Store self) }
     {
-        let Registry { alloc: _, conn } = self;
-        conn
+        let Registry { table, cache: _ } = self;
+        table.close()
     }
 }

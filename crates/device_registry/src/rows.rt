@@ -10,11 +10,11 @@ ghost use Rattle.device_registry.specs.Ready.{AreFound, listed};
 use crate::device::Device;
 use crate::fault::StoreFault;
 use erp1_telegrams::Eep;
-use sqlite::Row;
+use sqlite::{Error, Row};
 use std::alloc::Global;
 
 /// A profile, of its number.
-fn eep_named(number: u32) -> Eep
+fn eep_of_number(number: u32) -> Eep
     ensures { result ≡ eep_of number }
 {
     Eep {
@@ -24,16 +24,17 @@ fn eep_named(number: u32) -> Eep
     }
 }
 
-/// A maker, of its number, which is -1 for none.
-fn maker_named(number: i64) -> Result<Option<u16>, StoreFault>
-    ensures { IfOk result (λ maker. maker ≡ maker_in (Int number)) }
+/// The maker at a place of the row, which is -1 for none.
+fn maker_at(row: &Row, at: usize) -> Result<Option<u16>, Error>
+    ensures { IfOk result (λ maker. maker ≡ maker_in (column row.now at)) }
 {
+    let number: i64 = row.get(at)?;
     if number < 0 {
         return Ok(None);
     }
     match u16::try_from(number) {
         Ok(maker) => Ok(Some(maker)),
-        Err(_) => Err(StoreFault::Store),
+        Err(_) => Err(Error::IntegralValueOutOfRange(at)),
     }
 }
 
@@ -43,11 +44,10 @@ fn device_at(id: u32, row: &Row, at: usize) -> Result<Device, StoreFault>
     ensures { IfOk result (λ it. it ≡ device id (record { eep = eep_of (natural (column row.now at)); maker = maker_in (column row.now (at + 1)) })) }
 {
     let eep: u32 = row.get(at)?;
-    let maker: i64 = row.get(at + 1)?;
     Ok(Device {
         id,
-        eep: eep_named(eep),
-        maker: maker_named(maker)?,
+        eep: eep_of_number(eep),
+        maker: maker_at(row, at + 1)?,
     })
 }
 
@@ -84,8 +84,6 @@ pub(crate) fn all_listed(alloc: Global, rows: &[Row]) -> Result<Vec<Device>, Sto
 pub(crate) fn number(rows: &[Row]) -> Result<u64, StoreFault>
     ensures { IfOk result (λ n. (row : SqlRow) × (more : _) × (rows.now ≡ row ∷ more) × (column row 0 ≡ Int (pos n))) }
 {
-    match rows.first() {
-        Some(row) => Ok(row.get(0)?),
-        None => Err(StoreFault::Store),
-    }
+    let row = rows.first().ok_or(Error::QueryReturnedNoRows)?;
+    Ok(row.get(0)?)
 }

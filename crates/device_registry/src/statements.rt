@@ -1,66 +1,53 @@
-//! The registry's statements, one function for each text. A call begins with a query, which asks first whether the connection
-//! is open: nothing is known of what a shut one writes.
+//! The registry's statements, each text in one function. A call begins with a text that is compiled, which tells whether the
+//! connection is open: nothing is known of what a shut one writes.
 ghost use Rattle.std.specs.Prelude.{◌≡◌, [], ◌∷◌, map, pos, false, IsTrue, OnOk, OnErr, IfOk, IfErr};
 ghost use Rattle.std.specs.FinMap.{get};
 ghost use Rattle.sqlite.specs.declared.types.Value.TheVariants.{Int};
 ghost use Rattle.sqlite.specs.Held.{state};
 ghost use Rattle.sqlite.specs.State.{HasCleanDisk, Survives, Executes, CommitsBy, Shown, FailsToQuery, CommitsShowing};
 ghost use Rattle.device_registry.specs.Devices.{Devices, Change, changed, learned, forgotten, is_full, all_of};
-ghost use Rattle.device_registry.specs.Tables.{find_text, others_text, learn_text, forget_text};
+ghost use Rattle.device_registry.specs.Tables.{learn_text, forget_text};
 ghost use Rattle.device_registry.specs.Stored.{Holds, maker_number, eep_number};
-ghost use Rattle.device_registry.specs.Ready.{Shows, IsReady, StaysReady, Stays, Turns, AreFound, listed};
+ghost use Rattle.device_registry.specs.Opening.{Remains};
+ghost use Rattle.device_registry.specs.Ready.{Shows, IsReady, StaysReady, Stays, Turns, KeepsRows, AreFound, listed};
 
-use crate::device::Device;
+use crate::device::{Device, MOST_DEVICES};
 use crate::fault::StoreFault;
 use crate::rows::number;
 use erp1_telegrams::Eep;
-use sqlite::{Alter, Connection, Error, Row, params};
+use sqlite::{Alter, Connection, Error, Row, Statement, params};
 
-/// The most devices that are kept. Own choice.
-const LIMIT: u64 = 1000;
-
-/// Whether the connection is open: a text is compiled, which writes nothing.
-fn wake<S: Alter>(conn: &mut Connection<S>) -> Result<(), StoreFault>
+/// A text, compiled, which writes nothing. It is refused on a connection that a failure has shut.
+fn compiled<S: Alter>(conn: &mut Connection<S>, sql: &str) -> Result<Statement, Error>
     requires { StaysReady (state S.Store conn.old) }
+    ensures text { HasCleanDisk (state S.Store conn.new) → IfOk result (λ statement. statement.text ≡ sql.now) }
     ensures stays { Stays (state S.Store conn.old) (state S.Store conn.new) }
     ensures ready { HasCleanDisk (state S.Store conn.new) → OnOk result (IsReady (state S.Store conn.new)) }
 {
-    let _statement = conn.prepare("SELECT eep, maker FROM enogate_device WHERE id = ?1")?;
-    Ok(())
+    conn.prepare(sql)
 }
 
-/// Runs the query that looks a sender up.
-fn rows_of<S: Alter>(conn: &mut Connection<S>, id: i64) -> Result<Vec<Row>, Error>
-    ensures shown { HasCleanDisk (state S.Store conn.new) → IfOk result (λ rows. Shown find_text (Int id ∷ []) (state S.Store conn.old) (state S.Store conn.new) rows.items) }
-    ensures failed { HasCleanDisk (state S.Store conn.new) → IfErr result (FailsToQuery find_text (Int id ∷ []) (state S.Store conn.old) (state S.Store conn.new)) }
-    ensures survives { Survives (state S.Store conn.old) (state S.Store conn.new) (CommitsShowing find_text (Int id ∷ []) (state S.Store conn.old)) }
+/// The rows that a query of one sender shows.
+fn rows_of<S: Alter>(
+    conn: &mut Connection<S>,
+    statement: &Statement,
+    id: i64,
+) -> Result<Vec<Row>, Error>
+    ensures shown { HasCleanDisk (state S.Store conn.new) → IfOk result (λ rows. Shown statement.now.text (Int id ∷ []) (state S.Store conn.old) (state S.Store conn.new) rows.items) }
+    ensures failed { HasCleanDisk (state S.Store conn.new) → IfErr result (FailsToQuery statement.now.text (Int id ∷ []) (state S.Store conn.old) (state S.Store conn.new)) }
+    ensures survives { Survives (state S.Store conn.old) (state S.Store conn.new) (CommitsShowing statement.now.text (Int id ∷ []) (state S.Store conn.old)) }
 {
-    conn.query_all(
-        "SELECT eep, maker FROM enogate_device WHERE id = ?1",
-        params![id],
-    )
+    statement.query_all(conn, params![id])
 }
 
 /// The rows of a sender.
-pub(crate) fn look_up<S: Alter>(conn: &mut Connection<S>, id: u32) -> Result<Vec<Row>, StoreFault>
+pub(crate) fn look_up<S: Alter>(conn: &mut Connection<S>, id: u32) -> Result<Vec<Row>, Error>
     requires { StaysReady (state S.Store conn.old) }
     ensures stays { Stays (state S.Store conn.old) (state S.Store conn.new) }
     ensures found { HasCleanDisk (state S.Store conn.new) → IfOk result (λ rows. IsReady (state S.Store conn.new) × ((devices : Devices) → Shows (state S.Store conn.old) devices → AreFound (get devices id) rows.items)) }
 {
-    wake(conn)?;
-    Ok(rows_of(conn, i64::from(id))?)
-}
-
-/// Runs the query that counts the other senders.
-fn others_than<S: Alter>(conn: &mut Connection<S>, id: i64) -> Result<Vec<Row>, Error>
-    ensures shown { HasCleanDisk (state S.Store conn.new) → IfOk result (λ rows. Shown others_text (Int id ∷ []) (state S.Store conn.old) (state S.Store conn.new) rows.items) }
-    ensures failed { HasCleanDisk (state S.Store conn.new) → IfErr result (FailsToQuery others_text (Int id ∷ []) (state S.Store conn.old) (state S.Store conn.new)) }
-    ensures survives { Survives (state S.Store conn.old) (state S.Store conn.new) (CommitsShowing others_text (Int id ∷ []) (state S.Store conn.old)) }
-{
-    conn.query_all(
-        "SELECT count(*) FROM enogate_device WHERE id <> ?1",
-        params![id],
-    )
+    let find = compiled(conn, "SELECT eep, maker FROM enogate_device WHERE id = ?1")?;
+    rows_of(conn, &find, i64::from(id))
 }
 
 /// Whether there is no room for a sender.
@@ -69,19 +56,22 @@ pub(crate) fn has_no_room<S: Alter>(conn: &mut Connection<S>, id: u32) -> Result
     ensures stays { Stays (state S.Store conn.old) (state S.Store conn.new) }
     ensures full { HasCleanDisk (state S.Store conn.new) → IfOk result (λ full. IsReady (state S.Store conn.new) × ((devices : Devices) → Shows (state S.Store conn.old) devices → full ≡ is_full devices id)) }
 {
-    wake(conn)?;
-    let rows = others_than(conn, i64::from(id))?;
-    Ok(number(&rows)? >= LIMIT)
+    let others = compiled(conn, "SELECT count(*) FROM enogate_device WHERE id <> ?1")?;
+    let rows = rows_of(conn, &others, i64::from(id))?;
+    Ok(number(&rows)? >= MOST_DEVICES as u64)
 }
 
 /// All devices, by rising ID.
-pub(crate) fn list<S: Alter>(conn: &mut Connection<S>) -> Result<Vec<Row>, StoreFault>
+pub(crate) fn list<S: Alter>(conn: &mut Connection<S>) -> Result<Vec<Row>, Error>
     requires { StaysReady (state S.Store conn.old) }
     ensures stays { Stays (state S.Store conn.old) (state S.Store conn.new) }
     ensures all { HasCleanDisk (state S.Store conn.new) → IfOk result (λ rows. IsReady (state S.Store conn.new) × ((devices : Devices) → Shows (state S.Store conn.old) devices → map listed rows.items ≡ all_of devices)) }
 {
-    wake(conn)?;
-    Ok(conn.query_all("SELECT id, eep, maker FROM enogate_device ORDER BY id", &[])?)
+    let all = compiled(
+        conn,
+        "SELECT id, eep, maker FROM enogate_device ORDER BY id",
+    )?;
+    all.query_all(conn, &[])
 }
 
 /// The number of a profile.
@@ -118,7 +108,7 @@ fn run_learn<S: Alter>(
 }
 
 /// Writes a device, in place of what is known of its sender.
-pub(crate) fn put<S: Alter>(conn: &mut Connection<S>, device: Device) -> Result<usize, Error>
+pub(crate) fn write<S: Alter>(conn: &mut Connection<S>, device: Device) -> Result<usize, Error>
     requires ready { HasCleanDisk (state S.Store conn.old) → IsReady (state S.Store conn.old) }
     requires room { HasCleanDisk (state S.Store conn.old) → (devices : Devices) → Shows (state S.Store conn.old) devices → is_full devices device.id ≡ false }
     ensures { Turns (state S.Store conn.old) (state S.Store conn.new) (learned device) result }
@@ -132,7 +122,7 @@ pub(crate) fn put<S: Alter>(conn: &mut Connection<S>, device: Device) -> Result<
 }
 
 /// Runs the statement that forgets a sender.
-fn run_forget<S: Alter>(conn: &mut Connection<S>, id: i64) -> Result<usize, Error>
+fn run_delete<S: Alter>(conn: &mut Connection<S>, id: i64) -> Result<usize, Error>
     ensures runs { HasCleanDisk (state S.Store conn.new) → Executes forget_text (Int id ∷ []) (state S.Store conn.old) (state S.Store conn.new) result }
     ensures survives { Survives (state S.Store conn.old) (state S.Store conn.new) (CommitsBy forget_text (Int id ∷ []) (state S.Store conn.old)) }
 {
@@ -140,11 +130,11 @@ fn run_forget<S: Alter>(conn: &mut Connection<S>, id: i64) -> Result<usize, Erro
 }
 
 /// Takes out what is known of a sender.
-fn clear<S: Alter>(conn: &mut Connection<S>, id: u32) -> Result<usize, Error>
+fn delete<S: Alter>(conn: &mut Connection<S>, id: u32) -> Result<usize, Error>
     requires { HasCleanDisk (state S.Store conn.old) → IsReady (state S.Store conn.old) }
     ensures { Turns (state S.Store conn.old) (state S.Store conn.new) (forgotten id) result }
 {
-    run_forget(conn, i64::from(id))
+    run_delete(conn, i64::from(id))
 }
 
 /// Writes the version as it stands, so that there is a commit where a change changes nothing.
@@ -152,6 +142,8 @@ pub(crate) fn renew<S: Alter>(conn: &mut Connection<S>) -> Result<usize, Error>
     requires { HasCleanDisk (state S.Store conn.old) → IsReady (state S.Store conn.old) }
     ensures renewed { HasCleanDisk (state S.Store conn.new) → OnOk result ((devices : Devices) → Shows (state S.Store conn.old) devices → Shows (state S.Store conn.new) devices) }
     ensures stop { Survives (state S.Store conn.old) (state S.Store conn.new) (λ trees. (devices : Devices) → Shows (state S.Store conn.old) devices → Holds trees devices) }
+    ensures rows { HasCleanDisk (state S.Store conn.new) → OnOk result (IsReady (state S.Store conn.old) → KeepsRows (state S.Store conn.old) (state S.Store conn.new)) }
+    ensures remains { HasCleanDisk (state S.Store conn.new) → OnErr result (Remains (state S.Store conn.old) (state S.Store conn.new)) }
     ensures turns { (change : Change) → (HasCleanDisk (state S.Store conn.old) → (devices : Devices) → Shows (state S.Store conn.old) devices → changed devices change ≡ devices)
         → Turns (state S.Store conn.old) (state S.Store conn.new) change result }
 {
@@ -159,7 +151,7 @@ pub(crate) fn renew<S: Alter>(conn: &mut Connection<S>) -> Result<usize, Error>
 }
 
 /// Takes out what is known of a sender, whose rows these are. Where there is none it commits all the same.
-pub(crate) fn clear_or_renew<S: Alter>(
+pub(crate) fn delete_or_renew<S: Alter>(
     conn: &mut Connection<S>,
     id: u32,
     rows: &[Row],
@@ -171,5 +163,5 @@ pub(crate) fn clear_or_renew<S: Alter>(
     if rows.is_empty() {
         return renew(conn);
     }
-    clear(conn, id)
+    delete(conn, id)
 }

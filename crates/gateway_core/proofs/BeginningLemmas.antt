@@ -23,11 +23,11 @@ module _ {S : Type 0} (g : Ghosts S) where
   pub stops_leave_a_life : StopsLeaveALife g
   stops_leave_a_life old new within found items answers item change honest early begins handles asks tries left may =
       let went = handles.went early (begun old.base found) begins.at in
-      let pends = tries went.last.devices went.at.1 in
+      let leaves = tries went.last.devices went.at.1 in
       let is = asks went.last went.at in
       let Before = λ (d : Devices). d ≡ found in
       let so_far = left_by nothing_left (begun old.base found) items went.fates in
-      let safe : Safe Before (pending so_far went.last.devices (change_of went.last item)) left = elim (pends.stop left may) [
+      let safe : Safe Before (pending so_far went.last.devices (change_of went.last item)) left = elim (leaves left may) [
         | inl before ↦ safe-pending Before so_far went.last.devices (change_of went.last item) left (safe-weaker (MayFind (state g old.registry)) Before begins.stop so_far left (went.stop left before))
         | inr made ↦ subst (λ o. Safe Before (pending so_far went.last.devices o) left) (sym is) (inl (inl made))
       ] in

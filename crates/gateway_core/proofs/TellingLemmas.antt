@@ -9,15 +9,13 @@ use Rattle.erp1_telegrams.specs.Telegram.{Telegram}
 use Rattle.erp1_telegrams.specs.declared.eep.Eep.{Eep}
 use Rattle.device_registry.specs.declared.device.Device.{Device}
 use Rattle.device_registry.specs.Devices.{Devices, device_of, all_of}
-use Rattle.gateway_core.specs.declared.refusal.Cause.{Cause}
-use Rattle.gateway_core.specs.declared.refusal.Cause.TheVariants.{Memory, Store}
 use Rattle.gateway_core.specs.declared.counts.Counts.{Counts}
 use Rattle.gateway_core.specs.Profiles.{readings_of}
 use Rattle.gateway_core.specs.Responses.{Response, response_in}
 use Rattle.profiles_rps.specs.Reading.{Entry}
 use Rattle.gateway_core.specs.Lines.{maker_text, outcome_text, TeachLine, teach_text, device_text, count_text, listing_text}
 use Rattle.gateway_core.specs.Step.{Received, Ordered, Answer, said, reading_effect, sender_effect, telegram_effect, effect_by, data_telegram, Decision, Denies, Learns, Forgets, Lists, Reports, decision, decision_answer, change_in}
-use Rattle.gateway_core.specs.Run.{Taken, Refused, RefusedAtWrite, cause_text}
+use Rattle.gateway_core.specs.Run.{Cause, Memory, Store, Taken, Refused, RefusedAtWrite, cause_text}
 use Rattle.gateway_core.specs.Beginnings.{TeachLinesAreTold}
 
 -- ---- behind the first comma

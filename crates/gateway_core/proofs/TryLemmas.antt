@@ -15,13 +15,12 @@ use Rattle.device_registry.specs.declared.device.Device.{Device}
 use Rattle.device_registry.specs.declared.fault.LearnFault.{LearnFault}
 use Rattle.device_registry.specs.declared.fault.LearnFault.TheVariants as fault
 use Rattle.device_registry.specs.Devices.{Learned, Devices, device, device_of, is_full, Change, learned}
-use Rattle.device_registry.specs.Stored.{entry_of}
-use Rattle.device_registry.specs.Holding.{HasDevices, MayFind, AreRegistries, Keeps, Pends, Refuses}
+use Rattle.device_registry.proofs.ForCallers.{few_are_held}
+use Rattle.device_registry.specs.Holding.{HasDevices, MayFind, AreRegistries, Keeps, Pends, RefusesToLearn}
 use Rattle.gateway_core.specs.declared.lines.error.ErrorName.TheVariants as error
 use Rattle.gateway_core.specs.declared.orders.Order.{Order}
 use Rattle.gateway_core.specs.declared.orders.Order.TheVariants.{Add}
 use Rattle.gateway_core.specs.declared.orders.OrderFault.{OrderFault}
-use Rattle.gateway_core.specs.declared.refusal.Cause.{Cause}
 use Rattle.gateway_core.specs.declared.refusal.Refusal.{Refusal}
 use Rattle.gateway_core.specs.declared.refusal.Refusal.TheVariants.{Before, AtWrite}
 use Rattle.gateway_core.specs.declared.counts.Counts.{Counts}
@@ -30,7 +29,8 @@ use Rattle.gateway_core.specs.Profiles.{is_supported}
 use Rattle.gateway_core.specs.Counts.{raised}
 use Rattle.gateway_core.specs.Orders.{order_of}
 use Rattle.gateway_core.specs.Step.{State, Item, Answer, Decision, Denies, Learns, change_in, said, order_decision, decision, removal, change_of, with_change, state_after}
-use Rattle.gateway_core.specs.Run.{needs, needs_help, cause_text, Taken, Refused, RefusedAtWrite, refused}
+use Rattle.gateway_core.specs.Refusals.{cause_of}
+use Rattle.gateway_core.specs.Run.{needs, needs_help, cause_text, Cause, Taken, Refused, RefusedAtWrite, refused}
 use Rattle.gateway_core.specs.Stops.{nothing_left, told, pending, Safe}
 use Rattle.gateway_core.specs.Handling.{Sight, Went, Handles}
 use Rattle.gateway_core.specs.Tries.{Wanted, of_item, of_decision, IsMade, IsPending, Comes, Tries, answer_from, counts_from, Unlearned}
@@ -67,17 +67,6 @@ len-full devices id it full = one _ _ _ (contains_key devices id) (len-insert na
     one n m k true is less many = omega (arith, is, less, many)
     one n m k false is less many = omega (arith, is, less, many)
 
--- no stop leaves more than 1,000 devices
-few : (s : Known) (devices : Devices) → MayFind s devices → len devices ≤ 1000
-few s devices (trees, leaves, holds) =
-    let registers = holds.registers in
-    let rows = holds.db.trees registers.registry.devices in
-    let most = len-from_entries (map entry_of rows) in
-    let same = ap (λ (d : Devices). len d) registers.is in
-    let long = length-map rows entry_of in
-    let short = registers.registry.few in
-    omega (arith, short, most, same, long)
-
 -- where the registry is full, a write that is tried leaves nothing
 pub keeps-full : (old new : Known) (it : Device) (devices : Devices) → is_full devices it.id ≡ true → Pends old new (learned it) devices → Keeps old new devices
 keeps-full old new it devices full pends = record {
@@ -85,7 +74,7 @@ keeps-full old new it devices full pends = record {
   stop = λ left may. elim (pends.stop left may) [
     | inl before ↦ before
     | inr is ↦
-        let most = few new left may in
+        let most = few_are_held may.0 left may.2 in
         let same = ap (λ (d : Devices). len d) is in
         let many = len-full devices it.id (record { eep = it.eep; maker = it.maker }) full in
         absurd (omega (arith, most, same, many))
@@ -141,10 +130,9 @@ module _ {S : Type 0} (g : Ghosts S) where
 
   -- a device is not learned
   pub add-comes : (counts : Counts) (old new : Held S) (devices : Devices) (id : ℕ) (eep : Eep) (why : LearnFault) (r : Result Done Refusal) → is_supported eep ≡ true → Unlearned why r
-      → Refuses (state g old) (state g new) (record { id = id; eep = eep; maker = None }) devices why → Comes g old new devices (of_decision counts devices (order_decision devices (Ok (Add id eep)))) r
+      → RefusesToLearn (state g old) (state g new) (record { id = id; eep = eep; maker = None }) devices why → Comes g old new devices (of_decision counts devices (order_decision devices (Ok (Add id eep)))) r
   add-comes counts old new devices id eep fault.Full r supported (done, is, gives) (full, keeps) = rw (is, supported, full) (gives, keeps)
-  add-comes counts old new devices id eep fault.Store r supported is pends = rw (is, supported) (at_write old new devices id eep (is_full devices id) refl pends)
-  add-comes counts old new devices id eep fault.Memory r supported is pends = rw (is, supported) (at_write old new devices id eep (is_full devices id) refl pends)
+  add-comes counts old new devices id eep (fault.Refused cause) r supported is pends = rw (is, supported) (at_write old new devices id eep (is_full devices id) refl pends)
 
   -- an order behind a line
   pub tries-order : (counts : Counts) (old new : Sight S) (line : List ℕ) (r : Result Done Refusal) (order : Result Order OrderFault) → length line ≤ 200 → order_of line ≡ order
@@ -192,13 +180,13 @@ module _ {S : Type 0} (g : Ghosts S) where
     stop = made-safe old.registry new.registry start.devices (change_of start item) made;
   }
   comes-went old new start item (Err (Before cause)) base counts (help, keeps) = record {
-    fates = Refused cause ∷ [];
+    fates = Refused (cause_of cause) ∷ [];
     last = refused start;
     run = (help, refl, refl);
     at = (base, keeps.now, counts);
     stop = λ left may. inr (refl, keeps.stop left may);
   }
-  comes-went old new start item (Err (AtWrite cause)) base counts pending = at_write-went old new start item cause (change_of start item) refl base counts pending
+  comes-went old new start item (Err (AtWrite cause)) base counts pending = at_write-went old new start item (cause_of cause) (change_of start item) refl base counts pending
 
   -- what was tried is settled: it is counted
   pub record Settles (mid : Sight S) (r : Result Done Refusal) (answer : Answer) (new : Sight S) : Type 0 where

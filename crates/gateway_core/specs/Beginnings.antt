@@ -4,7 +4,7 @@ use Rattle.sqlite.specs.Held.{Held, state}
 use Rattle.sqlite.specs.State.{HasCleanDisk}
 use Rattle.sqlite_trees.specs.declared.store.Store.{Ghosts}
 use Rattle.device_registry.specs.Devices.{Devices, Change}
-use Rattle.device_registry.specs.Holding.{HasDevices, MayFind, Pends}
+use Rattle.device_registry.specs.Holding.{HasDevices, MayFind, MayLeave}
 use Rattle.gateway_core.specs.Lines.{TeachLine, teach_text}
 use Rattle.gateway_core.specs.Step.{State, Item, Answer, said, change_of}
 use Rattle.gateway_core.specs.Run.{Fate, answer_with}
@@ -33,9 +33,10 @@ module _ {S : Type 0} (g : Ghosts S) where
   CallsLeaveALife = (old new : Sight S) (found : Devices) (items : List Item) (answers : List Answer) → HasCleanDisk (state g new.registry) → BeginsAt old found → Handles g old items answers new
       → (left : Devices) → MayFind (state g new.registry) left → LeavesALife old.base found items answers None left
 
-  -- and so it is within the next item, while its write is tried
+  -- and so it is within the next item, from the moment that its write is tried: while it runs, where it is refused, and once it is
+  -- committed and not yet answered
   abbrev pub StopsLeaveALife : Type 0
   StopsLeaveALife = (old new : Sight S) (within : Held S) (found : Devices) (items : List Item) (answers : List Answer) (item : Item) (change : Change) → HasCleanDisk (state g within) → HasCleanDisk (state g new.registry)
       → BeginsAt old found → Handles g old items answers new → ((start : State) → IsAt g new start → change_of start item ≡ Some change)
-      → ((devices : Devices) → HasDevices (state g new.registry) devices → Pends (state g new.registry) (state g within) change devices)
+      → ((devices : Devices) → HasDevices (state g new.registry) devices → MayLeave (state g new.registry) (state g within) change devices)
       → (left : Devices) → MayFind (state g within) left → LeavesALife old.base found items answers (Some item) left

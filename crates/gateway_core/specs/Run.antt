@@ -3,8 +3,6 @@ use Rattle.std.specs.Prelude.{◌≡◌, if◌then◌else◌, ◌||◌, Bool, tr
 use Rattle.gateway_core.specs.declared.counts.Count.TheVariants as count
 use Rattle.gateway_core.specs.declared.lines.error.ErrorName.{ErrorName}
 use Rattle.gateway_core.specs.declared.lines.error.ErrorName.TheVariants as error
-use Rattle.gateway_core.specs.declared.refusal.Cause.{Cause}
-use Rattle.gateway_core.specs.declared.refusal.Cause.TheVariants.{Memory, Store}
 use Rattle.gateway_core.specs.Counts.{counted, count_with}
 use Rattle.gateway_core.specs.Lines.{error_text}
 use Rattle.gateway_core.specs.Responses.{response_in}
@@ -33,6 +31,11 @@ needs_help Reports = true
 abbrev pub needs : State → Item → Bool
 needs state (Received packet) = is_some (response_in packet) || is_some (data_telegram state.base packet)
 needs state (Ordered line) = needs_help (decision state.devices line)
+
+-- what an item is refused for: there was no memory, or the store of the registry refused
+pub data Cause : Type 0 where
+  Memory : Cause
+  Store : Cause
 
 -- an item is taken, or it is refused before its write to the registry, or at that write
 pub data Fate : Type 0 where

@@ -13,14 +13,13 @@ use Rattle.gateway_core.specs.declared.counts.Count.TheVariants as count
 use Rattle.gateway_core.specs.declared.counts.Counts.{Counts}
 use Rattle.gateway_core.specs.declared.handler.Done.{Done}
 use Rattle.gateway_core.specs.declared.lines.error.ErrorName.TheVariants as error
-use Rattle.gateway_core.specs.declared.refusal.Cause.TheVariants.{Memory, Store}
 use Rattle.gateway_core.specs.declared.refusal.Refusal.{Refusal}
 use Rattle.gateway_core.specs.declared.refusal.Refusal.TheVariants.{Before, AtWrite}
 use Rattle.gateway_core.specs.Counts.{counted, raised}
 use Rattle.gateway_core.specs.Lines.{error_text}
 use Rattle.gateway_core.specs.Responses.{Response}
 use Rattle.gateway_core.specs.Step.{State, Item, Answer, said, Effect, telegram_effect, effect_by, Decision, decision_answer, change_in, answer_to, count_of, change_of}
-use Rattle.gateway_core.specs.Refusals.{cause_in}
+use Rattle.gateway_core.specs.Refusals.{as_told, cause_in}
 use Rattle.gateway_core.specs.Run.{needs, needs_help, cause_text}
 use Rattle.gateway_core.specs.Replies.{answer_of}
 use Rattle.gateway_core.specs.Handling.{Sight}
@@ -93,5 +92,4 @@ counts_from counts (Err refusal) = counted counts count.Refused
 -- a device is not learned: full is an answer, and all else a refusal at the write
 abbrev pub Unlearned : LearnFault → Result Done Refusal → Type 0
 Unlearned fault.Full result = (done : Done) × (result ≡ Ok done) × Gives done (said (error_text error.Full)) None
-Unlearned fault.Store result = result ≡ Err (AtWrite Store)
-Unlearned fault.Memory result = result ≡ Err (AtWrite Memory)
+Unlearned (fault.Refused why) result = result ≡ Err (AtWrite (as_told why))

@@ -1,9 +1,9 @@
 //! The gateway.
-ghost use Rattle.std.specs.Prelude.{◌≡◌, ◌≢◌, ◌↔◌, [], IfOk, IsTrue, MatchBool, false};
+ghost use Rattle.std.specs.Prelude.{◌≡◌, ◌≢◌, ◌↔◌, [], IfOk, MatchBool, false};
 ghost use Rattle.std.specs.Option.{option_map};
 ghost use Rattle.sqlite.specs.Held.{state};
-ghost use Rattle.sqlite.specs.State.{HasCleanDisk};
 ghost use Rattle.esp3_frames.specs.Framing.{MayBecomePacket};
+ghost use Rattle.device_registry.specs.Holding.{HandsOn};
 ghost use Rattle.gateway_core.specs.Address;
 ghost use Rattle.gateway_core.specs.Calls.{Byte as ByteCall, Moves, Next as NextCall, Order as OrderCall, new_value};
 ghost use Rattle.gateway_core.specs.Replies.{answer_of};
@@ -108,11 +108,12 @@ impl<S: Alter> Gateway<S> {
     {
         self.handler.line(line)
     }
-    /// Hands on the connection of the registry, as it is, with no open transaction.
+
+    /// Hands on the connection of the registry, as it is, with no open transaction. What the gateway knows of devices is
+    /// committed.
     pub fn close(self) -> Connection<S>
         ensures same { result ≡ self.sight.registry }
-        ensures idle { HasCleanDisk (state S.Store self.sight.registry) → IsTrue (state S.Store self.sight.registry).is_open →
-            (state S.Store self.sight.registry).in_transaction ≡ false }
+        ensures hands_on { HandsOn (state S.Store self.sight.registry) }
     {
         let Gateway { handler, .. } = self;
         handler.close()

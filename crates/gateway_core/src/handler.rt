@@ -1,9 +1,9 @@
 //! What the gateway knows, and how it handles one item.
-ghost use Rattle.std.specs.Prelude.{◌≡◌, ◌≤◌, [], ◌∷◌, IfOk, IsTrue, None, Ok, Some, false};
+ghost use Rattle.std.specs.Prelude.{◌≡◌, ◌≤◌, [], ◌∷◌, IfOk, None, Ok, Some};
 ghost use Rattle.sqlite.specs.Held.{state};
-ghost use Rattle.sqlite.specs.State.{HasCleanDisk};
 ghost use Rattle.esp3_frames.specs.Outcome.{packet_of};
 ghost use Rattle.device_registry.specs.Devices.{Devices};
+ghost use Rattle.device_registry.specs.Holding.{HandsOn};
 ghost use Rattle.gateway_core.specs.Counts.{none_counted};
 ghost use Rattle.gateway_core.specs.Desks.{desk_bytes};
 ghost use Rattle.gateway_core.specs.Handling.{Handles};
@@ -98,9 +98,10 @@ fn refused(refusal: Refusal) -> Reply
     ensures { answer_of result ≡ said (cause_text (cause_in refusal)) }
 {
     let (Refusal::Before(cause) | Refusal::AtWrite(cause)) = refusal;
-    let name = match cause {
-        Cause::Memory => ErrorName::Memory,
-        Cause::Store => ErrorName::Store,
+    let name = if cause.is_memory() {
+        ErrorName::Memory
+    } else {
+        ErrorName::Store
     };
     Reply {
         radio: None,
@@ -114,8 +115,7 @@ fn unlearned(fault: LearnFault) -> Result<Done, Refusal>
 {
     match fault {
         LearnFault::Full => Ok(denied(ErrorName::Full)),
-        LearnFault::Store => Err(Refusal::AtWrite(Cause::Store)),
-        LearnFault::Memory => Err(Refusal::AtWrite(Cause::Memory)),
+        LearnFault::Refused(fault) => Err(Refusal::AtWrite(Cause::from(fault))),
     }
 }
 
@@ -148,8 +148,7 @@ impl<S: Alter> Handler<S> {
     /// Hands on the connection of the registry.
     pub fn close(self) -> Connection<S>
         ensures same { result ≡ self.registry }
-        ensures idle { HasCleanDisk (state S.Store self.registry) → IsTrue (state S.Store self.registry).is_open →
-            (state S.Store self.registry).in_transaction ≡ false }
+        ensures hands_on { HandsOn (state S.Store self.registry) }
     {
         let Handler { registry, .. } = self;
         registry.close()

@@ -94,7 +94,8 @@ pub fn calls_leave_a_life<S: Alter>()
     ensures { CallsLeaveALife S.Store }
 {}
 
-/// What a stop leaves while the write of the next item is tried is what a life that is stopped in that item may leave.
+/// What a stop leaves from the moment that the write of the next item is tried, also once it is committed and not yet answered, is
+/// what a life that is stopped in that item may leave.
 pub fn stops_leave_a_life<S: Alter>()
     ensures { StopsLeaveALife S.Store }
 {}

@@ -20,5 +20,4 @@ mod verdict;
 pub use address::is_base;
 pub use gateway::{Gateway, StartFault};
 pub use lines::line::Line;
-pub use refusal::Cause;
 pub use reply::{Desk, Reply};

@@ -4,13 +4,19 @@ ghost use Rattle.std.specs.Prelude.{◌≡◌};
 use device_registry::StoreFault;
 use std::alloc::AllocError;
 
-/// What was wanting.
+/// What was wanting: memory, or the store of the registry. Only what the registry or the allocator answered makes one.
 #[derive(Clone, Copy, Debug, PartialEq, Eq)]
-pub enum Cause {
-    /// There is no memory.
-    Memory,
-    /// The store of the registry refused.
-    Store,
+pub struct Cause {
+    is_memory: bool,
+}
+
+impl Cause {
+    /// Whether there was no memory; else the store refused.
+    pub fn is_memory(self) -> bool
+        ensures { result ≡ self.is_memory }
+    {
+        self.is_memory
+    }
 }
 
 /// Whether an item was refused before its write to the registry, or at that write.
@@ -23,23 +29,24 @@ pub enum Refusal {
 }
 
 impl From<StoreFault> for Cause {
-    ghost use Rattle.gateway_core.specs.Refusals.{cause_of};
+    ghost use Rattle.std.specs.Prelude.{◌≡◌};
+    ghost use Rattle.gateway_core.specs.Refusals.{as_told};
 
-    ghost from_gives = { λ fault cause. cause ≡ cause_of fault };
+    ghost from_gives = { λ fault cause. cause ≡ as_told fault };
 
     fn from(fault: StoreFault) -> Cause {
-        match fault {
-            StoreFault::Store => Cause::Store,
-            StoreFault::Memory => Cause::Memory,
+        Cause {
+            is_memory: fault.is_memory(),
         }
     }
 }
 
 impl From<StoreFault> for Refusal {
-    ghost use Rattle.gateway_core.specs.Refusals.{cause_of};
+    ghost use Rattle.std.specs.Prelude.{◌≡◌};
+    ghost use Rattle.gateway_core.specs.Refusals.{as_told};
     ghost use Rattle.gateway_core.specs.declared.refusal.Refusal.TheVariants.{Before};
 
-    ghost from_gives = { λ fault refusal. refusal ≡ Before (cause_of fault) };
+    ghost from_gives = { λ fault refusal. refusal ≡ Before (as_told fault) };
 
     fn from(fault: StoreFault) -> Refusal {
         Refusal::Before(Cause::from(fault))
@@ -47,12 +54,13 @@ impl From<StoreFault> for Refusal {
 }
 
 impl From<AllocError> for Refusal {
-    ghost use Rattle.gateway_core.specs.declared.refusal.Cause.TheVariants.{Memory};
+    ghost use Rattle.std.specs.Prelude.{◌≡◌};
+    ghost use Rattle.gateway_core.specs.Refusals.{no_memory};
     ghost use Rattle.gateway_core.specs.declared.refusal.Refusal.TheVariants.{Before};
 
-    ghost from_gives = { λ _ refusal. refusal ≡ Before Memory };
+    ghost from_gives = { λ _ refusal. refusal ≡ Before no_memory };
 
     fn from(_error: AllocError) -> Refusal {
-        Refusal::Before(Cause::Memory)
+        Refusal::Before(Cause { is_memory: true })
     }
 }

@@ -1,4 +1,5 @@
 -- What the program says of a call that was refused.
+use Rattle.std.specs.Prelude.{if◌then◌else◌}
 use Rattle.device_registry.specs.declared.fault.OpenFault.{OpenFault}
 use Rattle.device_registry.specs.declared.fault.OpenFault.TheVariants as opening
 use Rattle.sqlite.specs.declared.error.Error.{Error}
@@ -15,8 +16,7 @@ fault_of_store error = fault.Store
 
 abbrev pub fault_of_open : OpenFault → Fault
 fault_of_open opening.NotARegistry = fault.NotARegistry
-fault_of_open opening.Store = fault.Store
-fault_of_open opening.Memory = fault.Memory
+fault_of_open (opening.Refused why) = if why.is_memory then fault.Memory else fault.Store
 
 abbrev pub fault_of_run : RunFault → Fault
 fault_of_run Read = fault.Read

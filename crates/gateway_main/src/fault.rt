@@ -61,8 +61,8 @@ impl From<OpenFault> for Fault {
     fn from(refused: OpenFault) -> Fault {
         match refused {
             OpenFault::NotARegistry => Fault::NotARegistry,
-            OpenFault::Store => Fault::Store,
-            OpenFault::Memory => Fault::Memory,
+            OpenFault::Refused(why) if why.is_memory() => Fault::Memory,
+            OpenFault::Refused(_) => Fault::Store,
         }
     }
 }

@@ -1,6 +1,8 @@
 //! A gateway's engine, which replays a script from a reader to a writer, and the command line of the program `enogate`.
 #![tactic(auto)]
 
+#[cfg(test)]
+mod cache_tests;
 pub mod command_line;
 #[cfg(test)]
 mod cut_tests;
@@ -10,8 +12,6 @@ mod gateway_tests;
 pub mod laws;
 mod lines;
 mod pieces;
-#[cfg(test)]
-mod registry_tests;
 mod replaying;
 mod running;
 mod sink;

@@ -1,5 +1,7 @@
 //! The program.
-ghost use Rattle.std.specs.Prelude.{◌≡◌, true};
+ghost use Rattle.std.specs.Prelude.{◌≡◌, true, false, IsTrue};
+ghost use Rattle.sqlite.specs.Held.{state};
+ghost use Rattle.sqlite.specs.State.{HasCleanDisk};
 ghost use Rattle.gateway_core.specs.Address;
 
 use crate::command_line::{self, Options, Refused};
@@ -65,7 +67,8 @@ fn serve<S: Alter + Drop>(
     conn: Connection<S>,
     base: u32,
 ) -> Result<(Connection<S>, Result<(), Fault>), Fault>
-    requires { Address.is_base base ≡ true }
+    requires base { Address.is_base base ≡ true }
+    requires idle { HasCleanDisk (state S.Store conn) → IsTrue (state S.Store conn).is_open → (state S.Store conn).in_transaction ≡ false }
 {
     let mut gateway = start(rt.alloc(), conn, base)?;
     let mut reader = OverRead::new(rt.stdin());

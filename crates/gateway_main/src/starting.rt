@@ -1,5 +1,5 @@
 //! A gateway over a database.
-ghost use Rattle.std.specs.Prelude.{◌≡◌, true, IfOk};
+ghost use Rattle.std.specs.Prelude.{◌≡◌, true, false, IsTrue, IfOk};
 ghost use Rattle.sqlite.specs.Held.{state};
 ghost use Rattle.sqlite.specs.State.{HasCleanDisk};
 ghost use Rattle.gateway_core.specs.Address;
@@ -12,6 +12,9 @@ use gateway_core::{Gateway, StartFault};
 use sqlite::{Alter, Connection};
 use std::alloc::Global;
 
+/// How many looked-up senders the registry remembers: room for every device that can be learned, and some others.
+const REMEMBERED: usize = 1024;
+
 /// A gateway for a radio module with this base ID, over the registry that the database holds. A database that holds none of
 /// the registry's tables gets them. Where it is refused, the connection is dropped.
 pub fn start<S: Alter + Drop>(
@@ -19,11 +22,12 @@ pub fn start<S: Alter + Drop>(
     conn: Connection<S>,
     base: u32,
 ) -> Result<Gateway<S>, Fault>
-    requires { Address.is_base base ≡ true }
+    requires base { Address.is_base base ≡ true }
+    requires idle { HasCleanDisk (state S.Store conn) → IsTrue (state S.Store conn).is_open → (state S.Store conn).in_transaction ≡ false }
     ensures idle { IfOk result IsIdle }
     ensures starts { IfOk result (λ gateway. HasCleanDisk (state S.Store gateway.sight.registry) → Starts S.Store conn base gateway.sight) }
 {
-    let registry = Registry::open(alloc, conn)?;
+    let registry = Registry::open_with(alloc, conn, REMEMBERED)?;
     match Gateway::new(alloc, registry, base) {
         Ok(gateway) => Ok(gateway),
         Err(StartFault::Memory) => Err(Fault::Memory),

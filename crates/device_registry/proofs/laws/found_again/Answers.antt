@@ -1,4 +1,4 @@
-use Rattle.device_registry.proofs.TakeLemmas.{found_again}
+use Rattle.device_registry.proofs.OpenCalls.{found_again}
 use Rattle.device_registry.proofs.laws.found_again.Goals as goal
 
 pub returns : goal.returns

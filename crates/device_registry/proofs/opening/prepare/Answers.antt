@@ -1,71 +1,42 @@
-use Rattle.std.proofs.Common.{rules, arith, ◌≡◌, Ok, false, IsTrue}
-use Rattle.sqlite.specs.State.{HasCleanDisk, IsUnchanged}
+use Rattle.std.proofs.Common.{arith, sym, ◌∙◌}
+use Rattle.std.proofs.lemmas.Result.{err_from_is_err_and}
+use Rattle.sqlite.specs.State.{HasCleanDisk}
 use Rattle.sqlite.specs.Held.{state}
-use Rattle.device_registry.specs.Opening.{is_clear, IsTakeable}
-use Rattle.device_registry.proofs.TakingLemmas.{free_found}
-use Rattle.device_registry.proofs.TakeLemmas.{begun, begun_stop, ready, taken, taken_stop}
+use Rattle.device_registry.proofs.OpenCalls.{opens_if, registries_if, ready_if, rows_on, refused_first, refused_then}
 use Rattle.device_registry.proofs.opening.prepare.Goals as goal
 
-pub returns-in_err-make-clause-stop : goal.returns-in_err-make-clause-stop
-returns-in_err-make-clause-stop g c =
+pub returns-clause-registries : goal.returns-clause-registries
+returns-clause-registries g c clean =
     let old = state g.S.Store c.args.conn.now in
-    let clear : IsTrue (is_clear old.now.schema) = search rules in
-    begun_stop old (state g.S.Store c.make.new.conn) c.requires.rest clear c.make.ensures.stop
+    let mid = state g.S.Store c.check_idle.new.conn in
+    let new = state g.S.Store c.make_or_take.new.conn in
+    registries_if old mid new (λ trees is_open. g.met.S.Store.settled c.make_or_take.new.conn.store trees is_open) c.make_or_take.result (c.make_or_take.ensures.prepared clean)
 
-pub returns-then-is_clear-clause-prepared : goal.returns-then-is_clear-clause-prepared
-returns-then-is_clear-clause-prepared g c clean =
+pub returns-clause-opens : goal.returns-clause-opens
+returns-clause-opens g c clean =
     let old = state g.S.Store c.args.conn.now in
-    let early : HasCleanDisk old = omega (arith, clean, c.make.ensures.stop.clean) in
-    let clear : IsTrue (is_clear old.now.schema) = search rules in
-    begun old (state g.S.Store c.make.new.conn) (c.requires.rest early) clear (c.in_ok-make.ensures.made clean)
+    let mid = state g.S.Store c.check_idle.new.conn in
+    let new = state g.S.Store c.make_or_take.new.conn in
+    let early : HasCleanDisk mid = omega (arith, clean, c.make_or_take.ensures.stop.clean) in
+    opens_if old mid new (λ trees is_open. g.met.S.Store.settled c.make_or_take.new.conn.store trees is_open) c.make_or_take.result (c.in_ok-check_idle.ensures.same early) (c.make_or_take.ensures.prepared clean)
 
-pub returns-then-is_clear-clause-stop : goal.returns-then-is_clear-clause-stop
-returns-then-is_clear-clause-stop g c =
-    let old = state g.S.Store c.args.conn.now in
-    let clear : IsTrue (is_clear old.now.schema) = search rules in
-    begun_stop old (state g.S.Store c.make.new.conn) c.requires.rest clear c.make.ensures.stop
+pub returns-clause-ready : goal.returns-clause-ready
+returns-clause-ready g c clean = ready_if (state g.S.Store c.check_idle.new.conn) (state g.S.Store c.make_or_take.new.conn) c.make_or_take.result (c.make_or_take.ensures.prepared clean)
 
-pub returns-then-not-branch-clause-refused : goal.returns-then-not-branch-clause-refused
-returns-then-not-branch-clause-refused g c clean why =
+pub returns-clause-rows : goal.returns-clause-rows
+returns-clause-rows g c clean =
     let old = state g.S.Store c.args.conn.now in
-    let early : HasCleanDisk old = omega (arith, clean, c.stands.ensures.stop.clean) in
-    let no : c.stands.result ≡ Ok false = search rules in (
-      c.stands.ensures.other clean no,
-      λ free.
-          let clear : IsTrue (is_clear old.now.schema) = free_found old (c.requires.rest early) free in
-          absurd (search rules),
-    )
+    let mid = state g.S.Store c.check_idle.new.conn in
+    let early : HasCleanDisk mid = omega (arith, clean, c.make_or_take.ensures.stop.clean) in
+    let was = c.in_ok-check_idle.ensures.same early in
+    rows_on c.make_or_take.result old mid (state g.S.Store c.make_or_take.new.conn) was.0 was.1 (c.make_or_take.ensures.rows clean)
 
-pub renew-requires : goal.renew-requires
-renew-requires g c clean =
-    let old = state g.S.Store c.args.conn.now in
-    let early : HasCleanDisk old = omega (arith, clean, c.stands.ensures.stop.clean) in
-    let yes : IsTrue c.in_ok-stands.field-0 = search rules in
-    let it = c.in_ok-stands.ensures.ours clean in
-    ready old (state g.S.Store c.stands.new.conn) (c.requires.rest early) it.0 (it.1 yes)
+pub returns-in_err-check_idle-clause-refused : goal.returns-in_err-check_idle-clause-refused
+returns-in_err-check_idle-clause-refused g c =
+    let why = err_from_is_err_and c.from_residual.result c.from_residual.ensures.1 in
+    rw why.1 (refused_first (state g.S.Store c.args.conn.now) (state g.S.Store c.check_idle.new.conn) why.0 (λ is. let e = sym why.2 ∙ is in cc) c.check_idle.ensures.stop)
 
-pub returns-in_err-renew-clause-stop : goal.returns-in_err-renew-clause-stop
-returns-in_err-renew-clause-stop g c =
-    let old = state g.S.Store c.args.conn.now in
-    let mid = state g.S.Store c.stands.new.conn in
-    let yes : IsTrue c.in_ok-stands.field-0 = search rules in
-    let took : HasCleanDisk mid → IsUnchanged old mid × IsTakeable old.now = λ clean. let it = c.in_ok-stands.ensures.ours clean in (it.0, it.1 yes) in
-    taken_stop old mid (state g.S.Store c.renew.new.conn) c.requires.rest took c.stands.ensures.stop c.renew.ensures.stop
-
-pub returns-clause-prepared : goal.returns-clause-prepared
-returns-clause-prepared g c clean =
-    let old = state g.S.Store c.args.conn.now in
-    let mid = state g.S.Store c.stands.new.conn in
-    let between : HasCleanDisk mid = omega (arith, clean, c.renew.ensures.stop.clean) in
-    let early : HasCleanDisk old = omega (arith, between, c.stands.ensures.stop.clean) in
-    let yes : IsTrue c.in_ok-stands.field-0 = search rules in
-    let it = c.in_ok-stands.ensures.ours between in
-    taken old mid (state g.S.Store c.renew.new.conn) (c.requires.rest early) it.0 (it.1 yes) (c.in_ok-renew.ensures.renewed clean)
-
-pub returns-clause-stop : goal.returns-clause-stop
-returns-clause-stop g c =
-    let old = state g.S.Store c.args.conn.now in
-    let mid = state g.S.Store c.stands.new.conn in
-    let yes : IsTrue c.in_ok-stands.field-0 = search rules in
-    let took : HasCleanDisk mid → IsUnchanged old mid × IsTakeable old.now = λ clean. let it = c.in_ok-stands.ensures.ours clean in (it.0, it.1 yes) in
-    taken_stop old mid (state g.S.Store c.renew.new.conn) c.requires.rest took c.stands.ensures.stop c.renew.ensures.stop
+pub returns-clause-refused : goal.returns-clause-refused
+returns-clause-refused g c =
+    refused_then c.make_or_take.result (state g.S.Store c.args.conn.now) (state g.S.Store c.check_idle.new.conn) (state g.S.Store c.make_or_take.new.conn)
+    c.in_ok-check_idle.ensures.same c.check_idle.ensures.stop c.make_or_take.ensures.stop c.make_or_take.ensures.refused c.make_or_take.ensures.unchanged

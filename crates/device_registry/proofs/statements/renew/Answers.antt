@@ -1,6 +1,9 @@
 use Rattle.sqlite.specs.Held.{state}
-use Rattle.device_registry.proofs.TurnLemmas.{renew_turns}
-use Rattle.device_registry.proofs.VersionLemmas.{renewed_if, renew_stop}
+use Rattle.device_registry.proofs.WritesTurn.{renew_turns}
+use Rattle.device_registry.proofs.VersionWrites.{renewed_if, renew_stop, rows_if}
+use Rattle.std.proofs.Common.{[]}
+use Rattle.device_registry.specs.Tables.{renew_text}
+use Rattle.device_registry.proofs.RefusalKeeps.{executed_if}
 use Rattle.device_registry.proofs.statements.renew.Goals as goal
 
 pub returns-clause-renewed : goal.returns-clause-renewed
@@ -11,3 +14,9 @@ returns-clause-stop g c = renew_stop (state g.S.Store c.args.conn.now) (state g.
 
 pub returns-clause-turns : goal.returns-clause-turns
 returns-clause-turns g c change same = renew_turns change (state g.S.Store c.args.conn.now) (state g.S.Store c.execute.new.self) c.execute.result c.requires same c.execute.ensures.survives c.execute.ensures.runs
+
+pub returns-clause-rows : goal.returns-clause-rows
+returns-clause-rows g c clean = rows_if (state g.S.Store c.args.conn.now) (state g.S.Store c.execute.new.self) c.execute.result (c.execute.ensures.runs clean)
+
+pub returns-clause-remains : goal.returns-clause-remains
+returns-clause-remains g c clean = executed_if renew_text [] (state g.S.Store c.args.conn.now) (state g.S.Store c.execute.new.self) c.execute.result (c.execute.ensures.runs clean)

@@ -1,5 +1,4 @@
-use Rattle.std.proofs.Common.{rules, arith, length, ◌≤◌, ◌≡◌, ◌∷◌, [], IsTrue, pos, ap, sym, subst}
-use Rattle.std.proofs.lemmas.Bool.Decides.{nat_tests}
+use Rattle.std.proofs.Common.{rules, arith, length, ◌≤◌, ◌≡◌, ◌∷◌, [], IsTrue, true, false, ◌∙◌, ◌<◌, ℕ, pos, negsuc, ap, sym, subst}
 use Rattle.sqlite.specs.declared.types.Value.TheVariants.{Int}
 use Rattle.sqlite.specs.State.{HasCleanDisk}
 use Rattle.sqlite.specs.Given.{IsPlain}
@@ -8,9 +7,11 @@ use Rattle.sqlite.specs.Effect.{Database}
 use Rattle.sqlite.specs.Held.{state}
 use Rattle.sqlite.proofs.Callers.{unchanged_then}
 use Rattle.device_registry.specs.Tables.{all_text}
-use Rattle.device_registry.specs.Opening.{ShowsVersion}
-use Rattle.device_registry.proofs.MeaningLemmas.{version_means, all_means}
-use Rattle.device_registry.proofs.WholeLemmas.{whole, version_told, devices_told}
+use Rattle.device_registry.specs.Devices.{most_devices}
+use Rattle.device_registry.specs.Listing.{ShowsVersion, devices_rise}
+use Rattle.device_registry.proofs.ListDevicesMeaning.{all_means}
+use Rattle.device_registry.proofs.VersionMeaning.{version_means}
+use Rattle.device_registry.proofs.RowsRecognized.{whole, version_told, devices_told, rise_told}
 use Rattle.device_registry.proofs.taking.is_whole.Goals as goal
 
 pub rows_of-requires : goal.rows_of-requires
@@ -30,8 +31,8 @@ pub returns-then-not-is_version-clause-other : goal.returns-then-not-is_version-
 returns-then-not-is_version-clause-other g c clean none t it =
     let old = state g.S.Store c.args.conn.now in
     let mid = state g.S.Store c.rows_of.new.conn in
-    let told : c.in_ok-versions.versions.items ≡ (Int (pos 1) ∷ []) ∷ [] = version_told old mid c.in_ok-versions.versions.items t it (c.in_ok-versions.ensures.shown clean).0 in
-    let is_one : IsTrue c.is_version.result = search rules in
+    let told : c.in_ok-versions.versions.items ≡ (Int (pos 1) ∷ Int (pos 1) ∷ []) ∷ [] = version_told old mid c.in_ok-versions.versions.items t it (c.in_ok-versions.ensures.shown clean).0 in
+    let is_one : IsTrue c.is_version.result = c.is_version.ensures.complete (search (rules, told)) in
     absurd (let e = c.if-not-is_version.true in cc)
 
 pub returns-clause-whole : goal.returns-clause-whole
@@ -45,9 +46,23 @@ returns-clause-whole g c clean =
       unchanged_then old mid new first.1 second.1,
       λ yes t.
           let version : ShowsVersion c.in_ok-versions.versions.items = search rules in
-          let few : length c.in_ok-devices.devices.items ≤ 1000 = search rules in
-          whole old mid new c.in_ok-versions.versions.items c.in_ok-devices.devices.items t version first.0 first.1 second.0 few,
+          let few : length c.in_ok-devices.devices.items ≤ most_devices = search rules in
+          let up : devices_rise (negsuc 0) c.in_ok-devices.devices.items ≡ true = search rules in
+          whole old mid new c.in_ok-versions.versions.items c.in_ok-devices.devices.items t version first.0 first.1 second.0 few up,
     )
+
+told_count : (n m : ℕ) → n ≡ m → m ≤ most_devices → most_devices < n → ⊥
+told_count n m e few many = omega arith
+
+pub returns-then-len-gt-MOST_DEVICES-clause-other : goal.returns-then-len-gt-MOST_DEVICES-clause-other
+returns-then-len-gt-MOST_DEVICES-clause-other g c clean none t it =
+    let old = state g.S.Store c.args.conn.now in
+    let mid = state g.S.Store c.rows_of.new.conn in
+    let new = state g.S.Store c.rows_of-2.new.conn in
+    let between : HasCleanDisk mid = omega (arith, clean, c.rows_of-2.ensures.stop.clean) in
+    let count = devices_told old mid new c.in_ok-devices.devices.items t (c.in_ok-versions.ensures.shown between).1 (c.in_ok-devices.ensures.shown clean).0 in
+    let many : most_devices < length c.in_ok-devices.devices.items = search rules in
+    absurd (told_count _ _ count it.few many)
 
 pub returns-clause-other : goal.returns-clause-other
 returns-clause-other g c clean none t it =
@@ -55,6 +70,6 @@ returns-clause-other g c clean none t it =
     let mid = state g.S.Store c.rows_of.new.conn in
     let new = state g.S.Store c.rows_of-2.new.conn in
     let between : HasCleanDisk mid = omega (arith, clean, c.rows_of-2.ensures.stop.clean) in
-    let count = devices_told old mid new c.in_ok-devices.devices.items t (c.in_ok-versions.ensures.shown between).1 (c.in_ok-devices.ensures.shown clean).0 in
-    let few : length c.in_ok-devices.devices.items ≤ 1000 = omega (arith, count, it.few) in
-    absurd (grind (arith, nat_tests, few, none, c.len.ensures))
+    let up = rise_told old mid new c.in_ok-devices.devices.items t it (c.in_ok-versions.ensures.shown between).1 (c.in_ok-devices.ensures.shown clean).0 in
+    let not_up : devices_rise (negsuc 0) c.in_ok-devices.devices.items ≡ false = search (rules, none) in
+    absurd (let e = sym up ∙ not_up in cc)

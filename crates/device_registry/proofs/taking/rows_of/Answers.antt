@@ -3,7 +3,8 @@ use Rattle.sqlite.specs.State.{HasCleanDisk, CommitsShowing}
 use Rattle.sqlite.specs.Held.{state}
 use Rattle.sqlite.proofs.Callers.{never_commits}
 use Rattle.sqlite.proofs.StateLemmas.{survives_weaker}
-use Rattle.device_registry.proofs.WholeLemmas.{shown_if}
+use Rattle.device_registry.proofs.RowsRecognized.{shown_if}
+use Rattle.device_registry.proofs.RefusalKeeps.{queried_if}
 use Rattle.device_registry.proofs.taking.rows_of.Goals as goal
 
 pub returns-clause-shown : goal.returns-clause-shown
@@ -17,3 +18,9 @@ returns-clause-stop g c =
     let old = state g.S.Store c.args.conn.now in
     survives_weaker old (state g.S.Store c.query_all.new.self) (CommitsShowing c.args.sql.now [] old) (λ _. ⊥)
     (λ clean trees commits. never_commits c.args.sql.now [] old trees (c.requires (omega (arith, clean, c.query_all.ensures.survives.clean))) commits) c.query_all.ensures.survives
+
+pub returns-clause-remains : goal.returns-clause-remains
+returns-clause-remains g c clean =
+    let old = state g.S.Store c.args.conn.now in
+    let early : HasCleanDisk old = omega (arith, clean, c.query_all.ensures.survives.clean) in
+    queried_if c.args.sql.now [] old (state g.S.Store c.query_all.new.self) c.query_all.result (c.requires early) (c.query_all.ensures.err clean)

@@ -1,29 +1,33 @@
-use Rattle.std.specs.FinMap.{get}
 use Rattle.sqlite.specs.Held.{state}
-use Rattle.device_registry.proofs.CallLemmas.{keeps, had, keeps_well, on_err, on_both}
+use Rattle.device_registry.proofs.CacheAgreement.{fewer_recalled, recalled, unmoved, found_recalled}
 use Rattle.device_registry.proofs.registry.Registry.find.Goals as goal
 
+-- ---- the sender is remembered
+
 pub invariant_of-self : goal.invariant_of-self
-invariant_of-self g c = keeps_well (state g.S.Store c.self.inside.conn) (state g.S.Store c.look_up.new.conn) c.look_up.ensures.stays c.self.invariant
+invariant_of-self g c = (c.self.invariant.0, fewer_recalled (state g.S.Store c.self.inside.table) c.self.inside.cache.entries c.cached.new.cache.entries c.self.invariant.1 c.cached.ensures.kept)
 
-pub returns-in_err-rows-clause-registries : goal.returns-in_err-rows-clause-registries
-returns-in_err-rows-clause-registries g c = (keeps_well (state g.S.Store c.self.inside.conn) (state g.S.Store c.look_up.new.conn) c.look_up.ensures.stays c.self.invariant).0
+pub returns-in-Some : goal.returns-in-Some
+returns-in-Some g c =
+    let now = state g.S.Store c.self.inside.table in
+    rw (← c.self.view_is) (record {
+      clean = λ clean. clean;
+      registries = c.self.invariant.0;
+      devices = λ clean devices has. (recalled now c.args.id c.in-Some.known clean (c.self.invariant.1 (c.args.id, c.in-Some.known) c.in-Some.ensures.known clean) devices has, unmoved now devices has);
+    })
 
-pub returns-in_err-rows-clause-devices : goal.returns-in_err-rows-clause-devices
-returns-in_err-rows-clause-devices g c clean devices =
-    rw (← c.self.view_is) (λ has. on_err _ _ c.from_residual.result c.from_residual.ensures.0
-    (λ _. keeps (state g.S.Store c.self.inside.conn) (state g.S.Store c.look_up.new.conn) c.look_up.ensures.stays c.self.invariant clean devices has))
+-- ---- it is looked up
 
-pub invariant_of-self-2 : goal.invariant_of-self-2
-invariant_of-self-2 g c = keeps_well (state g.S.Store c.self.inside.conn) (state g.S.Store c.look_up.new.conn) c.look_up.ensures.stays c.self.invariant
+pub invariant_of-self-in-Ok : goal.invariant_of-self-in-Ok
+invariant_of-self-in-Ok g c =
+    let old = state g.S.Store c.self.inside.table in (
+      c.find.ensures.looks_up.registries,
+      found_recalled old (state g.S.Store c.find.new.self) c.args.id c.in-Ok.known c.cached.new.cache.entries c.remember.new.cache.entries c.find.ensures.looks_up.clean c.in-Ok.ensures.ready c.in-Ok.ensures.looks_up.devices
+          (fewer_recalled old c.self.inside.cache.entries c.cached.new.cache.entries c.self.invariant.1 c.cached.ensures.kept) c.remember.ensures,
+    )
 
-pub returns-clause-registries : goal.returns-clause-registries
-returns-clause-registries g c = (keeps_well (state g.S.Store c.self.inside.conn) (state g.S.Store c.look_up.new.conn) c.look_up.ensures.stays c.self.invariant).0
+pub returns-in-Ok : goal.returns-in-Ok
+returns-in-Ok g c = rw (← c.self.view_is) c.in-Ok.ensures.looks_up
 
-pub returns-clause-devices : goal.returns-clause-devices
-returns-clause-devices g c clean devices =
-    let old = state g.S.Store c.self.inside.conn in
-    let new = state g.S.Store c.look_up.new.conn in
-    rw (← c.self.view_is) (λ has. on_both _ _ c.found.result
-    (rw c.deref.ensures.value at c.found.ensures (get devices c.args.id) ((c.in_ok-rows.ensures.found clean).1 devices (had old new c.look_up.ensures.stays c.self.invariant clean (c.in_ok-rows.ensures.found clean).0 devices has)))
-    (keeps old new c.look_up.ensures.stays c.self.invariant clean devices has))
+pub returns-in-Err : goal.returns-in-Err
+returns-in-Err g c = rw (← c.self.view_is) c.in-Err.ensures.looks_up

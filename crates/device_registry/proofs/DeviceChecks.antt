@@ -1,0 +1,63 @@
+-- What the CHECKs of the device table say of a row that passes them.
+use Rattle.std.proofs.Common.{◌≡◌, ◌≤ℤ◌, ℕ, ℤ, pos, negsuc, Bool, true, false, not, ◌&&◌, Some, IsTrue, refl, sym, ap, ◌∙◌, arith}
+use Rattle.std.specs.Ordering.{is_le, is_ge, int_cmp}
+use Rattle.std.proofs.lemmas.Int.{ints}
+use Rattle.sqlite.specs.Collation.TheVariants.{Binary}
+use Rattle.sqlite.specs.declared.types.Value.{Value}
+use Rattle.sqlite.specs.declared.types.Value.TheVariants.{Int}
+use Rattle.sqlite_value.specs.Order.{value_cmp}
+use Rattle.sqlite_value.proofs.OrderLemmas.{value_cmp-Int}
+use Rattle.sqlite_schema.specs.Rules.{passes_checks}
+use Rattle.sqlite_sql.specs.Ops.{binary, is_false, from_truth, truth, and3}
+use Rattle.sqlite_sql.specs.declared.ops.BinaryOp.TheVariants.{Compare, And}
+use Rattle.sqlite_sql.specs.declared.ops.CompareOp.TheVariants.{Le, Ge}
+use Rattle.device_registry.specs.Tables.{device_table}
+use Rattle.device_registry.specs.Devices.{Learned}
+use Rattle.device_registry.specs.Stored.{IsDevice, stored, eep_number, maker_number}
+
+-- the test of a CHECK that a number lies between two
+between : ℤ → ℤ → ℤ → Bool
+between low high n = not (is_false (binary And (binary (Compare Ge Binary) (Int n) (Int low)) (binary (Compare Le Binary) (Int n) (Int high))))
+
+truths : (a b : Bool) → not (is_false (from_truth (and3 (truth (from_truth (Some a))) (truth (from_truth (Some b)))))) ≡ (a && b)
+truths true true = refl
+truths true false = refl
+truths false true = refl
+truths false false = refl
+
+both : (a b : Bool) → (a && b) ≡ true → (a ≡ true) × (b ≡ true)
+both true b h = (refl, h)
+both false b h = absurd cc
+
+at_least : (a b : ℤ) → is_ge (value_cmp (Int a) (Int b)) ≡ true → b ≤ℤ a
+at_least a b h = let e = ap is_ge (sym (value_cmp-Int a b)) ∙ h in grind (arith, ints, e)
+
+at_most : (a b : ℤ) → is_le (value_cmp (Int a) (Int b)) ≡ true → a ≤ℤ b
+at_most a b h = let e = ap is_le (sym (value_cmp-Int a b)) ∙ h in grind (arith, ints, e)
+
+lies_between : (low high n : ℤ) → between low high n ≡ true → (low ≤ℤ n) × (n ≤ℤ high)
+unfolding between binary
+lies_between low high n h =
+    let two = both _ _ (sym (truths (is_ge (value_cmp (Int n) (Int low))) (is_le (value_cmp (Int n) (Int high)))) ∙ h) in
+    (at_least n low two.0, at_most n high two.1)
+
+-- a row that is put in passes them, so it is that of a device
+pub checked : (d id : ℕ) (it : Learned) → passes_checks (device_table d) (stored id it) ≡ true → IsDevice (stored id it)
+unfolding between
+checked d id it h =
+    let sender = both (between (pos 0) (pos 4294967294) (pos id)) _ h in
+    let profile = both (between (pos 0) (pos 16777215) (pos (eep_number it.eep))) _ sender.1 in
+    let maker = both (between (negsuc 0) (pos 2047) (maker_number it.maker)) true profile.1 in
+    let id_lies = lies_between (pos 0) (pos 4294967294) (pos id) sender.0 in
+    let eep_lies = lies_between (pos 0) (pos 16777215) (pos (eep_number it.eep)) profile.0 in
+    record {
+      id = id;
+      id_is = refl;
+      is_sender = omega (arith, ints, id_lies.1);
+      eep = eep_number it.eep;
+      eep_is = refl;
+      is_profile = omega (arith, ints, eep_lies.1);
+      maker = maker_number it.maker;
+      maker_is = refl;
+      is_maker = lies_between (negsuc 0) (pos 2047) (maker_number it.maker) maker.0;
+    }

@@ -1,0 +1,3 @@
+-- The facts about the definitions that proofs of the crates above cite: the laws.
+pub use Rattle.device_registry.proofs.DevicesHeld.{few_are_held}
+pub use Rattle.device_registry.proofs.OpenCalls.{found_again, handed_on}

@@ -1,0 +1,123 @@
+-- What a connection shows after a refusal.
+use Rattle.std.proofs.Common.{◌≡◌, ◌⊎◌, inl, inr, ℕ, List, false, true, Ok, Err, Result, IsTrue, IfErr, OnErr, sym, ap, subst, ◌∙◌, append-nil}
+use Rattle.std.proofs.lemmas.Bool.{cases_Bool}
+use Rattle.sqlite.specs.Order.{Row}
+use Rattle.sqlite.specs.declared.error.Error.{Error}
+use Rattle.sqlite.specs.Clock.{timed}
+use Rattle.sqlite.specs.Listing.{understood}
+use Rattle.sqlite.specs.Effect.{IsDatabase}
+use Rattle.sqlite.specs.State.{State, Executes, ExecutesIn, ExecutesInside, IsNotRun, IsUnchanged, IsRolledBack, KeepsCommit, shows_rows, FailsToQuery, FailsToShow}
+use Rattle.sqlite.specs.Steps.{FailsToCommit}
+use Rattle.sqlite.proofs.Callers.{IsPlain}
+use Rattle.device_registry.specs.Opening.{IsAtRest, Remains}
+use Rattle.device_registry.proofs.OpenCalls.{rests}
+
+pub unchanged_remains : (old new : State) → IsUnchanged old new → Remains old new
+unchanged_remains old new same is_open rest = (rests old new same rest, same.0.now_is)
+
+-- it goes back to what was committed, which is what it showed
+back_at : (old new : State) → IsTrue new.is_open → new.in_transaction ≡ false → new.now ≡ old.now → new.committed ≡ old.committed → IsAtRest old → IsAtRest new × (new.now ≡ old.now)
+back_at old new is_open idle same last rest = (
+  record { is_open = is_open; idle = idle; settled = same ∙ rest.settled ∙ sym last; sound = subst IsDatabase (sym same) rest.sound },
+  same,
+)
+
+pub undone_remains : (old new : State) → IsRolledBack old new → Remains old new
+undone_remains old new back is_open rest =
+    let both = back.undone is_open in
+    back_at old new is_open back.autocommit (both.0 ∙ sym rest.settled) both.1 rest
+
+pub not_run_remains : (sql : List ℕ) (params : Row) (old new : State) (e : Error) → IsNotRun old new sql params e → Remains old new
+unfolding IsNotRun
+not_run_remains sql params old new e (inl h) = unchanged_remains old new h.1
+not_run_remains sql params old new e (inr h) = undone_remains old new h.3
+
+pub not_executed_remains : (sql : List ℕ) (params : Row) (old new : State) (e : Error) → Executes sql params old new (Err e) → Remains old new
+unfolding ExecutesIn
+not_executed_remains sql params old new e (inl h) = not_run_remains sql params old new e h
+not_executed_remains sql params old new e (inr h) = elim (cases_Bool (shows_rows false h.0)) [
+  | inl shows ↦ unchanged_remains old new (rw shows at h.2).1
+  | inr runs ↦ elim (rw runs at h.2) [
+    | inl same ↦ unchanged_remains old new same.1
+    | inr failed ↦ undone_remains old new failed.3
+  ]
+]
+
+pub not_shown_remains : (sql : List ℕ) (params : Row) (old new : State) → IsPlain (understood old.now.schema sql) → (e : Error) → FailsToQuery sql params old new e → Remains old new
+unfolding FailsToQuery
+not_shown_remains sql params old new plain e (inl h) = not_run_remains sql params old new e h
+not_shown_remains sql params old new plain e (inr h) =
+    let none = (subst IsPlain h.1.is plain).0 in
+    unchanged_remains old new (subst (FailsToShow old new sql h.0 (timed params h.0.formats h.1.now) e) none h.2).3
+
+-- what was asked before changed nothing
+pub remains_after : (old mid new : State) → IsUnchanged old mid → Remains mid new → Remains old new
+remains_after old mid new same remains is_open rest = let it = remains is_open (rests old mid same rest) in (it.0, it.1 ∙ same.0.now_is)
+
+-- ---- in an answer
+
+pub err_told : {T E P : Type 0} (r : Result T E) → P → OnErr r P
+err_told (Ok v) p = tt
+err_told (Err e) p = p
+
+-- what an open connection is known to be before it is asked
+pub asked : (old new : State) → (IsTrue old.is_open → IsAtRest old) → (IsTrue new.is_open → IsTrue old.is_open) → Remains old new → IsTrue new.is_open → IsAtRest new × (new.now ≡ old.now)
+asked old new rest was remains is_open = remains is_open (rest (was is_open))
+
+not_run_open : (sql : List ℕ) (params : Row) (old new : State) (e : Error) → IsNotRun old new sql params e → IsTrue new.is_open → IsTrue old.is_open
+unfolding IsNotRun
+not_run_open sql params old new e (inl h) is_open = h.1.0.was_open
+not_run_open sql params old new e (inr h) is_open = h.3.was_open is_open
+
+pub not_run_kept : (sql : List ℕ) (params : Row) (old new : State) (e : Error) → (IsTrue old.is_open → IsAtRest old) → IsNotRun old new sql params e → IsTrue new.is_open → IsAtRest new × (new.now ≡ old.now)
+not_run_kept sql params old new e rest h = asked old new rest (not_run_open sql params old new e h) (not_run_remains sql params old new e h)
+
+pub kept_if : {T E : Type 0} (r : Result T E) (old mid new : State) → IsUnchanged old mid → IsAtRest old → OnErr r (Remains mid new) → OnErr r (IsTrue new.is_open → IsAtRest new × (new.now ≡ old.now))
+kept_if (Ok v) old mid new same rest h = tt
+kept_if (Err e) old mid new same rest h = λ is_open. remains_after old mid new same h is_open rest
+
+pub executed_if : (sql : List ℕ) (params : Row) (old new : State) (r : Result ℕ Error) → Executes sql params old new r → OnErr r (Remains old new)
+executed_if sql params old new (Ok n) h = tt
+executed_if sql params old new (Err e) h = not_executed_remains sql params old new e h
+
+pub queried_if : {V : Type 0} (sql : List ℕ) (params : Row) (old new : State) (r : Result V Error) → IsPlain (understood old.now.schema sql) → IfErr r (FailsToQuery sql params old new) → OnErr r (Remains old new)
+queried_if sql params old new (Ok v) plain h = tt
+queried_if sql params old new (Err e) plain h = not_shown_remains sql params old new plain e h
+
+pub after_if : {V E : Type 0} (r : Result V E) (old mid new : State) → IsUnchanged old mid → OnErr r (Remains mid new) → OnErr r (Remains old new)
+after_if (Ok v) old mid new same h = tt
+after_if (Err e) old mid new same h = remains_after old mid new same h
+
+-- ---- inside a transaction
+
+pub spared_commit : (old new : State) → IsUnchanged old new ⊎ IsRolledBack old new → KeepsCommit old new
+spared_commit old new (inl same) = record { was_open = λ _. same.0.was_open; committed = λ _. same.0.committed_is }
+spared_commit old new (inr back) = record { was_open = back.was_open; committed = λ is_open. (back.undone is_open).1 }
+
+pub then_commit : (old mid new : State) → KeepsCommit old mid → KeepsCommit mid new → KeepsCommit old new
+then_commit old mid new first second = record {
+  was_open = λ is_open. first.was_open (second.was_open is_open);
+  committed = λ is_open. second.committed is_open ∙ first.committed (second.was_open is_open);
+}
+
+pub inside_commit : (sql : List ℕ) (old new : State) (e : Error) → ExecutesInside 0 sql Rattle.std.proofs.Common.[] old new (Err e) → KeepsCommit old new
+inside_commit sql old new e (inl h) = spared_commit old new h.1
+inside_commit sql old new e (inr h) = spared_commit old new (inl h.2)
+
+pub made_commit : (sql : List ℕ) (old new : State) (n : ℕ) → ExecutesInside 0 sql Rattle.std.proofs.Common.[] old new (Ok n) → KeepsCommit old new
+made_commit sql old new n h = record { was_open = λ _. h.1.was_open; committed = λ _. h.1.committed_is }
+
+-- the transaction is ended, from a start at rest
+pub ended_remains : (old start last new : State) → start.committed ≡ old.committed → KeepsCommit start last → IsRolledBack last new → Remains old new
+ended_remains old start last new begun kept back is_open rest =
+    let both = back.undone is_open in
+    let same : last.committed ≡ old.committed = kept.committed (back.was_open is_open) ∙ begun in
+    back_at old new is_open back.autocommit (both.0 ∙ same ∙ sym rest.settled) (both.1 ∙ same) rest
+
+pub uncommitted : (old start last new : State) (e : Error) → start.committed ≡ old.committed → KeepsCommit start last → IsTrue last.in_transaction → FailsToCommit last new e → Remains old new
+uncommitted old start last new e begun kept inside (inl failed) = ended_remains old start last new begun kept failed.3
+uncommitted old start last new e begun kept inside (inr late) = absurd (let e = sym inside ∙ late.1 in cc)
+
+pub commit_if : {V : Type 0} (r : Result V Error) (old start last new : State) → start.committed ≡ old.committed → KeepsCommit start last → IsTrue last.in_transaction → IfErr r (FailsToCommit last new) → OnErr r (Remains old new)
+commit_if (Ok v) old start last new begun kept inside h = tt
+commit_if (Err e) old start last new begun kept inside h = uncommitted old start last new e begun kept inside h

@@ -1,0 +1,45 @@
+-- What holds of every statement that writes rows.
+use Rattle.std.proofs.Common.{◌≡◌, ◌≢◌, ◌⊎◌, inl, inr, ℕ, ℤ, Bool, true, false, not, cond, List, Some, Ok, Err, Result, refl, slice_get}
+use Rattle.sqlite.specs.declared.types.Value.{Value}
+use Rattle.sqlite.specs.declared.types.Value.TheVariants.{Null, Int}
+use Rattle.sqlite.specs.Order.{Row}
+use Rattle.sqlite_sql.specs.Ops.{unary}
+use Rattle.sqlite.specs.Cast.{cast}
+use Rattle.sqlite.specs.Kind.TheVariants.{Integer}
+use Rattle.sqlite.specs.Schema.{Schema}
+use Rattle.sqlite.specs.Table.{Table}
+use Rattle.sqlite_schema.specs.declared.schema.Keys.{Keys}
+use Rattle.sqlite_trees.specs.Tree.{Trees, rowid, has_rowid, without_rowid}
+use Rattle.device_registry.specs.Stored.{RowidsDiffer}
+use Rattle.sqlite_rules.specs.Edit.{Edit, Applies}
+use Rattle.sqlite_catalog.proofs.LayoutLemmas.{ascending_filter}
+use Rattle.device_registry.proofs.TablesAlone.{at_place}
+
+-- the other tables' rows are as they were
+abbrev pub SparesOthers : Schema → ℕ → Trees → Trees → Type 0
+SparesOthers schema tree before after = (i : ℕ) (t : Table) → slice_get schema.tables i ≡ Some t → t.tree ≢ tree → after t.tree ≡ before t.tree
+
+pub spares : (schema : Schema) (keys : Keys) (db next : Trees) (edit : Edit) → Applies schema keys db edit next → SparesOthers schema edit.table.tree db next
+spares schema keys db next edit step i t there other = at_place (λ t. t.tree ≢ edit.table.tree → next t.tree ≡ db t.tree) schema.tables i t step.tables there other
+
+either : (b : Bool) (x : Value) → cond b x x ≡ x
+either true x = refl
+either false x = refl
+
+pub cast_int : (n : ℤ) → cast Integer (Int n) ≡ Int n
+unfolding unary
+cast_int n = either _ (Int n)
+
+pub went : {B E R : Type 0} {b : B} {Stops : E → Type 0} → ((stop : E) × Stops stop × (Ok b ≡ Err stop)) ⊎ R → R
+went (inl stopped) = absurd (let e = stopped.2 in cc)
+went (inr on) = on
+
+pub same_value : {B E : Type 0} {a b : B} → ◌≡◌ {A = Result B E} (Ok a) (Ok b) → a ≡ b
+same_value e = cc
+
+pub cast_none : cast Integer Null ≡ Null
+unfolding unary
+cast_none = either _ Null
+
+pub without_once : (id : ℤ) (rows : List Row) → RowidsDiffer rows → RowidsDiffer (without_rowid id rows)
+without_once id rows once = ascending_filter (λ a b. rowid a ≢ rowid b) (λ r. not (has_rowid id r)) rows once

@@ -1,0 +1,215 @@
+-- What the tests of a schema tell.
+use Rattle.std.proofs.Common.{inl, inr, suc, ◌≡◌, ◌≢◌, ℕ, ◌+◌, ◌==◌, List, [], ◌∷◌, Bool, true, false, not, ◌&&◌, ◌||◌, Some, None, Option, if◌then◌else◌, subst, refl, sym, ap, ◌∙◌, arith, IsTrue, is_some, is_none, slice_get, option_map, option_and_then, codes}
+use Rattle.std.proofs.lemmas.Bool.Decides.{nat_tests}
+use Rattle.std.proofs.lemmas.Bool.{cases_Bool}
+use Rattle.std.specs.List.{AllByRecursion, list_any, list_all, position_from}
+use Rattle.sqlite.specs.Schema.{Schema}
+use Rattle.sqlite.specs.Table.{Table}
+use Rattle.sqlite.specs.Does.{lacks_sequence}
+use Rattle.sqlite_catalog.specs.Change.{is_used}
+use Rattle.sqlite_schema.specs.Names.{same_name, table_named}
+use Rattle.sqlite_trees.proofs.ListLemmas.{all_weaker, all_both}
+use Rattle.device_registry.specs.Tables.{meta_name, device_name}
+use Rattle.device_registry.specs.Stored.{AreSpared, SparesName, KeepsTree, HasTables}
+use Rattle.device_registry.specs.Opening.{IsClear}
+use Rattle.device_registry.specs.Places.{refers, is_referred, is_indexed, lacks_counts, is_clear, is_lone, is_left_alone, if_left_alone, tree_named, trees_in}
+
+both : (a b : Bool) → (a && b) ≡ true → (a ≡ true) × (b ≡ true)
+both true b h = (refl, h)
+both false b h = absurd cc
+
+untrue : (b : Bool) → not b ≡ true → b ≡ false
+untrue true h = absurd cc
+untrue false h = refl
+
+pub none_any : {X : Type 0} (test : X → Bool) (xs : List X) → list_any test xs ≡ false → AllByRecursion (λ x. test x ≡ false) xs
+none_any test [] h = tt
+none_any test (x ∷ xs) h = elim (cases_Bool (test x)) [
+  | inl here ↦ absurd (let e = rw here at h in cc)
+  | inr passed ↦ (passed, none_any test xs (rw passed at h))
+]
+
+pub any_none : {X : Type 0} (test : X → Bool) (xs : List X) → AllByRecursion (λ x. test x ≡ false) xs → list_any test xs ≡ false
+any_none test [] all = refl
+any_none test (x ∷ xs) all = rw all.0 (any_none test xs all.1)
+
+spares : (schema : Schema) (name : List ℕ) → is_referred schema name ≡ false → AllByRecursion (SparesName name) schema.tables
+spares schema name h = all_weaker (λ t. refers name t ≡ false) (SparesName name) (λ t none. none_any (λ reference. same_name reference.parent name) t.references none) schema.tables (none_any (refers name) schema.tables h)
+
+unreferred : (schema : Schema) (name : List ℕ) → AllByRecursion (SparesName name) schema.tables → is_referred schema name ≡ false
+unreferred schema name all = any_none (refers name) schema.tables (all_weaker (SparesName name) (λ t. refers name t ≡ false) (λ t none. any_none (λ reference. same_name reference.parent name) t.references none) schema.tables all)
+
+spared : (schema : Schema) → is_referred schema meta_name ≡ false → is_referred schema device_name ≡ false → AreSpared schema
+spared schema meta devices = all_both (SparesName meta_name) (SparesName device_name) (λ table. SparesName meta_name table × SparesName device_name table) (λ t a b. (a, b)) schema.tables (spares schema meta_name meta) (spares schema device_name devices)
+
+unindexed : (schema : Schema) (tree : ℕ) → is_indexed schema tree ≡ false → AllByRecursion (λ index. index.table ≢ tree) schema.indexes
+unindexed schema tree h = all_weaker (λ index. (index.table == tree) ≡ false) (λ index. index.table ≢ tree) (λ index other. grind (arith, nat_tests, other)) schema.indexes (none_any (λ index. index.table == tree) schema.indexes h)
+
+not_indexed : (schema : Schema) (tree : ℕ) → AllByRecursion (λ index. index.table ≢ tree) schema.indexes → is_indexed schema tree ≡ false
+not_indexed schema tree all = any_none (λ index. index.table == tree) schema.indexes (all_weaker (λ index. index.table ≢ tree) (λ index. (index.table == tree) ≡ false) (λ index other. grind (arith, nat_tests, other)) schema.indexes all)
+
+-- what is found at a place is there, and passes
+record IsFoundAt {X : Type 0} (test : X → Bool) (i at : ℕ) (xs : List X) : Type 0 where
+  k : ℕ
+  at_is : at ≡ i + k
+  it : X
+  there : slice_get xs k ≡ Some it
+  passes : test it ≡ true
+
+placed : {X : Type 0} (test : X → Bool) (i at : ℕ) (xs : List X) → position_from test i xs ≡ Some at → IsFoundAt test i at xs
+placed test i at [] h = absurd (let e = h in cc)
+placed test i at (x ∷ xs) h = elim (cases_Bool (test x)) [
+  | inl here ↦ let e : i ≡ at = (let f = rw here at h in cc) in record { k = 0; at_is = omega (arith, e); it = x; there = refl; passes = here }
+  | inr passed ↦ let it = placed test (i + 1) at xs (rw passed at h) in record { k = suc it.k; at_is = omega (arith, it.at_is); it = it.it; there = it.there; passes = it.passes }
+]
+
+-- the table that a name finds has it
+pub has_name : (schema : Schema) (name : List ℕ) (at : ℕ) (table : Table) → table_named schema name ≡ Some at → slice_get schema.tables at ≡ Some table → same_name table.name name ≡ true
+has_name schema name at table named is =
+    let it = placed (λ t. same_name t.name name) 0 at schema.tables named in
+    let same : at ≡ it.k = omega (arith, it.at_is) in
+    let one : ◌≡◌ (Some it.it) (Some table) = sym it.there ∙ ap (slice_get schema.tables) (sym same) ∙ is in
+    let e : it.it ≡ table = cc in
+    ap (λ (t : Table). same_name t.name name) (sym e) ∙ it.passes
+
+there : (schema : Schema) (name : List ℕ) (o : Option ℕ) → table_named schema name ≡ o → is_some (option_and_then (slice_get schema.tables) o) ≡ is_some o
+there schema name None named = refl
+there schema name (Some at) named =
+    let it = placed (λ t. same_name t.name name) 0 at schema.tables named in
+    let same : at ≡ it.k = omega (arith, it.at_is) in
+    ap (λ k. is_some (slice_get schema.tables k)) same ∙ ap is_some it.there
+
+none_is : (o : Option ℕ) → not (is_some o) ≡ is_none o
+none_is None = refl
+none_is (Some x) = refl
+
+-- the kit's word is the same as ours
+counted : (schema : Schema) → lacks_sequence schema ≡ lacks_counts schema
+counted schema =
+    ap (λ b. list_any (λ t. t.is_counted) schema.tables && not b) (there schema (codes "sqlite_sequence") (table_named schema (codes "sqlite_sequence")) refl)
+    ∙ ap (λ b. list_any (λ t. t.is_counted) schema.tables && b) (none_is (table_named schema (codes "sqlite_sequence")))
+
+pub cleared : (schema : Schema) → IsTrue (is_clear schema) → IsClear schema
+cleared schema h =
+    let a = both _ _ h in
+    let b = both _ _ a.0 in
+    let c = both _ _ b.0 in
+    let d = both _ _ c.0 in
+    record {
+      free_meta = untrue _ d.0;
+      free_devices = untrue _ d.1;
+      spared = spared schema (untrue _ c.1) (untrue _ b.1);
+      counted = counted schema ∙ untrue _ a.1;
+    }
+
+pub is_cleared : (schema : Schema) → IsClear schema → IsTrue (is_clear schema)
+is_cleared schema it =
+    let meta = unreferred schema meta_name (all_weaker _ (SparesName meta_name) (λ x h. h.0) schema.tables it.spared) in
+    let devices = unreferred schema device_name (all_weaker _ (SparesName device_name) (λ x h. h.1) schema.tables it.spared) in
+    rw (it.free_meta, it.free_devices, meta, devices, sym (counted schema) ∙ it.counted) refl
+
+pub record IsLeftAlone (schema : Schema) (meta devices : ℕ) : Type 0 where
+  pub spared : AreSpared schema
+  pub unindexed : AllByRecursion (λ index. (index.table ≢ meta) × (index.table ≢ devices)) schema.indexes
+  pub alone : AllByRecursion (λ table. KeepsTree meta_name meta table × KeepsTree device_name devices table) schema.tables
+
+all_true : {X : Type 0} (test : X → Bool) (xs : List X) → list_all test xs ≡ true → AllByRecursion (λ x. test x ≡ true) xs
+all_true test [] h = tt
+all_true test (x ∷ xs) h = let parts = both (test x) (list_all test xs) h in (parts.0, all_true test xs parts.1)
+
+true_all : {X : Type 0} (test : X → Bool) (xs : List X) → AllByRecursion (λ x. test x ≡ true) xs → list_all test xs ≡ true
+true_all test [] all = refl
+true_all test (x ∷ xs) all = rw all.0 (true_all test xs all.1)
+
+same_tree : (a b : ℕ) → a ≡ b → (a == b) ≡ true
+same_tree a b e = grind (arith, nat_tests)
+
+tree_same : (a b : ℕ) → (a == b) ≡ true → a ≡ b
+tree_same a b e = grind (arith, nat_tests)
+
+lone : (schema : Schema) (name : List ℕ) (tree : ℕ) → is_lone schema name tree ≡ true → AllByRecursion (KeepsTree name tree) schema.tables
+lone schema name tree h = all_weaker (λ t. (not (t.tree == tree) || same_name t.name name) ≡ true) (KeepsTree name tree) (λ t passed is. let e = same_tree t.tree tree is in rw e at passed) schema.tables (all_true (λ t. not (t.tree == tree) || same_name t.name name) schema.tables h)
+
+is_alone : (schema : Schema) (name : List ℕ) (tree : ℕ) → AllByRecursion (KeepsTree name tree) schema.tables → is_lone schema name tree ≡ true
+is_alone schema name tree all = true_all (λ t. not (t.tree == tree) || same_name t.name name) schema.tables (all_weaker (KeepsTree name tree) (λ t. (not (t.tree == tree) || same_name t.name name) ≡ true)
+    (λ t keeps. elim (cases_Bool (t.tree == tree)) [
+      | inl tie ↦ rw (tie, keeps (tree_same t.tree tree tie)) refl
+      | inr apart ↦ rw apart refl
+    ]) schema.tables all)
+
+left_alone : (schema : Schema) (meta devices : ℕ) → is_left_alone schema meta devices ≡ true → IsLeftAlone schema meta devices
+left_alone schema meta devices h =
+    let z = both _ _ h in
+    let y = both _ _ z.0 in
+    let a = both _ _ y.0 in
+    let b = both _ _ a.0 in
+    let c = both _ _ b.0 in
+    record {
+      alone = all_both (KeepsTree meta_name meta) (KeepsTree device_name devices) (λ table. KeepsTree meta_name meta table × KeepsTree device_name devices table) (λ t p q. (p, q)) schema.tables
+          (lone schema meta_name meta y.1) (lone schema device_name devices z.1);
+      spared = spared schema (untrue _ c.0) (untrue _ c.1);
+      unindexed = all_both (λ index. index.table ≢ meta) (λ index. index.table ≢ devices) (λ index. (index.table ≢ meta) × (index.table ≢ devices)) (λ index p q. (p, q)) schema.indexes
+          (unindexed schema meta (untrue _ b.1)) (unindexed schema devices (untrue _ a.1));
+    }
+
+-- the table of this name
+pub record IsNamed (schema : Schema) (name : List ℕ) (tree : ℕ) : Type 0 where
+  pub at : ℕ
+  pub table : Table
+  pub named : table_named schema name ≡ Some at
+  pub there : slice_get schema.tables at ≡ Some table
+  pub is : table.tree ≡ tree
+
+named_at : (schema : Schema) (name : List ℕ) (tree : ℕ) (o : Option ℕ) → table_named schema name ≡ o → option_map (λ (table : Table). table.tree) (option_and_then (slice_get schema.tables) o) ≡ Some tree → IsNamed schema name tree
+named_at schema name tree None named h = absurd (let e = h in cc)
+named_at schema name tree (Some at) named h = got (slice_get schema.tables at) refl h
+  where
+    got : (slot : Option Table) → slice_get schema.tables at ≡ slot → option_map (λ (table : Table). table.tree) slot ≡ Some tree → IsNamed schema name tree
+    got None is h = absurd (let e = h in cc)
+    got (Some table) is h = record { at = at; table = table; named = named; there = is; is = (let e = h in cc) }
+
+-- where the two tables are found
+pub record IsPlaced (schema : Schema) (meta devices : ℕ) : Type 0 where
+  pub meta_is : IsNamed schema meta_name meta
+  pub devices_are : IsNamed schema device_name devices
+  pub alone : IsLeftAlone schema meta devices
+
+pub found : (schema : Schema) (meta devices : ℕ) → trees_in schema ≡ Some (meta, devices) → IsPlaced schema meta devices
+found schema meta devices h = first (tree_named schema meta_name) refl h
+  where
+    third : (m d : ℕ) → tree_named schema meta_name ≡ Some m → tree_named schema device_name ≡ Some d → if_left_alone schema m d ≡ Some (meta, devices) → IsPlaced schema meta devices
+    third m d p q h = elim (cases_Bool (is_left_alone schema m d)) [
+      | inl alone ↦
+          let pair : ◌≡◌ {A = ℕ × ℕ} (m, d) (meta, devices) = (let e = rw alone at h in cc) in
+          let x : m ≡ meta = ap (λ (o : ℕ × ℕ). o.0) pair in
+          let y : d ≡ devices = ap (λ (o : ℕ × ℕ). o.1) pair in
+          record {
+            meta_is = named_at schema meta_name meta (table_named schema meta_name) refl (p ∙ ap Some x);
+            devices_are = named_at schema device_name devices (table_named schema device_name) refl (q ∙ ap Some y);
+            alone = left_alone schema meta devices (subst (λ n. is_left_alone schema n devices ≡ true) x (subst (λ n. is_left_alone schema m n ≡ true) y alone));
+          }
+      | inr other ↦ absurd (let e = rw other at h in cc)
+    ]
+
+    second : (m : ℕ) (o : Option ℕ) → tree_named schema meta_name ≡ Some m → tree_named schema device_name ≡ o → option_and_then (if_left_alone schema m) o ≡ Some (meta, devices) → IsPlaced schema meta devices
+    second m None p q h = absurd (let e = h in cc)
+    second m (Some d) p q h = third m d p q h
+
+    first : (o : Option ℕ) → tree_named schema meta_name ≡ o → option_and_then (λ m. option_and_then (if_left_alone schema m) (tree_named schema device_name)) o ≡ Some (meta, devices) → IsPlaced schema meta devices
+    first None p h = absurd (let e = h in cc)
+    first (Some m) p h = second m (tree_named schema device_name) p refl h
+
+-- and where a registry has them
+pub placed_tables : (schema : Schema) (t : HasTables schema) → trees_in schema ≡ Some (t.meta, t.devices)
+placed_tables schema t =
+    let meta : tree_named schema meta_name ≡ Some t.meta = rw (t.meta_stands.named, t.meta_stands.there) in
+    let devices : tree_named schema device_name ≡ Some t.devices = rw (t.devices_stand.named, t.devices_stand.there) in
+    let a = unreferred schema meta_name (all_weaker _ (SparesName meta_name) (λ x h. h.0) schema.tables t.spared) in
+    let b = unreferred schema device_name (all_weaker _ (SparesName device_name) (λ x h. h.1) schema.tables t.spared) in
+    let c = not_indexed schema t.meta (all_weaker _ (λ index. index.table ≢ t.meta) (λ x h. h.0) schema.indexes t.unindexed) in
+    let d = not_indexed schema t.devices (all_weaker _ (λ index. index.table ≢ t.devices) (λ x h. h.1) schema.indexes t.unindexed) in
+    let m = is_alone schema meta_name t.meta (all_weaker _ (KeepsTree meta_name t.meta) (λ x h. h.0) schema.tables t.alone) in
+    let n = is_alone schema device_name t.devices (all_weaker _ (KeepsTree device_name t.devices) (λ x h. h.1) schema.tables t.alone) in
+    let alone : is_left_alone schema t.meta t.devices ≡ true = rw (a, b, c, d, m, n) refl in
+    let pair : Bool → Option (ℕ × ℕ) = λ b. if b then Some (t.meta, t.devices) else None in
+    ap (option_and_then (λ m. option_and_then (if_left_alone schema m) (tree_named schema device_name))) meta ∙ ap (option_and_then (if_left_alone schema t.meta)) devices ∙ ap pair alone

@@ -1,0 +1,149 @@
+-- From what the store says of a statement to what it does to the registry.
+use Rattle.std.proofs.Common.{◌≡◌, inl, inr, ℕ, List, [], append-nil, OnOk, false, None, Ok, Err, Result, IsTrue, IfOk, IfErr, sym, ap, subst, subst₂, ◌∙◌, arith}
+use Rattle.std.proofs.lemmas.Bool.{cases_Bool}
+use Rattle.sqlite.specs.Order.{Row}
+use Rattle.sqlite_trees.specs.Tree.{Trees}
+use Rattle.sqlite_schema.specs.declared.command.Command.{Command}
+use Rattle.sqlite.specs.declared.error.Error.{Error}
+use Rattle.sqlite.specs.Clock.{timed}
+use Rattle.sqlite.specs.Listing.{understood}
+use Rattle.sqlite.specs.Effect.{IsDatabase}
+use Rattle.sqlite.specs.Schema.{Schema}
+use Rattle.sqlite.specs.State.{State, HasCleanDisk, Survives, Executes, ExecutesIn, CommitsBy, MayCommit, IsNotRun, IsUnchanged, IsRolledBack, shows_rows, Shown, ShowsRows, FailsToQuery, FailsToShow, CommitsShowing}
+use Rattle.sqlite.proofs.Callers.{IsPlain, command_of, statement_of, never_commits}
+use Rattle.device_registry.specs.Stored.{Registers}
+use Rattle.device_registry.specs.Ready.{IsReady, GoesOn, Stays}
+
+module _ (sql : List ℕ) (params : Row) (old : State) (command : Command) (is : command_of (understood old.now.schema sql) ≡ command) (plain : IsPlain (understood old.now.schema sql)) where
+  pub commits_as : (db : Trees) → CommitsBy sql params old db → MayCommit old None command (statement_of sql (understood old.now.schema sql)) params db
+  unfolding CommitsBy
+  commits_as db h =
+      let known = sym h.1.is in
+      let bare = subst IsPlain (sym known) plain in
+      let may = rw (bare.0, bare.1, append-nil params) at h.2 in
+      subst₂ (λ k t. MayCommit old None k t params db) (ap command_of known ∙ is) (ap (statement_of sql) known) may
+
+-- ---- where nothing is written
+
+pub unchanged : (old new : State) → IsUnchanged old new → GoesOn old new
+unchanged old new same is_open = (
+  same.0.was_open,
+  λ devices shows. record {
+    is_open = is_open;
+    idle = same.0.mode ∙ shows.idle;
+    settled = same.0.now_is ∙ shows.settled ∙ sym same.0.committed_is;
+    sound = subst IsDatabase (sym same.0.now_is) shows.sound;
+    registers = subst (λ db. Registers db devices) (sym same.0.now_is) shows.registers;
+  },
+)
+
+undone : (old new : State) → IsRolledBack old new → GoesOn old new
+undone old new back is_open = (
+  back.was_open is_open,
+  λ devices shows.
+      let both = back.undone is_open in
+      let same : new.now ≡ old.now = both.0 ∙ sym shows.settled in
+      record {
+        is_open = is_open;
+        idle = back.autocommit;
+        settled = both.0 ∙ sym both.1;
+        sound = subst IsDatabase (sym same) shows.sound;
+        registers = subst (λ db. Registers db devices) (sym same) shows.registers;
+      },
+)
+
+pub not_run : (sql : List ℕ) (params : Row) (old new : State) (e : Error) → IsNotRun old new sql params e → GoesOn old new
+unfolding IsNotRun
+not_run sql params old new e (inl h) = unchanged old new h.1
+not_run sql params old new e (inr h) = undone old new h.3
+
+pub not_executed : (sql : List ℕ) (params : Row) (old new : State) (e : Error) → Executes sql params old new (Err e) → GoesOn old new
+unfolding ExecutesIn
+not_executed sql params old new e (inl h) = not_run sql params old new e h
+not_executed sql params old new e (inr h) = elim (cases_Bool (shows_rows false h.0)) [
+  | inl shows ↦ unchanged old new (rw shows at h.2).1
+  | inr runs ↦ elim (rw runs at h.2) [
+    | inl same ↦ unchanged old new same.1
+    | inr failed ↦ undone old new failed.3
+  ]
+]
+
+-- ---- queries
+
+module _ (sql : List ℕ) (params : Row) (old new : State) (plain : IsPlain (understood old.now.schema sql)) where
+  pub shown_same : (rows : List Row) → Shown sql params old new rows → IsUnchanged old new
+  unfolding Shown
+  shown_same rows h =
+      let none = (subst IsPlain h.1.is plain).0 in
+      (subst (ShowsRows old new sql h.0 (timed params h.0.formats h.1.now) rows) none h.2).3
+
+  pub not_shown : (e : Error) → FailsToQuery sql params old new e → GoesOn old new
+  unfolding FailsToQuery
+  not_shown e (inl h) = not_run sql params old new e h
+  not_shown e (inr h) =
+      let none = (subst IsPlain h.1.is plain).0 in
+      unchanged old new (subst (FailsToShow old new sql h.0 (timed params h.0.formats h.1.now) e) none h.2).3
+
+-- ---- a call
+
+pub stays_from : (old new : State) → Survives old new (λ _. ⊥) → (HasCleanDisk new → GoesOn old new) → Stays old new
+stays_from old new survives goes_on = record {
+  clean = λ clean. let was : HasCleanDisk old = omega (arith, survives.clean) in was;
+  stop = λ clean trees left. elim (survives.crash clean trees left) [ inl before ↦ before | inr never ↦ absurd never ];
+  goes_on = goes_on;
+}
+
+pub stays_then : (old mid new : State) → Stays old mid → Stays mid new → Stays old new
+stays_then old mid new first second = record {
+  clean = λ clean. first.clean (second.clean clean);
+  stop = λ clean trees left. first.stop (second.clean clean) trees (second.stop clean trees left);
+  goes_on = λ clean is_open. let late = second.goes_on clean is_open in let early = first.goes_on (second.clean clean) late.0 in (early.0, λ devices shows. late.1 devices (early.1 devices shows));
+}
+
+pub ready_on : (old new : State) → GoesOn old new → IsTrue new.is_open → IsReady old → IsReady new
+ready_on old new goes_on is_open ready = record { devices = ready.devices; shows = (goes_on is_open).1 ready.devices ready.shows }
+
+-- a query that was asked of a ready registry
+pub query_stays : {V : Type 0} (sql : List ℕ) (params : Row) (old new : State) (items : V → List Row) (r : Result V Error) → (HasCleanDisk old → IsPlain (understood old.now.schema sql))
+    → Survives old new (CommitsShowing sql params old) → (HasCleanDisk new → IfOk r (λ v. Shown sql params old new (items v))) → (HasCleanDisk new → IfErr r (FailsToQuery sql params old new)) → Stays old new
+query_stays sql params old new items r plain survives shown failed =
+    let early = λ (clean : HasCleanDisk new). let was : HasCleanDisk old = omega (arith, survives.clean) in was in
+    record {
+      clean = early;
+      stop = λ clean trees left. elim (survives.crash clean trees left) [ inl before ↦ before | inr commits ↦ absurd (never_commits sql params old trees (plain (early clean)) commits) ];
+      goes_on = λ clean. goes r (plain (early clean)) (shown clean) (failed clean);
+    }
+  where
+    goes : (r : Result _ Error) → IsPlain (understood old.now.schema sql) → IfOk r (λ v. Shown sql params old new (items v)) → IfErr r (FailsToQuery sql params old new) → GoesOn old new
+    goes (Ok v) known shown failed = unchanged old new (shown_same sql params old new known (items v) shown)
+    goes (Err e) known shown failed = not_shown sql params old new known e failed
+
+pub ok_then : {T E : Type 0} (A B : T → Type 0) (r : Result T E) → ((v : T) → A v → B v) → IfOk r A → IfOk r B
+ok_then A B (Ok v) so it = so v it
+ok_then A B (Err e) so it = tt
+
+-- a statement that was compiled from a plain text is plain
+pub plain_of : (schema : Schema) (text sql : List ℕ) → text ≡ sql → IsPlain (understood schema sql) → IsPlain (understood schema text)
+plain_of schema text sql is plain = subst (λ t. IsPlain (understood schema t)) (sym is) plain
+
+-- and that answered
+pub query_ready : (sql : List ℕ) (params : Row) (old new : State) (rows : List Row) → IsPlain (understood old.now.schema sql) → IsReady old → Shown sql params old new rows → IsReady new
+query_ready sql params old new rows plain ready h = let same = shown_same sql params old new plain rows h in ready_on old new (unchanged old new same) same.0.is_open ready
+
+-- a text that is compiled, which writes nothing
+module _ {V : Type 0} (P : V → Type 0) (sql : List ℕ) (old new : State) where
+  compiled_goes : (r : Result V Error) → IfOk r (λ v. P v × IsUnchanged old new) → IfErr r (λ e. (params : Row) → IsNotRun old new sql params e) → GoesOn old new
+  compiled_goes (Ok v) ok err = unchanged old new ok.1
+  compiled_goes (Err e) ok err = not_run sql [] old new e (err [])
+
+  pub compiled_stays : (r : Result V Error) → Survives old new (λ _. ⊥) → (HasCleanDisk new → IfOk r (λ v. P v × IsUnchanged old new)) → (HasCleanDisk new → IfErr r (λ e. (params : Row) → IsNotRun old new sql params e)) → Stays old new
+  compiled_stays r survives ok err = stays_from old new survives (λ clean. compiled_goes r (ok clean) (err clean))
+
+  pub compiled_text : (r : Result V Error) → IfOk r (λ v. P v × IsUnchanged old new) → IfOk r P
+  compiled_text (Ok v) ok = ok.0
+  compiled_text (Err e) ok = tt
+
+  -- and it tells that the registry is open
+  pub compiled_ready : (r : Result V Error) → IfOk r (λ v. P v × IsUnchanged old new) → (IsTrue old.is_open → IsReady old) → OnOk r (IsReady new)
+  compiled_ready (Ok v) ok ready = ready_on old new (unchanged old new ok.1) ok.1.0.is_open (ready ok.1.0.was_open)
+  compiled_ready (Err e) ok ready = tt

@@ -1,0 +1,11 @@
+use Rattle.std.proofs.Common.{◌≡◌, ◌&&◌, true, ap, sym, ◌∙◌}
+use Rattle.std.specs.List.{list_any}
+use Rattle.device_registry.specs.Listing.{is_line}
+use Rattle.device_registry.specs.Tables.{meta_name, device_name, meta_text, device_text}
+use Rattle.device_registry.proofs.listing.are_ours.Goals as goal
+
+pub returns-then-lists : goal.returns-then-lists
+returns-then-lists c =
+    let rows = c.args.rows.now in
+    let first : list_any (is_line meta_name meta_text) rows ≡ true = ap (λ t. list_any (is_line meta_name t) rows) (sym c.as_bytes.ensures.value) ∙ sym c.lists.ensures ∙ c.if-lists.true in
+    c.lists-then-lists.ensures ∙ ap (λ t. list_any (is_line device_name t) rows) c.as_bytes-then-lists.ensures.value ∙ ap (λ b. b && list_any (is_line device_name device_text) rows) (sym first)

@@ -1,0 +1,97 @@
+//! The devices in the store, with nothing beside it.
+ghost use Rattle.std.specs.Prelude.{◌≡◌, OnOk, Err};
+ghost use Rattle.sqlite.specs.Held.{state};
+ghost use Rattle.sqlite.specs.State.{HasCleanDisk};
+ghost use Rattle.device_registry.specs.Holding.{LooksUp, Learns, Forgets, ListsAll, HandsOn};
+ghost use Rattle.device_registry.specs.Ready.{IsReady};
+
+use crate::device::Device;
+use crate::fault::{LearnFault, StoreFault};
+use crate::receipt::Receipt;
+use crate::rows::{all_listed, found};
+use crate::statements::{delete_or_renew, has_no_room, list, look_up, write};
+use sqlite::{Alter, Connection};
+use std::alloc::Global;
+use std::marker::Model;
+
+/// The learned devices, over a connection that no one else uses. Each answer says besides that the connection is open.
+#[derive(Drop)]
+pub struct DeviceTable<S: Alter> {
+    pub(crate) alloc: Global,
+    pub(crate) conn: Connection<S>,
+}
+
+impl<S: Alter> Model for DeviceTable<S> {
+    ghost use Rattle.sqlite.specs.Held.{Held, held_code, state};
+    ghost use Rattle.sqlite.specs.State.{HasCleanDisk};
+    ghost use Rattle.device_registry.specs.Holding.{AreRegistries};
+    ghost use Rattle.device_registry.specs.Ready.{StaysReady};
+
+    ghost Value = { Held S };
+
+    ghost coded = { held_code S.code };
+
+    ghost view = { λ table. table.conn };
+
+    ghost invariant = { λ table. (HasCleanDisk (state S.Store table.conn) → AreRegistries (state S.Store table.conn).may_leave)
+        × StaysReady (state S.Store table.conn) };
+}
+
+impl<S: Alter> DeviceTable<S> {
+    /// The device of a sender, if it is learned.
+    pub fn find(&mut self, id: u32) -> Result<Option<Device>, StoreFault>
+        ensures looks_up { LooksUp (state S.Store self.old) (state S.Store self.new) id result }
+        ensures ready { HasCleanDisk (state S.Store self.new) → OnOk result (IsReady (state S.Store self.old) × IsReady (state S.Store self.new)) }
+    {
+        let rows = look_up(&mut self.conn, id)?;
+        found(id, &rows)
+    }
+
+    /// Learns a device, in place of what was known of its sender.
+    pub fn learn(&mut self, device: Device) -> Result<Receipt, LearnFault>
+        ensures learns { Learns (state S.Store self.old) (state S.Store self.new) device result }
+        ensures ready { HasCleanDisk (state S.Store self.new) → OnOk result (IsReady (state S.Store self.old) × IsReady (state S.Store self.new)) }
+        ensures ready_if_full { HasCleanDisk (state S.Store self.new) → result ≡ Err LearnFault.Full →
+            IsReady (state S.Store self.old) × IsReady (state S.Store self.new) }
+    {
+        if has_no_room(&mut self.conn, device.id)? {
+            return Err(LearnFault::Full);
+        }
+        write(&mut self.conn, device)?;
+        Ok(Receipt {
+            id: device.id,
+            is_learned: true,
+        })
+    }
+
+    /// Forgets a sender. It commits also where nothing is known of it.
+    pub fn forget(&mut self, id: u32) -> Result<Receipt, StoreFault>
+        ensures forgets { Forgets (state S.Store self.old) (state S.Store self.new) id result }
+        ensures ready { HasCleanDisk (state S.Store self.new) → OnOk result (IsReady (state S.Store self.old) × IsReady (state S.Store self.new)) }
+    {
+        let rows = look_up(&mut self.conn, id)?;
+        delete_or_renew(&mut self.conn, id, &rows)?;
+        Ok(Receipt {
+            id,
+            is_learned: false,
+        })
+    }
+
+    /// All devices, by rising ID.
+    pub fn all(&mut self) -> Result<Vec<Device>, StoreFault>
+        ensures lists { ListsAll (state S.Store self.old) (state S.Store self.new) result }
+        ensures ready { HasCleanDisk (state S.Store self.new) → OnOk result (IsReady (state S.Store self.old) × IsReady (state S.Store self.new)) }
+    {
+        let rows = list(&mut self.conn)?;
+        all_listed(self.alloc, &rows)
+    }
+
+    /// Hands the connection on, as it is.
+    pub fn close(self) -> Connection<S>
+        ensures same { result ≡ self }
+        ensures hands_on { HandsOn (state S.Store self) }
+    {
+        let DeviceTable { alloc: _, conn } = self;
+        conn
+    }
+}

@@ -1,0 +1,7 @@
+//! What the calls do to a database, what is remembered, and what a refusal or a stop leaves.
+mod cache;
+mod databases;
+mod devices;
+mod disks;
+mod given;
+mod stops;

@@ -1,0 +1,224 @@
+//! Disks that refuse a call, and connections over them.
+ghost use Rattle.std.specs.Prelude.{◌≡◌, ◌+◌};
+
+use sqlite::{Connection, FileStore, Files, Options};
+use sqlite_disk::{Crash, Disk, Fuse, Memory, Tally};
+use std::alloc::Global;
+use std::io;
+use std::test::Fail;
+
+/// A disk that tells one write as failed, though its bytes are in the file. Each other call goes as below it.
+#[derive(Drop)]
+pub struct Stumbling<D: Disk> {
+    inner: D,
+    /// Which write from here on is told as failed, the next one being 1, or 0 for none.
+    write: u64,
+    told: u64,
+    syncs: u64,
+}
+
+impl<D: Disk> Stumbling<D> {
+    pub fn new(inner: D, write: u64) -> Stumbling<D> {
+        Stumbling {
+            inner,
+            write,
+            told: 0,
+            syncs: 0,
+        }
+    }
+
+    pub fn inner(&self) -> &D {
+        &self.inner
+    }
+
+    /// How many syncs there were.
+    pub fn syncs(&self) -> u64 {
+        self.syncs
+    }
+
+    pub fn into_inner(self) -> D {
+        let Stumbling {
+            inner,
+            write: _,
+            told: _,
+            syncs: _,
+        } = self;
+        inner
+    }
+}
+
+impl<D: Disk> Disk for Stumbling<D> {
+    ghost seen = { λ s. D.Disk.seen s.inner };
+
+    ghost may_leave = { λ s. D.Disk.may_leave s.inner };
+
+    ghost is_usable = { λ s. D.Disk.is_usable s.inner };
+
+    ghost faults = { λ s. D.Disk.faults s.inner + s.told };
+
+    ghost tally_of = { λ s. D.Disk.tally_of s.inner };
+
+    ghost is_rotten = { λ s. D.Disk.is_rotten s.inner };
+
+    ghost key_of = { λ s. D.Disk.key_of s.inner };
+
+    ghost is_clean = { λ s. D.Disk.is_clean s.inner };
+
+    ghost is_fair = { λ s. D.Disk.is_fair s.inner };
+
+    ghost fair_if_clean = { λ s. D.Disk.fair_if_clean s.inner };
+
+    ghost seen_may_stay = { λ s. D.Disk.seen_may_stay s.inner };
+
+    ghost is_mixing = { λ s. D.Disk.is_mixing s.inner };
+
+    fn mixes(&self) -> bool {
+        self.inner.mixes()
+    }
+
+    fn key(&self) -> u64 {
+        self.inner.key()
+    }
+
+    fn tally(&self) -> Tally {
+        self.inner.tally()
+    }
+
+    fn may_be_used(&self) -> bool {
+        self.inner.may_be_used()
+    }
+
+    fn len(&mut self) -> io::Result<usize> {
+        self.inner.len()
+    }
+
+    fn read_at(&mut self, at: usize, buf: &mut [u8]) -> io::Result<()> {
+        self.inner.read_at(at, buf)
+    }
+
+    fn read_checked(&mut self, key: u64, want: u64, at: usize, buf: &mut [u8]) -> io::Result<()> {
+        self.inner.read_checked(key, want, at, buf)
+    }
+
+    fn write_at(&mut self, at: usize, bytes: &[u8]) -> io::Result<()> {
+        self.inner.write_at(at, bytes)?;
+        let is_told = self.write == 1;
+        self.write = self.write.saturating_sub(1);
+        if is_told {
+            self.told = self.told.saturating_add(1);
+            return Err(io::Error::other("the disk stumbled"));
+        }
+        Ok(())
+    }
+
+    fn set_len(&mut self, len: usize) -> io::Result<()> {
+        self.inner.set_len(len)
+    }
+
+    fn sync(&mut self) -> io::Result<()> {
+        self.syncs = self.syncs.saturating_add(1);
+        self.inner.sync()
+    }
+}
+
+/// The files of all tests over disks: of one type, so that the store is compiled for it alone.
+pub type Disks = Files<Stumbling<Fuse<Memory>>>;
+
+/// The log, or the database file.
+#[derive(Clone, Copy, Debug, PartialEq, Eq)]
+pub enum Which {
+    Log,
+    Database,
+}
+
+/// What a file refuses.
+#[derive(Clone, Copy, Debug, PartialEq, Eq)]
+pub enum Refusal {
+    Nothing,
+    /// Each call but the first ones, of which there are so many.
+    From(u64),
+    /// The write of this number. It is told as failed, though its bytes are in the file.
+    Write(u64),
+}
+
+/// What a stop leaves of what was written and not synced.
+#[derive(Clone, Copy, Debug, PartialEq, Eq)]
+pub enum Stop {
+    /// The process dies: all of it.
+    OfProcess,
+    /// The machine stops: nothing.
+    OfMachine,
+}
+
+fn disk(file: Memory, refusal: Refusal) -> Stumbling<Fuse<Memory>> {
+    match refusal {
+        Refusal::Nothing => Stumbling::new(Fuse::new(file, u64::MAX), 0),
+        Refusal::From(calls) => Stumbling::new(Fuse::new(file, calls), 0),
+        Refusal::Write(write) => Stumbling::new(Fuse::new(file, u64::MAX), write),
+    }
+}
+
+/// New files.
+pub fn empty_files(alloc: Global) -> Disks {
+    Files {
+        log: disk(Memory::new(alloc), Refusal::Nothing),
+        db: disk(Memory::new(alloc), Refusal::Nothing),
+    }
+}
+
+fn copied(alloc: Global, file: &Stumbling<Fuse<Memory>>) -> Result<Memory, Fail> {
+    let mut copy = Memory::new(alloc);
+    copy.write_at(0, file.inner().inner().bytes())?;
+    copy.sync()?;
+    Ok(copy)
+}
+
+/// New files with the bytes of these, one of which refuses.
+pub fn refusing(
+    alloc: Global,
+    files: &Disks,
+    which: Which,
+    refusal: Refusal,
+) -> Result<Disks, Fail> {
+    let log = copied(alloc, &files.log)?;
+    let db = copied(alloc, &files.db)?;
+    Ok(match which {
+        Which::Log => Files {
+            log: disk(log, refusal),
+            db: disk(db, Refusal::Nothing),
+        },
+        Which::Database => Files {
+            log: disk(log, Refusal::Nothing),
+            db: disk(db, refusal),
+        },
+    })
+}
+
+/// A connection that keeps so many pages in memory, or none where the disk refuses.
+pub fn connected(
+    alloc: Global,
+    files: Disks,
+    pages: usize,
+) -> Result<Option<Connection<FileStore<Stumbling<Fuse<Memory>>>>>, Fail> {
+    if !files.may_be_used() {
+        return Err(Fail::from("a sync has failed"));
+    }
+    let mut options = Options::new(7);
+    options.cache_pages = pages;
+    Ok(Connection::open_files(alloc, files, options).ok())
+}
+
+/// The files of a connection as a stop at this moment leaves them. They refuse nothing any more.
+pub fn stopped(conn: Connection<FileStore<Stumbling<Fuse<Memory>>>>, stop: Stop) -> Disks {
+    let Files { log, db } = conn.into_store().close();
+    let mut log = log.into_inner();
+    let mut db = db.into_inner();
+    if stop == Stop::OfMachine {
+        log.crash();
+        db.crash();
+    }
+    Files {
+        log: Stumbling::new(log, 0),
+        db: Stumbling::new(db, 0),
+    }
+}
