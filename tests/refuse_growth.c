@@ -1,8 +1,9 @@
 /* Preloaded, it refuses one growth of memory: the one whose number REFUSE_GROWTH gives, counted from 1. When it does, it makes
-   the empty file that REFUSE_MARK names. */
+   the empty file that REFUSE_MARK names. At the end it writes how many growths there were to the file that COUNT_GROWTHS names. */
 #define _GNU_SOURCE
 #include <errno.h>
 #include <fcntl.h>
+#include <stdio.h>
 #include <stdlib.h>
 #include <unistd.h>
 
@@ -10,9 +11,11 @@ void *__libc_malloc(size_t);
 void *__libc_realloc(void *, size_t);
 void *__libc_memalign(size_t, size_t);
 
+static long count;
+
 static int refused(void)
 {
-    static long chosen = -1, count;
+    static long chosen = -1;
     if (chosen < 0) {
         char *text = getenv("REFUSE_GROWTH");
         chosen = text ? atol(text) : 0;
@@ -47,4 +50,15 @@ int posix_memalign(void **out, size_t align, size_t size)
         return ENOMEM;
     *out = __libc_memalign(align, size);
     return *out ? 0 : ENOMEM;
+}
+
+__attribute__((destructor)) static void tell(void)
+{
+    char *path = getenv("COUNT_GROWTHS"), text[32];
+    if (!path)
+        return;
+    int file = open(path, O_CREAT | O_TRUNC | O_WRONLY, 0600);
+    int length = snprintf(text, sizeof text, "%ld\n", count);
+    if (write(file, text, length) == length)
+        close(file);
 }

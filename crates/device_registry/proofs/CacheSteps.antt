@@ -27,6 +27,12 @@ module _ {V : Type 0} where
   ]
   kept_if (Err b) old new id v ok err e has = inl (subst (λ (c : LruCache ℕ V). Contains c.entries e) err has)
 
+  -- the entry is put, or there is no memory for it
+  pub put_or_not : {A B : Type 0} (r : Result A B) (old new : LruCache ℕ V) (id : ℕ) (v : V) → OnOk r (new ≡ lru_cache (put_entries eqb old id v) old.cap) → OnErr r (new ≡ old)
+      → (new ≡ old) ⊎ (new ≡ lru_cache (put_entries eqb old id v) old.cap)
+  put_or_not (Ok a) old new id v ok err = inr ok
+  put_or_not (Err b) old new id v ok err = inl err
+
   key_all : (P : ℕ → Type 0) (entries : List (ℕ × V)) (e : ℕ × V) → AllByRecursion P (keys_of entries) → Contains entries e → P e.0
   key_all P [] e all has = absurd (Contains-nil e has)
   key_all P (f ∷ entries) e all has = elim (Contains-cons f entries e has) [ inl same ↦ subst (λ (g : ℕ × V). P g.0) same all.0 | inr more ↦ key_all P entries e all.1 more ]

@@ -1,9 +1,8 @@
 -- What the CHECKs of the device table say of a row that passes them.
-use Rattle.std.proofs.Common.{◌≡◌, ◌≤ℤ◌, ℕ, ℤ, pos, negsuc, Bool, true, false, not, ◌&&◌, Some, IsTrue, refl, sym, ap, ◌∙◌, arith}
-use Rattle.std.specs.Ordering.{is_le, is_ge, int_cmp}
+use Rattle.std.proofs.Common.{◌≡◌, ◌≤ℤ◌, ℕ, ℤ, pos, negsuc, Bool, true, false, not, ◌&&◌, Some, refl, sym, ap, ◌∙◌, arith}
+use Rattle.std.specs.Ordering.{is_le, is_ge}
 use Rattle.std.proofs.lemmas.Int.{ints}
 use Rattle.sqlite.specs.Collation.TheVariants.{Binary}
-use Rattle.sqlite.specs.declared.types.Value.{Value}
 use Rattle.sqlite.specs.declared.types.Value.TheVariants.{Int}
 use Rattle.sqlite_value.specs.Order.{value_cmp}
 use Rattle.sqlite_value.proofs.OrderLemmas.{value_cmp-Int}

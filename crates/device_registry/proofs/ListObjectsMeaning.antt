@@ -1,5 +1,5 @@
 -- What the text that lists a database's objects means, where no table or view has the name that it reads.
-use Rattle.std.proofs.Common.{◌≡◌, ℕ, [], ◌∷◌, codes, true, false, None, Err, refl}
+use Rattle.std.proofs.Common.{◌≡◌, [], ◌∷◌, codes, true, false, None, Err, refl}
 use Rattle.sqlite.specs.Term.{col}
 use Rattle.sqlite.specs.Schema.{Schema}
 use Rattle.sqlite.specs.Query.{Query}

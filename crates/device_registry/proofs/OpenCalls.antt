@@ -1,5 +1,5 @@
 -- From the clauses of the calls of an open to the registry.
-use Rattle.std.proofs.Common.{◌≡◌, ◌≢◌, ◌⊎◌, inl, inr, ℕ, Bool, Some, None, Option, Ok, Err, Result, IfOk, IfErr, OnOk, OnErr, refl, sym, ap, subst, ◌∙◌, arith, IsTrue}
+use Rattle.std.proofs.Common.{◌≡◌, ◌≢◌, ◌⊎◌, inl, inr, ℕ, Bool, Some, None, Option, Ok, Err, Result, IfOk, IfErr, OnOk, refl, sym, ap, subst, ◌∙◌, arith, IsTrue}
 use Rattle.sqlite.specs.declared.error.Error.{Error}
 use Rattle.sqlite.specs.Effect.{Database, IsDatabase}
 use Rattle.sqlite.specs.State.{State, IsUnchanged}
@@ -17,7 +17,7 @@ use Rattle.device_registry.specs.Devices.{Devices}
 use Rattle.device_registry.specs.Tables.{meta_name, device_name}
 use Rattle.device_registry.specs.Stored.{HasTables, IsWhole, IsRegistry, Holds, IsHeld, IsBare, devices_in}
 use Rattle.sqlite_rules.specs.Lists.{Has}
-use Rattle.device_registry.specs.Holding.{AreRegistries, Finds, MayFind, Opens}
+use Rattle.device_registry.specs.Holding.{AreRegistries, Finds, Opens}
 use Rattle.device_registry.specs.Ready.{Shows, IsReady, KeepsRows}
 use Rattle.device_registry.specs.Opening.{IsAtRest, IsPrepared, KeepsFound, IsOther, RefusesToOpen, FoundAgain, HandedOn}
 use Rattle.device_registry.specs.Places.{is_clear}

@@ -1,9 +1,7 @@
 -- What the statement that writes the version row as it stands makes of the database.
-use Rattle.std.proofs.Common.{◌&&◌, Bool, true, false, drop, ◌≡◌, ℕ, ℤ, pos, not, List, [], ◌∷◌, map, Some, None, Option, Ok, refl, ap, subst, ◌∙◌, slice_get, arith, is_eq, cond, Equal}
+use Rattle.std.proofs.Common.{◌&&◌, Bool, true, false, drop, ◌≡◌, ℕ, pos, not, List, [], ◌∷◌, map, Some, None, Option, Ok, refl, ap, subst, ◌∙◌, slice_get, is_eq, cond}
 use Rattle.std.specs.List.{flat_map}
 use Rattle.std.specs.List.Sorted.{IsPermutation}
-use Rattle.std.proofs.lemmas.Int.{ints}
-use Rattle.std.proofs.lemmas.Bool.Decides.{nat_tests}
 use Rattle.sqlite.specs.declared.types.Value.{Value}
 use Rattle.sqlite.specs.declared.types.Value.TheVariants.{Null, Int, Real, Text, Blob}
 use Rattle.sqlite_sql.specs.Ops.{is_null}

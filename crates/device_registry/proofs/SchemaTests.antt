@@ -6,7 +6,6 @@ use Rattle.std.specs.List.{AllByRecursion, list_any, list_all, position_from}
 use Rattle.sqlite.specs.Schema.{Schema}
 use Rattle.sqlite.specs.Table.{Table}
 use Rattle.sqlite.specs.Does.{lacks_sequence}
-use Rattle.sqlite_catalog.specs.Change.{is_used}
 use Rattle.sqlite_schema.specs.Names.{same_name, table_named}
 use Rattle.sqlite_trees.proofs.ListLemmas.{all_weaker, all_both}
 use Rattle.device_registry.specs.Tables.{meta_name, device_name}

@@ -1,10 +1,7 @@
 -- The version row, as it is written once, and as it is written again.
-use Rattle.std.proofs.Common.{◌≢◌, drop, ◌&&◌, ◌==◌, Bool, true, false, suc, arith, ◌≡◌, inl, inr, ℕ, pos, List, [], ◌∷◌, Some, None, Option, Ok, Err, Result, OnOk, refl, sym, ap, subst, ◌∙◌, slice_get}
-use Rattle.sqlite.specs.declared.types.Value.TheVariants.{Null, Int}
-use Rattle.sqlite.specs.Order.{Row}
+use Rattle.std.proofs.Common.{◌≢◌, drop, ◌&&◌, ◌==◌, Bool, true, false, suc, arith, ◌≡◌, inl, inr, ℕ, List, [], ◌∷◌, Some, None, Option, Ok, Err, Result, OnOk, refl, sym, ap, subst, ◌∙◌, slice_get}
 use Rattle.sqlite.specs.Schema.{Schema}
 use Rattle.sqlite.specs.Table.{Table}
-use Rattle.sqlite.specs.Cast.{cast_row}
 use Rattle.sqlite.specs.Command.TheVariants.{Insert, Update}
 use Rattle.sqlite.specs.Source.TheVariants.{Values}
 use Rattle.sqlite.specs.declared.run.Mode.{Mode}
@@ -32,7 +29,7 @@ use Rattle.sqlite_schema.specs.declared.schema.Constraint.TheVariants.{Datatype}
 use Rattle.device_registry.proofs.StatementTexts.{program_of, renew_query}
 use Rattle.device_registry.proofs.VersionMeaning.{renew_means, version_terms}
 use Rattle.device_registry.proofs.TablesAlone.{StandsAlone, meta_alone}
-use Rattle.device_registry.proofs.RowWrites.{went, same_value, cast_int, cast_none, SparesOthers, spares}
+use Rattle.device_registry.proofs.RowWrites.{went, same_value, SparesOthers, spares}
 use Rattle.device_registry.proofs.RenewEffect.{version_row, cast_version, renews, version_is}
 use Rattle.device_registry.proofs.DevicesHeld.{renewed_registers}
 use Rattle.device_registry.proofs.StatementSteps.{commits_as}

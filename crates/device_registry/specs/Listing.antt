@@ -1,6 +1,6 @@
 -- For private clauses: what the rows of a query show, as functions.
 use Rattle.std.specs.Prelude.{◌≡◌, ℕ, ℤ, pos, negsuc, List, [], ◌∷◌, Bool, true, false, not, ◌&&◌}
-use Rattle.std.specs.Ordering.{is_eq, is_lt, int_cmp}
+use Rattle.std.specs.Ordering.{is_lt, int_cmp}
 use Rattle.std.specs.Str.{bytes_eq}
 use Rattle.std.specs.List.{list_any}
 use Rattle.sqlite.specs.declared.types.Value.{Value}

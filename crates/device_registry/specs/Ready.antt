@@ -10,6 +10,10 @@ use Rattle.device_registry.specs.Devices.{Devices, Learned, Change, changed, dev
 use Rattle.device_registry.specs.declared.device.Device.{Device}
 use Rattle.device_registry.specs.Stored.{Registers, Holds, natural, eep_of, maker_in}
 
+-- while the disk is honest and the connection is open, no transaction is open
+abbrev pub IsBetweenTransactions : State → Type 0
+IsBetweenTransactions s = HasCleanDisk s → IsTrue s.is_open → s.in_transaction ≡ false
+
 -- the registry is open between two transactions, with these devices
 pub record Shows (s : State) (devices : Devices) : Type 0 where
   pub is_open : IsTrue s.is_open
@@ -21,6 +25,10 @@ pub record Shows (s : State) (devices : Devices) : Type 0 where
 pub record IsReady (s : State) : Type 0 where
   pub devices : Devices
   pub shows : Shows s devices
+
+-- it was ready, and it is
+abbrev pub AreReady : State → State → Type 0
+AreReady old new = IsReady old × IsReady new
 
 -- as long as the disk is honest, an open connection is ready
 abbrev pub StaysReady : State → Type 0

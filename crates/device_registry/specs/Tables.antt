@@ -3,7 +3,6 @@ use Rattle.std.specs.Prelude.{ℕ, true, false, List, [], ◌∷◌, Some, codes
 use Rattle.sqlite.specs.Collation.TheVariants.{Binary}
 use Rattle.sqlite.specs.declared.types.Value.TheVariants.{Null, Int}
 use Rattle.sqlite.specs.Table.{Table}
-use Rattle.sqlite.specs.Schema.{Schema}
 use Rattle.sqlite.specs.Kind.TheVariants.{Integer}
 use Rattle.sqlite.specs.Term.{Term, lit, col, op2}
 use Rattle.sqlite_schema.specs.declared.schema.Column.{Column}
@@ -55,10 +54,6 @@ meta_table tree = keyed_table meta_name tree (key_column (codes "k") ∷ number_
 abbrev pub device_table : ℕ → Table
 device_table tree = keyed_table device_name tree (key_column (codes "id") ∷ number_column (codes "eep") ∷ number_column (codes "maker") ∷ [])
     (between 0 (lit (Int (pos 0))) (lit (Int (pos 4294967294))) ∷ between 2 (lit (Int (pos 0))) (lit (Int (pos 16777215))) ∷ between 3 (lit (Int (negsuc 0))) (lit (Int (pos 2047))) ∷ [])
-
--- the schema of a registry, whose tables lie in these trees
-abbrev pub registry_schema : ℕ → ℕ → Schema
-registry_schema meta devices = record { tables = meta_table meta ∷ device_table devices ∷ []; indexes = []; views = [] }
 
 abbrev pub learn_text : List ℕ
 learn_text = codes "INSERT OR REPLACE INTO enogate_device (id, eep, maker) VALUES (?1, ?2, ?3)"

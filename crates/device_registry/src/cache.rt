@@ -1,5 +1,7 @@
 //! What is remembered of looked-up senders, known or not.
-ghost use Rattle.std.specs.Prelude.{◌≡◌, ◌≢◌, ◌≤◌, ◌⊎◌, [], IfSome, IfOk, Contains};
+ghost use Rattle.std.specs.Prelude.{◌≡◌, ◌≢◌, ◌≤◌, ◌⊎◌, [], nat_eq, IfSome, OnSome, IfNone, IfOk, Contains};
+ghost use Rattle.std.specs.Map.{remove_entry};
+ghost use Rattle.lru.specs.LruCache.{lru_cache, promoted, put_entries};
 
 use crate::device::Device;
 use lru::LruCache;
@@ -21,23 +23,30 @@ pub fn new_cache(alloc: Global, most: usize) -> Result<Cache, AllocError>
 pub fn cached(cache: &mut Cache, id: u32) -> Option<Option<Device>>
     ensures known { IfSome result (λ known. Contains cache.old.entries (id, known)) }
     ensures kept { (entry : _) → Contains cache.new.entries entry → Contains cache.old.entries entry }
+    ensures first { OnSome result (cache.new.entries ≡ promoted (nat_eq id) cache.old.entries) }
+    ensures unknown { IfNone result (cache.new.entries ≡ cache.old.entries) }
 {
     let known = *cache.peek(&id)?;
     cache.promote(&id);
     Some(known)
 }
 
-/// Remembers a sender, unless there is no memory for it.
+/// Remembers a sender in place of the one of longest ago, unless there is no memory for it: then the cache is as it
+/// was.
 pub fn remember(cache: &mut Cache, id: u32, known: Option<Device>)
-    ensures { (entry : _) → Contains cache.new.entries entry → Contains cache.old.entries entry ⊎ (entry ≡ (id, known)) }
+    ensures put { (cache.new ≡ cache.old) ⊎ (cache.new ≡ lru_cache (put_entries nat_eq cache.old id known) cache.old.cap) }
+    ensures kept { (entry : _) → Contains cache.new.entries entry →
+        Contains cache.old.entries entry ⊎ (entry ≡ (id, known)) }
 {
     let _replaced = cache.put(id, known);
 }
 
 /// Forgets what is remembered of a sender.
 pub fn forget_entry(cache: &mut Cache, id: u32)
-    ensures { (entry : _) → Contains cache.new.entries entry → Contains cache.old.entries entry × (entry.0 ≢ id) }
+    ensures gone { cache.new.entries ≡ remove_entry (nat_eq id) cache.old.entries }
+    ensures kept { (entry : _) → Contains cache.new.entries entry → Contains cache.old.entries entry × (entry.0 ≢ id) }
 {
+    // The proof asks for the length: it tells that no sender stands in the cache twice.
     let _len = cache.len();
     let _known = cache.pop(&id);
 }

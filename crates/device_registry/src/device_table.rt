@@ -3,7 +3,7 @@ ghost use Rattle.std.specs.Prelude.{◌≡◌, OnOk, Err};
 ghost use Rattle.sqlite.specs.Held.{state};
 ghost use Rattle.sqlite.specs.State.{HasCleanDisk};
 ghost use Rattle.device_registry.specs.Holding.{LooksUp, Learns, Forgets, ListsAll, HandsOn};
-ghost use Rattle.device_registry.specs.Ready.{IsReady};
+ghost use Rattle.device_registry.specs.Ready.{AreReady};
 
 use crate::device::Device;
 use crate::fault::{LearnFault, StoreFault};
@@ -41,7 +41,8 @@ impl<S: Alter> DeviceTable<S> {
     /// The device of a sender, if it is learned.
     pub fn find(&mut self, id: u32) -> Result<Option<Device>, StoreFault>
         ensures looks_up { LooksUp (state S.Store self.old) (state S.Store self.new) id result }
-        ensures ready { HasCleanDisk (state S.Store self.new) → OnOk result (IsReady (state S.Store self.old) × IsReady (state S.Store self.new)) }
+        ensures ready { HasCleanDisk (state S.Store self.new) → OnOk result (AreReady (state S.Store self.old)
+            (state S.Store self.new)) }
     {
         let rows = look_up(&mut self.conn, id)?;
         found(id, &rows)
@@ -50,9 +51,10 @@ impl<S: Alter> DeviceTable<S> {
     /// Learns a device, in place of what was known of its sender.
     pub fn learn(&mut self, device: Device) -> Result<Receipt, LearnFault>
         ensures learns { Learns (state S.Store self.old) (state S.Store self.new) device result }
-        ensures ready { HasCleanDisk (state S.Store self.new) → OnOk result (IsReady (state S.Store self.old) × IsReady (state S.Store self.new)) }
+        ensures ready { HasCleanDisk (state S.Store self.new) → OnOk result (AreReady (state S.Store self.old)
+            (state S.Store self.new)) }
         ensures ready_if_full { HasCleanDisk (state S.Store self.new) → result ≡ Err LearnFault.Full →
-            IsReady (state S.Store self.old) × IsReady (state S.Store self.new) }
+            AreReady (state S.Store self.old) (state S.Store self.new) }
     {
         if has_no_room(&mut self.conn, device.id)? {
             return Err(LearnFault::Full);
@@ -67,7 +69,8 @@ impl<S: Alter> DeviceTable<S> {
     /// Forgets a sender. It commits also where nothing is known of it.
     pub fn forget(&mut self, id: u32) -> Result<Receipt, StoreFault>
         ensures forgets { Forgets (state S.Store self.old) (state S.Store self.new) id result }
-        ensures ready { HasCleanDisk (state S.Store self.new) → OnOk result (IsReady (state S.Store self.old) × IsReady (state S.Store self.new)) }
+        ensures ready { HasCleanDisk (state S.Store self.new) → OnOk result (AreReady (state S.Store self.old)
+            (state S.Store self.new)) }
     {
         let rows = look_up(&mut self.conn, id)?;
         delete_or_renew(&mut self.conn, id, &rows)?;
@@ -80,7 +83,8 @@ impl<S: Alter> DeviceTable<S> {
     /// All devices, by rising ID.
     pub fn all(&mut self) -> Result<Vec<Device>, StoreFault>
         ensures lists { ListsAll (state S.Store self.old) (state S.Store self.new) result }
-        ensures ready { HasCleanDisk (state S.Store self.new) → OnOk result (IsReady (state S.Store self.old) × IsReady (state S.Store self.new)) }
+        ensures ready { HasCleanDisk (state S.Store self.new) → OnOk result (AreReady (state S.Store self.old)
+            (state S.Store self.new)) }
     {
         let rows = list(&mut self.conn)?;
         all_listed(self.alloc, &rows)

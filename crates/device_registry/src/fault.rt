@@ -5,7 +5,8 @@ use crate::device::Device;
 use sqlite::{Error, ErrorCode};
 use std::alloc::{AllocError, AllocFailed};
 
-/// Why the store does not answer: it had no memory, or it refused. Only what the store or the allocator answered makes one.
+/// Why the store does not answer: there was no memory, or it refused. It is made by conversion alone, from an error
+/// of the store or the allocator.
 #[derive(Clone, Copy, Debug, PartialEq, Eq)]
 pub struct StoreFault {
     is_memory: bool,

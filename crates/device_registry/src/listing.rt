@@ -67,7 +67,8 @@ pub fn is_version(rows: &[Row]) -> bool
 
 /// The first number of the row, where it is above this one.
 fn number_above(row: &Row, last: i64) -> Option<i64>
-    ensures { MatchOption result (is_above last (column row.now 0) ≡ false) (λ n. (column row.now 0 ≡ Int n) × (is_above last (column row.now 0) ≡ true)) }
+    ensures { MatchOption result (is_above last (column row.now 0) ≡ false) (λ n. (column row.now 0 ≡ Int n) ×
+        (is_above last (column row.now 0) ≡ true)) }
 {
     match row.get_ref(0) {
         Ok(ValueRef::Int(id)) if last < id => Some(id),
@@ -77,7 +78,8 @@ fn number_above(row: &Row, last: i64) -> Option<i64>
 
 /// The sender of the row, where it shows a device in its ranges whose sender is above this one.
 fn device_above(row: &Row, last: i64) -> Option<i64>
-    ensures { MatchOption result (shows_device last row.now ≡ false) (λ n. (column row.now 0 ≡ Int n) × (shows_device last row.now ≡ true)) }
+    ensures { MatchOption result (shows_device last row.now ≡ false) (λ n. (column row.now 0 ≡ Int n) ×
+        (shows_device last row.now ≡ true)) }
 {
     let id = number_above(row, last)?;
     let is_device = is_within(row, 0, 0, LAST_SENDER)

@@ -15,10 +15,12 @@ use sqlite::{Alter, Connection, Error};
 /// Makes the two tables and writes the version row, in one transaction.
 pub fn make<S: Alter>(conn: &mut Connection<S>) -> Result<(), Error>
     requires idle { conn.old.in_transaction ≡ false }
-    requires clear { HasCleanDisk (state S.Store conn.old) → IsTrue (is_clear (state S.Store conn.old).now.schema) × IsDatabase (state S.Store conn.old).now }
+    requires clear { HasCleanDisk (state S.Store conn.old) → IsTrue (is_clear (state S.Store conn.old).now.schema) ×
+        IsDatabase (state S.Store conn.old).now }
     ensures made { HasCleanDisk (state S.Store conn.new) → OnOk result (Shows (state S.Store conn.new) empty) }
     ensures stop { Survives (state S.Store conn.old) (state S.Store conn.new) (λ trees. Holds trees empty) }
-    ensures remains { HasCleanDisk (state S.Store conn.new) → OnErr result (Remains (state S.Store conn.old) (state S.Store conn.new)) }
+    ensures remains { HasCleanDisk (state S.Store conn.new) → OnErr result (Remains (state S.Store conn.old)
+        (state S.Store conn.new)) }
 {
     let mut making = conn.transaction();
     making.execute(CREATE_META, &[])?;

@@ -1,8 +1,8 @@
 //! The receipt of a change.
 ghost use Rattle.std.specs.Prelude.{◌≡◌};
 
-/// That a change is committed. Only `Registry::learn` and `Registry::forget` make one, and it cannot be let go: it has to
-/// be spent.
+/// That a change is committed. Only `Registry::learn` and `Registry::forget` make one, and it cannot be let go: it
+/// has to be spent.
 pub struct Receipt {
     pub(crate) id: u32,
     pub(crate) is_learned: bool,

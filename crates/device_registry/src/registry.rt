@@ -11,9 +11,9 @@ use crate::receipt::Receipt;
 use sqlite::{Alter, Connection};
 use std::marker::Model;
 
-/// The learned devices, over a connection that no one else uses, and the senders that were looked up last, known or not. What
-/// is remembered is answered with no call of the store. It is forgotten where the store does not answer, so it tells that the
-/// connection is open.
+/// The learned devices, over a connection that no one else uses, and a cache of the senders that were looked up last,
+/// known or not. A sender in the cache is answered with no call of the store. The cache is emptied where the store
+/// does not answer, so an entry tells that the connection is open.
 #[derive(Drop)]
 pub struct Registry<S: Alter> {
     pub(crate) table: DeviceTable<S>,

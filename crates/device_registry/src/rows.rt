@@ -53,7 +53,8 @@ fn device_at(id: u32, row: &Row, at: usize) -> Result<Device, StoreFault>
 
 /// The device of a sender, whose rows these are.
 pub(crate) fn found(id: u32, rows: &[Row]) -> Result<Option<Device>, StoreFault>
-    ensures { (known : Option Learned) → AreFound known rows.now → IfOk result (λ found. found ≡ option_map (device id) known) }
+    ensures { (known : Option Learned) → AreFound known rows.now → IfOk result
+        (λ found. found ≡ option_map (device id) known) }
 {
     match rows.first() {
         Some(row) => Ok(Some(device_at(id, row, 0)?)),

@@ -1,5 +1,5 @@
-//! The registry's statements, each text in one function. A call begins with a text that is compiled, which tells whether the
-//! connection is open: nothing is known of what a shut one writes.
+//! The registry's statements, each text in one function. A call begins with a text that is compiled, which tells
+//! whether the connection is open: nothing is known of what a shut one writes.
 ghost use Rattle.std.specs.Prelude.{◌≡◌, [], ◌∷◌, map, pos, false, IsTrue, OnOk, OnErr, IfOk, IfErr};
 ghost use Rattle.std.specs.FinMap.{get};
 ghost use Rattle.sqlite.specs.declared.types.Value.TheVariants.{Int};
@@ -33,9 +33,14 @@ fn rows_of<S: Alter>(
     statement: &Statement,
     id: i64,
 ) -> Result<Vec<Row>, Error>
-    ensures shown { HasCleanDisk (state S.Store conn.new) → IfOk result (λ rows. Shown statement.now.text (Int id ∷ []) (state S.Store conn.old) (state S.Store conn.new) rows.items) }
-    ensures failed { HasCleanDisk (state S.Store conn.new) → IfErr result (FailsToQuery statement.now.text (Int id ∷ []) (state S.Store conn.old) (state S.Store conn.new)) }
-    ensures survives { Survives (state S.Store conn.old) (state S.Store conn.new) (CommitsShowing statement.now.text (Int id ∷ []) (state S.Store conn.old)) }
+    ensures shown { HasCleanDisk (state S.Store conn.new) → IfOk result
+        (λ rows. Shown statement.now.text (Int id ∷ []) (state S.Store conn.old)
+        (state S.Store conn.new) rows.items) }
+    ensures failed { HasCleanDisk (state S.Store conn.new) →
+        IfErr result (FailsToQuery statement.now.text (Int id ∷ []) (state S.Store conn.old)
+        (state S.Store conn.new)) }
+    ensures survives { Survives (state S.Store conn.old) (state S.Store conn.new)
+        (CommitsShowing statement.now.text (Int id ∷ []) (state S.Store conn.old)) }
 {
     statement.query_all(conn, params![id])
 }
@@ -44,7 +49,8 @@ fn rows_of<S: Alter>(
 pub(crate) fn look_up<S: Alter>(conn: &mut Connection<S>, id: u32) -> Result<Vec<Row>, Error>
     requires { StaysReady (state S.Store conn.old) }
     ensures stays { Stays (state S.Store conn.old) (state S.Store conn.new) }
-    ensures found { HasCleanDisk (state S.Store conn.new) → IfOk result (λ rows. IsReady (state S.Store conn.new) × ((devices : Devices) → Shows (state S.Store conn.old) devices → AreFound (get devices id) rows.items)) }
+    ensures found { HasCleanDisk (state S.Store conn.new) → IfOk result (λ rows. IsReady (state S.Store conn.new) ×
+        ((devices : Devices) → Shows (state S.Store conn.old) devices → AreFound (get devices id) rows.items)) }
 {
     let find = compiled(conn, "SELECT eep, maker FROM enogate_device WHERE id = ?1")?;
     rows_of(conn, &find, i64::from(id))
@@ -54,7 +60,8 @@ pub(crate) fn look_up<S: Alter>(conn: &mut Connection<S>, id: u32) -> Result<Vec
 pub(crate) fn has_no_room<S: Alter>(conn: &mut Connection<S>, id: u32) -> Result<bool, StoreFault>
     requires { StaysReady (state S.Store conn.old) }
     ensures stays { Stays (state S.Store conn.old) (state S.Store conn.new) }
-    ensures full { HasCleanDisk (state S.Store conn.new) → IfOk result (λ full. IsReady (state S.Store conn.new) × ((devices : Devices) → Shows (state S.Store conn.old) devices → full ≡ is_full devices id)) }
+    ensures full { HasCleanDisk (state S.Store conn.new) → IfOk result (λ full. IsReady (state S.Store conn.new) ×
+        ((devices : Devices) → Shows (state S.Store conn.old) devices → full ≡ is_full devices id)) }
 {
     let others = compiled(conn, "SELECT count(*) FROM enogate_device WHERE id <> ?1")?;
     let rows = rows_of(conn, &others, i64::from(id))?;
@@ -65,7 +72,8 @@ pub(crate) fn has_no_room<S: Alter>(conn: &mut Connection<S>, id: u32) -> Result
 pub(crate) fn list<S: Alter>(conn: &mut Connection<S>) -> Result<Vec<Row>, Error>
     requires { StaysReady (state S.Store conn.old) }
     ensures stays { Stays (state S.Store conn.old) (state S.Store conn.new) }
-    ensures all { HasCleanDisk (state S.Store conn.new) → IfOk result (λ rows. IsReady (state S.Store conn.new) × ((devices : Devices) → Shows (state S.Store conn.old) devices → map listed rows.items ≡ all_of devices)) }
+    ensures all { HasCleanDisk (state S.Store conn.new) → IfOk result (λ rows. IsReady (state S.Store conn.new) ×
+        ((devices : Devices) → Shows (state S.Store conn.old) devices → map listed rows.items ≡ all_of devices)) }
 {
     let all = compiled(
         conn,
@@ -98,8 +106,10 @@ fn run_learn<S: Alter>(
     eep: i64,
     maker: i64,
 ) -> Result<usize, Error>
-    ensures runs { HasCleanDisk (state S.Store conn.new) → Executes learn_text (Int id ∷ Int eep ∷ Int maker ∷ []) (state S.Store conn.old) (state S.Store conn.new) result }
-    ensures survives { Survives (state S.Store conn.old) (state S.Store conn.new) (CommitsBy learn_text (Int id ∷ Int eep ∷ Int maker ∷ []) (state S.Store conn.old)) }
+    ensures runs { HasCleanDisk (state S.Store conn.new) → Executes learn_text (Int id ∷ Int eep ∷ Int maker ∷ [])
+        (state S.Store conn.old) (state S.Store conn.new) result }
+    ensures survives { Survives (state S.Store conn.old) (state S.Store conn.new)
+        (CommitsBy learn_text (Int id ∷ Int eep ∷ Int maker ∷ []) (state S.Store conn.old)) }
 {
     conn.execute(
         "INSERT OR REPLACE INTO enogate_device (id, eep, maker) VALUES (?1, ?2, ?3)",
@@ -110,7 +120,8 @@ fn run_learn<S: Alter>(
 /// Writes a device, in place of what is known of its sender.
 pub(crate) fn write<S: Alter>(conn: &mut Connection<S>, device: Device) -> Result<usize, Error>
     requires ready { HasCleanDisk (state S.Store conn.old) → IsReady (state S.Store conn.old) }
-    requires room { HasCleanDisk (state S.Store conn.old) → (devices : Devices) → Shows (state S.Store conn.old) devices → is_full devices device.id ≡ false }
+    requires room { HasCleanDisk (state S.Store conn.old) → (devices : Devices) → Shows
+        (state S.Store conn.old) devices → is_full devices device.id ≡ false }
     ensures { Turns (state S.Store conn.old) (state S.Store conn.new) (learned device) result }
 {
     run_learn(
@@ -123,8 +134,10 @@ pub(crate) fn write<S: Alter>(conn: &mut Connection<S>, device: Device) -> Resul
 
 /// Runs the statement that forgets a sender.
 fn run_delete<S: Alter>(conn: &mut Connection<S>, id: i64) -> Result<usize, Error>
-    ensures runs { HasCleanDisk (state S.Store conn.new) → Executes forget_text (Int id ∷ []) (state S.Store conn.old) (state S.Store conn.new) result }
-    ensures survives { Survives (state S.Store conn.old) (state S.Store conn.new) (CommitsBy forget_text (Int id ∷ []) (state S.Store conn.old)) }
+    ensures runs { HasCleanDisk (state S.Store conn.new) → Executes forget_text (Int id ∷ [])
+        (state S.Store conn.old) (state S.Store conn.new) result }
+    ensures survives { Survives (state S.Store conn.old) (state S.Store conn.new)
+        (CommitsBy forget_text (Int id ∷ []) (state S.Store conn.old)) }
 {
     conn.execute("DELETE FROM enogate_device WHERE id = ?1", params![id])
 }
@@ -140,11 +153,16 @@ fn delete<S: Alter>(conn: &mut Connection<S>, id: u32) -> Result<usize, Error>
 /// Writes the version as it stands, so that there is a commit where a change changes nothing.
 pub(crate) fn renew<S: Alter>(conn: &mut Connection<S>) -> Result<usize, Error>
     requires { HasCleanDisk (state S.Store conn.old) → IsReady (state S.Store conn.old) }
-    ensures renewed { HasCleanDisk (state S.Store conn.new) → OnOk result ((devices : Devices) → Shows (state S.Store conn.old) devices → Shows (state S.Store conn.new) devices) }
-    ensures stop { Survives (state S.Store conn.old) (state S.Store conn.new) (λ trees. (devices : Devices) → Shows (state S.Store conn.old) devices → Holds trees devices) }
-    ensures rows { HasCleanDisk (state S.Store conn.new) → OnOk result (IsReady (state S.Store conn.old) → KeepsRows (state S.Store conn.old) (state S.Store conn.new)) }
-    ensures remains { HasCleanDisk (state S.Store conn.new) → OnErr result (Remains (state S.Store conn.old) (state S.Store conn.new)) }
-    ensures turns { (change : Change) → (HasCleanDisk (state S.Store conn.old) → (devices : Devices) → Shows (state S.Store conn.old) devices → changed devices change ≡ devices)
+    ensures renewed { HasCleanDisk (state S.Store conn.new) → OnOk result ((devices : Devices) → Shows
+        (state S.Store conn.old) devices → Shows (state S.Store conn.new) devices) }
+    ensures stop { Survives (state S.Store conn.old) (state S.Store conn.new) (λ trees. (devices : Devices) →
+        Shows (state S.Store conn.old) devices → Holds trees devices) }
+    ensures rows { HasCleanDisk (state S.Store conn.new) → OnOk result (IsReady (state S.Store conn.old) →
+        KeepsRows (state S.Store conn.old) (state S.Store conn.new)) }
+    ensures remains { HasCleanDisk (state S.Store conn.new) → OnErr result (Remains (state S.Store conn.old)
+        (state S.Store conn.new)) }
+    ensures turns { (change : Change) → (HasCleanDisk (state S.Store conn.old) → (devices : Devices) → Shows
+        (state S.Store conn.old) devices → changed devices change ≡ devices)
         → Turns (state S.Store conn.old) (state S.Store conn.new) change result }
 {
     conn.execute("UPDATE enogate_meta SET version = 1", &[])
@@ -157,7 +175,8 @@ pub(crate) fn delete_or_renew<S: Alter>(
     rows: &[Row],
 ) -> Result<usize, Error>
     requires ready { HasCleanDisk (state S.Store conn.old) → IsReady (state S.Store conn.old) }
-    requires found { HasCleanDisk (state S.Store conn.old) → (devices : Devices) → Shows (state S.Store conn.old) devices → AreFound (get devices id) rows.now }
+    requires found { HasCleanDisk (state S.Store conn.old) → (devices : Devices) → Shows
+        (state S.Store conn.old) devices → AreFound (get devices id) rows.now }
     ensures { Turns (state S.Store conn.old) (state S.Store conn.new) (forgotten id) result }
 {
     if rows.is_empty() {

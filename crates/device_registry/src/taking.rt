@@ -17,10 +17,14 @@ use sqlite::{Alter, Connection, Error, Row};
 
 /// The rows that a query with no parameters shows.
 fn rows_of<S: Alter>(conn: &mut Connection<S>, sql: &str) -> Result<Vec<Row>, Error>
-    requires { HasCleanDisk (state S.Store conn.old) → IsPlain (understood (state S.Store conn.old).now.schema sql.now) }
-    ensures shown { HasCleanDisk (state S.Store conn.new) → IfOk result (λ rows. Shown sql.now [] (state S.Store conn.old) (state S.Store conn.new) rows.items × IsUnchanged (state S.Store conn.old) (state S.Store conn.new)) }
+    requires { HasCleanDisk (state S.Store conn.old) → IsPlain (understood
+        (state S.Store conn.old).now.schema sql.now) }
+    ensures shown { HasCleanDisk (state S.Store conn.new) → IfOk result (λ rows. Shown sql.now []
+        (state S.Store conn.old) (state S.Store conn.new) rows.items × IsUnchanged (state S.Store conn.old)
+        (state S.Store conn.new)) }
     ensures stop { Survives (state S.Store conn.old) (state S.Store conn.new) (λ _. ⊥) }
-    ensures remains { HasCleanDisk (state S.Store conn.new) → OnErr result (Remains (state S.Store conn.old) (state S.Store conn.new)) }
+    ensures remains { HasCleanDisk (state S.Store conn.new) → OnErr result (Remains (state S.Store conn.old)
+        (state S.Store conn.new)) }
 {
     conn.query_all(sql, &[])
 }
@@ -28,10 +32,14 @@ fn rows_of<S: Alter>(conn: &mut Connection<S>, sql: &str) -> Result<Vec<Row>, Er
 /// Whether the two tables are listed with our texts.
 fn lists_ours<S: Alter>(conn: &mut Connection<S>) -> Result<bool, Error>
     requires { HasCleanDisk (state S.Store conn.old) → IsDatabase (state S.Store conn.old).now }
-    ensures ours { HasCleanDisk (state S.Store conn.new) → IfOk result (λ yes. IsUnchanged (state S.Store conn.old) (state S.Store conn.new) × (IsTrue yes → AreListed (state S.Store conn.old).now.trees)) }
-    ensures other { HasCleanDisk (state S.Store conn.new) → IsTable ((state S.Store conn.old).now.trees catalog_tree) → result ≡ Ok false → ¬ AreListed (state S.Store conn.old).now.trees }
+    ensures ours { HasCleanDisk (state S.Store conn.new) → IfOk result (λ yes. IsUnchanged (state S.Store conn.old)
+        (state S.Store conn.new) × (IsTrue yes → AreListed (state S.Store conn.old).now.trees)) }
+    ensures other { HasCleanDisk (state S.Store conn.new) →
+        IsTable ((state S.Store conn.old).now.trees catalog_tree) → result ≡ Ok false → ¬ AreListed
+        (state S.Store conn.old).now.trees }
     ensures stop { Survives (state S.Store conn.old) (state S.Store conn.new) (λ _. ⊥) }
-    ensures remains { HasCleanDisk (state S.Store conn.new) → OnErr result (Remains (state S.Store conn.old) (state S.Store conn.new)) }
+    ensures remains { HasCleanDisk (state S.Store conn.new) → OnErr result (Remains (state S.Store conn.old)
+        (state S.Store conn.new)) }
 {
     let rows = rows_of(
         conn,
@@ -43,10 +51,14 @@ fn lists_ours<S: Alter>(conn: &mut Connection<S>) -> Result<bool, Error>
 /// Whether the version is 1, and the other rows are those of devices, not too many.
 fn is_whole<S: Alter>(conn: &mut Connection<S>) -> Result<bool, Error>
     requires { HasCleanDisk (state S.Store conn.old) → HasTables (state S.Store conn.old).now.schema }
-    ensures whole { HasCleanDisk (state S.Store conn.new) → IfOk result (λ yes. IsUnchanged (state S.Store conn.old) (state S.Store conn.new) × (IsTrue yes → (t : HasTables (state S.Store conn.old).now.schema) → IsWhole (state S.Store conn.old).now.trees t.meta t.devices)) }
-    ensures other { HasCleanDisk (state S.Store conn.new) → result ≡ Ok false → (t : HasTables (state S.Store conn.old).now.schema) → ¬ IsWhole (state S.Store conn.old).now.trees t.meta t.devices }
+    ensures whole { HasCleanDisk (state S.Store conn.new) → IfOk result (λ yes. IsUnchanged (state S.Store conn.old)
+        (state S.Store conn.new) × (IsTrue yes → (t : HasTables (state S.Store conn.old).now.schema) →
+        IsWhole (state S.Store conn.old).now.trees t.meta t.devices)) }
+    ensures other { HasCleanDisk (state S.Store conn.new) → result ≡ Ok false → (t : HasTables
+        (state S.Store conn.old).now.schema) → ¬ IsWhole (state S.Store conn.old).now.trees t.meta t.devices }
     ensures stop { Survives (state S.Store conn.old) (state S.Store conn.new) (λ _. ⊥) }
-    ensures remains { HasCleanDisk (state S.Store conn.new) → OnErr result (Remains (state S.Store conn.old) (state S.Store conn.new)) }
+    ensures remains { HasCleanDisk (state S.Store conn.new) → OnErr result (Remains (state S.Store conn.old)
+        (state S.Store conn.new)) }
 {
     let versions = rows_of(conn, "SELECT k, version FROM enogate_meta")?;
     if !is_version(&versions) {
@@ -65,10 +77,13 @@ fn is_whole<S: Alter>(conn: &mut Connection<S>) -> Result<bool, Error>
 /// Whether the database is a registry that may be taken.
 pub fn is_registry<S: Alter>(conn: &mut Connection<S>) -> Result<bool, Error>
     requires { HasCleanDisk (state S.Store conn.old) → IsAtRest (state S.Store conn.old) }
-    ensures ours { HasCleanDisk (state S.Store conn.new) → IfOk result (λ yes. IsUnchanged (state S.Store conn.old) (state S.Store conn.new) × (IsTrue yes → IsRegistry (state S.Store conn.old).now)) }
-    ensures other { HasCleanDisk (state S.Store conn.new) → result ≡ Ok false → ¬ IsOwn (state S.Store conn.old).now.trees }
+    ensures ours { HasCleanDisk (state S.Store conn.new) → IfOk result (λ yes. IsUnchanged (state S.Store conn.old)
+        (state S.Store conn.new) × (IsTrue yes → IsRegistry (state S.Store conn.old).now)) }
+    ensures other { HasCleanDisk (state S.Store conn.new) → result ≡ Ok false → ¬ IsOwn
+        (state S.Store conn.old).now.trees }
     ensures stop { Survives (state S.Store conn.old) (state S.Store conn.new) (λ _. ⊥) }
-    ensures remains { HasCleanDisk (state S.Store conn.new) → OnErr result (Remains (state S.Store conn.old) (state S.Store conn.new)) }
+    ensures remains { HasCleanDisk (state S.Store conn.new) → OnErr result (Remains (state S.Store conn.old)
+        (state S.Store conn.new)) }
 {
     let Some((_meta, _devices)) = trees_in(conn.schema()) else {
         return Ok(false);

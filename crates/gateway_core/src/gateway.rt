@@ -36,8 +36,8 @@ impl From<AllocError> for StartFault {
     }
 }
 
-/// A gateway: what it knows, the packets that wait to be handled, and the bytes behind them, of which one more packet may
-/// come.
+/// A gateway: what it knows, the packets that wait to be handled, and the bytes behind them, of which one more packet
+/// may come.
 #[derive(Drop)]
 pub struct Gateway<S: Alter> {
     handler: Handler<S>,
@@ -109,8 +109,8 @@ impl<S: Alter> Gateway<S> {
         self.handler.line(line)
     }
 
-    /// Hands on the connection of the registry, as it is, with no open transaction. What the gateway knows of devices is
-    /// committed.
+    /// Hands on the connection of the registry, as it is, with no open transaction. What the gateway knows of devices
+    /// is committed.
     pub fn close(self) -> Connection<S>
         ensures same { result ≡ self.sight.registry }
         ensures hands_on { HandsOn (state S.Store self.sight.registry) }

@@ -40,7 +40,8 @@ use std::marker::Model;
 /// The longest line of the desk, in bytes. Own choice.
 const LONGEST: usize = 200;
 
-/// What the gateway knows: the base ID of its radio module, what it has counted, and the registry of the learned devices.
+/// What the gateway knows: the base ID of its radio module, what it has counted, and the registry of the learned
+/// devices.
 #[derive(Drop)]
 pub struct Handler<S: Alter> {
     alloc: Global,

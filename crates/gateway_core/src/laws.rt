@@ -26,8 +26,8 @@ pub fn independent_of_cuts()
     ensures { CutsDoNotMatter }
 {}
 
-/// The items of events that come in two parts: those of the first part, and then those of the second behind its bytes. What
-/// a piece brings hangs on the rest of the stream alone.
+/// The items of events that come in two parts: those of the first part, and then those of the second behind its
+/// bytes. What a piece brings hangs on the rest of the stream alone.
 pub fn items_in_parts()
     ensures items { (stream : List ℕ) (events more : List Event) →
         items_of stream (events ++ more) ≡ items_of stream events ++ items_of (stream ++ bytes_in events) more }
@@ -46,8 +46,8 @@ pub fn same_fates()
     ensures { SameFates }
 {}
 
-/// However the bytes between two lines are cut into pieces, the answers are the same where the same items are refused, each
-/// for the same cause.
+/// However the bytes between two lines are cut into pieces, the answers are the same where the same items are
+/// refused, each for the same cause.
 pub fn cuts_are_answered_alike()
     ensures { CutsAreAnsweredAlike }
 {}
@@ -57,8 +57,8 @@ pub fn refusals_are_counted()
     ensures { RefusalsAreCounted }
 {}
 
-/// Whatever is called of a new gateway, in whatever order: the packets handled, and behind them those that wait, are the
-/// packets of the bytes given, and the answers are a run on packets and lines in the order of the calls.
+/// Whatever is called of a new gateway, in whatever order: the packets handled, and behind them those that wait, are
+/// the packets of the bytes given, and the answers are a run on packets and lines in the order of the calls.
 pub fn calls_are_a_run<S: Alter>()
     ensures { CallsAreARun S.Store }
 {}
@@ -73,13 +73,14 @@ pub fn lives_keep()
     ensures { LivesKeep }
 {}
 
-/// What a stop may leave is what was known after a first part of the items, and that part has every item that was told done.
+/// What a stop may leave is what was known after a first part of the items, and that part has every item that was
+/// told done.
 pub fn safe_is_prefix()
     ensures { SafeIsPrefix }
 {}
 
-/// What a life leaves is what was known after a first part of its items that has every told one, or after all of them and
-/// the one in work.
+/// What a life leaves is what was known after a first part of its items that has every told one, or after all of them
+/// and the one in work.
 pub fn left_is_prefix()
     ensures { LeftIsPrefix }
 {}
@@ -94,8 +95,8 @@ pub fn calls_leave_a_life<S: Alter>()
     ensures { CallsLeaveALife S.Store }
 {}
 
-/// What a stop leaves from the moment that the write of the next item is tried, also once it is committed and not yet answered, is
-/// what a life that is stopped in that item may leave.
+/// What a stop leaves from the moment that the write of the next item is tried, also once it is committed and not yet
+/// answered, is what a life that is stopped in that item may leave.
 pub fn stops_leave_a_life<S: Alter>()
     ensures { StopsLeaveALife S.Store }
 {}

@@ -4,7 +4,8 @@ ghost use Rattle.std.specs.Prelude.{◌≡◌};
 use device_registry::StoreFault;
 use std::alloc::AllocError;
 
-/// What was wanting: memory, or the store of the registry. Only what the registry or the allocator answered makes one.
+/// What was wanting: memory, or the store of the registry. It is made by conversion alone, from what the registry or
+/// the allocator answered.
 #[derive(Clone, Copy, Debug, PartialEq, Eq)]
 pub struct Cause {
     is_memory: bool,

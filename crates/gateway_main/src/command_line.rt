@@ -49,8 +49,9 @@ impl From<AllocError> for Refused {
     }
 }
 
-/// Reads a command line, whose first word is the program's name: `enogate replay --base ID [--db PATH]`, where ID is eight
-/// hexadecimal digits of either case and a base ID. Each other line is refused, and so is one that asks for help.
+/// Reads a command line, whose first word is the program's name: `enogate replay --base ID [--db PATH]`, where ID is
+/// eight hexadecimal digits of either case and a base ID. Each other line is refused, and so is one that asks for
+/// help.
 pub fn read<'a>(alloc: Global, words: &'a [String]) -> Result<Options<'a>, Refused>
     ensures base { IfOk result (λ options. base_of_line (map string_bytes words.now) ≡ Some options.base) }
     ensures db { IfOk result (λ options. option_map (λ path. path.now) options.db ≡ db_of_line (map string_bytes words.now)) }

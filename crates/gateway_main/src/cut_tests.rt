@@ -67,8 +67,8 @@ fn add_piece(script: &mut Vec<u8>, piece: &[u8]) -> Result<(), Fail> {
     Ok(())
 }
 
-// The script of a stream: one device is learned, then the pieces come, and then the counts are told. A longest piece of 0
-// bytes leaves the lengths to chance.
+// The script of a stream: one device is learned, then the pieces come, and then the counts are told. A longest piece
+// of 0 bytes leaves the lengths to chance.
 fn script(
     alloc: Global,
     bytes: &[u8],

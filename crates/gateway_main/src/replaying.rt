@@ -37,14 +37,14 @@ pub enum RunFault {
 
 /// Replays a script: reads its lines, handles them by the gateway, and writes what the gateway answers.
 ///
-/// A line ends with LF or with the end of the input, and one CR before LF is dropped; behind the last LF stands no line
-/// where nothing follows. A line of at most 200 bytes that is `S`, one space and an even number of hexadecimal digits is a
-/// piece of the serial stream. Each other line is an order of the desk. For each packet and each order the radio bytes are
-/// written as such a piece, in lower case and with LF, and then the desk's text.
+/// A line ends with LF or with the end of the input, and one CR before LF is dropped; behind the last LF stands no
+/// line where nothing follows. A line of at most 200 bytes that is `S`, one space and an even number of hexadecimal
+/// digits is a piece of the serial stream. Each other line is an order of the desk. For each packet and each order
+/// the radio bytes are written as such a piece, in lower case and with LF, and then the desk's text.
 ///
 /// A turn is one read of at most 256 bytes, and `turns` reads are made at most. A read of 0 bytes ends the input.
-/// After `Read` and `TooManyTurns` the lines that LF ended are done, and of a line that did not end nothing. After `Write`
-/// the output breaks off within the text of one packet or order, and packets may still wait in the gateway.
+/// After `Read` and `TooManyTurns` the lines that LF ended are done, and of a line that did not end nothing. After
+/// `Write` the output breaks off within the text of one packet or order, and packets may still wait in the gateway.
 pub fn replay<R: Source, W: Sink, S: Alter>(
     reader: &mut R,
     writer: &mut W,

@@ -1,7 +1,7 @@
 //! The program.
-ghost use Rattle.std.specs.Prelude.{◌≡◌, true, false, IsTrue};
+ghost use Rattle.std.specs.Prelude.{◌≡◌, true};
 ghost use Rattle.sqlite.specs.Held.{state};
-ghost use Rattle.sqlite.specs.State.{HasCleanDisk};
+ghost use Rattle.device_registry.specs.Ready.{IsBetweenTransactions};
 ghost use Rattle.gateway_core.specs.Address;
 
 use crate::command_line::{self, Options, Refused};
@@ -68,7 +68,7 @@ fn serve<S: Alter + Drop>(
     base: u32,
 ) -> Result<(Connection<S>, Result<(), Fault>), Fault>
     requires base { Address.is_base base ≡ true }
-    requires idle { HasCleanDisk (state S.Store conn) → IsTrue (state S.Store conn).is_open → (state S.Store conn).in_transaction ≡ false }
+    requires idle { IsBetweenTransactions (state S.Store conn) }
 {
     let mut gateway = start(rt.alloc(), conn, base)?;
     let mut reader = OverRead::new(rt.stdin());

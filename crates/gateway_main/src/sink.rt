@@ -21,8 +21,8 @@ pub trait Sink {
         ensures told { counts self.new ≡ counted (counts self.old) result };
 }
 
-/// A sink over a writer of `std`. It counts its writes, those that failed, and those that took 0 bytes; each count stays
-/// at its greatest value.
+/// A sink over a writer of `std`. It counts its writes, those that failed, and those that took 0 bytes; each count
+/// stays at its greatest value.
 #[derive(Drop)]
 pub struct OverWrite<W> {
     writer: W,

@@ -22,8 +22,8 @@ pub trait Source {
         ensures told { counts self.new ≡ counted (counts self.old) result };
 }
 
-/// A source over a reader of `std`. It counts its reads, those that failed, and those that gave 0 bytes; each count stays
-/// at its greatest value.
+/// A source over a reader of `std`. It counts its reads, those that failed, and those that gave 0 bytes; each count
+/// stays at its greatest value.
 #[derive(Drop)]
 pub struct OverRead<R> {
     reader: R,

@@ -4,8 +4,8 @@ ghost use Rattle.std.specs.Prelude.{◌≡◌, ◌≤◌, ◌==◌, [], ◌∷�
 use arrayvec::ArrayVec;
 use std::marker::Model;
 
-/// The first 202 bytes of a line of which the end has not come. That is enough: with CR it tells each line of at most 200
-/// bytes from all that are longer, which are treated alike.
+/// The first 202 bytes of a line of which the end has not come. That is enough: with CR it tells each line of at most
+/// 200 bytes from all that are longer, which are treated alike.
 #[derive(Drop)]
 pub struct UnendedLine {
     bytes: ArrayVec<u8, 202>,

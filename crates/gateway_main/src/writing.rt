@@ -12,8 +12,8 @@ use crate::tally::Failed;
 use arrayvec::ArrayVec;
 use gateway_core::Reply;
 
-/// Writes a reply: its radio bytes as a serial piece, if there are any, and then the desk's text. After `Failed` a first
-/// part of it is written, and not all.
+/// Writes a reply: its radio bytes as a serial piece, if there are any, and then the desk's text. After `Failed` a
+/// first part of it is written, and not all.
 pub fn write_reply<W: Sink>(writer: &mut W, reply: &Reply) -> Result<(), Failed>
     ensures written { Writes (W.held writer.old) (W.held writer.new) result (text_of (answer_of reply.now)) }
     ensures told { Went result (W.counts writer.old) (W.counts writer.new) }

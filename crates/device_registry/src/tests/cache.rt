@@ -67,6 +67,19 @@ fn one_place_is_for_the_last_sender(rt: HostRuntime) -> Result<(), Fail> {
 }
 
 #[test]
+fn an_open_remembers_64(rt: HostRuntime) -> Result<(), Fail> {
+    let conn = in_memory(rt.alloc(), 1)?.close();
+    let mut registry = Registry::open(rt.alloc(), conn)?;
+    for id in 0..65 {
+        assert_eq!(rt; registry.find(id)?, None);
+    }
+    assert_eq!(rt; registry.cache.len(), 64);
+    assert_eq!(rt; kept(&registry, 0), None);
+    assert_eq!(rt; kept(&registry, 1), Some(None));
+    Ok(())
+}
+
+#[test]
 fn the_sender_of_long_ago_goes_first(rt: HostRuntime) -> Result<(), Fail> {
     let mut registry = in_memory(rt.alloc(), 2)?;
     assert_eq!(rt; registry.find(1)?, None);

@@ -2,7 +2,9 @@
 use super::disks::{
     Disks, Refusal, Stop, Stumbling, Which, connected, empty_files, refusing, stopped,
 };
-use super::given::{contact, forget, is_learn_store, is_open_store, is_store, learn, sensor};
+use super::given::{
+    contact, forget, is_learn_store, is_open_store, is_store, learn, prepare_idle, sensor,
+};
 use crate::Registry;
 use sqlite::{Alter, Connection, FileStore, Files, params};
 use sqlite_disk::{Fuse, Memory};
@@ -347,6 +349,50 @@ fn an_open_ends_what_a_refused_write_left(rt: HostRuntime) -> Result<(), Fail> {
         assert!(rt; ends.contains(&Outcome::NotFound));
         assert!(rt; ends.contains(&Outcome::Shut));
         assert!(rt; !ends.contains(&Outcome::Found));
+    }
+    Ok(())
+}
+
+// An empty database prepared over these files, and then stopped. Behind the stop the database is prepared, and has no
+// device. Whether the files refused something.
+fn is_made_behind_a_stop(
+    alloc: Global,
+    rt: &impl Abort,
+    files: Disks,
+    stop: Stop,
+) -> Result<bool, Fail> {
+    let Some(mut conn) = connected(alloc, files, 9)? else {
+        return Ok(true);
+    };
+    let answer = prepare_idle(&mut conn)?;
+    if let Err(fault) = &answer {
+        assert!(rt; is_open_store(fault));
+    }
+    let mut registry = opened(alloc, stopped(conn, stop), 9)?.ok_or("no registry")?;
+    assert!(rt; registry.all()?.is_empty());
+    learn(&mut registry, sensor(600))?;
+    assert_eq!(rt; registry.find(600)?, Some(sensor(600)));
+    Ok(answer.is_err())
+}
+
+// How many refusals there are, each call of the file being refused in turn.
+fn refusals(alloc: Global, rt: &impl Abort, which: Which, stop: Stop) -> Result<u64, Fail> {
+    for calls in 0..5000 {
+        let empty = empty_files(alloc);
+        let files = refusing(alloc, &empty, which, Refusal::From(calls))?;
+        if !is_made_behind_a_stop(alloc, rt, files, stop)? {
+            return Ok(calls);
+        }
+    }
+    Err(Fail::from("refusals without end"))
+}
+
+#[test]
+fn an_empty_database_is_prepared_behind_each_stop(rt: HostRuntime) -> Result<(), Fail> {
+    for which in [Which::Log, Which::Database] {
+        for stop in [Stop::OfProcess, Stop::OfMachine] {
+            assert!(rt; refusals(rt.alloc(), &rt, which, stop)? > 0);
+        }
     }
     Ok(())
 }

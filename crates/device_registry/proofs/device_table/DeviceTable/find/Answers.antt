@@ -1,6 +1,5 @@
 use Rattle.std.specs.FinMap.{get}
 use Rattle.sqlite.specs.Held.{state}
-use Rattle.device_registry.specs.Devices.{device_of}
 use Rattle.device_registry.proofs.RegistryCalls.{had, keeps_well, looks_up, if_err, ready_if}
 use Rattle.device_registry.proofs.device_table.DeviceTable.find.Goals as goal
 

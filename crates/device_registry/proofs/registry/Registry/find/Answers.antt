@@ -23,7 +23,7 @@ invariant_of-self-in-Ok g c =
     let old = state g.S.Store c.self.inside.table in (
       c.find.ensures.looks_up.registries,
       found_recalled old (state g.S.Store c.find.new.self) c.args.id c.in-Ok.known c.cached.new.cache.entries c.remember.new.cache.entries c.find.ensures.looks_up.clean c.in-Ok.ensures.ready c.in-Ok.ensures.looks_up.devices
-          (fewer_recalled old c.self.inside.cache.entries c.cached.new.cache.entries c.self.invariant.1 c.cached.ensures.kept) c.remember.ensures,
+          (fewer_recalled old c.self.inside.cache.entries c.cached.new.cache.entries c.self.invariant.1 c.cached.ensures.kept) c.remember.ensures.kept,
     )
 
 pub returns-in-Ok : goal.returns-in-Ok

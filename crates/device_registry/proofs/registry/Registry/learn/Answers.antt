@@ -10,7 +10,7 @@ pub invariant_of-self : goal.invariant_of-self
 invariant_of-self g c = (
   c.learn.ensures.learns.registries,
   changed_recalled (state g.S.Store c.self.inside.table) (state g.S.Store c.learn.new.self) (learned c.args.device) (Some c.args.device) c.self.inside.cache.entries c.forget_entry.new.cache.entries c.remember.new.cache.entries
-      c.learn.ensures.learns.clean c.in-Ok.ensures.ready (λ clean devices has. (c.in-Ok.ensures.learns.devices clean devices has).1) refl c.self.invariant.1 c.forget_entry.ensures c.remember.ensures,
+      c.learn.ensures.learns.clean c.in-Ok.ensures.ready (λ clean devices has. (c.in-Ok.ensures.learns.devices clean devices has).1) refl c.self.invariant.1 c.forget_entry.ensures.kept c.remember.ensures.kept,
 )
 
 pub returns-in-Ok : goal.returns-in-Ok
@@ -26,7 +26,7 @@ invariant_of-self-in-Err-Full g c =
     let told : Learns old new c.args.device (Err Full) = subst (Learns old new c.args.device) full c.learn.ensures.learns in (
       told.registries,
       full_recalled old new c.self.inside.cache.entries c.forget_entry.new.cache.entries told.clean
-          (λ clean. c.learn.ensures.ready_if_full clean full) (λ clean devices has. (told.devices clean devices has).1) c.self.invariant.1 (λ e has. (c.forget_entry.ensures e has).0),
+          (λ clean. c.learn.ensures.ready_if_full clean full) (λ clean devices has. (told.devices clean devices has).1) c.self.invariant.1 (λ e has. (c.forget_entry.ensures.kept e has).0),
     )
 
 pub returns-in-Err-Full : goal.returns-in-Err-Full

@@ -1,4 +1,4 @@
-use Rattle.std.proofs.Common.{Err, sym, subst, ap}
+use Rattle.std.proofs.Common.{sym, subst}
 use Rattle.std.proofs.lemmas.Result.{err_from_is_err_and}
 use Rattle.sqlite.specs.Held.{state}
 use Rattle.device_registry.specs.Opening.{RefusesToOpen}
@@ -10,13 +10,13 @@ pub returns-in_err-cache-clause-refused : goal.returns-in_err-cache-clause-refus
 returns-in_err-cache-clause-refused g c =
     let why = err_from_is_err_and c.from_residual.result c.from_residual.ensures.1 in
     let old = state g.S.Store c.args.conn in
-    rw why.1 (c.args.conn, subst (RefusesToOpen old old) (sym why.2) (not_asked old _))
+    rw why.1 (λ is. (c.args.conn, subst (RefusesToOpen old old) (sym why.2) (not_asked old _)))
 
 pub returns-in_err-prepare-clause-refused : goal.returns-in_err-prepare-clause-refused
 returns-in_err-prepare-clause-refused g c =
     let why = err_from_is_err_and c.from_residual-in_err-prepare.result c.from_residual-in_err-prepare.ensures.1 in
     let last = c.prepare.new.conn in
-    rw why.1 (last, subst (RefusesToOpen (state g.S.Store c.args.conn) (state g.S.Store last)) (sym why.2) c.in_err-prepare.ensures.refused)
+    rw why.1 (λ is. (last, subst (RefusesToOpen (state g.S.Store c.args.conn) (state g.S.Store last)) (sym why.2) c.in_err-prepare.ensures.refused))
 
 pub invariant_of-result-2 : goal.invariant_of-result-2
 invariant_of-result-2 g c = (
