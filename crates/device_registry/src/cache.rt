@@ -1,6 +1,6 @@
 //! What is remembered of looked-up senders, known or not.
-ghost use Rattle.std.specs.Prelude.{◌≡◌, ◌≢◌, ◌≤◌, ◌⊎◌, [], nat_eq, IfSome, OnSome, IfNone, IfOk, Contains};
-ghost use Rattle.std.specs.Map.{remove_entry};
+ghost use Rattle.std.specs.Prelude.{◌≡◌, ◌≢◌, ◌≤◌, ◌⊎◌, [], nat_eq, None, IfSome, OnSome, IfNone, IfOk, Contains};
+ghost use Rattle.std.specs.Map.{lookup, remove_entry};
 ghost use Rattle.lru.specs.LruCache.{lru_cache, promoted, put_entries};
 
 use crate::device::Device;
@@ -24,7 +24,8 @@ pub fn cached(cache: &mut Cache, id: u32) -> Option<Option<Device>>
     ensures known { IfSome result (λ known. Contains cache.old.entries (id, known)) }
     ensures kept { (entry : _) → Contains cache.new.entries entry → Contains cache.old.entries entry }
     ensures first { OnSome result (cache.new.entries ≡ promoted (nat_eq id) cache.old.entries) }
-    ensures unknown { IfNone result (cache.new.entries ≡ cache.old.entries) }
+    ensures unknown { IfNone result (lookup (nat_eq id) cache.old.entries ≡ None) }
+    ensures unchanged { IfNone result (cache.new.entries ≡ cache.old.entries) }
 {
     let known = *cache.peek(&id)?;
     cache.promote(&id);
