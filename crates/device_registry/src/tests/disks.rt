@@ -208,8 +208,12 @@ pub fn connected(
     Ok(Connection::open_files(alloc, files, options).ok())
 }
 
-/// The files of a connection as a stop at this moment leaves them. They refuse nothing any more.
-pub fn stopped(conn: Connection<FileStore<Stumbling<Fuse<Memory>>>>, stop: Stop) -> Disks {
+/// The files of a connection as a stop at this moment leaves them. They are copies, and refuse nothing any more.
+pub fn stopped(
+    alloc: Global,
+    conn: Connection<FileStore<Stumbling<Fuse<Memory>>>>,
+    stop: Stop,
+) -> Result<Disks, Fail> {
     let Files { log, db } = conn.into_store().close();
     let mut log = log.into_inner();
     let mut db = db.into_inner();
@@ -217,8 +221,9 @@ pub fn stopped(conn: Connection<FileStore<Stumbling<Fuse<Memory>>>>, stop: Stop)
         log.crash();
         db.crash();
     }
-    Files {
+    let left = Files {
         log: Stumbling::new(log, 0),
         db: Stumbling::new(db, 0),
-    }
+    };
+    refusing(alloc, &left, Which::Log, Refusal::Nothing)
 }

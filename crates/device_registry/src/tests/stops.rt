@@ -240,7 +240,7 @@ fn what_was_told_is_found_behind_a_stop(rt: HostRuntime) -> Result<(), Fail> {
         let mut registry = opened(rt.alloc(), files, 9)?.ok_or("no registry")?;
         learn(&mut registry, sensor(600))?;
         forget(&mut registry, 7)?;
-        let files = stopped(registry.close(), stop);
+        let files = stopped(rt.alloc(), registry.close(), stop)?;
         let mut registry = opened(rt.alloc(), files, 9)?.ok_or("no registry")?;
         assert_eq!(rt; registry.find(600)?, Some(sensor(600)));
         assert_eq!(rt; registry.find(7)?, None);
@@ -306,7 +306,7 @@ fn end_of(
             }
         }
     }
-    let mut registry = opened(alloc, stopped(conn, stop), 20)?.ok_or("no registry")?;
+    let mut registry = opened(alloc, stopped(alloc, conn, stop)?, 20)?.ok_or("no registry")?;
     assert_eq!(rt; registry.find(7)?, Some(contact(7)));
     match registry.find(600)? {
         Some(found) => {
@@ -368,7 +368,7 @@ fn is_made_behind_a_stop(
     if let Err(fault) = &answer {
         assert!(rt; is_open_store(fault));
     }
-    let mut registry = opened(alloc, stopped(conn, stop), 9)?.ok_or("no registry")?;
+    let mut registry = opened(alloc, stopped(alloc, conn, stop)?, 9)?.ok_or("no registry")?;
     assert!(rt; registry.all()?.is_empty());
     learn(&mut registry, sensor(600))?;
     assert_eq!(rt; registry.find(600)?, Some(sensor(600)));
