@@ -32,4 +32,4 @@ install: $(PROGRAM)
 	cp $(PROGRAM) $(DESTDIR)$(PREFIX)/bin/enogate
 
 clean:
-	rm -rf crates/*/out target
+	rm -rf crates/*/out target scripts/__pycache__
