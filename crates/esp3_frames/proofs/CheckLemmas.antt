@@ -7,10 +7,10 @@ use Rattle.std.proofs.lemmas.List.{append-nil}
 use Rattle.esp3_frames.specs.Check.{times_x, power, byte_bits, bits, remainder, check}
 use Rattle.esp3_frames.specs.declared.check.TheConstants.{TABLE}
 
-low_half : (n : ℕ) → n < 128 → times_x n ≡ 2 * n
+pub low_half : (n : ℕ) → n < 128 → times_x n ≡ 2 * n
 low_half n h = let e : ltb (2 * n) 256 ≡ true = lt-ltb (2 * n) 256 (omega arith) in rw e refl
 
-high_half : (r : ℕ) → r < 128 → times_x (128 + r) ≡ bit_xor (2 * r) 7
+pub high_half : (r : ℕ) → r < 128 → times_x (128 + r) ≡ bit_xor (2 * r) 7
 high_half r h =
     let e : ltb (2 * (128 + r)) 256 ≡ false = le-ltb (2 * (128 + r)) 256 (omega arith) in
     let s : 2 * (128 + r) ≡ 1 * 2 ^ 8 + 2 * r = omega arith in
@@ -97,7 +97,7 @@ unfolding power
 power_byte zero = omega arith
 power_byte (suc k) = times_x_byte (power k) (power_byte k)
 
-bit_part : (b : Bool) (n : ℕ) → n < 256 → cond b n 0 < 256
+pub bit_part : (b : Bool) (n : ℕ) → n < 256 → cond b n 0 < 256
 bit_part true n h = h
 bit_part false n h = omega arith
 
@@ -142,20 +142,20 @@ remainder_last (c ∷ bs) b =
     ∙ ap (λ n. bit_xor n (cond b 7 0)) (sym t)
 
 -- the remainder after more bits
-feed : ℕ → List Bool → ℕ
+unfoldable pub feed : ℕ → List Bool → ℕ
 feed c [] = c
 feed c (b ∷ bs) = feed (bit_xor (times_x c) (cond b 7 0)) bs
 
-shifted : ℕ → List Bool → ℕ
+unfoldable pub shifted : ℕ → List Bool → ℕ
 shifted a [] = a
 shifted a (b ∷ bs) = shifted (times_x a) bs
 
-remainder_more : (xs ys : List Bool) → remainder (xs ++ ys) ≡ feed (remainder xs) ys
+pub remainder_more : (xs ys : List Bool) → remainder (xs ++ ys) ≡ feed (remainder xs) ys
 unfolding feed
 remainder_more xs [] = ap remainder (append-nil xs)
 remainder_more xs (y ∷ ys) = ap remainder (sym (append_assoc xs (y ∷ []) ys)) ∙ remainder_more (xs ++ y ∷ []) ys ∙ ap (λ n. feed n ys) (remainder_last xs y)
 
-feed_xor : (a c : ℕ) (ys : List Bool) → a < 256 → c < 256 → feed (bit_xor a c) ys ≡ bit_xor (shifted a ys) (feed c ys)
+pub feed_xor : (a c : ℕ) (ys : List Bool) → a < 256 → c < 256 → feed (bit_xor a c) ys ≡ bit_xor (shifted a ys) (feed c ys)
 unfolding feed shifted
 feed_xor a c [] ha hc = refl
 feed_xor a c (y ∷ ys) ha hc =
@@ -172,7 +172,7 @@ unfolding check
 check_fed m b = ap remainder (bits_last m b) ∙ remainder_more (bits m) (byte_bits b)
 
 -- a byte, eight times times x
-eighth : ℕ → ℕ
+unfoldable pub eighth : ℕ → ℕ
 eighth a = shifted a (true ∷ true ∷ true ∷ true ∷ true ∷ true ∷ true ∷ true ∷ [])
 
 shifted_byte : (a b : ℕ) → shifted a (byte_bits b) ≡ eighth a
@@ -184,7 +184,7 @@ unfolding shifted
 shifted_xor a b [] ha hb = refl
 shifted_xor a b (y ∷ ys) ha hb = ap (λ n. shifted n ys) (times_x-xor a b ha hb) ∙ shifted_xor (times_x a) (times_x b) ys (times_x_byte a ha) (times_x_byte b hb)
 
-eighth_xor : (a b : ℕ) → a < 256 → b < 256 → eighth (bit_xor a b) ≡ bit_xor (eighth a) (eighth b)
+pub eighth_xor : (a b : ℕ) → a < 256 → b < 256 → eighth (bit_xor a b) ≡ bit_xor (eighth a) (eighth b)
 unfolding eighth
 eighth_xor a b ha hb = shifted_xor a b (true ∷ true ∷ true ∷ true ∷ true ∷ true ∷ true ∷ true ∷ []) ha hb
 
@@ -195,7 +195,7 @@ all_eighths : agree_below same_eighth (λ _. true) 256 ≡ true
 unfolding same_eighth check bits remainder power byte_bits eighth shifted
 all_eighths = refl
 
-check_one : (b : ℕ) → b < 256 → check (b ∷ []) ≡ eighth b
+pub check_one : (b : ℕ) → b < 256 → check (b ∷ []) ≡ eighth b
 unfolding same_eighth
 check_one b h = eqb-true _ _ (agree_below_at same_eighth (λ _. true) 256 b all_eighths h)
 

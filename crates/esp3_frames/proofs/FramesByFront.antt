@@ -1,10 +1,11 @@
 -- The frames of a text, by what stands at its front.
-use Rattle.std.proofs.Common.{◌≡◌, ℕ, zero, suc, ◌+◌, ◌<◌, ◌≤◌, List, [], ◌∷◌, ◌++◌, length, take, drop, refl, sym, ap, ◌∙◌, subst, arith, length-append, ◌⊎◌, inl, inr}
+use Rattle.std.proofs.Common.{◌≡◌, ◌≢◌, ℕ, zero, suc, ◌+◌, ◌*◌, ◌<◌, ◌≤◌, Bool, false, cond, ◌&&◌, ◌==◌, eqb, get_or, List, [], ◌∷◌, ◌++◌, length, take, drop, refl, sym, ap, ◌∙◌, subst, arith, length-append, ◌⊎◌, inl, inr}
 use Rattle.std.proofs.Math.Seq.{take-append_seam}
 use Rattle.std.proofs.lemmas.List.{append-nil}
-use Rattle.esp3_frames.specs.Packet.{Packet, IsPacket}
+use Rattle.std.proofs.lemmas.Bool.{ne_eqb}
+use Rattle.esp3_frames.specs.Packet.{longest_packet, Packet, IsPacket}
 use Rattle.esp3_frames.specs.Framing.Framing.{ends, finds}
-use Rattle.esp3_frames.specs.Frames.{Front, front_of, Frames, frames_after, frames_of, packets_in, rest_of}
+use Rattle.esp3_frames.specs.Frames.{Front, front_behind, front_of, Frames, frames_after, frames_of, packets_in, rest_of}
 use Rattle.esp3_frames.specs.Frames.Front.{Never, Partial, Whole}
 use Rattle.esp3_frames.proofs.PacketLemmas.{packet_length}
 use Rattle.esp3_frames.proofs.FrontLemmas.{front_partial, front_whole}
@@ -27,6 +28,26 @@ unfolding frames_after front_of
 frames-never [] e = absurd cc
 frames-never (b ∷ s) e = (omega arith, ap (stepped b s) (sym e))
 
+-- a byte that is no sync byte begins no packet
+no_begin : (b : ℕ) (t : Bool) (x : Front) → b ≢ 0x55 → cond (b == 0x55 && t) x Never ≡ Never
+no_begin b t x n = let e : eqb b 0x55 ≡ false = ne_eqb b 0x55 n in rw e refl
+
+pub front-no_sync : (b : ℕ) (s : List ℕ) → b ≢ 0x55 → front_of (b ∷ s) ≡ Never
+unfolding front_of
+front-no_sync b [] n = no_begin b _ Partial n
+front-no_sync b (h ∷ []) n = no_begin b _ Partial n
+front-no_sync b (h ∷ l ∷ []) n = no_begin b _ Partial n
+front-no_sync b (h ∷ l ∷ o ∷ []) n = no_begin b _ Partial n
+front-no_sync b (h ∷ l ∷ o ∷ k ∷ []) n = no_begin b _ Partial n
+front-no_sync b (h ∷ l ∷ o ∷ k ∷ c ∷ w) n = no_begin b _ (front_behind (256 * h + l) o k w) n
+
+pub frames-skipped : (w : List ℕ) (n : ℕ) → n ≤ length w → ((i : ℕ) → i < n → get_or w i 0 ≢ 0x55) → frames_of (drop n w) ≡ frames_of w
+frames-skipped w zero h none = refl
+frames-skipped [] (suc n) h none = absurd (omega arith)
+frames-skipped (b ∷ w) (suc n) h none =
+    frames-skipped w n (omega arith) (λ i below. none (suc i) (omega arith))
+    ∙ (frames-never (b ∷ w) (front-no_sync b w (none zero (omega arith)))).1
+
 pub frames-partial : (s : List ℕ) → front_of s ≡ Partial → frames_of s ≡ record { ready = []; rest = s }
 unfolding frames_after
 frames-partial [] e = refl
@@ -41,14 +62,14 @@ frames-whole (b ∷ s) p e =
     let onto : Frames → Frames = λ c. record { ready = p ∷ c.ready; rest = c.rest } in
     ap (stepped b s) e ∙ ap onto (after_drop n s ∙ ap (λ (i : ℕ). frames_of (drop i (b ∷ s))) (sym m))
 
-pub partial_short : (s : List ℕ) → front_of s ≡ Partial → length s < 1286
+pub partial_short : (s : List ℕ) → front_of s ≡ Partial → length s < longest_packet
 partial_short s e =
     let l = front_partial s e in
     let n = packet_length l.packet (s ++ l.more) l.whole in
     let some = l.proper in let body = l.whole.body in let opt = l.whole.opt in
     omega (arith, length-append s l.more)
 
-pub whole_length : (s : List ℕ) (p : Packet) → front_of s ≡ Whole p → (length p.body + length p.opt + 7 ≤ length s) × (length p.body + length p.opt + 7 ≤ 1286) × IsPacket p (take (length p.body + length p.opt + 7) s)
+pub whole_length : (s : List ℕ) (p : Packet) → front_of s ≡ Whole p → (length p.body + length p.opt + 7 ≤ length s) × (length p.body + length p.opt + 7 ≤ longest_packet) × IsPacket p (take (length p.body + length p.opt + 7) s)
 whole_length s p e =
     let h = front_whole s p e in
     let n = packet_length p h.front h.whole in

@@ -1,9 +1,9 @@
 -- What stands at the front of a text, by its header.
-use Rattle.std.proofs.Common.{◌≡◌, ◌≢◌, ℕ, ◌+◌, ◌*◌, ◌<◌, ◌≤◌, Bool, true, false, cond, ◌&&◌, ◌==◌, eqb, ltb, leb, List, [], ◌∷◌, ◌++◌, length, take, drop, get_or, refl, sym, ap, ◌∙◌, subst, arith, length-take, length-drop}
+use Rattle.std.proofs.Common.{◌≡◌, ◌≢◌, ℕ, ◌+◌, ◌*◌, ◌<◌, ◌≤◌, Bool, true, false, cond, ◌&&◌, ◌==◌, eqb, ltb, leb, List, [], ◌∷◌, ◌++◌, length, take, drop, get_or, refl, sym, ap, ◌∙◌, subst, arith}
 use Rattle.std.specs.Prelude.{Result, Ok, Err}
 use Rattle.std.proofs.lemmas.Bool.{and_parts, and_from, le-ltb, le-leb, lt-leb, eq-eqb, ne_eqb}
 use Rattle.esp3_frames.specs.Check.{check}
-use Rattle.esp3_frames.specs.Packet.{Packet}
+use Rattle.esp3_frames.specs.Packet.{longest_data}
 use Rattle.esp3_frames.specs.Frames.{lengths_fit, may_begin, Front, front_behind, front_of}
 use Rattle.esp3_frames.specs.Frames.Front.{Never, Partial, Whole}
 use Rattle.esp3_frames.specs.Outcome.{header_in, header_of}
@@ -51,7 +51,7 @@ good_header s h l o k c e =
     let e1 : eqb s 0x55 ≡ true = a.0 in
     let e2 : eqb c (check (h ∷ l ∷ o ∷ k ∷ [])) ≡ true = b.1 in
     let e3 : eqb (256 * h + l + o) 0 ≡ false = ne_eqb (256 * h + l + o) 0 (λ z. omega arith) in
-    let e4 : ltb 1024 (256 * h + l) ≡ false = le-ltb 1024 (256 * h + l) f.fits in
+    let e4 : ltb longest_data (256 * h + l) ≡ false = le-ltb longest_data (256 * h + l) f.fits in
     rw (e1, e2, e3, e4) refl
 
 apart : (y : Header) (e : HeaderFault) → ◌≡◌ {A = Result Header HeaderFault} (Ok y) (Err e) → ⊥
@@ -72,12 +72,11 @@ front-no_header b f w e hf hb he =
 pub front_behind-partial : (d o k : ℕ) (w : List ℕ) → length w ≤ d + o → front_behind d o k w ≡ Partial
 front_behind-partial d o k w h = let e : leb (length w) (d + o) ≡ true = le-leb (length w) (d + o) h in rw e refl
 
-pub front_behind-whole : (d o k : ℕ) (w : List ℕ) → d + o < length w → get_or w (d + o) 0 ≡ check (take (d + o) w) → (p : Packet) × (front_behind d o k w ≡ Whole p) × (d + o + 7 ≡ length p.body + length p.opt + 7)
+pub front_behind-whole : (d o k : ℕ) (w : List ℕ) → d + o < length w → get_or w (d + o) 0 ≡ check (take (d + o) w) → front_behind d o k w ≡ Whole (record { kind = k; body = take d (take (d + o) w); opt = drop d (take (d + o) w) })
 front_behind-whole d o k w h g =
     let e1 : leb (length w) (d + o) ≡ false = lt-leb (length w) (d + o) h in
     let e2 : eqb (get_or w (d + o) 0) (check (take (d + o) w)) ≡ true = eq-eqb _ _ g in
-    let m : List ℕ = take (d + o) w in
-    (record { kind = k; body = take d m; opt = drop d m }, rw (e1, e2) refl, omega (arith, length-take (d + o) w, length-take d m, length-drop d m))
+    rw (e1, e2) refl
 
 pub front_behind-never : (d o k : ℕ) (w : List ℕ) → d + o < length w → get_or w (d + o) 0 ≢ check (take (d + o) w) → front_behind d o k w ≡ Never
 front_behind-never d o k w h g =

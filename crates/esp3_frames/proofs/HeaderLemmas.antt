@@ -8,7 +8,7 @@ use Rattle.esp3_frames.specs.Check.{check}
 use Rattle.esp3_frames.specs.Outcome.{header_in, header_of}
 use Rattle.esp3_frames.specs.declared.packet.Header.{Header}
 use Rattle.esp3_frames.specs.declared.packet.HeaderFault.{HeaderFault}
-use Rattle.esp3_frames.specs.Packet.{Packet, header, spelling, IsPacket}
+use Rattle.esp3_frames.specs.Packet.{longest_data, Packet, header, spelling, IsPacket}
 
 -- what a packet's bytes are, by place
 pub record Parts (p : Packet) (s h l o k c : ℕ) (w : List ℕ) : Type 0 where
@@ -53,7 +53,7 @@ tail_check m r w n en ew =
 unfoldable pub made : (k d o : ℕ) (w : List ℕ) → Packet
 made k d o w = record { kind = k; body = take d (take (d + o) w); opt = drop d (take (d + o) w) }
 
-pub is_made : (h l o k c : ℕ) (w : List ℕ) → l < 256 → o < 256 → 0 < 256 * h + l + o → 256 * h + l ≤ 1024 → c ≡ check (h ∷ l ∷ o ∷ k ∷ []) → 256 * h + l + o < length w → get_or w (256 * h + l + o) 0 ≡ check (take (256 * h + l + o) w) → IsPacket (made k (256 * h + l) o w) (0x55 ∷ h ∷ l ∷ o ∷ k ∷ c ∷ take (256 * h + l + o + 1) w)
+pub is_made : (h l o k c : ℕ) (w : List ℕ) → l < 256 → o < 256 → 0 < 256 * h + l + o → 256 * h + l ≤ longest_data → c ≡ check (h ∷ l ∷ o ∷ k ∷ []) → 256 * h + l + o < length w → get_or w (256 * h + l + o) 0 ≡ check (take (256 * h + l + o) w) → IsPacket (made k (256 * h + l) o w) (0x55 ∷ h ∷ l ∷ o ∷ k ∷ c ∷ take (256 * h + l + o + 1) w)
 unfolding made
 is_made h l o k c w hl ho hs hd hc hw hk =
     let n : ℕ = 256 * h + l + o in
@@ -103,7 +103,7 @@ pub record Heads (s h l o k c : ℕ) (x : Header) : Type 0 where
   pub sync : s ≡ 0x55
   pub checked : c ≡ check (h ∷ l ∷ o ∷ k ∷ [])
   pub some : 0 < 256 * h + l + o
-  pub fits : 256 * h + l ≤ 1024
+  pub fits : 256 * h + l ≤ longest_data
   pub is : header_in (s ∷ h ∷ l ∷ o ∷ k ∷ c ∷ []) ≡ x
 
 pub heads : (s h l o k c : ℕ) (x : Header) → header_of (s ∷ h ∷ l ∷ o ∷ k ∷ c ∷ []) ≡ Ok x → Heads s h l o k c x

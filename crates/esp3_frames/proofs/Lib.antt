@@ -1,4 +1,5 @@
 pub mod CheckLemmas
+pub mod ZerosLemmas
 pub mod CheckVectors
 pub mod PacketLemmas
 pub mod HeaderLemmas

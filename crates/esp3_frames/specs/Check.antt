@@ -29,3 +29,8 @@ remainder (b ∷ bs) = bit_xor (if b then power (length bs + 8) else 0) (remaind
 -- the check byte of a message
 unfoldable pub check : List ℕ → ℕ
 check m = remainder (bits m)
+
+-- the check byte of a message, from its check byte c so far, once n bytes 00 more have come
+unfoldable pub after_zeros : ℕ → ℕ → ℕ
+after_zeros c zero = c
+after_zeros c (suc n) = after_zeros (check (c ∷ [])) n

@@ -1,7 +1,7 @@
 -- What the calls answer.
 use Rattle.std.specs.Prelude.{ℕ, ◌+◌, ◌*◌, List, length, not, nat_lt, ◌==◌, ◌||◌, slice_index, slice_range, if◌then◌else◌, Result, Ok, Err}
 use Rattle.esp3_frames.specs.Check.{check}
-use Rattle.esp3_frames.specs.Packet.{Packet, spelling}
+use Rattle.esp3_frames.specs.Packet.{longest_data, longest_optional_data, Packet, spelling}
 use Rattle.esp3_frames.specs.declared.packet.PacketRef.{PacketRef}
 use Rattle.esp3_frames.specs.declared.packet.Header.{Header}
 use Rattle.esp3_frames.specs.declared.packet.HeaderFault.{HeaderFault}
@@ -23,13 +23,13 @@ header_of b =
     if not (slice_index b 0 == 0x55) then Err header.NotSync
     else if not (slice_index b 5 == check (slice_range b 1 5)) then Err header.HeaderCheck
     else if (header_in b).data_len + (header_in b).opt_len == 0 then Err header.EmptyPacket
-    else if nat_lt 1024 (header_in b).data_len then Err header.TooLong
+    else if nat_lt longest_data (header_in b).data_len then Err header.TooLong
     else Ok (header_in b)
 
 -- what writing a packet into this much room answers: nothing, or the first fault
 abbrev pub write_outcome : Packet → ℕ → Result (Unit {0}) PacketFault
 write_outcome p room =
     if length p.body + length p.opt == 0 then Err packet.EmptyPacket
-    else if nat_lt 1024 (length p.body) || nat_lt 255 (length p.opt) then Err packet.TooLong
+    else if nat_lt longest_data (length p.body) || nat_lt longest_optional_data (length p.opt) then Err packet.TooLong
     else if nat_lt room (length (spelling p)) then Err packet.NoRoom
     else Ok tt

@@ -2,6 +2,18 @@
 use Rattle.std.specs.Prelude.{◌≡◌, ℕ, ◌+◌, ◌/◌, ◌%◌, ◌<◌, ◌≤◌, List, [], ◌∷◌, ◌++◌, length}
 use Rattle.esp3_frames.specs.Check.{check}
 
+-- the longest data, in bytes. Own choice: the two bytes of its length allow 65,535
+abbrev pub longest_data : ℕ
+longest_data = 1024
+
+-- the longest optional data, whose length is one byte
+abbrev pub longest_optional_data : ℕ
+longest_optional_data = 255
+
+-- the longest packet: six bytes up to the check of the header, the data, the optional data and their check
+abbrev pub longest_packet : ℕ
+longest_packet = 6 + longest_data + longest_optional_data + 1
+
 -- what a packet holds: its type, its data and its optional data
 pub record Packet : Type 0 where
   pub kind : ℕ
@@ -16,11 +28,11 @@ header p = (length p.body / 256) ∷ (length p.body % 256) ∷ length p.opt ∷ 
 abbrev pub spelling : Packet → List ℕ
 spelling p = (0x55 ∷ header p ++ check (header p) ∷ []) ++ (p.body ++ p.opt ++ check (p.body ++ p.opt) ∷ [])
 
--- w is the packet p, whole. Own choice: a packet is not empty, and its data is no longer than 1,024 bytes
+-- w is the packet p, whole. Own choice: a packet is not empty
 pub record IsPacket (p : Packet) (w : List ℕ) : Type 0 where
   pub some : 0 < length p.body + length p.opt
-  pub body : length p.body ≤ 1024
-  pub opt : length p.opt ≤ 255
+  pub body : length p.body ≤ longest_data
+  pub opt : length p.opt ≤ longest_optional_data
   pub bytes : w ≡ spelling p
 
 -- a text is at most one packet, which has no other text, and no packet begins another

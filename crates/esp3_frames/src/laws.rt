@@ -1,7 +1,7 @@
 //! Laws of the definitions. Each function does nothing: its contract is the law.
-ghost use Rattle.std.specs.Prelude.{◌≡◌, ◌≢◌, ℕ, ◌+◌, ◌<◌, ◌≤◌, List, [], ◌∷◌, ◌++◌, ◌⊎◌, length, take, drop, slice_index, bit_xor, if◌then◌else◌, Ok, Err};
-ghost use Rattle.esp3_frames.specs.Check.{check};
-ghost use Rattle.esp3_frames.specs.Packet.{Packet, IsPacket, OneReading};
+ghost use Rattle.std.specs.Prelude.{◌≡◌, ◌≢◌, ℕ, ◌+◌, ◌<◌, ◌≤◌, List, [], ◌∷◌, ◌++◌, ◌⊎◌, length, take, drop, slice_index, bit_xor, replicate, if◌then◌else◌, Ok, Err};
+ghost use Rattle.esp3_frames.specs.Check.{check, after_zeros};
+ghost use Rattle.esp3_frames.specs.Packet.{longest_packet, Packet, IsPacket, OneReading};
 ghost use Rattle.esp3_frames.specs.Framing.{Framing, BeginsWithPacket, MayBecomePacket, NeverPacket};
 ghost use Rattle.esp3_frames.specs.Frames.{front_of, front_behind, may_begin, frames_of, packets_in, rest_of};
 ghost use Rattle.esp3_frames.specs.Frames.Front.{Never, Partial, Whole};
@@ -12,6 +12,14 @@ ghost use Rattle.esp3_frames.specs.declared.packet.HeaderFault.{HeaderFault};
 /// The check byte of a message that is one byte longer.
 pub fn check_next()
     ensures { (m : List ℕ) (b : ℕ) → b < 256 → check (m ++ b ∷ []) ≡ check (bit_xor (check m) b ∷ []) }
+{}
+
+/// The check byte of a message in two parts: what as many bytes 00 as the second part has make of the check byte of the first,
+/// joined with the check byte of the second. A row of 127 bytes 00 changes no check byte.
+pub fn check_in_parts()
+    ensures parts { (m w : List ℕ) → check (m ++ w) ≡ bit_xor (after_zeros (check m) (length w)) (check w) }
+    ensures zeros { (m : List ℕ) (n : ℕ) → check (m ++ replicate n 0) ≡ after_zeros (check m) n }
+    ensures period { (c n : ℕ) → c < 256 → after_zeros c (n + 127) ≡ after_zeros c n }
 {}
 
 /// A text is at most one packet, a packet has one text, and no packet begins another.
@@ -45,19 +53,21 @@ pub fn framing_in_parts()
     ensures rest { (s t : List ℕ) → rest_of (s ++ t) ≡ rest_of (rest_of s ++ t) }
 {}
 
-/// What stands at the front of a text, computed, is what it is by its definition. Of a packet only a part is shorter than
-/// 1,286 bytes, and no packet is longer.
+/// What stands at the front of a text, computed, is what it is by its definition. No packet is longer than
+/// `longest_packet` bytes, and what may become one is shorter.
 pub fn fronts()
     ensures never { (w : List ℕ) → front_of w ≡ Never → NeverPacket w }
-    ensures partial { (w : List ℕ) → front_of w ≡ Partial → MayBecomePacket w × (length w < 1286) }
+    ensures partial { (w : List ℕ) → front_of w ≡ Partial → MayBecomePacket w × (length w < longest_packet) }
     ensures whole { (w : List ℕ) (p : Packet) → front_of w ≡ Whole p → let n = length p.body + length p.opt + 7 in
-        (n ≤ length w) × (n ≤ 1286) × IsPacket p (take n w) }
+        (n ≤ length w) × (n ≤ longest_packet) × IsPacket p (take n w) }
     ensures empty { front_of [] ≡ Partial }
 {}
 
-/// The frames of a text, by what stands at its front: a byte is skipped, nothing is there yet, or a packet is.
+/// The frames of a text, by what stands at its front: a byte is skipped, nothing is there yet, or a packet is. Bytes up to the
+/// next sync byte are skipped.
 pub fn frames_by_front()
     ensures never { (w : List ℕ) → front_of w ≡ Never → (0 < length w) × (frames_of (drop 1 w) ≡ frames_of w) }
+    ensures skipped { (w : List ℕ) (n : ℕ) → n ≤ length w → ((i : ℕ) → i < n → slice_index w i ≢ 0x55) → frames_of (drop n w) ≡ frames_of w }
     ensures partial { (w : List ℕ) → front_of w ≡ Partial → frames_of w ≡ record { ready = []; rest = w } }
     ensures whole { (w : List ℕ) (p : Packet) → front_of w ≡ Whole p → let more = drop (length p.body + length p.opt + 7) w in
         frames_of w ≡ record { ready = p ∷ packets_in more; rest = rest_of more } }

@@ -9,7 +9,8 @@ mod packet;
 #[cfg(test)]
 mod tests;
 
-pub use check::{check8, check8_next};
+pub use check::{check8, check8_between, check8_next};
 pub use packet::{
-    Header, HeaderFault, PacketFault, PacketRef, read_header, read_packet, write_packet,
+    Header, HeaderFault, LONGEST_DATA, LONGEST_OPTIONAL_DATA, LONGEST_PACKET, PacketFault,
+    PacketRef, SYNC_BYTE, read_header, read_packet, write_packet,
 };

@@ -7,10 +7,22 @@ ghost use Rattle.arrayvec.specs.ArrayVec.{array_vec_len};
 use crate::check8;
 use arrayvec::ArrayVec;
 
+/// The first byte of each packet.
+pub const SYNC_BYTE: u8 = 0x55;
+
+/// The longest data of a packet, in bytes. Own choice: the two bytes of its length allow 65,535.
+pub const LONGEST_DATA: u16 = 1024;
+
+/// The longest optional data of a packet, in bytes: its length is one byte.
+pub const LONGEST_OPTIONAL_DATA: u8 = 255;
+
+/// The longest packet, in bytes: six up to the check of the header, the data, the optional data and their check.
+pub const LONGEST_PACKET: usize = 6 + LONGEST_DATA as usize + LONGEST_OPTIONAL_DATA as usize + 1;
+
 /// What the first six bytes of a packet announce.
 #[derive(Clone, Copy, Debug, PartialEq, Eq)]
 pub struct Header {
-    /// The length of the data, in bytes: 0 to 1,024.
+    /// The length of the data, in bytes: at most `LONGEST_DATA`.
     pub data_len: u16,
     /// The length of the optional data, in bytes.
     pub opt_len: u8,
@@ -27,7 +39,7 @@ pub enum HeaderFault {
     HeaderCheck,
     /// Both lengths are 0. Own choice: there is no such packet.
     EmptyPacket,
-    /// The data would be longer than 1,024 bytes. Own choice.
+    /// The data would be longer than `LONGEST_DATA`.
     TooLong,
 }
 
@@ -37,7 +49,7 @@ pub enum HeaderFault {
 pub fn read_header(b: &[u8; 6]) -> Result<Header, HeaderFault>
     ensures { result ≡ header_of b.now }
 {
-    if b[0] != 0x55 {
+    if b[0] != SYNC_BYTE {
         return Err(HeaderFault::NotSync);
     }
     if b[5] != check8(&b[1..5]) {
@@ -48,7 +60,7 @@ pub fn read_header(b: &[u8; 6]) -> Result<Header, HeaderFault>
     if data_len == 0 && opt_len == 0 {
         return Err(HeaderFault::EmptyPacket);
     }
-    if data_len > 1024 {
+    if data_len > LONGEST_DATA {
         return Err(HeaderFault::TooLong);
     }
     Ok(Header {
@@ -63,9 +75,9 @@ pub fn read_header(b: &[u8; 6]) -> Result<Header, HeaderFault>
 pub struct PacketRef<'a> {
     /// The packet type.
     pub kind: u8,
-    /// The data: at most 1,024 bytes.
+    /// The data: at most `LONGEST_DATA` bytes.
     pub body: &'a [u8],
-    /// The optional data: at most 255 bytes.
+    /// The optional data: at most `LONGEST_OPTIONAL_DATA` bytes.
     pub opt: &'a [u8],
 }
 
@@ -97,7 +109,7 @@ pub fn read_packet(b: &[u8]) -> Option<PacketRef<'_>>
 pub enum PacketFault {
     /// There is neither data nor optional data.
     EmptyPacket,
-    /// The data is longer than 1,024 bytes, or the optional data longer than 255.
+    /// The data is longer than `LONGEST_DATA`, or the optional data longer than `LONGEST_OPTIONAL_DATA`.
     TooLong,
     /// The packet does not fit behind what the buffer holds.
     NoRoom,
@@ -123,7 +135,7 @@ pub fn write_packet<const CAP: usize>(
     if body.is_empty() && opt.is_empty() {
         return Err(PacketFault::EmptyPacket);
     }
-    if body.len() > 1024 || opt.len() > 255 {
+    if body.len() > LONGEST_DATA as usize || opt.len() > LONGEST_OPTIONAL_DATA as usize {
         return Err(PacketFault::TooLong);
     }
     if out.remaining_capacity() < body.len() + opt.len() + 7 {
@@ -132,7 +144,7 @@ pub fn write_packet<const CAP: usize>(
     let [high, low] = (body.len() as u16).to_be_bytes();
     let header = [high, low, opt.len() as u8, kind];
     let start = out.len() + 6;
-    out.push(0x55);
+    out.push(SYNC_BYTE);
     let _fits = out.try_extend_from_slice(&header);
     out.push(check8(&header));
     let _fits = out.try_extend_from_slice(body);

@@ -1,6 +1,7 @@
 //! Headers and packets of the standard, and of this gateway's limits.
 use crate::{
-    Header, HeaderFault, PacketFault, check8, check8_next, read_header, read_packet, write_packet,
+    Header, HeaderFault, LONGEST_PACKET, PacketFault, check8, check8_between, check8_next,
+    read_header, read_packet, write_packet,
 };
 use arrayvec::ArrayVec;
 use std::test::Fail;
@@ -17,6 +18,26 @@ fn check_bytes(rt: HostRuntime) {
     assert_eq!(rt; check8(&[]), 0x00);
     assert_eq!(rt; check8_next(0x7A, 0x7A), 0x00);
     assert_eq!(rt; check8_next(0x00, 0x08), 0x38);
+    // The check value that catalogues of CRCs give for this one, CRC-8/SMBUS.
+    assert_eq!(rt; check8(b"123456789"), 0xF4);
+}
+
+// Of the packet above, the check byte of its header and that of its data; and then of rows of the bytes 3, 10, 17, .. (each 7
+// more than the last, modulo 256) behind "123456789". Another program computed them.
+#[test]
+fn check_bytes_between(rt: HostRuntime) {
+    assert_eq!(rt; check8_between(0xAC, 0x6D, 4), 0x7A);
+    assert_eq!(rt; check8_between(0x65, 0x7C, 14), 0x1F);
+    assert_eq!(rt; check8_between(0xF4, 0xF4, 0), 0x00);
+    assert_eq!(rt; check8_between(0xF4, 0xCB, 1), 0x09);
+    assert_eq!(rt; check8_between(0xF4, 0xCC, 8), 0xBA);
+    assert_eq!(rt; check8_between(0xF4, 0x67, 126), 0x99);
+    assert_eq!(rt; check8_between(0xF4, 0x7E, 127), 0x8A);
+    assert_eq!(rt; check8_between(0xF4, 0x0E, 128), 0xCC);
+    assert_eq!(rt; check8_between(0xF4, 0xE6, 254), 0x12);
+    assert_eq!(rt; check8_between(0xF4, 0x92, 256), 0xD2);
+    assert_eq!(rt; check8_between(0xF4, 0x3B, 1_279), 0x7E);
+    assert_eq!(rt; check8_between(0xF4, 0x0B, 65_790), 0x50);
 }
 
 #[test]
@@ -42,6 +63,15 @@ fn headers(rt: HostRuntime) {
         read_header(&[0x55, 0x00, 0x00, 0x00, 0x00, 0x00]),
         Err(HeaderFault::EmptyPacket)
     );
+    let longest = Header {
+        data_len: 1024,
+        opt_len: 0,
+        kind: 9,
+    };
+    assert_eq!(rt;
+        read_header(&[0x55, 0x04, 0x00, 0x00, 0x09, 0x67]),
+        Ok(longest)
+    );
     assert_eq!(rt;
         read_header(&[0x55, 0x04, 0x01, 0x00, 0x09, 0x0C]),
         Err(HeaderFault::TooLong)
@@ -66,4 +96,24 @@ fn a_packet(rt: HostRuntime) -> Result<(), Fail> {
         Err(PacketFault::EmptyPacket)
     );
     Ok(())
+}
+
+#[test]
+fn longest_packets(rt: HostRuntime) {
+    assert_eq!(rt; LONGEST_PACKET, 1286);
+    let data = [0; 1025];
+    let mut out = ArrayVec::<u8, 1286>::new();
+    assert_eq!(rt;
+        write_packet(9, &data, &[], &mut out),
+        Err(PacketFault::TooLong)
+    );
+    assert_eq!(rt;
+        write_packet(9, &[], &data[..256], &mut out),
+        Err(PacketFault::TooLong)
+    );
+    assert_eq!(rt;
+        write_packet(9, &data[..1024], &data[..255], &mut out),
+        Ok(())
+    );
+    assert_eq!(rt; out.len(), 1286);
 }

@@ -1,24 +1,41 @@
--- What the parts of a framer see of the bytes that it holds.
-use Rattle.std.specs.Prelude.{◌≡◌, ◌≢◌, ℕ, ◌+◌, ◌≤◌, [], ◌⊎◌, length, vec_capacity}
+-- What the parts of a framer know of the bytes that they hold.
+use Rattle.std.specs.Prelude.{◌≡◌, ◌≢◌, ℕ, ◌+◌, ◌<◌, ◌≤◌, List, length, take, drop, vec_capacity, Option, Some, None, IfSome, Ok}
 use Rattle.std.specs.Global.{Vec}
-use Rattle.esp3_frames.specs.Packet.{Packet, IsPacket}
-use Rattle.esp3_frames.specs.Frames.{Front, front_of}
-use Rattle.esp3_frames.specs.Frames.Front.{Never, Partial, Whole}
-use Rattle.esp3_resync.specs.declared.head.Head.{Head}
-use Rattle.esp3_resync.specs.declared.head.Head.TheVariants as head
+use Rattle.esp3_frames.specs.Packet.{Packet, IsPacket, longest_packet, spelling}
+use Rattle.esp3_frames.specs.Frames.{front_of}
+use Rattle.esp3_frames.specs.Frames.Front.{Never}
+use Rattle.esp3_frames.specs.Outcome.{header_of}
+use Rattle.esp3_frames.specs.declared.packet.Header.{Header}
+use Rattle.esp3_resync.specs.declared.front.Found.{Found}
+use Rattle.esp3_resync.specs.declared.front.Found.TheVariants as found
 
--- the code's answer says which front it is, and of a whole packet its length
-abbrev pub IsHead : Head → Front → Type 0
-IsHead head.Never f = f ≡ Never
-IsHead head.Partial f = f ≡ Partial
-IsHead (head.Whole n) f = (p : Packet) × (f ≡ Whole p) × (n ≡ length p.body + length p.opt + 7)
+-- the header of the bytes w has not come yet, or it is h
+abbrev pub HasHeader : List ℕ → Option Header → Type 0
+HasHeader w None = length w < 6
+HasHeader w (Some h) = (6 ≤ length w) × (header_of (take 6 w) ≡ Ok h)
 
--- a framer's bytes: room for every text that it may hold, and no front that never becomes a packet
-pub record Held (v : Vec ℕ) : Type 0 where
-  pub room : 1286 ≤ vec_capacity v
-  pub front : front_of v.items ≢ Never
+-- a framer's bytes begin with no byte that is to be skipped, and it keeps their header once that has come
+pub record Settled (w : List ℕ) (h : Option Header) : Type 0 where
+  pub front : front_of w ≢ Never
+  pub header : HasHeader w h
 
--- a buffer's bytes: room for every packet, and nothing or one packet
-pub record Buffered (v : Vec ℕ) : Type 0 where
-  pub room : 1286 ≤ vec_capacity v
-  pub whole : (v.items ≡ []) ⊎ ((p : Packet) × IsPacket p v.items)
+-- the code's answer says what the bytes w begin with
+abbrev pub IsFound : Found → List ℕ → Type 0
+IsFound found.Refused w = front_of w ≡ Never
+IsFound found.Begun w = Settled w None
+IsFound (found.Announced h) w = Settled w (Some h)
+
+-- the packet with the header h whose data, and behind it the optional data, are v
+abbrev pub packet_with : Header → List ℕ → Packet
+packet_with h v = record { kind = h.kind; body = take h.data_len v; opt = drop h.data_len v }
+
+-- what a buffer keeps: nothing yet, or a packet
+abbrev pub kept : Option Header → List ℕ → Option Packet
+kept None v = None
+kept (Some h) v = Some (packet_with h v)
+
+-- there is room for every packet, and what is kept is one, with the lengths that its header announced
+pub record Buffered (v : Vec ℕ) (h : Option Header) : Type 0 where
+  pub room : longest_packet ≤ vec_capacity v
+  pub lengths : IfSome h (λ x. x.data_len + x.opt_len ≡ length v.items)
+  pub whole : IfSome h (λ x. IsPacket (packet_with x v.items) (spelling (packet_with x v.items)))

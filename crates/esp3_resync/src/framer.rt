@@ -7,31 +7,31 @@ ghost use Rattle.esp3_frames.specs.Frames.{frames_of};
 ghost use Rattle.esp3_frames.specs.Outcome.{packet_of};
 ghost use Rattle.esp3_frames.specs.Packet.{Packet};
 
-use crate::head::{Head, drop_head, head_of, refill, settle};
-use esp3_frames::{PacketRef, read_packet};
+use crate::front::{body_len, is_refused, is_whole, settle};
+use crate::window::Window;
+use esp3_frames::{Header, LONGEST_PACKET, PacketRef, SYNC_BYTE};
 use std::alloc::{AllocError, Global};
 use std::marker::Model;
-
-/// The greatest packet: a header of six bytes, data, optional data, and a check byte.
-const ROOM: usize = 6 + 1024 + 255 + 1;
 
 /// Room for one packet: the one that a framer handed out last, or none yet.
 #[derive(Drop)]
 pub struct PacketBuf {
+    // The data of the packet, and its optional data behind it.
     bytes: Vec<u8>,
+    // What its header says: how long the two are, and the type.
+    header: Option<Header>,
 }
 
 impl Model for PacketBuf {
-    ghost use Rattle.std.specs.Prelude.{Option, slice_get};
+    ghost use Rattle.std.specs.Prelude.{Option};
     ghost use Rattle.esp3_frames.specs.Packet.{Packet};
-    ghost use Rattle.esp3_frames.specs.Frames.{packets_in};
-    ghost use Rattle.esp3_resync.specs.Held.{Buffered};
+    ghost use Rattle.esp3_resync.specs.Held.{Buffered, kept};
 
     ghost Value = { Option Packet };
 
-    ghost view = { λ b. slice_get (packets_in b.bytes.items) 0 };
+    ghost view = { λ b. kept b.header b.bytes.items };
 
-    ghost invariant = { λ b. Buffered b.bytes };
+    ghost invariant = { λ b. Buffered b.bytes b.header };
 }
 
 impl PacketBuf {
@@ -40,7 +40,8 @@ impl PacketBuf {
         ensures { IfOk result (λ b. b ≡ None) }
     {
         Ok(PacketBuf {
-            bytes: Vec::with_capacity(alloc, ROOM)?,
+            bytes: Vec::with_capacity(alloc, LONGEST_PACKET)?,
+            header: None,
         })
     }
 
@@ -48,7 +49,13 @@ impl PacketBuf {
     pub fn packet(&self) -> Option<PacketRef<'_>>
         ensures { option_map packet_of result ≡ self.now }
     {
-        read_packet(&self.bytes)
+        let header = self.header?;
+        let (body, opt) = self.bytes.split_at(header.data_len as usize);
+        Some(PacketRef {
+            kind: header.kind,
+            body,
+            opt,
+        })
     }
 }
 
@@ -59,18 +66,20 @@ impl PacketBuf {
 /// goes on at the very next byte, so no byte is lost.
 #[derive(Drop)]
 pub struct Framer {
-    bytes: Vec<u8>,
+    window: Window,
+    // What the first six bytes of the window announce, once they are there.
+    header: Option<Header>,
 }
 
 impl Model for Framer {
     ghost use Rattle.esp3_frames.specs.Frames.{Frames, frames_of};
-    ghost use Rattle.esp3_resync.specs.Held.{Held};
+    ghost use Rattle.esp3_resync.specs.Held.{Settled};
 
     ghost Value = { Frames };
 
-    ghost view = { λ f. frames_of f.bytes.items };
+    ghost view = { λ f. frames_of f.window };
 
-    ghost invariant = { λ f. Held f.bytes };
+    ghost invariant = { λ f. Settled f.window f.header };
 }
 
 impl Framer {
@@ -79,7 +88,8 @@ impl Framer {
         ensures { IfOk result (λ f. f ≡ record { ready = []; rest = [] }) }
     {
         Ok(Framer {
-            bytes: Vec::with_capacity(alloc, ROOM)?,
+            window: Window::new(alloc)?,
+            header: None,
         })
     }
 
@@ -88,9 +98,9 @@ impl Framer {
         ensures ready { IsTrue result ↔ (0 < length self.now.ready) }
         ensures rest { MayBecomePacket self.now.rest }
     {
-        match head_of(&self.bytes) {
-            Head::Whole(_) => true,
-            _ => false,
+        match self.header {
+            Some(header) => is_whole(&self.window, header),
+            None => false,
         }
     }
 
@@ -99,8 +109,14 @@ impl Framer {
         requires { length self.old.ready ≡ 0 }
         ensures { self.new ≡ frames_of (self.old.rest ++ b ∷ []) }
     {
-        let _has_room = self.bytes.push(b);
-        settle(&mut self.bytes);
+        if b != SYNC_BYTE && self.window.is_empty() {
+            return;
+        }
+        self.window.push(b);
+        match self.header {
+            Some(header) if !is_refused(&self.window, header) => {}
+            _ => self.header = settle(&mut self.window),
+        }
     }
 
     /// Hands out the first packet that is ready, and says whether there was one. With none it changes nothing. It takes
@@ -110,12 +126,17 @@ impl Framer {
         ensures taken { OnTrue result ((p : Packet) × (out.new ≡ Some p) × (self.old.ready ≡ p ∷ self.new.ready) × (self.new.rest ≡ self.old.rest)) }
         ensures none { OnFalse result ((self.new ≡ self.old) × (out.new ≡ out.old)) }
     {
-        let Head::Whole(n) = head_of(&self.bytes) else {
+        let Some(header) = self.header else {
             return false;
         };
-        refill(&mut out.bytes, &self.bytes[..n]);
-        drop_head(&mut self.bytes, n);
-        settle(&mut self.bytes);
+        if !is_whole(&self.window, header) {
+            return false;
+        }
+        self.window.skip(6);
+        self.window.move_into(body_len(header), &mut out.bytes);
+        self.window.skip(1);
+        out.header = Some(header);
+        self.header = settle(&mut self.window);
         true
     }
 }

@@ -1,62 +1,88 @@
-use Rattle.std.proofs.Common.{◌≡◌, ℕ, ◌+◌, length, List, take, arith, refl, sym, ap, subst, ◌∙◌, length-take, rules, inr}
-use Rattle.esp3_frames.specs.Frames.{front_of, Frames}
-use Rattle.esp3_frames.specs.Frames.Front.{Whole}
-use Rattle.esp3_frames.specs.Packet.{Packet, IsPacket}
-use Rattle.esp3_frames.proofs.ForCallers.{whole_length}
-use Rattle.esp3_resync.proofs.FramesLemmas.{not_whole, idle, ready_whole, taken}
+use Rattle.std.proofs.Common.{◌≡◌, ℕ, ◌+◌, List, ◌∷◌, length, take, drop, refl, sym, ap, subst, ◌∙◌, arith, length-take, length-drop}
+use Rattle.std.specs.Prelude.{Option, Some, None}
+use Rattle.std.proofs.lemmas.List.{drop-drop}
+use Rattle.esp3_frames.specs.Packet.{Packet, IsPacket, spelling}
+use Rattle.esp3_frames.specs.Frames.{front_of, frames_of, Frames}
+use Rattle.esp3_frames.specs.Frames.Front.{Partial}
+use Rattle.esp3_frames.specs.declared.packet.Header.{Header}
+use Rattle.esp3_frames.proofs.ForCallers.{frames-whole}
+use Rattle.esp3_resync.specs.Held.{Settled, packet_with}
+use Rattle.esp3_resync.proofs.FramesLemmas.{ready_whole, unready_partial}
+use Rattle.esp3_resync.proofs.HeaderLemmas.{short_partial, whole_sum, whole_parts}
 use Rattle.esp3_resync.proofs.framer.Framer.take.Goals as goal
-use Rattle.esp3_resync.proofs.framer.Framer.take.Goals.{In-Whole}
 
-pub returns-in_default : goal.returns-in_default
-returns-in_default c =
-    let s = c.self.inside.bytes.items in
-    let r = idle s c.self.invariant.front (λ p e. not_whole c.head_of.result (front_of c.deref.result.now) c.head_of.ensures c.in_default.not-Whole p (ap front_of c.deref.ensures.value ∙ e)) in
+unannounced : (w : List ℕ) (h : Option Header) → Settled w h → ((x : Header) → h ≡ Some x → ⊥) → front_of w ≡ Partial
+unannounced w None s n = short_partial w s.header s.front
+unannounced w (Some x) s n = absurd (n x refl)
+
+pub returns-in_default-clause-ready : goal.returns-in_default-clause-ready
+returns-in_default-clause-ready c =
+    let s = c.self.inside.window in
+    let r = unready_partial s (unannounced s c.self.inside.header c.self.invariant c.in_default.not-Some) in
     let e = ap (λ (x : Frames). length x.ready) c.self.view_is in
-    record { ready = (λ t. absurd cc, λ h. absurd (omega (arith, r, e, h))); taken = tt; none = (refl, refl) }
+    (λ t. absurd cc, λ h. absurd (omega (arith, r, e, h)))
 
-hits : (c : In-Whole) → (p : Packet) × (front_of c.self.inside.bytes.items ≡ Whole p) × (c.in-Whole.n ≡ length p.body + length p.opt + 7)
-hits c = let h = c.in-Whole.ensures in (h.0, ap front_of (sym c.deref.ensures.value) ∙ h.1, h.2)
-
-pub slice_bounds-refill-end : goal.slice_bounds-refill-end
-slice_bounds-refill-end c =
-    let h = hits (goal.at.slice_bounds-refill-end c).In-Whole in
-    let n = whole_length c.self.inside.bytes.items h.0 h.1 in
-    omega (arith, n.0, h.2, length-take c.in-Whole.n c.deref-2.result.now, ap length c.deref-2.ensures.value)
-
-pub drop_head-requires : goal.drop_head-requires
-drop_head-requires c =
-    let h = hits (goal.at.drop_head-requires c).In-Whole in
-    let n = whole_length c.self.inside.bytes.items h.0 h.1 in
-    omega (arith, n.0, h.2, c.self.inside.bytes.ok.0)
-
-pub returns-clause-ready : goal.returns-clause-ready
-returns-clause-ready c =
-    let h = hits (goal.at.returns-clause-ready c).In-Whole in
-    let r = ready_whole c.self.inside.bytes.items h.0 h.1 in
+pub returns-then-not-is_whole-clause-ready : goal.returns-then-not-is_whole-clause-ready
+returns-then-not-is_whole-clause-ready c =
+    let s = c.self.inside.window in
+    let r = unready_partial s c.if-not-is_whole.ensures.partial in
     let e = ap (λ (x : Frames). length x.ready) c.self.view_is in
-    (λ _. omega (arith, r, e), λ _. search rules)
+    (λ t. absurd cc, λ h. absurd (omega (arith, r, e, h)))
 
-pub refill-requires : goal.refill-requires
-refill-requires c =
-    let h = hits (goal.at.refill-requires c).In-Whole in
-    let n = whole_length c.self.inside.bytes.items h.0 h.1 in
-    omega (arith, n.1, h.2, length-take c.in-Whole.n c.deref-2.result.now, c.out.invariant.room)
+pub move_into-requires : goal.move_into-requires
+move_into-requires c =
+    let s = c.self.inside.window in
+    let n = whole_parts s c.in-Some.header c.if-not-is_whole.ensures.whole in (
+      omega (arith, n.0, c.body_len.ensures, ap length c.skip.ensures, length-drop 6 s),
+      omega (arith, n.1, c.body_len.ensures, c.out.invariant.room),
+    )
+
+pub skip-requires-2 : goal.skip-requires-2
+skip-requires-2 c =
+    let s = c.self.inside.window in
+    let n = whole_parts s c.in-Some.header c.if-not-is_whole.ensures.whole in
+    omega (arith, n.0, c.body_len.ensures, ap length c.move_into.ensures.rest, length-drop c.body_len.result c.skip.new.self, ap length c.skip.ensures, length-drop 6 s)
 
 pub invariant_of-out : goal.invariant_of-out
 invariant_of-out c =
-    let h = hits (goal.at.invariant_of-out c).In-Whole in
-    let s = c.self.inside.bytes.items in
-    let n = whole_length s h.0 h.1 in
-    let e : c.refill.new.to.items ≡ take (length h.0.body + length h.0.opt + 7) s = c.refill.ensures.items ∙ ap (λ (y : List ℕ). take c.in-Whole.n y) c.deref-2.ensures.value ∙ ap (λ (i : ℕ). take i s) h.2 in
+    let s = c.self.inside.window in
+    let h = c.in-Some.header in
+    let m : List ℕ = take (h.data_len + h.opt_len) (drop 6 s) in
+    let n = whole_parts s h c.if-not-is_whole.ensures.whole in
+    let items : c.move_into.new.to.items ≡ m = c.move_into.ensures.items ∙ ap (λ k. take k c.skip.new.self) c.body_len.ensures ∙ ap (take (h.data_len + h.opt_len)) c.skip.ensures in
+    let P : List ℕ → Type 0 = λ v. IsPacket (packet_with h v) (spelling (packet_with h v)) in
     record {
-      room = omega (arith, c.out.invariant.room, c.refill.ensures.capacity);
-      whole = inr (h.0, subst (IsPacket h.0) (sym e) n.2);
+      room = omega (arith, c.out.invariant.room, c.move_into.ensures.capacity);
+      lengths = omega (arith, n.0, ap length items, length-take (h.data_len + h.opt_len) (drop 6 s), length-drop 6 s);
+      whole = subst P (sym items) (record { some = n.2.some; body = n.2.body; opt = n.2.opt; bytes = refl });
     }
+
+pub returns-clause-ready : goal.returns-clause-ready
+returns-clause-ready c =
+    let s = c.self.inside.window in
+    let r = ready_whole s _ c.if-not-is_whole.ensures.whole in
+    let e = ap (λ (x : Frames). length x.ready) c.self.view_is in
+    (λ _. omega (arith, r, e), λ _. refl)
 
 pub returns-clause-taken : goal.returns-clause-taken
 returns-clause-taken c =
-    let h = hits (goal.at.returns-clause-taken c).In-Whole in
-    let s = c.self.inside.bytes.items in
-    let e : c.refill.new.to.items ≡ take c.in-Whole.n s = c.refill.ensures.items ∙ ap (λ (y : List ℕ). take c.in-Whole.n y) c.deref-2.ensures.value in
-    let t = taken s c.settle.new.bytes.items c.drop_head.new.bytes.items c.refill.new.to.items c.in-Whole.n h.0 h.1 h.2 c.settle.ensures.frames c.drop_head.ensures.items e in
-    (h.0, t.0, sym (ap (λ (x : Frames). x.ready) c.self.view_is) ∙ t.1, t.2 ∙ ap (λ (x : Frames). x.rest) c.self.view_is)
+    let s = c.self.inside.window in
+    let h = c.in-Some.header in
+    let n : ℕ = h.data_len + h.opt_len in
+    let m : List ℕ = take n (drop 6 s) in
+    let p : Packet = packet_with h m in
+    let whole = c.if-not-is_whole.ensures.whole in
+    let items : c.move_into.new.to.items ≡ m = c.move_into.ensures.items ∙ ap (λ k. take k c.skip.new.self) c.body_len.ensures ∙ ap (take n) c.skip.ensures in
+    let k : ℕ = c.body_len.result in
+    let count : 6 + (k + 1) ≡ length p.body + length p.opt + 7 = omega (arith, c.body_len.ensures, whole_sum s h whole) in
+    let left : c.skip-2.new.self ≡ drop (length p.body + length p.opt + 7) s =
+    c.skip-2.ensures ∙ ap (drop 1) (c.move_into.ensures.rest ∙ ap (drop k) c.skip.ensures)
+    ∙ drop-drop 1 k (drop 6 s) ∙ drop-drop (k + 1) 6 s ∙ ap (λ i. drop i s) count
+    in
+    let behind : frames_of c.settle-self-inside.new.window ≡ frames_of (drop (length p.body + length p.opt + 7) s) = c.settle-self-inside.ensures.frames ∙ ap frames_of left in
+    let here = frames-whole s p whole in (
+      p,
+      ap (λ (v : List ℕ). Some (packet_with h v)) items,
+      sym (ap (λ (x : Frames). x.ready) c.self.view_is) ∙ ap (λ (x : Frames). x.ready) here ∙ ap (λ (ps : List Packet). p ∷ ps) (sym (ap (λ (x : Frames). x.ready) behind)),
+      ap (λ (x : Frames). x.rest) behind ∙ sym (ap (λ (x : Frames). x.rest) here) ∙ ap (λ (x : Frames). x.rest) c.self.view_is,
+    )

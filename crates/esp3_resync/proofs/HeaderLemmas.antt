@@ -1,0 +1,67 @@
+-- What a header at the front of some bytes says of them.
+use Rattle.std.proofs.Common.{◌≡◌, ◌≢◌, ℕ, ◌+◌, ◌<◌, ◌≤◌, Bool, true, false, cond, List, ◌++◌, length, take, drop, get_or, sym, ap, subst, ◌∙◌, arith, length-append, length-take, length-drop, inl, inr}
+use Rattle.std.specs.Prelude.{Some}
+use Rattle.std.proofs.lemmas.List.{get_or-drop, take-append-le}
+use Rattle.std.proofs.lemmas.Bool.{cases_eq}
+use Rattle.esp3_frames.specs.Check.{check}
+use Rattle.esp3_frames.specs.Packet.{Packet, IsPacket, longest_packet}
+use Rattle.esp3_frames.specs.Frames.{Front, front_of, front_behind, may_begin}
+use Rattle.esp3_frames.specs.Frames.Front.{Never, Partial, Whole}
+use Rattle.esp3_frames.specs.Outcome.{header_of}
+use Rattle.esp3_frames.specs.declared.packet.Header.{Header}
+use Rattle.esp3_frames.proofs.ForCallers.{front-short, front-good, front_behind-partial, front_behind-whole, front_behind-never, whole_length}
+use Rattle.esp3_resync.specs.Held.{HasHeader, packet_with}
+
+-- less than six bytes that are not to be skipped
+chosen : (b : Bool) (f : Front) → f ≡ cond b Partial Never → f ≢ Never → f ≡ Partial
+chosen true f e n = e
+chosen false f e n = absurd (n e)
+
+pub short_partial : (w : List ℕ) → length w < 6 → front_of w ≢ Never → front_of w ≡ Partial
+short_partial w short n = chosen (may_begin w) (front_of w) (front-short w short) n
+
+-- a header stays when bytes come
+pub header_stays : (w t : List ℕ) (h : Header) → HasHeader w (Some h) → HasHeader (w ++ t) (Some h)
+header_stays w t h has = (
+  omega (arith, has.0, length-append w t),
+  ap header_of (take-append-le 6 w t has.0) ∙ has.1,
+)
+
+module _ (w : List ℕ) (h : Header) (byte : (i : ℕ) → get_or w i 0 < 256) (has : HasHeader w (Some h)) where
+  behind : front_of w ≡ front_behind h.data_len h.opt_len h.kind (drop 6 w)
+  behind = front-good w h byte has.0 has.1
+
+  -- the byte behind the data, counted from either front
+  last : get_or (drop 6 w) (h.data_len + h.opt_len) 0 ≡ get_or w (h.data_len + h.opt_len + 6) 0
+  last =
+      let e : 6 + (h.data_len + h.opt_len) ≡ h.data_len + h.opt_len + 6 = omega arith in
+      get_or-drop 6 w (h.data_len + h.opt_len) 0 ∙ ap (λ i. get_or w i 0) e
+
+  pub waits : length w ≤ h.data_len + h.opt_len + 6 → front_of w ≡ Partial
+  waits short = behind ∙ front_behind-partial h.data_len h.opt_len h.kind (drop 6 w) (omega (arith, length-drop 6 w))
+
+  pub stands : h.data_len + h.opt_len + 6 < length w → get_or w (h.data_len + h.opt_len + 6) 0 ≡ check (take (h.data_len + h.opt_len) (drop 6 w)) → front_of w ≡ Whole (packet_with h (take (h.data_len + h.opt_len) (drop 6 w)))
+  stands long right = behind ∙ front_behind-whole h.data_len h.opt_len h.kind (drop 6 w) (omega (arith, length-drop 6 w)) (last ∙ right)
+
+  pub refused : h.data_len + h.opt_len + 6 < length w → get_or w (h.data_len + h.opt_len + 6) 0 ≢ check (take (h.data_len + h.opt_len) (drop 6 w)) → front_of w ≡ Never
+  refused long wrong = behind ∙ front_behind-never h.data_len h.opt_len h.kind (drop 6 w) (omega (arith, length-drop 6 w)) (λ e. wrong (sym last ∙ e))
+
+  -- with all its bytes there, it is whole unless it is refused
+  pub whole : h.data_len + h.opt_len + 6 < length w → front_of w ≢ Never → front_of w ≡ Whole (packet_with h (take (h.data_len + h.opt_len) (drop 6 w)))
+  whole long n = elim (cases_eq (get_or w (h.data_len + h.opt_len + 6) 0) (check (take (h.data_len + h.opt_len) (drop 6 w)))) [
+    | inl right ↦ stands long right
+    | inr wrong ↦ absurd (n (refused long wrong))
+  ]
+
+-- a whole packet at the front, by its header
+module _ (w : List ℕ) (h : Header) (is : front_of w ≡ Whole (packet_with h (take (h.data_len + h.opt_len) (drop 6 w)))) where
+  pub whole_sum : length (take h.data_len (take (h.data_len + h.opt_len) (drop 6 w))) + length (drop h.data_len (take (h.data_len + h.opt_len) (drop 6 w))) + 7 ≡ h.data_len + h.opt_len + 7
+  whole_sum =
+      let m : List ℕ = take (h.data_len + h.opt_len) (drop 6 w) in
+      omega (arith, (whole_length w (packet_with h m) is).0, length-take h.data_len m, length-drop h.data_len m, length-take (h.data_len + h.opt_len) (drop 6 w), length-drop 6 w)
+
+  pub whole_parts : (h.data_len + h.opt_len + 7 ≤ length w) × (h.data_len + h.opt_len + 7 ≤ longest_packet) × IsPacket (packet_with h (take (h.data_len + h.opt_len) (drop 6 w))) (take (h.data_len + h.opt_len + 7) w)
+  whole_parts =
+      let p : Packet = packet_with h (take (h.data_len + h.opt_len) (drop 6 w)) in
+      let n = whole_length w p is in
+      (omega (arith, n.0, whole_sum), omega (arith, n.1, whole_sum), subst (λ (k : ℕ). IsPacket p (take k w)) whole_sum n.2)

@@ -1,0 +1,198 @@
+//! The framer beside the plain one: after each byte of 10,000 made-up streams both hold the same packets.
+use crate::plain::PlainFramer;
+use crate::{Framer, PacketBuf};
+use esp3_frames::{check8, read_packet};
+use std::alloc::{AllocError, Global};
+use std::test::Fail;
+
+// A row of numbers that looks random.
+#[derive(Drop)]
+struct Row {
+    state: u64,
+}
+
+impl Row {
+    // The next number, below `limit`, which is not 0.
+    fn draw(&mut self, limit: u64) -> u64 {
+        self.state = self
+            .state
+            .wrapping_mul(6_364_136_223_846_793_005)
+            .wrapping_add(1_442_695_040_888_963_407);
+        (self.state >> 33).checked_rem(limit).unwrap_or(0)
+    }
+
+    fn draw_byte(&mut self) -> u8 {
+        self.draw(256).to_le_bytes()[0]
+    }
+
+    // Any byte, and often the sync byte.
+    fn draw_content(&mut self) -> u8 {
+        if self.draw(4) == 0 {
+            0x55
+        } else {
+            self.draw_byte()
+        }
+    }
+}
+
+fn push_header(
+    bytes: &mut Vec<u8>,
+    data_len: u64,
+    opt_len: u64,
+    kind: u8,
+) -> Result<(), AllocError> {
+    let [low, high, _, _, _, _, _, _] = data_len.to_le_bytes();
+    let header = [high, low, opt_len.to_le_bytes()[0], kind];
+    bytes.push(0x55)?;
+    bytes.extend_from_slice(&header)?;
+    bytes.push(check8(&header))?;
+    Ok(())
+}
+
+// A packet whose last byte is its check joined with `wrong`: 0 for a good one.
+fn push_packet(
+    bytes: &mut Vec<u8>,
+    row: &mut Row,
+    data_len: u64,
+    opt_len: u64,
+    wrong: u8,
+) -> Result<(), AllocError> {
+    let kind = row.draw_byte();
+    push_header(bytes, data_len, opt_len, kind)?;
+    let start = bytes.len();
+    for _ in 0..data_len.saturating_add(opt_len) {
+        bytes.push(row.draw_content())?;
+    }
+    let check = check8(bytes.get(start..).unwrap_or(&[]));
+    bytes.push(check ^ wrong)?;
+    Ok(())
+}
+
+// One piece of a stream: noise, a sync byte, a header with nothing behind it, a packet, one with a wrong check, or a part of one.
+fn push_piece(
+    bytes: &mut Vec<u8>,
+    row: &mut Row,
+    data_len: u64,
+    opt_len: u64,
+) -> Result<(), AllocError> {
+    match row.draw(8) {
+        0 => bytes.push(row.draw_byte())?,
+        1 => bytes.push(0x55)?,
+        2 => {
+            let kind = row.draw_byte();
+            push_header(bytes, data_len, opt_len, kind)?;
+        }
+        3 => push_packet(bytes, row, data_len, opt_len, 1)?,
+        4 => {
+            push_packet(bytes, row, data_len, opt_len, 0)?;
+            let cut = bytes.len() as u64;
+            let kept = cut.saturating_sub(row.draw(20).min(data_len.saturating_add(6)));
+            bytes.truncate(kept as usize);
+        }
+        _ => push_packet(bytes, row, data_len, opt_len, 0)?,
+    }
+    Ok(())
+}
+
+// Up to eleven short pieces.
+fn short_stream(bytes: &mut Vec<u8>, row: &mut Row) -> Result<(), AllocError> {
+    for _ in 0..row.draw(12) {
+        let (data_len, opt_len) = (row.draw(9), row.draw(3));
+        push_piece(bytes, row, data_len, opt_len)?;
+    }
+    Ok(())
+}
+
+// Up to five pieces of any length, many as long as can be, with short packets among them, so that they lie anywhere in the ring.
+fn long_stream(bytes: &mut Vec<u8>, row: &mut Row) -> Result<(), AllocError> {
+    for _ in 0..row.draw(6) {
+        let (data_len, opt_len) = match row.draw(3) {
+            0 => (1024, 255),
+            1 => (row.draw(1026), row.draw(256)),
+            _ => (row.draw(200), row.draw(8)),
+        };
+        push_piece(bytes, row, data_len, opt_len)?;
+        for _ in 0..row.draw(4) {
+            push_packet(bytes, row, 7, 7, 0)?;
+        }
+    }
+    Ok(())
+}
+
+// A header of the longest packet, `distance` bytes, another such header, and so many packets that both are refused.
+fn header_at_distance(bytes: &mut Vec<u8>, row: &mut Row, distance: u64) -> Result<(), AllocError> {
+    push_header(bytes, 1024, 255, 1)?;
+    for _ in 0..distance {
+        bytes.push(row.draw_content())?;
+    }
+    push_header(bytes, 1024, 255, 1)?;
+    for _ in 0..62_u32 {
+        push_packet(bytes, row, 7, 7, 0)?;
+    }
+    Ok(())
+}
+
+#[derive(Drop)]
+struct Found {
+    packets: u32,
+    longest: u32,
+}
+
+// Both framers on the bytes, one after another: whether one is ready exactly where the other is, with the same packets.
+fn compare(alloc: Global, bytes: &[u8], found: &mut Found) -> Result<bool, AllocError> {
+    let mut framer = Framer::new(alloc)?;
+    let mut plain = PlainFramer::new(alloc);
+    let mut buffer = PacketBuf::new(alloc)?;
+    let mut wanted = Vec::new(alloc);
+    for b in bytes {
+        if framer.is_ready() {
+            return Ok(false);
+        }
+        framer.push(*b);
+        plain.push(*b)?;
+        for _ in 0..bytes.len() {
+            let ready = plain.is_ready();
+            if framer.is_ready() != ready || framer.take(&mut buffer) != ready {
+                return Ok(false);
+            }
+            if !ready {
+                break;
+            }
+            let _taken = plain.take(&mut wanted)?;
+            if buffer.packet() != read_packet(&wanted) {
+                return Ok(false);
+            }
+            found.packets = found.packets.saturating_add(1);
+            if wanted.len() == 1286 {
+                found.longest = found.longest.saturating_add(1);
+            }
+        }
+    }
+    Ok(true)
+}
+
+#[test]
+fn as_a_plain_framer(rt: HostRuntime) -> Result<(), Fail> {
+    let alloc = rt.alloc();
+    let mut row = Row { state: 1 };
+    let mut found = Found {
+        packets: 0,
+        longest: 0,
+    };
+    let mut bytes = Vec::new(alloc);
+    for stream in 0..10_000_u64 {
+        bytes.clear();
+        if stream < 1_300 {
+            header_at_distance(&mut bytes, &mut row, stream)?;
+        } else if stream < 2_300 {
+            long_stream(&mut bytes, &mut row)?;
+        } else {
+            short_stream(&mut bytes, &mut row)?;
+        }
+        assert!(rt; compare(alloc, &bytes, &mut found)?);
+    }
+    // The headers at each distance alone have 130 packets behind them.
+    assert!(rt; found.packets > 80_600);
+    assert!(rt; found.longest > 100);
+    Ok(())
+}

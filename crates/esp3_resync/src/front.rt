@@ -1,0 +1,93 @@
+//! What stands at the front of a window: a part of a packet, a whole one, or bytes that are to be skipped.
+ghost use Rattle.std.specs.Prelude.{◌≡◌, ◌+◌, ◌↔◌, take, drop, IsTrue, Some};
+ghost use Rattle.std.specs.Bool.{OnTrue, OnFalse};
+ghost use Rattle.esp3_frames.specs.Frames.{front_of, frames_of};
+ghost use Rattle.esp3_frames.specs.Frames;
+ghost use Rattle.esp3_frames.specs.Frames.Front.{Never, Partial, Whole};
+ghost use Rattle.esp3_resync.specs.Held.{HasHeader, IsFound, Settled, packet_with};
+
+use crate::window::Window;
+use esp3_frames::{Header, LONGEST_DATA, SYNC_BYTE, read_header};
+
+/// What stands at the front of a window.
+#[derive(Clone, Copy)]
+pub enum Found {
+    /// No packet begins here, whatever follows.
+    Refused,
+    /// A packet may begin here, of which less than six bytes have come.
+    Begun,
+    /// A packet with this header may stand here, or stands here.
+    Announced(Header),
+}
+
+/// The length of the data and the optional data that a header announces.
+pub fn body_len(header: Header) -> usize
+    ensures { result ≡ header.data_len + header.opt_len }
+{
+    header.data_len as usize + header.opt_len as usize
+}
+
+/// Whether the packet whose header stands at the front has come whole, where it is not refused.
+pub fn is_whole(window: &Window, header: Header) -> bool
+    requires { Settled window.now (Some header) }
+    ensures whole { OnTrue result (front_of window.now ≡ Whole (packet_with header (take (header.data_len + header.opt_len) (drop 6 window.now)))) }
+    ensures partial { OnFalse result (front_of window.now ≡ Partial) }
+{
+    body_len(header) + 6 < window.len()
+}
+
+/// Whether the packet whose header stands at the front has come whole, with a wrong check byte.
+pub fn is_refused(window: &Window, header: Header) -> bool
+    requires { HasHeader window.now (Some header) }
+    ensures { IsTrue result ↔ (front_of window.now ≡ Never) }
+{
+    let len = body_len(header);
+    len + 6 < window.len() && window.byte_or(len + 6, 0) != window.check_of(6, len)
+}
+
+// Whether a packet may begin with these bytes, of which there are at most five. What has not come is taken for the best.
+fn may_begin(window: &Window) -> bool
+    ensures { result ≡ Frames.may_begin window.now }
+{
+    let data_len = u16::from_be_bytes([window.byte_or(1, 0), window.byte_or(2, 0)]);
+    let opt_len = window.byte_or(3, 1);
+    window.byte_or(0, SYNC_BYTE) == SYNC_BYTE
+        && data_len <= LONGEST_DATA
+        && (data_len > 0 || opt_len > 0)
+}
+
+fn front(window: &Window) -> Found
+    ensures { IsFound result window.now }
+{
+    if window.len() < 6 {
+        return if may_begin(window) {
+            Found::Begun
+        } else {
+            Found::Refused
+        };
+    }
+    let Ok(header) = read_header(&window.first_six()) else {
+        return Found::Refused;
+    };
+    if is_refused(window, header) {
+        Found::Refused
+    } else {
+        Found::Announced(header)
+    }
+}
+
+/// Skips bytes until a packet may stand at the front, and answers its header, once that is there.
+pub fn settle(window: &mut Window) -> Option<Header>
+    ensures frames { frames_of window.new ≡ frames_of window.old }
+    ensures settled { Settled window.new result }
+{
+    let mut found = front(window);
+    while let Found::Refused = found {
+        window.skip_to_sync();
+        found = front(window);
+    }
+    match found {
+        Found::Announced(header) => Some(header),
+        _ => None,
+    }
+}
