@@ -1,6 +1,5 @@
 -- The facts about the definitions that proofs cite, also those of the crates above: the laws, and steps that they are made of.
 pub use Rattle.esp3_frames.proofs.CheckLemmas.{check_next, check_nil}
-pub use Rattle.esp3_frames.proofs.ZerosLemmas.{check_parts, check-zeros, zeros_period}
 pub use Rattle.esp3_frames.proofs.PacketLemmas.{one_reading}
 pub use Rattle.esp3_frames.proofs.FrontLemmas.{front_partial}
 pub use Rattle.esp3_frames.proofs.FramingLemmas.{one_of_three, empty_may_become, framing_of, only_framing, rest_may_become, frames_of-may_become, framing_in_parts, front_never}

@@ -1,11 +1,12 @@
 -- What a framer's bytes hold, by what stands at their front.
-use Rattle.std.proofs.Common.{◌≡◌, ◌≢◌, ℕ, zero, suc, ◌<◌, Bool, true, false, List, [], ◌∷◌, ◌++◌, length, drop, get_or, refl, sym, ap, ◌∙◌, arith, inl, inr}
+use Rattle.std.proofs.Common.{◌≡◌, ◌≢◌, ℕ, zero, suc, ◌<◌, Bool, true, false, List, [], ◌∷◌, ◌++◌, length, drop, get_or, refl, sym, ap, ◌∙◌, arith, length-drop, inl, inr}
 use Rattle.std.specs.Prelude.{IsTrue}
 use Rattle.std.specs.Bool.{OnTrue, OnFalse}
 use Rattle.esp3_frames.specs.Packet.{Packet}
+use Rattle.esp3_resync.specs.Running.{ReachesSync}
 use Rattle.esp3_frames.specs.Frames.{front_of, Frames, frames_after, frames_of}
 use Rattle.esp3_frames.specs.Frames.Front.{Never, Partial, Whole}
-use Rattle.esp3_frames.proofs.ForCallers.{cases_front, frames-skipped, frames-partial, frames-whole}
+use Rattle.esp3_frames.proofs.ForCallers.{cases_front, frames-never, frames-skipped, frames-partial, frames-whole}
 
 -- where no packet is ready, a text whose front may become one is its own rest
 pub unready : (s : List ℕ) → front_of s ≢ Never → length (frames_of s).ready ≡ 0 → (front_of s ≡ Partial) × ((frames_of s).rest ≡ s)
@@ -42,3 +43,17 @@ unheld w b e n =
     let none : frames_of (drop 1 (b ∷ [])) ≡ frames_of (b ∷ []) = frames-skipped (b ∷ []) 1 (omega arith) (first b n) in
     let rest : (frames_of w).rest ≡ [] = ap (λ (v : List ℕ). (frames_of v).rest) e ∙ ap (λ (c : Frames). c.rest) frames_of-empty in
     ap frames_of e ∙ none ∙ ap (λ (r : List ℕ). frames_of (r ++ b ∷ [])) (sym rest)
+
+-- a text of which no packet begins at the first byte, from its next sync byte on
+pub frames_at_sync : (w v : List ℕ) → front_of w ≡ Never → ReachesSync (drop 1 w) v → (frames_of v ≡ frames_of w) × (length v < length w)
+frames_at_sync w v never to =
+    let none = frames-never w never in (
+      ap frames_of to.is ∙ frames-skipped (drop 1 w) to.count to.within to.none ∙ none.1,
+      omega (arith, none.0, ap length to.is, length-drop to.count (drop 1 w), length-drop 1 w),
+    )
+
+-- where no packet is ready, a byte more makes the frames of the rest with that byte
+pub frames_of_more : (w v : List ℕ) (f : Frames) (b : ℕ) → front_of w ≢ Never → frames_of w ≡ f → length f.ready ≡ 0 → v ≡ w ++ b ∷ [] → frames_of v ≡ frames_of (f.rest ++ b ∷ [])
+frames_of_more w v f b n e none is =
+    let u = unready w n (ap (λ (x : Frames). length x.ready) e ∙ none) in
+    ap frames_of (is ∙ ap (λ (y : List ℕ). y ++ b ∷ []) (sym u.1 ∙ ap (λ (x : Frames). x.rest) e))

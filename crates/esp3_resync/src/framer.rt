@@ -7,7 +7,7 @@ ghost use Rattle.esp3_frames.specs.Frames.{frames_of};
 ghost use Rattle.esp3_frames.specs.Outcome.{packet_of};
 ghost use Rattle.esp3_frames.specs.Packet.{Packet};
 
-use crate::front::{body_len, is_refused, is_whole, settle};
+use crate::front::{body_len, is_refused, is_whole, settle, settle_behind};
 use crate::window::Window;
 use esp3_frames::{Header, LONGEST_PACKET, PacketRef, SYNC_BYTE};
 use std::alloc::{AllocError, Global};
@@ -109,13 +109,15 @@ impl Framer {
         requires { length self.old.ready ≡ 0 }
         ensures { self.new ≡ frames_of (self.old.rest ++ b ∷ []) }
     {
+        // Where nothing is held, only a sync byte begins a packet.
         if b != SYNC_BYTE && self.window.is_empty() {
             return;
         }
         self.window.push(b);
         match self.header {
             Some(header) if !is_refused(&self.window, header) => {}
-            _ => self.header = settle(&mut self.window),
+            Some(_) => self.header = settle_behind(&mut self.window),
+            None => self.header = settle(&mut self.window),
         }
     }
 

@@ -91,3 +91,13 @@ pub fn settle(window: &mut Window) -> Option<Header>
         _ => None,
     }
 }
+
+/// The same, where it is known that no packet begins at the first byte: so that is not looked at again.
+pub fn settle_behind(window: &mut Window) -> Option<Header>
+    requires { front_of window.old ≡ Never }
+    ensures frames { frames_of window.new ≡ frames_of window.old }
+    ensures settled { Settled window.new result }
+{
+    window.skip_to_sync();
+    settle(window)
+}

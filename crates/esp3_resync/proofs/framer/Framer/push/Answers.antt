@@ -1,9 +1,9 @@
-use Rattle.std.proofs.Common.{◌≡◌, ℕ, List, [], ◌∷◌, ◌++◌, length, sym, ap, ◌∙◌}
+use Rattle.std.proofs.Common.{◌≡◌, [], ◌∷◌, ◌++◌, length, sym, ap, ◌∙◌}
 use Rattle.std.proofs.lemmas.Bool.{eqb-true}
 use Rattle.std.proofs.lemmas.List.{nil_from_length}
 use Rattle.esp3_frames.specs.Frames.{frames_of, Frames}
 use Rattle.esp3_frames.proofs.ForCallers.{partial_short}
-use Rattle.esp3_resync.proofs.FramesLemmas.{unready, unheld}
+use Rattle.esp3_resync.proofs.FramesLemmas.{unready, unheld, frames_of_more}
 use Rattle.esp3_resync.proofs.framer.Framer.push.Goals as goal
 
 pub returns-then-is_empty : goal.returns-then-is_empty
@@ -19,13 +19,10 @@ push-requires c =
     partial_short w (unready w c.self.invariant.front (ap (λ (x : Frames). length x.ready) c.self.view_is ∙ c.requires)).0
 
 pub returns-in-Some : goal.returns-in-Some
-returns-in-Some c =
-    let w = c.self.inside.window in
-    let u = unready w c.self.invariant.front (ap (λ (x : Frames). length x.ready) c.self.view_is ∙ c.requires) in
-    ap frames_of (c.push.ensures ∙ ap (λ (y : List ℕ). y ++ c.args.b ∷ []) (sym u.1 ∙ ap (λ (x : Frames). x.rest) c.self.view_is))
+returns-in-Some c = frames_of_more c.self.inside.window c.push.new.self c.args.self.now c.args.b c.self.invariant.front c.self.view_is c.requires c.push.ensures
 
-pub returns-in_default : goal.returns-in_default
-returns-in_default c =
-    let w = c.self.inside.window in
-    let u = unready w c.self.invariant.front (ap (λ (x : Frames). length x.ready) c.self.view_is ∙ c.requires) in
-    c.settle-self-inside.ensures.frames ∙ ap frames_of (c.push.ensures ∙ ap (λ (y : List ℕ). y ++ c.args.b ∷ []) (sym u.1 ∙ ap (λ (x : Frames). x.rest) c.self.view_is))
+pub returns-in-Some-2 : goal.returns-in-Some-2
+returns-in-Some-2 c = c.settle_behind-self-inside.ensures.frames ∙ frames_of_more c.self.inside.window c.push.new.self c.args.self.now c.args.b c.self.invariant.front c.self.view_is c.requires c.push.ensures
+
+pub returns-in-None : goal.returns-in-None
+returns-in-None c = c.settle-self-inside.ensures.frames ∙ frames_of_more c.self.inside.window c.push.new.self c.args.self.now c.args.b c.self.invariant.front c.self.view_is c.requires c.push.ensures
