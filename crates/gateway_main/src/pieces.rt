@@ -26,7 +26,9 @@ pub fn take_piece<W: Sink, S: Alter>(
     let _start = *items;
     for byte in piece {
         gateway.byte(*byte);
-        drain(writer, gateway, items)?;
+        if gateway.is_ready() {
+            drain(writer, gateway, items)?;
+        }
     }
     Ok(())
 }
