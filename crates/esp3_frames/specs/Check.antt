@@ -1,5 +1,5 @@
--- The check byte of a message: the remainder of the message, times x^8, by x^8 + x^2 + x + 1. It starts at 0, and nothing is
--- reflected or inverted at the end (EnOcean Serial Protocol 3, "CRC8 calculation").
+-- The check byte of a message: the remainder of the message, times x^8, by x^8 + x^2 + x + 1. It starts at 0, and
+-- nothing is reflected or inverted at the end (EnOcean Serial Protocol 3, "CRC8 calculation").
 use Rattle.std.specs.Prelude.{ℕ, zero, suc, ◌+◌, ◌*◌, Bool, List, [], ◌∷◌, ◌++◌, length, ◌==◌, nat_lt, bit_xor, if◌then◌else◌}
 use Rattle.std.specs.Int.{bit_at}
 

@@ -21,8 +21,9 @@ pub record MayBecomePacket (w : List ℕ) : Type 0 where
 abbrev pub NeverPacket : List ℕ → Type 0
 NeverPacket w = (¬ BeginsWithPacket w) × (¬ MayBecomePacket w)
 
--- A stream is a row of single skipped bytes and of packets, and then a rest of which one more packet may come. A byte is
--- skipped only where no packet can begin. Own choice: behind a refused sync byte the search goes on at the very next byte.
+-- A stream is a row of single skipped bytes and of packets, and then a rest of which one more packet may come. A byte
+-- is skipped only where no packet can begin. Own choice: behind a refused sync byte the search goes on at the very next
+-- byte.
 pub data Framing : List ℕ → List Packet → List ℕ → Type 0 where
   ends : {s : List ℕ} → MayBecomePacket s → Framing s [] s
   skips : {b : ℕ} {s : List ℕ} {ps : List Packet} {rest : List ℕ} → NeverPacket (b ∷ s) → Framing s ps rest → Framing (b ∷ s) ps rest

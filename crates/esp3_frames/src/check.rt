@@ -39,7 +39,8 @@ pub fn check8_next(c: u8, b: u8) -> u8
     check_of(c ^ b)
 }
 
-/// The check byte of a message: CRC-8 with the polynomial x^8 + x^2 + x + 1, from 0, with nothing reflected or inverted.
+/// The check byte of a message: CRC-8 with the polynomial x^8 + x^2 + x + 1, from 0, with nothing reflected or
+/// inverted.
 ///
 /// EnOcean Serial Protocol 3, "CRC8 calculation".
 pub fn check8(b: &[u8]) -> u8
@@ -76,8 +77,8 @@ fn times_x(c: u8) -> u8
     if c < 128 { 2 * c } else { (2 * (c - 128)) ^ 7 }
 }
 
-// The check byte of a message, from its check byte so far, once `count` bytes 00 more have come. Bytes 00 keep sums, so it is
-// the sum of what they make of each bit.
+// The check byte of a message, from its check byte so far, once `count` bytes 00 more have come. Bytes 00 keep sums, so
+// it is the sum of what they make of each bit.
 fn after_zeros(check: u8, count: usize) -> u8
     ensures { result ≡ Check.after_zeros check count }
 {
@@ -94,8 +95,8 @@ fn after_zeros(check: u8, count: usize) -> u8
     sum
 }
 
-/// The check byte of the `len` bytes that came between two moments of a running check: `before` was the check byte so far at
-/// the first of them, and `all` at the second. It takes the same few steps for every length.
+/// The check byte of the `len` bytes that came between two moments of a running check: `before` was the check byte so
+/// far at the first of them, and `all` at the second. It takes the same few steps for every length.
 ///
 /// EnOcean Serial Protocol 3, "CRC8 calculation".
 pub fn check8_between(before: u8, all: u8, len: usize) -> u8

@@ -14,8 +14,8 @@ pub fn check_next()
     ensures { (m : List ℕ) (b : ℕ) → b < 256 → check (m ++ b ∷ []) ≡ check (bit_xor (check m) b ∷ []) }
 {}
 
-/// The check byte of a message in two parts: what as many bytes 00 as the second part has make of the check byte of the first,
-/// joined with the check byte of the second. A row of 127 bytes 00 changes no check byte.
+/// The check byte of a message in two parts: what as many bytes 00 as the second part has make of the check byte of the
+/// first, joined with the check byte of the second. A row of 127 bytes 00 changes no check byte.
 pub fn check_in_parts()
     ensures parts { (m w : List ℕ) → check (m ++ w) ≡ bit_xor (after_zeros (check m) (length w)) (check w) }
     ensures zeros { (m : List ℕ) (n : ℕ) → check (m ++ replicate n 0) ≡ after_zeros (check m) n }
@@ -27,8 +27,8 @@ pub fn one_reading()
     ensures { OneReading }
 {}
 
-/// A text begins with a packet, may become one, or never does, and only one of the three. The first and the third stay so
-/// when the text grows; the empty text is of the second kind.
+/// A text begins with a packet, may become one, or never does, and only one of the three. The first and the third stay
+/// so when the text grows; the empty text is of the second kind.
 pub fn one_of_three()
     ensures decided { (w : List ℕ) → BeginsWithPacket w ⊎ (MayBecomePacket w ⊎ NeverPacket w) }
     ensures apart { (w : List ℕ) → BeginsWithPacket w → MayBecomePacket w → ⊥ }
@@ -37,8 +37,8 @@ pub fn one_of_three()
     ensures never_stays { (w t : List ℕ) → NeverPacket w → NeverPacket (w ++ t) }
 {}
 
-/// Each stream has exactly one framing, and of its rest one more packet may come. A text that may become a packet is its own
-/// rest.
+/// Each stream has exactly one framing, and of its rest one more packet may come. A text that may become a packet is
+/// its own rest.
 pub fn one_framing()
     ensures some { (s : List ℕ) → Framing s (packets_in s) (rest_of s) }
     ensures only { (s r : List ℕ) (ps : List Packet) → Framing s ps r → (ps ≡ packets_in s) × (r ≡ rest_of s) }
@@ -63,8 +63,8 @@ pub fn fronts()
     ensures empty { front_of [] ≡ Partial }
 {}
 
-/// The frames of a text, by what stands at its front: a byte is skipped, nothing is there yet, or a packet is. Bytes up to the
-/// next sync byte are skipped.
+/// The frames of a text, by what stands at its front: a byte is skipped, nothing is there yet, or a packet is. Bytes up
+/// to the next sync byte are skipped.
 pub fn frames_by_front()
     ensures never { (w : List ℕ) → front_of w ≡ Never → (0 < length w) × (frames_of (drop 1 w) ≡ frames_of w) }
     ensures skipped { (w : List ℕ) (n : ℕ) → n ≤ length w → ((i : ℕ) → i < n → slice_index w i ≢ 0x55) → frames_of (drop n w) ≡ frames_of w }
@@ -74,7 +74,8 @@ pub fn frames_by_front()
     ensures one { (p : Packet) (w : List ℕ) → IsPacket p w → packets_in w ≡ p ∷ [] }
 {}
 
-/// What stands at the front of a text of bytes, by its header: by what has come of it, where that is less than six bytes.
+/// What stands at the front of a text of bytes, by its header: by what has come of it, where that is less than six
+/// bytes.
 pub fn front_by_header()
     ensures short { (b : List ℕ) → length b < 6 → front_of b ≡ (if may_begin b then Partial else Never) }
     ensures bad { (b : List ℕ) (e : HeaderFault) → 6 ≤ length b → header_of (take 6 b) ≡ Err e → front_of b ≡ Never }

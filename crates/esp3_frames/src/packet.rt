@@ -43,7 +43,8 @@ pub enum HeaderFault {
     TooLong,
 }
 
-/// Reads the sync byte, the header and its check: the first six bytes of a packet. Of several faults it answers the first.
+/// Reads the sync byte, the header and its check: the first six bytes of a packet. Of several faults it answers the
+/// first.
 ///
 /// EnOcean Serial Protocol 3, "Packet structure".
 pub fn read_header(b: &[u8; 6]) -> Result<Header, HeaderFault>

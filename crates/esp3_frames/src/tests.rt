@@ -22,8 +22,8 @@ fn check_bytes(rt: HostRuntime) {
     assert_eq!(rt; check8(b"123456789"), 0xF4);
 }
 
-// Of the packet above, the check byte of its header and that of its data; and then of rows of the bytes 3, 10, 17, .. (each 7
-// more than the last, modulo 256) behind "123456789". Another program computed them.
+// Of the packet above, the check byte of its header and that of its data; and then of rows of the bytes 3, 10, 17, ..
+// (each 7 more than the last, modulo 256) behind "123456789". Another program computed them.
 #[test]
 fn check_bytes_between(rt: HostRuntime) {
     assert_eq!(rt; check8_between(0xAC, 0x6D, 4), 0x7A);
@@ -78,6 +78,23 @@ fn headers(rt: HostRuntime) {
     );
 }
 
+// Each of these has two faults, and the first of the two is told.
+#[test]
+fn headers_with_two_faults(rt: HostRuntime) {
+    assert_eq!(rt;
+        read_header(&[0x54, 0x00, 0x07, 0x07, 0x01, 0x7B]),
+        Err(HeaderFault::NotSync)
+    );
+    assert_eq!(rt;
+        read_header(&[0x55, 0x00, 0x00, 0x00, 0x00, 0x01]),
+        Err(HeaderFault::HeaderCheck)
+    );
+    assert_eq!(rt;
+        read_header(&[0x55, 0x04, 0x01, 0x00, 0x09, 0x0D]),
+        Err(HeaderFault::HeaderCheck)
+    );
+}
+
 #[test]
 fn a_packet(rt: HostRuntime) -> Result<(), Fail> {
     let packet = read_packet(&CONTACT).ok_or("no packet")?;
@@ -116,4 +133,9 @@ fn longest_packets(rt: HostRuntime) {
         Ok(())
     );
     assert_eq!(rt; out.len(), 1286);
+    // Too long, and with no room for it.
+    assert_eq!(rt;
+        write_packet(9, &data, &[], &mut out),
+        Err(PacketFault::TooLong)
+    );
 }

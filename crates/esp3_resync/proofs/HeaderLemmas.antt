@@ -10,7 +10,7 @@ use Rattle.esp3_frames.specs.Frames.Front.{Never, Partial, Whole}
 use Rattle.esp3_frames.specs.Outcome.{header_of}
 use Rattle.esp3_frames.specs.declared.packet.Header.{Header}
 use Rattle.esp3_frames.proofs.ForCallers.{front-short, front-good, front_behind-partial, front_behind-whole, front_behind-never, whole_length}
-use Rattle.esp3_resync.specs.Held.{HasHeader, packet_with}
+use Rattle.esp3_resync.specs.Held.{HasHeader, packet_at}
 
 -- less than six bytes that are not to be skipped
 chosen : (b : Bool) (f : Front) → f ≡ cond b Partial Never → f ≢ Never → f ≡ Partial
@@ -27,41 +27,56 @@ header_stays w t h has = (
   ap header_of (take-append-le 6 w t has.0) ∙ has.1,
 )
 
+-- the length of what a header announces, and that the check byte behind it is right
+abbrev len_of : Header → ℕ
+len_of h = h.data_len + h.opt_len
+
+abbrev IsRight : Header → List ℕ → Type 0
+IsRight h w = get_or w (len_of h + 6) 0 ≡ check (take (len_of h) (drop 6 w))
+
 module _ (w : List ℕ) (h : Header) (byte : (i : ℕ) → get_or w i 0 < 256) (has : HasHeader w (Some h)) where
   behind : front_of w ≡ front_behind h.data_len h.opt_len h.kind (drop 6 w)
   behind = front-good w h byte has.0 has.1
 
-  -- the byte behind the data, counted from either front
-  last : get_or (drop 6 w) (h.data_len + h.opt_len) 0 ≡ get_or w (h.data_len + h.opt_len + 6) 0
+  -- the check byte, counted from either front
+  last : get_or (drop 6 w) (len_of h) 0 ≡ get_or w (len_of h + 6) 0
   last =
-      let e : 6 + (h.data_len + h.opt_len) ≡ h.data_len + h.opt_len + 6 = omega arith in
-      get_or-drop 6 w (h.data_len + h.opt_len) 0 ∙ ap (λ i. get_or w i 0) e
+      let e : 6 + len_of h ≡ len_of h + 6 = omega arith in
+      get_or-drop 6 w (len_of h) 0 ∙ ap (λ i. get_or w i 0) e
 
-  pub waits : length w ≤ h.data_len + h.opt_len + 6 → front_of w ≡ Partial
-  waits short = behind ∙ front_behind-partial h.data_len h.opt_len h.kind (drop 6 w) (omega (arith, length-drop 6 w))
+  pub waits : length w ≤ len_of h + 6 → front_of w ≡ Partial
+  waits short =
+      let n : length (drop 6 w) ≤ len_of h = omega (arith, length-drop 6 w) in
+      behind ∙ front_behind-partial h.data_len h.opt_len h.kind (drop 6 w) n
 
-  pub stands : h.data_len + h.opt_len + 6 < length w → get_or w (h.data_len + h.opt_len + 6) 0 ≡ check (take (h.data_len + h.opt_len) (drop 6 w)) → front_of w ≡ Whole (packet_with h (take (h.data_len + h.opt_len) (drop 6 w)))
-  stands long right = behind ∙ front_behind-whole h.data_len h.opt_len h.kind (drop 6 w) (omega (arith, length-drop 6 w)) (last ∙ right)
+  pub stands : len_of h + 6 < length w → IsRight h w → front_of w ≡ Whole (packet_at h w)
+  stands long right =
+      let n : len_of h < length (drop 6 w) = omega (arith, length-drop 6 w) in
+      behind ∙ front_behind-whole h.data_len h.opt_len h.kind (drop 6 w) n (last ∙ right)
 
-  pub refused : h.data_len + h.opt_len + 6 < length w → get_or w (h.data_len + h.opt_len + 6) 0 ≢ check (take (h.data_len + h.opt_len) (drop 6 w)) → front_of w ≡ Never
-  refused long wrong = behind ∙ front_behind-never h.data_len h.opt_len h.kind (drop 6 w) (omega (arith, length-drop 6 w)) (λ e. wrong (sym last ∙ e))
+  pub refused : len_of h + 6 < length w → (IsRight h w → ⊥) → front_of w ≡ Never
+  refused long wrong =
+      let n : len_of h < length (drop 6 w) = omega (arith, length-drop 6 w) in
+      behind ∙ front_behind-never h.data_len h.opt_len h.kind (drop 6 w) n (λ e. wrong (sym last ∙ e))
 
   -- with all its bytes there, it is whole unless it is refused
-  pub whole : h.data_len + h.opt_len + 6 < length w → front_of w ≢ Never → front_of w ≡ Whole (packet_with h (take (h.data_len + h.opt_len) (drop 6 w)))
-  whole long n = elim (cases_eq (get_or w (h.data_len + h.opt_len + 6) 0) (check (take (h.data_len + h.opt_len) (drop 6 w)))) [
+  pub whole : len_of h + 6 < length w → front_of w ≢ Never → front_of w ≡ Whole (packet_at h w)
+  whole long n = elim (cases_eq (get_or w (len_of h + 6) 0) (check (take (len_of h) (drop 6 w)))) [
     | inl right ↦ stands long right
     | inr wrong ↦ absurd (n (refused long wrong))
   ]
 
 -- a whole packet at the front, by its header
-module _ (w : List ℕ) (h : Header) (is : front_of w ≡ Whole (packet_with h (take (h.data_len + h.opt_len) (drop 6 w)))) where
-  pub whole_sum : length (take h.data_len (take (h.data_len + h.opt_len) (drop 6 w))) + length (drop h.data_len (take (h.data_len + h.opt_len) (drop 6 w))) + 7 ≡ h.data_len + h.opt_len + 7
+module _ (w : List ℕ) (h : Header) (is : front_of w ≡ Whole (packet_at h w)) where
+  pub whole_sum : length (packet_at h w).body + length (packet_at h w).opt ≡ len_of h
   whole_sum =
-      let m : List ℕ = take (h.data_len + h.opt_len) (drop 6 w) in
-      omega (arith, (whole_length w (packet_with h m) is).0, length-take h.data_len m, length-drop h.data_len m, length-take (h.data_len + h.opt_len) (drop 6 w), length-drop 6 w)
+      let m : List ℕ = take (len_of h) (drop 6 w) in
+      let n = whole_length w (packet_at h w) is in
+      omega (arith, n.0, length-take h.data_len m, length-drop h.data_len m, length-take (len_of h) (drop 6 w), length-drop 6 w)
 
-  pub whole_parts : (h.data_len + h.opt_len + 7 ≤ length w) × (h.data_len + h.opt_len + 7 ≤ longest_packet) × IsPacket (packet_with h (take (h.data_len + h.opt_len) (drop 6 w))) (take (h.data_len + h.opt_len + 7) w)
+  pub whole_parts : (len_of h + 7 ≤ length w) × (len_of h + 7 ≤ longest_packet) × IsPacket (packet_at h w) (take (len_of h + 7) w)
   whole_parts =
-      let p : Packet = packet_with h (take (h.data_len + h.opt_len) (drop 6 w)) in
+      let p : Packet = packet_at h w in
       let n = whole_length w p is in
-      (omega (arith, n.0, whole_sum), omega (arith, n.1, whole_sum), subst (λ (k : ℕ). IsPacket p (take k w)) whole_sum n.2)
+      let sum : length p.body + length p.opt + 7 ≡ len_of h + 7 = omega (arith, whole_sum) in
+      (omega (arith, n.0, whole_sum), omega (arith, n.1, whole_sum), subst (λ (k : ℕ). IsPacket p (take k w)) sum n.2)

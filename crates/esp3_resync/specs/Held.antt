@@ -29,6 +29,10 @@ IsFound (found.Announced h) w = Settled w (Some h)
 abbrev pub packet_with : Header → List ℕ → Packet
 packet_with h v = record { kind = h.kind; body = take h.data_len v; opt = drop h.data_len v }
 
+-- the packet whose header h stands at the front of w
+abbrev pub packet_at : Header → List ℕ → Packet
+packet_at h w = packet_with h (take (h.data_len + h.opt_len) (drop 6 w))
+
 -- what a buffer keeps: nothing yet, or a packet
 abbrev pub kept : Option Header → List ℕ → Option Packet
 kept None v = None

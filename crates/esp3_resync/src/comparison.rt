@@ -68,7 +68,8 @@ fn push_packet(
     Ok(())
 }
 
-// One piece of a stream: noise, a sync byte, a header with nothing behind it, a packet, one with a wrong check, or a part of one.
+// One piece of a stream: noise, a sync byte, a header with nothing behind it, a packet, one with a wrong check, or a
+// part of one.
 fn push_piece(
     bytes: &mut Vec<u8>,
     row: &mut Row,
@@ -103,7 +104,8 @@ fn short_stream(bytes: &mut Vec<u8>, row: &mut Row) -> Result<(), AllocError> {
     Ok(())
 }
 
-// Up to five pieces of any length, many as long as can be, with short packets among them, so that they lie anywhere in the ring.
+// Up to five pieces of any length, many as long as can be, with short packets among them, so that they lie anywhere in
+// the ring.
 fn long_stream(bytes: &mut Vec<u8>, row: &mut Row) -> Result<(), AllocError> {
     for _ in 0..row.draw(6) {
         let (data_len, opt_len) = match row.draw(3) {

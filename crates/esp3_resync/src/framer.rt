@@ -62,8 +62,8 @@ impl PacketBuf {
 /// The bytes of a stream behind the packets that were handed out, seen as the packets that are ready and the rest
 /// behind them, of which one more packet may come.
 ///
-/// EnOcean Serial Protocol 3, "UART synchronization (packet detection)". Own choice: behind a refused sync byte the search
-/// goes on at the very next byte, so no byte is lost.
+/// EnOcean Serial Protocol 3, "UART synchronization (packet detection)". Own choice: behind a refused sync byte the
+/// search goes on at the very next byte, so no byte is lost.
 #[derive(Drop)]
 pub struct Framer {
     window: Window,
@@ -83,7 +83,8 @@ impl Model for Framer {
 }
 
 impl Framer {
-    /// A framer to which no byte has come. It takes the memory for all that it will ever hold; without that it is an error.
+    /// A framer to which no byte has come. It takes the memory for all that it will ever hold; without that it is an
+    /// error.
     pub fn new(alloc: Global) -> Result<Framer, AllocError>
         ensures { IfOk result (λ f. f ≡ record { ready = []; rest = [] }) }
     {

@@ -1,10 +1,10 @@
 //! What stands at the front of a window: a part of a packet, a whole one, or bytes that are to be skipped.
-ghost use Rattle.std.specs.Prelude.{◌≡◌, ◌+◌, ◌↔◌, take, drop, IsTrue, Some};
+ghost use Rattle.std.specs.Prelude.{◌≡◌, ◌+◌, ◌↔◌, IsTrue, Some};
 ghost use Rattle.std.specs.Bool.{OnTrue, OnFalse};
 ghost use Rattle.esp3_frames.specs.Frames.{front_of, frames_of};
 ghost use Rattle.esp3_frames.specs.Frames;
 ghost use Rattle.esp3_frames.specs.Frames.Front.{Never, Partial, Whole};
-ghost use Rattle.esp3_resync.specs.Held.{HasHeader, IsFound, Settled, packet_with};
+ghost use Rattle.esp3_resync.specs.Held.{HasHeader, IsFound, Settled, packet_at};
 
 use crate::window::Window;
 use esp3_frames::{Header, LONGEST_DATA, SYNC_BYTE, read_header};
@@ -30,7 +30,7 @@ pub fn body_len(header: Header) -> usize
 /// Whether the packet whose header stands at the front has come whole, where it is not refused.
 pub fn is_whole(window: &Window, header: Header) -> bool
     requires { Settled window.now (Some header) }
-    ensures whole { OnTrue result (front_of window.now ≡ Whole (packet_with header (take (header.data_len + header.opt_len) (drop 6 window.now)))) }
+    ensures whole { OnTrue result (front_of window.now ≡ Whole (packet_at header window.now)) }
     ensures partial { OnFalse result (front_of window.now ≡ Partial) }
 {
     body_len(header) + 6 < window.len()
@@ -45,7 +45,8 @@ pub fn is_refused(window: &Window, header: Header) -> bool
     len + 6 < window.len() && window.byte_or(len + 6, 0) != window.check_of(6, len)
 }
 
-// Whether a packet may begin with these bytes, of which there are at most five. What has not come is taken for the best.
+// Whether a packet may begin with these bytes, of which there are at most five. What has not come is taken for the
+// best.
 fn may_begin(window: &Window) -> bool
     ensures { result ≡ Frames.may_begin window.now }
 {

@@ -1,4 +1,5 @@
-//! A framer that keeps nothing beside its bytes, and reads them again from the front after each one. The tests compare with it.
+//! A framer that keeps nothing beside its bytes, and reads them again from the front after each one. The tests compare
+//! with it.
 use esp3_frames::{check8, read_header};
 use std::alloc::{AllocError, Global};
 
@@ -14,7 +15,8 @@ fn byte_or(b: &[u8], i: usize, other: u8) -> u8 {
     b.get(i).copied().unwrap_or(other)
 }
 
-// Whether a packet may begin with these bytes, of which there are at most five. What has not come is taken for the best.
+// Whether a packet may begin with these bytes, of which there are at most five. What has not come is taken for the
+// best.
 fn may_begin(b: &[u8]) -> bool {
     let data_len = u16::from_be_bytes([byte_or(b, 1, 0), byte_or(b, 2, 0)]);
     byte_or(b, 0, 0x55) == 0x55 && data_len <= 1024 && (data_len > 0 || byte_or(b, 3, 1) > 0)

@@ -18,8 +18,8 @@ fn byte_or(ring: &HeapCircularBuffer<u8>, i: usize, other: u8) -> u8
 
 /// At most as many bytes of a stream as the longest packet has, taken in at the back and let go at the front.
 ///
-/// Beside each byte stands the check byte of all bytes that came before it. So the check byte of any part costs the same few
-/// steps, however long the part is, and a refused packet is not gone through again.
+/// Beside each byte stands the check byte of all bytes that came before it. So the check byte of any part costs the
+/// same few steps, however long the part is, and a refused packet is not gone through again.
 #[derive(Drop)]
 pub struct Window {
     bytes: HeapCircularBuffer<u8>,

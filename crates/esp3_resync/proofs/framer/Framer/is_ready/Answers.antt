@@ -1,9 +1,9 @@
-use Rattle.std.proofs.Common.{◌<◌, ◌↔◌, length, take, drop, arith, ap, subst}
+use Rattle.std.proofs.Common.{◌<◌, ◌↔◌, length, arith, ap, subst}
 use Rattle.std.specs.Prelude.{IsTrue}
 use Rattle.esp3_frames.specs.Framing.{MayBecomePacket}
 use Rattle.esp3_frames.specs.Frames.{Frames}
 use Rattle.esp3_frames.proofs.ForCallers.{framing_of, rest_may_become}
-use Rattle.esp3_resync.specs.Held.{HasHeader, packet_with}
+use Rattle.esp3_resync.specs.Held.{HasHeader, packet_at}
 use Rattle.esp3_resync.proofs.FramesLemmas.{ready_by_front, unready_partial}
 use Rattle.esp3_resync.proofs.HeaderLemmas.{short_partial}
 use Rattle.esp3_resync.proofs.framer.Framer.is_ready.Goals as goal
@@ -14,7 +14,7 @@ returns-in-Some-clause-ready c =
     let h = c.in-Some.header in
     let r = c.is_whole.result in
     let P : Frames → Type 0 = λ x. IsTrue r ↔ (0 < length x.ready) in
-    subst P c.self.view_is (ready_by_front r s (packet_with h (take _ (drop 6 s))) c.is_whole.ensures.whole c.is_whole.ensures.partial)
+    subst P c.self.view_is (ready_by_front r s (packet_at h s) c.is_whole.ensures.whole c.is_whole.ensures.partial)
 
 pub returns-in-None-clause-ready : goal.returns-in-None-clause-ready
 returns-in-None-clause-ready c =

@@ -6,7 +6,7 @@ use Rattle.esp3_frames.specs.Frames.{front_of, frames_of, Frames}
 use Rattle.esp3_frames.specs.Frames.Front.{Partial}
 use Rattle.esp3_frames.specs.declared.packet.Header.{Header}
 use Rattle.esp3_frames.proofs.ForCallers.{frames-whole}
-use Rattle.esp3_resync.specs.Held.{Settled, packet_with}
+use Rattle.esp3_resync.specs.Held.{Settled, packet_with, packet_at}
 use Rattle.esp3_resync.proofs.FramesLemmas.{ready_whole, unready_partial}
 use Rattle.esp3_resync.proofs.HeaderLemmas.{short_partial, whole_sum, whole_parts}
 use Rattle.esp3_resync.proofs.framer.Framer.take.Goals as goal
@@ -29,6 +29,10 @@ returns-then-not-is_whole-clause-ready c =
     let e = ap (λ (x : Frames). length x.ready) c.self.view_is in
     (λ t. absurd cc, λ h. absurd (omega (arith, r, e, h)))
 
+-- what is moved out behind a header
+moved : (s : List ℕ) (h : Header) (behind to : List ℕ) (k : ℕ) → behind ≡ drop 6 s → to ≡ take k behind → k ≡ h.data_len + h.opt_len → to ≡ take (h.data_len + h.opt_len) (drop 6 s)
+moved s h behind to k is items count = items ∙ ap (λ i. take i behind) count ∙ ap (take (h.data_len + h.opt_len)) is
+
 pub move_into-requires : goal.move_into-requires
 move_into-requires c =
     let s = c.self.inside.window in
@@ -41,15 +45,16 @@ pub skip-requires-2 : goal.skip-requires-2
 skip-requires-2 c =
     let s = c.self.inside.window in
     let n = whole_parts s c.in-Some.header c.if-not-is_whole.ensures.whole in
-    omega (arith, n.0, c.body_len.ensures, ap length c.move_into.ensures.rest, length-drop c.body_len.result c.skip.new.self, ap length c.skip.ensures, length-drop 6 s)
+    let left = ap length c.move_into.ensures.rest in
+    let behind = ap length c.skip.ensures in
+    omega (arith, n.0, c.body_len.ensures, left, length-drop c.body_len.result c.skip.new.self, behind, length-drop 6 s)
 
 pub invariant_of-out : goal.invariant_of-out
 invariant_of-out c =
     let s = c.self.inside.window in
     let h = c.in-Some.header in
-    let m : List ℕ = take (h.data_len + h.opt_len) (drop 6 s) in
     let n = whole_parts s h c.if-not-is_whole.ensures.whole in
-    let items : c.move_into.new.to.items ≡ m = c.move_into.ensures.items ∙ ap (λ k. take k c.skip.new.self) c.body_len.ensures ∙ ap (take (h.data_len + h.opt_len)) c.skip.ensures in
+    let items = moved s h c.skip.new.self c.move_into.new.to.items c.body_len.result c.skip.ensures c.move_into.ensures.items c.body_len.ensures in
     let P : List ℕ → Type 0 = λ v. IsPacket (packet_with h v) (spelling (packet_with h v)) in
     record {
       room = omega (arith, c.out.invariant.room, c.move_into.ensures.capacity);
@@ -68,21 +73,22 @@ pub returns-clause-taken : goal.returns-clause-taken
 returns-clause-taken c =
     let s = c.self.inside.window in
     let h = c.in-Some.header in
-    let n : ℕ = h.data_len + h.opt_len in
-    let m : List ℕ = take n (drop 6 s) in
-    let p : Packet = packet_with h m in
+    let p : Packet = packet_at h s in
     let whole = c.if-not-is_whole.ensures.whole in
-    let items : c.move_into.new.to.items ≡ m = c.move_into.ensures.items ∙ ap (λ k. take k c.skip.new.self) c.body_len.ensures ∙ ap (take n) c.skip.ensures in
+    let items = moved s h c.skip.new.self c.move_into.new.to.items c.body_len.result c.skip.ensures c.move_into.ensures.items c.body_len.ensures in
     let k : ℕ = c.body_len.result in
-    let count : 6 + (k + 1) ≡ length p.body + length p.opt + 7 = omega (arith, c.body_len.ensures, whole_sum s h whole) in
-    let left : c.skip-2.new.self ≡ drop (length p.body + length p.opt + 7) s =
+    let n : ℕ = length p.body + length p.opt + 7 in
+    let count : 6 + (k + 1) ≡ n = omega (arith, c.body_len.ensures, whole_sum s h whole) in
+    let left : c.skip-2.new.self ≡ drop n s =
     c.skip-2.ensures ∙ ap (drop 1) (c.move_into.ensures.rest ∙ ap (drop k) c.skip.ensures)
     ∙ drop-drop 1 k (drop 6 s) ∙ drop-drop (k + 1) 6 s ∙ ap (λ i. drop i s) count
     in
-    let behind : frames_of c.settle-self-inside.new.window ≡ frames_of (drop (length p.body + length p.opt + 7) s) = c.settle-self-inside.ensures.frames ∙ ap frames_of left in
-    let here = frames-whole s p whole in (
+    let behind : frames_of c.settle-self-inside.new.window ≡ frames_of (drop n s) = c.settle-self-inside.ensures.frames ∙ ap frames_of left in
+    let here = frames-whole s p whole in
+    let ready = λ (x : Frames). x.ready in
+    let rest = λ (x : Frames). x.rest in (
       p,
       ap (λ (v : List ℕ). Some (packet_with h v)) items,
-      sym (ap (λ (x : Frames). x.ready) c.self.view_is) ∙ ap (λ (x : Frames). x.ready) here ∙ ap (λ (ps : List Packet). p ∷ ps) (sym (ap (λ (x : Frames). x.ready) behind)),
-      ap (λ (x : Frames). x.rest) behind ∙ sym (ap (λ (x : Frames). x.rest) here) ∙ ap (λ (x : Frames). x.rest) c.self.view_is,
+      sym (ap ready c.self.view_is) ∙ ap ready here ∙ ap (λ (ps : List Packet). p ∷ ps) (sym (ap ready behind)),
+      ap rest behind ∙ sym (ap rest here) ∙ ap rest c.self.view_is,
     )
