@@ -4,7 +4,7 @@ use Rattle.std.proofs.Math.ListN.{length-replicate}
 use Rattle.std.proofs.lemmas.List.{take-append-drop}
 use Rattle.std.proofs.lemmas.Bool.{and_parts, and_from, ltb-true, leb-true, leb-false, eqb-true, lt-ltb, le-leb, eq-eqb}
 use Rattle.esp3_frames.specs.Check.{check}
-use Rattle.esp3_frames.specs.Packet.{longest_data, Packet, IsPacket}
+use Rattle.esp3_frames.specs.Packet.{longest_data, longest_optional_data, Packet, IsPacket}
 use Rattle.esp3_frames.specs.Framing.{MayBecomePacket}
 use Rattle.esp3_frames.specs.Frames.{lengths_fit, Front, front_of}
 use Rattle.esp3_frames.specs.Frames.Front.{Never, Partial, Whole}
@@ -23,10 +23,10 @@ fitting h l o e =
     let a = and_parts _ _ e in
     let b = and_parts _ _ a.0 in
     let c = and_parts _ _ a.1 in
-    record { low = ltb-true l 256 b.0; opts = ltb-true o 256 c.0; some = ltb-true 0 _ c.1; fits = leb-true _ longest_data b.1 }
+    record { low = ltb-true l 256 b.0; opts = (let e = leb-true o longest_optional_data c.0 in omega arith); some = ltb-true 0 _ c.1; fits = leb-true _ longest_data b.1 }
 
 pub test_fitting : (h l o : ℕ) → Fitting h l o → lengths_fit h l o ≡ true
-test_fitting h l o f = and_from _ _ (and_from _ _ (lt-ltb l 256 f.low) (le-leb _ longest_data f.fits)) (and_from _ _ (lt-ltb o 256 f.opts) (lt-ltb 0 _ f.some))
+test_fitting h l o f = and_from _ _ (and_from _ _ (lt-ltb l 256 f.low) (le-leb _ longest_data f.fits)) (and_from _ _ (le-leb o longest_optional_data (let e = f.opts in omega arith)) (lt-ltb 0 _ f.some))
 
 -- a header that fits, with not more than the lengths behind it, may become a packet
 pub completed : (h l o k : ℕ) (w : List ℕ) → Fitting h l o → length w ≤ 256 * h + l + o → MayBecomePacket (0x55 ∷ h ∷ l ∷ o ∷ k ∷ check (h ∷ l ∷ o ∷ k ∷ []) ∷ w)

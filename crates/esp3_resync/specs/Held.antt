@@ -1,4 +1,4 @@
--- What the parts of a framer know of the bytes that they hold.
+-- What a framer knows of the bytes that it holds, and what a buffer keeps of a packet.
 use Rattle.std.specs.Prelude.{◌≡◌, ◌≢◌, ℕ, ◌+◌, ◌<◌, ◌≤◌, List, length, take, drop, vec_capacity, Option, Some, None, IfSome, Ok}
 use Rattle.std.specs.Global.{Vec}
 use Rattle.esp3_frames.specs.Packet.{Packet, IsPacket, longest_packet, spelling}

@@ -193,7 +193,7 @@ fn as_a_plain_framer(rt: HostRuntime) -> Result<(), Fail> {
         }
         assert!(rt; compare(alloc, &bytes, &mut found)?);
     }
-    // The headers at each distance alone have 130 packets behind them.
+    // The 1,300 streams with two headers alone have 62 packets each.
     assert!(rt; found.packets > 80_600);
     assert!(rt; found.longest > 100);
     Ok(())
