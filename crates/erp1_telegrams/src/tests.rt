@@ -67,6 +67,70 @@ fn faults(rt: HostRuntime) {
     assert_eq!(rt; too_long.err(), Some(TelegramFault::BadLength));
 }
 
+// The data of a telegram with so many bytes 00 of payload, from 01800ABC.
+fn data_of(rorg: u8, payload_len: usize) -> ArrayVec<u8, 24> {
+    let mut data = ArrayVec::new();
+    let _fits = data.try_push(rorg);
+    for _ in 0..payload_len.min(15) {
+        let _fits = data.try_push(0);
+    }
+    let _fits = data.try_extend_from_slice(&[0x01, 0x80, 0x0A, 0xBC, 0x00]);
+    data
+}
+
+// For each kind the shortest and the longest payload, and one byte less and more.
+#[test]
+fn lengths_of_payloads(rt: HostRuntime) {
+    let cases: [(u8, usize, usize); 5] = [
+        (0xF6, 1, 1),
+        (0xD5, 1, 1),
+        (0xA5, 4, 4),
+        (0xD2, 1, 14),
+        (0xD4, 7, 7),
+    ];
+    for (rorg, shortest, longest) in cases {
+        for len in 0..16_usize {
+            let body = data_of(rorg, len);
+            let packet = PacketRef {
+                kind: 1,
+                body: &body,
+                opt: &[],
+            };
+            if len < shortest || len > longest {
+                assert_eq!(rt; read(&packet).err(), Some(TelegramFault::BadLength));
+            } else {
+                assert_eq!(rt;
+                    read(&packet).map(|telegram| telegram.payload().len()),
+                    Ok(len)
+                );
+            }
+        }
+    }
+}
+
+// Less than seven bytes of optional data tell nothing, and what is behind the seventh is passed over.
+#[test]
+fn lengths_of_optional_data(rt: HostRuntime) -> Result<(), Fail> {
+    let optional = [0x01, 0x01, 0x02, 0x03, 0x04, 0x2D, 0x00, 0x07];
+    let cases = [
+        (0, BROADCAST, None),
+        (6, BROADCAST, None),
+        (7, 0x0102_0304, Some(0x2D)),
+        (8, 0x0102_0304, Some(0x2D)),
+    ];
+    let body = data_of(0xD5, 1);
+    for (len, dest, dbm) in cases {
+        let telegram = read(&PacketRef {
+            kind: 1,
+            body: &body,
+            opt: &optional[..len],
+        })?;
+        assert_eq!(rt; telegram.dest(), dest);
+        assert_eq!(rt; telegram.dbm(), dbm);
+    }
+    Ok(())
+}
+
 #[test]
 fn room_for_a_packet(rt: HostRuntime) -> Result<(), Fail> {
     let telegram = Telegram::new(0xD5, &[0x09], 0x0180_0ABC, 0, BROADCAST, Some(0x2D))?;
