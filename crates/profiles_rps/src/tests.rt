@@ -100,15 +100,20 @@ fn refusals(rt: HostRuntime) -> Result<(), Fail> {
         typ: 0x01,
     };
     let contact = telegram(0xD5, 0x00, 0x00)?;
-    let cases: [(Eep, Unreadable); 3] = [
-        (other, Unreadable::NotSupported),
-        (TWO_ROCKERS, Unreadable::WrongKind),
-        (CONTACT, Unreadable::OtherMessage),
+    let rocker = telegram(0xF6, 0x70, 0x30)?;
+    let four_byte = Telegram::new(0xA5, &[0, 0, 0, 8], 0x0180_0ABC, 0, BROADCAST, None)?;
+    let cases: [(Eep, &Telegram, Unreadable); 6] = [
+        (other, &contact, Unreadable::NotSupported),
+        (TWO_ROCKERS, &contact, Unreadable::WrongKind),
+        (TWO_ROCKERS, &four_byte, Unreadable::WrongKind),
+        (CONTACT, &rocker, Unreadable::WrongKind),
+        (CONTACT, &four_byte, Unreadable::WrongKind),
+        (CONTACT, &contact, Unreadable::OtherMessage),
     ];
     let mut readings = Readings::new();
     readings.push(word("CO", "open"));
-    for (eep, refusal) in cases {
-        assert_eq!(rt; read(eep, &contact, &mut readings), Err(refusal));
+    for (eep, telegram, refusal) in cases {
+        assert_eq!(rt; read(eep, telegram, &mut readings), Err(refusal));
         assert_eq!(rt; readings.as_slice(), [word("CO", "open")].as_slice());
     }
     Ok(())
