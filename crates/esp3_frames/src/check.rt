@@ -77,8 +77,8 @@ fn times_x(c: u8) -> u8
     if c < 128 { 2 * c } else { (2 * (c - 128)) ^ 7 }
 }
 
-// The check byte of a message, from its check byte so far, once `count` bytes 00 more have come. Bytes 00 keep sums, so
-// it is the sum of what they make of each bit.
+// The check byte of a message, from its check byte so far, once `count` bytes 00 more have come. The step is linear, so it
+// is the sum of what it makes of each bit.
 fn after_zeros(check: u8, count: usize) -> u8
     ensures { result ≡ Check.after_zeros check count }
 {
@@ -96,9 +96,8 @@ fn after_zeros(check: u8, count: usize) -> u8
 }
 
 /// The check byte of the `len` bytes that came between two moments of a running check: `before` was the check byte so
-/// far at the first of them, and `all` at the second. It takes the same few steps for every length.
-///
-/// EnOcean Serial Protocol 3, "CRC8 calculation".
+/// far at the first of them, and `all` at the second. It takes the same few steps for every length. Own choice: the
+/// standard goes through the bytes.
 pub fn check8_between(before: u8, all: u8, len: usize) -> u8
     ensures value { result ≡ bit_xor all (Check.after_zeros before len) }
     ensures part { (m w : List ℕ) → before ≡ check m → all ≡ check (m ++ w) → len ≡ length w → result ≡ check w }

@@ -1,13 +1,21 @@
 //! Laws of the definitions. Each function does nothing: its contract is the law.
 ghost use Rattle.std.specs.Prelude.{◌≡◌, ◌≢◌, ℕ, ◌+◌, ◌<◌, ◌≤◌, List, [], ◌∷◌, ◌++◌, ◌⊎◌, length, take, drop, slice_index, bit_xor, replicate, if◌then◌else◌, Ok, Err};
 ghost use Rattle.esp3_frames.specs.Check.{check, after_zeros};
-ghost use Rattle.esp3_frames.specs.Packet.{longest_packet, Packet, IsPacket, OneReading};
+ghost use Rattle.esp3_frames.specs.Packet.{longest_data, longest_optional_data, longest_packet, Packet, IsPacket, OneReading};
 ghost use Rattle.esp3_frames.specs.Framing.{Framing, BeginsWithPacket, MayBecomePacket, NeverPacket};
 ghost use Rattle.esp3_frames.specs.Frames.{front_of, front_behind, may_begin, frames_of, packets_in, rest_of};
 ghost use Rattle.esp3_frames.specs.Frames.Front.{Never, Partial, Whole};
 ghost use Rattle.esp3_frames.specs.Outcome.{header_of};
+ghost use Rattle.esp3_frames.specs.declared.packet.TheConstants.{LONGEST_DATA, LONGEST_OPTIONAL_DATA, LONGEST_PACKET};
 ghost use Rattle.esp3_frames.specs.declared.packet.Header.{Header};
 ghost use Rattle.esp3_frames.specs.declared.packet.HeaderFault.{HeaderFault};
+
+/// The limits of the code are those of the definitions.
+pub fn limits()
+    ensures data { LONGEST_DATA ≡ longest_data }
+    ensures optional_data { LONGEST_OPTIONAL_DATA ≡ longest_optional_data }
+    ensures packet { LONGEST_PACKET ≡ longest_packet }
+{}
 
 /// The check byte of a message that is one byte longer.
 pub fn check_next()

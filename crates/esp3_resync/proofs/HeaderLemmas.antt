@@ -1,10 +1,10 @@
 -- What a header at the front of some bytes says of them.
-use Rattle.std.proofs.Common.{◌≡◌, ◌≢◌, ℕ, ◌+◌, ◌<◌, ◌≤◌, Bool, true, false, cond, List, ◌++◌, length, take, drop, get_or, sym, ap, subst, ◌∙◌, arith, length-append, length-take, length-drop, inl, inr}
+use Rattle.std.proofs.Common.{◌≡◌, ◌≢◌, ℕ, ◌+◌, ◌<◌, ◌≤◌, Bool, true, false, cond, List, ◌++◌, length, take, drop, get_or, sym, ap, ◌∙◌, arith, length-append, length-take, length-drop, inl, inr}
 use Rattle.std.specs.Prelude.{Some}
 use Rattle.std.proofs.lemmas.List.{get_or-drop, take-append-le}
 use Rattle.std.proofs.lemmas.Bool.{cases_eq}
 use Rattle.esp3_frames.specs.Check.{check}
-use Rattle.esp3_frames.specs.Packet.{Packet, IsPacket, longest_packet}
+use Rattle.esp3_frames.specs.Packet.{longest_packet}
 use Rattle.esp3_frames.specs.Frames.{Front, front_of, front_behind, may_begin}
 use Rattle.esp3_frames.specs.Frames.Front.{Never, Partial, Whole}
 use Rattle.esp3_frames.specs.Outcome.{header_of}
@@ -74,9 +74,5 @@ module _ (w : List ℕ) (h : Header) (is : front_of w ≡ Whole (packet_at h w))
       let n = whole_length w (packet_at h w) is in
       omega (arith, n.0, length-take h.data_len m, length-drop h.data_len m, length-take (len_of h) (drop 6 w), length-drop 6 w)
 
-  pub whole_parts : (len_of h + 7 ≤ length w) × (len_of h + 7 ≤ longest_packet) × IsPacket (packet_at h w) (take (len_of h + 7) w)
-  whole_parts =
-      let p : Packet = packet_at h w in
-      let n = whole_length w p is in
-      let sum : length p.body + length p.opt + 7 ≡ len_of h + 7 = omega (arith, whole_sum) in
-      (omega (arith, n.0, whole_sum), omega (arith, n.1, whole_sum), subst (λ (k : ℕ). IsPacket p (take k w)) sum n.2)
+  pub whole_parts : (len_of h + 7 ≤ length w) × (len_of h + 7 ≤ longest_packet)
+  whole_parts = let n = whole_length w (packet_at h w) is in (omega (arith, n.0, whole_sum), omega (arith, n.1, whole_sum))

@@ -1,7 +1,7 @@
 -- What a framer knows of the bytes that it holds, and what a buffer keeps of a packet.
 use Rattle.std.specs.Prelude.{◌≡◌, ◌≢◌, ℕ, ◌+◌, ◌<◌, ◌≤◌, List, length, take, drop, vec_capacity, Option, Some, None, IfSome, Ok}
 use Rattle.std.specs.Global.{Vec}
-use Rattle.esp3_frames.specs.Packet.{Packet, IsPacket, longest_packet, spelling}
+use Rattle.esp3_frames.specs.Packet.{Packet, longest_packet}
 use Rattle.esp3_frames.specs.Frames.{front_of}
 use Rattle.esp3_frames.specs.Frames.Front.{Never}
 use Rattle.esp3_frames.specs.Outcome.{header_of}
@@ -38,8 +38,7 @@ abbrev pub kept : Option Header → List ℕ → Option Packet
 kept None v = None
 kept (Some h) v = Some (packet_with h v)
 
--- there is room for every packet, and what is kept is one, with the lengths that its header announced
+-- there is room for every packet, and what is kept has the lengths that its header announced
 pub record Buffered (v : Vec ℕ) (h : Option Header) : Type 0 where
   pub room : longest_packet ≤ vec_capacity v
   pub lengths : IfSome h (λ x. x.data_len + x.opt_len ≡ length v.items)
-  pub whole : IfSome h (λ x. IsPacket (packet_with x v.items) (spelling (packet_with x v.items)))

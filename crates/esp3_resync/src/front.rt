@@ -89,7 +89,7 @@ pub fn settle(window: &mut Window) -> Option<Header>
     }
     match found {
         Found::Announced(header) => Some(header),
-        _ => None,
+        Found::Begun | Found::Refused => None,
     }
 }
 

@@ -1,5 +1,5 @@
 //! A framer that keeps nothing beside its bytes, and reads them again from the front after each one. The tests compare
-//! with it.
+//! with it. It has the check byte and the header of `esp3_frames`, which have tests of their own.
 use esp3_frames::{check8, read_header};
 use std::alloc::{AllocError, Global};
 

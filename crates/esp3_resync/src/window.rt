@@ -18,8 +18,8 @@ fn byte_or(ring: &HeapCircularBuffer<u8>, i: usize, other: u8) -> u8
 
 /// At most as many bytes of a stream as the longest packet has, taken in at the back and let go at the front.
 ///
-/// Beside each byte stands the check byte of all bytes that came before it. So the check byte of any part costs the
-/// same few steps, however long the part is, and a refused packet is not gone through again.
+/// Beside each byte stands the check byte of all bytes that came before it. So the check byte of any part costs the same
+/// few steps, however long the part is, and a refused packet is only searched for the next sync byte.
 #[derive(Drop)]
 pub struct Window {
     bytes: HeapCircularBuffer<u8>,
@@ -52,7 +52,7 @@ impl Window {
         })
     }
 
-    /// How many bytes it holds. Each of them is a byte.
+    /// How many bytes it holds.
     pub fn len(&self) -> usize
         ensures len { result ≡ length self.now }
         ensures within { result ≤ longest_packet }

@@ -1,7 +1,7 @@
-use Rattle.std.proofs.Common.{◌≡◌, ℕ, ◌+◌, List, ◌∷◌, length, take, drop, refl, sym, ap, subst, ◌∙◌, arith, length-take, length-drop}
+use Rattle.std.proofs.Common.{◌≡◌, ℕ, ◌+◌, List, ◌∷◌, length, take, drop, refl, sym, ap, ◌∙◌, arith, length-take, length-drop}
 use Rattle.std.specs.Prelude.{Option, Some, None}
 use Rattle.std.proofs.lemmas.List.{drop-drop}
-use Rattle.esp3_frames.specs.Packet.{Packet, IsPacket, spelling}
+use Rattle.esp3_frames.specs.Packet.{Packet}
 use Rattle.esp3_frames.specs.Frames.{front_of, frames_of, Frames}
 use Rattle.esp3_frames.specs.Frames.Front.{Partial}
 use Rattle.esp3_frames.specs.declared.packet.Header.{Header}
@@ -55,11 +55,9 @@ invariant_of-out c =
     let h = c.in-Some.header in
     let n = whole_parts s h c.if-not-is_whole.ensures.whole in
     let items = moved s h c.skip.new.self c.move_into.new.to.items c.body_len.result c.skip.ensures c.move_into.ensures.items c.body_len.ensures in
-    let P : List ℕ → Type 0 = λ v. IsPacket (packet_with h v) (spelling (packet_with h v)) in
     record {
       room = omega (arith, c.out.invariant.room, c.move_into.ensures.capacity);
       lengths = omega (arith, n.0, ap length items, length-take (h.data_len + h.opt_len) (drop 6 s), length-drop 6 s);
-      whole = subst P (sym items) (record { some = n.2.some; body = n.2.body; opt = n.2.opt; bytes = refl });
     }
 
 pub returns-clause-ready : goal.returns-clause-ready
