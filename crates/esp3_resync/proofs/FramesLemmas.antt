@@ -3,7 +3,7 @@ use Rattle.std.proofs.Common.{◌≡◌, ◌≢◌, ℕ, zero, suc, ◌<◌, Boo
 use Rattle.std.specs.Prelude.{IsTrue}
 use Rattle.std.specs.Bool.{OnTrue, OnFalse}
 use Rattle.esp3_frames.specs.Packet.{Packet}
-use Rattle.esp3_resync.specs.Running.{ReachesSync}
+use Rattle.esp3_resync.specs.Settled.{ReachesSync}
 use Rattle.esp3_frames.specs.Frames.{front_of, Frames, frames_after, frames_of}
 use Rattle.esp3_frames.specs.Frames.Front.{Never, Partial, Whole}
 use Rattle.esp3_frames.proofs.ForCallers.{cases_front, frames-never, frames-skipped, frames-partial, frames-whole}

@@ -1,2 +1,3 @@
 pub mod Running
-pub mod Held
+pub mod Settled
+pub mod Kept

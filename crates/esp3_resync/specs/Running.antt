@@ -1,5 +1,5 @@
--- What a window keeps beside its bytes, and what it lets go.
-use Rattle.std.specs.Prelude.{◌≡◌, ◌≢◌, ℕ, ◌<◌, ◌≤◌, List, [], ◌++◌, ◌⊎◌, length, take, drop, slice_index}
+-- What a window keeps beside its bytes.
+use Rattle.std.specs.Prelude.{◌≡◌, ℕ, ◌<◌, ◌≤◌, List, ◌++◌, length, take, slice_index}
 use Rattle.circular_buffer.specs.Buffer.{Buffer}
 use Rattle.esp3_frames.specs.Check.{check}
 use Rattle.esp3_frames.specs.Packet.{longest_packet}
@@ -15,11 +15,3 @@ pub record Running (b c : Buffer ℕ) (n : ℕ) : Type 0 where
   pub count : length c.items ≡ length b.items
   pub before : (i : ℕ) → i < length b.items → slice_index c.items i ≡ check (gone ++ take i b.items)
   pub all : n ≡ check (gone ++ b.items)
-
--- v is w from its first sync byte on, or nothing where it has none
-pub record ReachesSync (w v : List ℕ) : Type 0 where
-  pub count : ℕ
-  pub within : count ≤ length w
-  pub is : v ≡ drop count w
-  pub none : (i : ℕ) → i < count → slice_index w i ≢ 0x55
-  pub stops : (v ≡ []) ⊎ (slice_index v 0 ≡ 0x55)

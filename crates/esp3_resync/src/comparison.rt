@@ -5,13 +5,13 @@ use esp3_frames::{check8, read_packet};
 use std::alloc::{AllocError, Global};
 use std::test::Fail;
 
-// A row of numbers that looks random.
+// Numbers that look random.
 #[derive(Drop)]
-struct Row {
+struct Draws {
     state: u64,
 }
 
-impl Row {
+impl Draws {
     // The next number, below `limit`, which is not 0.
     fn draw(&mut self, limit: u64) -> u64 {
         self.state = self
@@ -52,16 +52,16 @@ fn push_header(
 // A packet whose last byte is its check joined with `wrong`: 0 for a good one.
 fn push_packet(
     bytes: &mut Vec<u8>,
-    row: &mut Row,
+    draws: &mut Draws,
     data_len: u64,
     opt_len: u64,
     wrong: u8,
 ) -> Result<(), AllocError> {
-    let kind = row.draw_byte();
+    let kind = draws.draw_byte();
     push_header(bytes, data_len, opt_len, kind)?;
     let start = bytes.len();
     for _ in 0..data_len.saturating_add(opt_len) {
-        bytes.push(row.draw_content())?;
+        bytes.push(draws.draw_content())?;
     }
     let check = check8(bytes.get(start..).unwrap_or(&[]));
     bytes.push(check ^ wrong)?;
@@ -72,76 +72,80 @@ fn push_packet(
 // part of one.
 fn push_piece(
     bytes: &mut Vec<u8>,
-    row: &mut Row,
+    draws: &mut Draws,
     data_len: u64,
     opt_len: u64,
 ) -> Result<(), AllocError> {
-    match row.draw(8) {
-        0 => bytes.push(row.draw_byte())?,
+    match draws.draw(8) {
+        0 => bytes.push(draws.draw_byte())?,
         1 => bytes.push(0x55)?,
         2 => {
-            let kind = row.draw_byte();
+            let kind = draws.draw_byte();
             push_header(bytes, data_len, opt_len, kind)?;
         }
-        3 => push_packet(bytes, row, data_len, opt_len, 1)?,
+        3 => push_packet(bytes, draws, data_len, opt_len, 1)?,
         4 => {
-            push_packet(bytes, row, data_len, opt_len, 0)?;
+            push_packet(bytes, draws, data_len, opt_len, 0)?;
             let cut = bytes.len() as u64;
-            let kept = cut.saturating_sub(row.draw(20).min(data_len.saturating_add(6)));
+            let kept = cut.saturating_sub(draws.draw(20).min(data_len.saturating_add(6)));
             bytes.truncate(kept as usize);
         }
-        _ => push_packet(bytes, row, data_len, opt_len, 0)?,
+        _ => push_packet(bytes, draws, data_len, opt_len, 0)?,
     }
     Ok(())
 }
 
 // Up to eleven short pieces.
-fn short_stream(bytes: &mut Vec<u8>, row: &mut Row) -> Result<(), AllocError> {
-    for _ in 0..row.draw(12) {
-        let (data_len, opt_len) = (row.draw(9), row.draw(3));
-        push_piece(bytes, row, data_len, opt_len)?;
+fn short_stream(bytes: &mut Vec<u8>, draws: &mut Draws) -> Result<(), AllocError> {
+    for _ in 0..draws.draw(12) {
+        let (data_len, opt_len) = (draws.draw(9), draws.draw(3));
+        push_piece(bytes, draws, data_len, opt_len)?;
     }
     Ok(())
 }
 
 // Up to five pieces of any length, many as long as can be, with short packets among them, so that they lie anywhere in
 // the ring.
-fn long_stream(bytes: &mut Vec<u8>, row: &mut Row) -> Result<(), AllocError> {
-    for _ in 0..row.draw(6) {
-        let (data_len, opt_len) = match row.draw(3) {
+fn long_stream(bytes: &mut Vec<u8>, draws: &mut Draws) -> Result<(), AllocError> {
+    for _ in 0..draws.draw(6) {
+        let (data_len, opt_len) = match draws.draw(3) {
             0 => (1024, 255),
-            1 => (row.draw(1026), row.draw(256)),
-            _ => (row.draw(200), row.draw(8)),
+            1 => (draws.draw(1026), draws.draw(256)),
+            _ => (draws.draw(200), draws.draw(8)),
         };
-        push_piece(bytes, row, data_len, opt_len)?;
-        for _ in 0..row.draw(4) {
-            push_packet(bytes, row, 7, 7, 0)?;
+        push_piece(bytes, draws, data_len, opt_len)?;
+        for _ in 0..draws.draw(4) {
+            push_packet(bytes, draws, 7, 7, 0)?;
         }
     }
     Ok(())
 }
 
 // A header of the longest packet, `distance` bytes, another such header, and packets for as many bytes as they announce.
-fn header_at_distance(bytes: &mut Vec<u8>, row: &mut Row, distance: u64) -> Result<(), AllocError> {
+fn header_at_distance(
+    bytes: &mut Vec<u8>,
+    draws: &mut Draws,
+    distance: u64,
+) -> Result<(), AllocError> {
     push_header(bytes, 1024, 255, 1)?;
     for _ in 0..distance {
-        bytes.push(row.draw_content())?;
+        bytes.push(draws.draw_content())?;
     }
     push_header(bytes, 1024, 255, 1)?;
     for _ in 0..62_u32 {
-        push_packet(bytes, row, 7, 7, 0)?;
+        push_packet(bytes, draws, 7, 7, 0)?;
     }
     Ok(())
 }
 
 #[derive(Drop)]
-struct Found {
+struct Counts {
     packets: u32,
     longest: u32,
 }
 
 // Both framers on the bytes, one after another: whether one is ready exactly where the other is, with the same packets.
-fn compare(alloc: Global, bytes: &[u8], found: &mut Found) -> Result<bool, AllocError> {
+fn compare(alloc: Global, bytes: &[u8], counts: &mut Counts) -> Result<bool, AllocError> {
     let mut framer = Framer::new(alloc)?;
     let mut plain = PlainFramer::new(alloc);
     let mut buffer = PacketBuf::new(alloc)?;
@@ -164,9 +168,9 @@ fn compare(alloc: Global, bytes: &[u8], found: &mut Found) -> Result<bool, Alloc
             if buffer.packet() != read_packet(&wanted) {
                 return Ok(false);
             }
-            found.packets = found.packets.saturating_add(1);
+            counts.packets = counts.packets.saturating_add(1);
             if wanted.len() == 1286 {
-                found.longest = found.longest.saturating_add(1);
+                counts.longest = counts.longest.saturating_add(1);
             }
         }
     }
@@ -176,8 +180,8 @@ fn compare(alloc: Global, bytes: &[u8], found: &mut Found) -> Result<bool, Alloc
 #[test]
 fn as_a_plain_framer(rt: HostRuntime) -> Result<(), Fail> {
     let alloc = rt.alloc();
-    let mut row = Row { state: 1 };
-    let mut found = Found {
+    let mut draws = Draws { state: 1 };
+    let mut counts = Counts {
         packets: 0,
         longest: 0,
     };
@@ -185,17 +189,17 @@ fn as_a_plain_framer(rt: HostRuntime) -> Result<(), Fail> {
     for stream in 0..10_000_u64 {
         bytes.clear();
         if stream < 1_300 {
-            header_at_distance(&mut bytes, &mut row, stream)?;
+            header_at_distance(&mut bytes, &mut draws, stream)?;
         } else if stream < 2_300 {
-            long_stream(&mut bytes, &mut row)?;
+            long_stream(&mut bytes, &mut draws)?;
         } else {
-            short_stream(&mut bytes, &mut row)?;
+            short_stream(&mut bytes, &mut draws)?;
         }
-        let same = compare(alloc, &bytes, &mut found)?;
+        let same = compare(alloc, &bytes, &mut counts)?;
         assert_eq!(rt; (stream, same), (stream, true));
     }
     // Another program made the same streams, and found so many packets by the rule.
-    assert_eq!(rt; found.packets, 100_286);
-    assert_eq!(rt; found.longest, 331);
+    assert_eq!(rt; counts.packets, 100_286);
+    assert_eq!(rt; counts.longest, 331);
     Ok(())
 }

@@ -25,7 +25,7 @@ pub struct PacketBuf {
 impl Model for PacketBuf {
     ghost use Rattle.std.specs.Prelude.{Option};
     ghost use Rattle.esp3_frames.specs.Packet.{Packet};
-    ghost use Rattle.esp3_resync.specs.Held.{Buffered, kept};
+    ghost use Rattle.esp3_resync.specs.Kept.{Buffered, kept};
 
     ghost Value = { Option Packet };
 
@@ -73,7 +73,7 @@ pub struct Framer {
 
 impl Model for Framer {
     ghost use Rattle.esp3_frames.specs.Frames.{Frames, frames_of};
-    ghost use Rattle.esp3_resync.specs.Held.{Settled};
+    ghost use Rattle.esp3_resync.specs.Settled.{Settled};
 
     ghost Value = { Frames };
 

@@ -4,7 +4,7 @@ ghost use Rattle.std.specs.Bool.{OnTrue, OnFalse};
 ghost use Rattle.esp3_frames.specs.Frames.{front_of, frames_of};
 ghost use Rattle.esp3_frames.specs.Frames;
 ghost use Rattle.esp3_frames.specs.Frames.Front.{Never, Partial, Whole};
-ghost use Rattle.esp3_resync.specs.Held.{HasHeader, IsFound, Settled, packet_at};
+ghost use Rattle.esp3_resync.specs.Settled.{HasHeader, IsFound, Settled, packet_at};
 
 use crate::window::Window;
 use esp3_frames::{Header, LONGEST_DATA, SYNC_BYTE, read_header};
@@ -93,7 +93,7 @@ pub fn settle(window: &mut Window) -> Option<Header>
     }
 }
 
-/// The same, where it is known that no packet begins at the first byte: so that is not looked at again.
+/// Skips the first byte, at which no packet begins, and then as `settle`: so that byte is not looked at again.
 pub fn settle_behind(window: &mut Window) -> Option<Header>
     requires { front_of window.old ≡ Never }
     ensures frames { frames_of window.new ≡ frames_of window.old }

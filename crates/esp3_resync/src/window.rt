@@ -2,7 +2,7 @@
 ghost use Rattle.std.specs.Prelude.{◌≡◌, ℕ, ◌+◌, ◌<◌, ◌≤◌, [], ◌∷◌, ◌++◌, length, take, drop, slice_index, slice_index_or, vec_capacity, ◌==◌, OnSome, IfNone, IfOk};
 ghost use Rattle.esp3_frames.specs.Check.{check};
 ghost use Rattle.esp3_frames.specs.Packet.{longest_packet};
-ghost use Rattle.esp3_resync.specs.Running.{ReachesSync};
+ghost use Rattle.esp3_resync.specs.Settled.{ReachesSync};
 
 use circular_buffer::HeapCircularBuffer;
 use esp3_frames::{LONGEST_PACKET, SYNC_BYTE, check8_between, check8_next};

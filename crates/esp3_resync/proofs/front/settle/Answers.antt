@@ -2,7 +2,7 @@ use Rattle.std.proofs.Common.{◌≡◌, subst, ◌∙◌}
 use Rattle.esp3_frames.specs.Frames.{front_of}
 use Rattle.esp3_frames.specs.Frames.Front.{Never}
 use Rattle.esp3_frames.proofs.ForCallers.{frames-never}
-use Rattle.esp3_resync.specs.Held.{IsFound}
+use Rattle.esp3_resync.specs.Settled.{IsFound}
 use Rattle.esp3_resync.specs.declared.front.Found.{Found}
 use Rattle.esp3_resync.proofs.FramesLemmas.{frames_at_sync}
 use Rattle.esp3_resync.proofs.front.settle.Goals as goal

@@ -1,6 +1,6 @@
 use Rattle.std.proofs.Common.{◌≡◌, length}
 use Rattle.esp3_frames.specs.Frames.{frames_of}
-use Rattle.esp3_resync.specs.Held.{IsFound}
+use Rattle.esp3_resync.specs.Settled.{IsFound}
 use Rattle.esp3_resync.proofs.front.settle.Given as goal
 
 abbrev pub invariant-loop-found : goal.invariant-loop-found

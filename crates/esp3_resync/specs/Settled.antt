@@ -1,7 +1,6 @@
--- What a framer knows of the bytes that it holds, and what a buffer keeps of a packet.
-use Rattle.std.specs.Prelude.{◌≡◌, ◌≢◌, ℕ, ◌+◌, ◌<◌, ◌≤◌, List, length, take, drop, vec_capacity, Option, Some, None, IfSome, Ok}
-use Rattle.std.specs.Global.{Vec}
-use Rattle.esp3_frames.specs.Packet.{Packet, longest_packet}
+-- What a framer knows of what stands at the front of its bytes.
+use Rattle.std.specs.Prelude.{◌≡◌, ◌≢◌, ℕ, ◌+◌, ◌<◌, ◌≤◌, List, [], ◌⊎◌, length, take, drop, slice_index, Option, Some, None, Ok}
+use Rattle.esp3_frames.specs.Packet.{Packet}
 use Rattle.esp3_frames.specs.Frames.{front_of}
 use Rattle.esp3_frames.specs.Frames.Front.{Never}
 use Rattle.esp3_frames.specs.Outcome.{header_of}
@@ -33,12 +32,10 @@ packet_with h v = record { kind = h.kind; body = take h.data_len v; opt = drop h
 abbrev pub packet_at : Header → List ℕ → Packet
 packet_at h w = packet_with h (take (h.data_len + h.opt_len) (drop 6 w))
 
--- what a buffer keeps: nothing yet, or a packet
-abbrev pub kept : Option Header → List ℕ → Option Packet
-kept None v = None
-kept (Some h) v = Some (packet_with h v)
-
--- there is room for every packet, and what is kept has the lengths that its header announced
-pub record Buffered (v : Vec ℕ) (h : Option Header) : Type 0 where
-  pub room : longest_packet ≤ vec_capacity v
-  pub lengths : IfSome h (λ x. x.data_len + x.opt_len ≡ length v.items)
+-- v is w from its first sync byte on, or nothing where it has none
+pub record ReachesSync (w v : List ℕ) : Type 0 where
+  pub count : ℕ
+  pub within : count ≤ length w
+  pub is : v ≡ drop count w
+  pub none : (i : ℕ) → i < count → slice_index w i ≢ 0x55
+  pub stops : (v ≡ []) ⊎ (slice_index v 0 ≡ 0x55)

@@ -1,0 +1,16 @@
+-- What a buffer keeps of a packet that was handed out.
+use Rattle.std.specs.Prelude.{◌≡◌, ℕ, ◌+◌, ◌≤◌, List, length, vec_capacity, Option, Some, None, IfSome}
+use Rattle.std.specs.Global.{Vec}
+use Rattle.esp3_frames.specs.Packet.{Packet, longest_packet}
+use Rattle.esp3_frames.specs.declared.packet.Header.{Header}
+use Rattle.esp3_resync.specs.Settled.{packet_with}
+
+-- what a buffer keeps: nothing yet, or a packet
+abbrev pub kept : Option Header → List ℕ → Option Packet
+kept None v = None
+kept (Some h) v = Some (packet_with h v)
+
+-- there is room for every packet, and what is kept has the lengths that its header announced
+pub record Buffered (v : Vec ℕ) (h : Option Header) : Type 0 where
+  pub room : longest_packet ≤ vec_capacity v
+  pub lengths : IfSome h (λ x. x.data_len + x.opt_len ≡ length v.items)
