@@ -2,8 +2,9 @@
 use Rattle.std.specs.Result.{IsErr}
 use Rattle.std.specs.Prelude.{Vec}
 use Rattle.std.specs.declared.alloc.Global.{Global}
+use Rattle.std.specs.FinMap.{empty}
 use Rattle.sqlite.specs.Order.{Row}
-use Rattle.std.proofs.Common.{◌≡◌, true, false, inl, inr, ℕ, Option, Result, Ok, Err, IsTrue, IfOk, OnOk, MatchResult, List, map, refl, sym, ap, subst, ◌∙◌}
+use Rattle.std.proofs.Common.{◌≡◌, true, false, inl, inr, ℕ, Bool, Option, Result, Ok, Err, IsTrue, IfOk, OnOk, MatchResult, List, map, refl, sym, ap, subst, ◌∙◌}
 use Rattle.sqlite_trees.specs.Tree.{Trees}
 use Rattle.sqlite.specs.Effect.{Database}
 use Rattle.sqlite.specs.State.{State, HasCleanDisk}
@@ -12,7 +13,7 @@ use Rattle.device_registry.specs.declared.fault.LearnFault.TheVariants.{Full, Re
 use Rattle.device_registry.specs.declared.fault.StoreFault.{StoreFault}
 use Rattle.device_registry.specs.declared.receipt.Receipt.{Receipt}
 use Rattle.device_registry.specs.Devices.{Devices, Change, changed, learned, forgotten, device_of, all_of, is_full}
-use Rattle.device_registry.specs.Holding.{HasDevices, AreRegistries, Keeps, Commits, Pends, LooksUp, Learns, Forgets, ListsAll, HandsOn}
+use Rattle.device_registry.specs.Holding.{HasDevices, HoldsSome, AreRegistries, Keeps, Commits, Pends, LooksUp, Learns, Forgets, ListsAll, HandsOn}
 use Rattle.device_registry.specs.Ready.{Shows, IsReady, StaysReady, GoesOn, Stays, Turns, listed}
 use Rattle.device_registry.proofs.DevicesHeld.{held_once, registers_once}
 use Rattle.device_registry.proofs.StatementSteps.{ready_on}
@@ -223,3 +224,13 @@ hands_on s well = record {
       let it = shows_them s devices clean (well.1 clean is_open) has in
       record { db = s.now; same = ap (λ (db : Database). db.trees) it.settled; sound = it.sound; registers = it.registers };
 }
+
+-- ---- whatever registry there is
+
+-- where the connection is shut, any devices do
+some_by : (s : State) (is_open : Bool) → s.is_open ≡ is_open → HasCleanDisk s → StaysReady s → (devices : Devices) × HasDevices s devices
+some_by s true is clean ready = let it = ready clean is in (it.devices, λ _ _. it.shows.registers)
+some_by s false is clean ready = (empty, λ _ is_open. absurd (let e = sym is ∙ is_open in cc))
+
+pub holds_some : (s : State) → StaysReady s → HoldsSome s
+holds_some s ready clean = some_by s s.is_open refl clean ready

@@ -16,6 +16,10 @@ use Rattle.device_registry.specs.Stored.{Registers, Holds, IsHeld, IsBare}
 abbrev pub HasDevices : State → Devices → Type 0
 HasDevices s devices = HasCleanDisk s → IsTrue s.is_open → Registers s.now devices
 
+-- while the disk is honest, there are devices that the registry holds
+abbrev pub HoldsSome : State → Type 0
+HoldsSome s = HasCleanDisk s → (devices : Devices) × HasDevices s devices
+
 -- a stop may leave these devices
 abbrev pub MayFind : State → Devices → Type 0
 MayFind s devices = (trees : Trees) × s.may_leave trees × Holds trees devices
