@@ -17,7 +17,11 @@ module _ {S : Type 0} (g : Ghosts S) where
       record {
         fates = went.fates;
         last = went.last;
-        is = record { run = went.run; safe = safe-weaker (MayFind (state g old.registry)) (λ d. d ≡ found) begins.stop _ left (went.stop left may) };
+        is = record {
+          run = went.run;
+          safe = safe-weaker (MayFind (state g old.registry)) (λ d. d ≡ found) begins.stop _ left
+              (went.stop left may);
+        };
       }
 
   pub stops_leave_a_life : StopsLeaveALife g
@@ -27,8 +31,10 @@ module _ {S : Type 0} (g : Ghosts S) where
       let is = asks went.last went.at in
       let Before = λ (d : Devices). d ≡ found in
       let so_far = left_by nothing_left (begun old.base found) items went.fates in
-      let safe : Safe Before (pending so_far went.last.devices (change_of went.last item)) left = elim (leaves left may) [
-        | inl before ↦ safe-pending Before so_far went.last.devices (change_of went.last item) left (safe-weaker (MayFind (state g old.registry)) Before begins.stop so_far left (went.stop left before))
+      let safe : Safe Before (pending so_far went.last.devices (change_of went.last item)) left =
+      elim (leaves left may) [
+        | inl before ↦ safe-pending Before so_far went.last.devices (change_of went.last item) left
+            (safe-weaker (MayFind (state g old.registry)) Before begins.stop so_far left (went.stop left before))
         | inr made ↦ subst (λ o. Safe Before (pending so_far went.last.devices o) left) (sym is) (inl (inl made))
       ] in
       record { fates = went.fates; last = went.last; is = record { run = went.run; safe = safe } }

@@ -1,12 +1,14 @@
 -- The calls of a gateway are a run.
-use Rattle.std.proofs.Common.{◌≡◌, ℕ, List, [], ◌∷◌, ◌++◌, refl, ap, sym, subst, ◌∙◌, append_assoc, append-nil, Some, None}
+use Rattle.std.proofs.Common.{◌≡◌, ℕ, List, [], ◌∷◌, ◌++◌, refl, ap, sym, subst, ◌∙◌, append_assoc, append-nil, Some}
+use Rattle.std.proofs.Common.{None}
 use Rattle.sqlite_trees.specs.declared.store.Store.{Ghosts}
 use Rattle.esp3_frames.specs.Packet.{Packet}
 use Rattle.esp3_frames.specs.Frames.{packets_in, rest_of}
 use Rattle.esp3_frames.proofs.ForCallers.{framing_in_parts, frames_of-may_become, empty_may_become}
 use Rattle.gateway_core.specs.Step.{Item, Received, Ordered}
 use Rattle.gateway_core.specs.Handling.{Sight, Handles}
-use Rattle.gateway_core.specs.Calls.{Value, Call, Byte, Next, Order, Moves, AllMove, bytes_of, answers_of, AreItems, CallsAreARun}
+use Rattle.gateway_core.specs.Calls.{Value, Call, Byte, Next, Order, Moves, AllMove, bytes_of, answers_of, AreItems}
+use Rattle.gateway_core.specs.Calls.{CallsAreARun}
 use Rattle.gateway_core.proofs.RunLemmas.{handles-nothing, handles-append}
 
 module _ {S : Type 0} (g : Ghosts S) where
@@ -16,7 +18,8 @@ module _ {S : Type 0} (g : Ghosts S) where
     pub rest : rest_of stream ≡ v.rest
 
   -- the same as the law, from the middle of a stream
-  record GoesOn (stream : List ℕ) (before : List Packet) (old : Value S) (calls : List Call) (new : Value S) : Type 0 where
+  record GoesOn (stream : List ℕ) (before : List Packet) (old : Value S) (calls : List Call)
+      (new : Value S) : Type 0 where
     pub handled : List Packet
     pub items : List Item
     pub packets : packets_in (stream ++ bytes_of calls) ≡ before ++ (handled ++ new.ready)
@@ -24,37 +27,47 @@ module _ {S : Type 0} (g : Ghosts S) where
     pub in_order : AreItems calls handled items
     pub run : Handles g old.sight items (answers_of calls) new.sight
 
-  stands_after_byte : (stream : List ℕ) (before : List Packet) (old mid : Value S) (byte : ℕ) → Stands stream before old → Moves g old (Byte byte) mid → Stands (stream ++ byte ∷ []) before mid
+  stands_after_byte : (stream : List ℕ) (before : List Packet) (old mid : Value S) (byte : ℕ) → Stands stream before old
+      → Moves g old (Byte byte) mid → Stands (stream ++ byte ∷ []) before mid
   stands_after_byte stream before old mid byte stands (none, same, ready, rest) =
       let parts = framing_in_parts stream (byte ∷ []) in
       record {
-        packets = parts.0 ∙ ap (λ ps. ps ++ packets_in (rest_of stream ++ byte ∷ [])) (stands.packets ∙ ap (λ ps. before ++ ps) none ∙ append-nil before)
+        packets =
+            parts.0 ∙ ap (λ ps. ps ++ packets_in (rest_of stream ++ byte ∷ []))
+            (stands.packets ∙ ap (λ ps. before ++ ps) none ∙ append-nil before)
             ∙ ap (λ r. before ++ packets_in (r ++ byte ∷ [])) stands.rest ∙ ap (λ ps. before ++ ps) (sym ready);
         rest = parts.1 ∙ ap (λ r. rest_of (r ++ byte ∷ [])) stands.rest ∙ sym rest;
       }
 
-  goes_on : (stream : List ℕ) (before : List Packet) (old : Value S) (calls : List Call) (new : Value S) → Stands stream before old → AllMove g old calls new → GoesOn stream before old calls new
+  goes_on : (stream : List ℕ) (before : List Packet) (old : Value S) (calls : List Call) (new : Value S)
+      → Stands stream before old → AllMove g old calls new → GoesOn stream before old calls new
   goes_on stream before old [] new stands move = record {
     handled = [];
     items = [];
     packets = rw (append-nil, move) stands.packets;
     rest = rw (append-nil, move) stands.rest;
     in_order = (refl, refl);
-    run = let P : Value S → Type 0 = λ v. Handles g old.sight [] [] v.sight in subst P (sym move) (handles-nothing g old.sight);
+    run = let P : Value S → Type 0 =
+        λ v. Handles g old.sight [] [] v.sight in subst P (sym move) (handles-nothing g old.sight);
   }
   goes_on stream before old (Byte byte ∷ calls) new stands (mid, move, moves) =
-      let on = goes_on (stream ++ byte ∷ []) before mid calls new (stands_after_byte stream before old mid byte stands move) moves in
-      let along : (stream ++ byte ∷ []) ++ bytes_of calls ≡ stream ++ (byte ∷ bytes_of calls) = append_assoc stream (byte ∷ []) (bytes_of calls) in
+      let on =
+      goes_on (stream ++ byte ∷ []) before mid calls new (stands_after_byte stream before old mid byte stands move)
+      moves in
+      let along : (stream ++ byte ∷ []) ++ bytes_of calls ≡ stream ++ (byte ∷ bytes_of calls) =
+      append_assoc stream (byte ∷ []) (bytes_of calls) in
       record {
         handled = on.handled;
         items = on.items;
         packets = ap packets_in (sym along) ∙ on.packets;
         rest = ap rest_of (sym along) ∙ on.rest;
         in_order = on.in_order;
-        run = let P : Sight S → Type 0 = λ s. Handles g s on.items (answers_of calls) new.sight in subst P move.1 on.run;
+        run = let P : Sight S → Type 0 =
+            λ s. Handles g s on.items (answers_of calls) new.sight in subst P move.1 on.run;
       }
   goes_on stream before old (Next None ∷ calls) new stands (mid, (none, same), moves) =
-      let from : Stands stream before mid = let P : Value S → Type 0 = λ v. Stands stream before v in subst P (sym same) stands in
+      let from : Stands stream before mid =
+      let P : Value S → Type 0 = λ v. Stands stream before v in subst P (sym same) stands in
       let on = goes_on stream before mid calls new from moves in
       record {
         handled = on.handled;
@@ -62,7 +75,8 @@ module _ {S : Type 0} (g : Ghosts S) where
         packets = on.packets;
         rest = on.rest;
         in_order = on.in_order;
-        run = let P : Value S → Type 0 = λ v. Handles g v.sight on.items (answers_of calls) new.sight in subst P same on.run;
+        run = let P : Value S → Type 0 =
+            λ v. Handles g v.sight on.items (answers_of calls) new.sight in subst P same on.run;
       }
   goes_on stream before old (Next (Some answer) ∷ calls) new stands (mid, (packet, first, rest, handles), moves) =
       let from : Stands stream (before ++ packet ∷ []) mid = record {
@@ -76,10 +90,12 @@ module _ {S : Type 0} (g : Ghosts S) where
         packets = on.packets ∙ append_assoc before (packet ∷ []) (on.handled ++ new.ready);
         rest = on.rest;
         in_order = (refl, on.in_order);
-        run = handles-append g old.sight mid.sight new.sight (Received packet ∷ []) on.items (answer ∷ []) (answers_of calls) handles on.run;
+        run = handles-append g old.sight mid.sight new.sight (Received packet ∷ []) on.items (answer ∷ [])
+            (answers_of calls) handles on.run;
       }
   goes_on stream before old (Order line answer ∷ calls) new stands (mid, (ready, rest, handles), moves) =
-      let from : Stands stream before mid = record { packets = stands.packets ∙ ap (λ ps. before ++ ps) (sym ready); rest = stands.rest ∙ sym rest } in
+      let from : Stands stream before mid =
+      record { packets = stands.packets ∙ ap (λ ps. before ++ ps) (sym ready); rest = stands.rest ∙ sym rest } in
       let on = goes_on stream before mid calls new from moves in
       record {
         handled = on.handled;
@@ -87,11 +103,19 @@ module _ {S : Type 0} (g : Ghosts S) where
         packets = on.packets;
         rest = on.rest;
         in_order = (refl, on.in_order);
-        run = handles-append g old.sight mid.sight new.sight (Ordered line ∷ []) on.items (answer ∷ []) (answers_of calls) handles on.run;
+        run = handles-append g old.sight mid.sight new.sight (Ordered line ∷ []) on.items (answer ∷ [])
+            (answers_of calls) handles on.run;
       }
 
   pub calls_are_a_run : CallsAreARun g
   calls_are_a_run base registry calls new moves =
       let empty = frames_of-may_become [] empty_may_become in
       let on = goes_on [] [] _ calls new (record { packets = sym empty.0; rest = sym empty.1 }) moves in
-      record { handled = on.handled; items = on.items; packets = on.packets; rest = on.rest; in_order = on.in_order; run = on.run }
+      record {
+        handled = on.handled;
+        items = on.items;
+        packets = on.packets;
+        rest = on.rest;
+        in_order = on.in_order;
+        run = on.run;
+      }

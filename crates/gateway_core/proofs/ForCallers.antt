@@ -1,13 +1,15 @@
--- The facts about the definitions that proofs cite, also those of the crates above: the laws, and steps that they are made of.
+-- The facts about the definitions that proofs cite, also those of the crates above: the laws, and steps that they are
+-- made of.
 pub use Rattle.gateway_core.proofs.BeginningLemmas.{calls_leave_a_life, stops_leave_a_life}
 pub use Rattle.gateway_core.proofs.CallLemmas.{calls_are_a_run}
 pub use Rattle.gateway_core.proofs.CountLemmas.{count_on, refusals_are_counted}
-pub use Rattle.gateway_core.proofs.EventLemmas.{brought-rest, items_of-append, cuts_do_not_matter, cuts_are_answered_alike}
+pub use Rattle.gateway_core.proofs.EventLemmas.{brought-rest, items_of-append, cuts_do_not_matter}
+pub use Rattle.gateway_core.proofs.EventLemmas.{cuts_are_answered_alike}
 pub use Rattle.gateway_core.proofs.LifeLemmas.{lives_keep}
 pub use Rattle.gateway_core.proofs.LongLineLemmas.{handles_alike}
 pub use Rattle.gateway_core.proofs.OrderLemmas.{orders_are_spelled}
 pub use Rattle.gateway_core.proofs.PrefixLemmas.{safe_is_prefix, left_is_prefix}
 pub use Rattle.gateway_core.proofs.RestLemmas.{rest_goes_on, items_behind, rest_behind}
-pub use Rattle.gateway_core.proofs.RunLemmas.{handles-nothing, handles-append, same_fates}
+pub use Rattle.gateway_core.proofs.RunLemmas.{handles-nothing, handles-append, same_refusals}
 pub use Rattle.gateway_core.proofs.StopLemmas.{safe_joins, safe-weaker}
 pub use Rattle.gateway_core.proofs.TellingLemmas.{teach_lines_are_told}

@@ -1,5 +1,6 @@
 -- Hexadecimal digits, and so the texts of IDs and profiles, need no escape in a JSON string.
-use Rattle.std.proofs.Common.{◌≡◌, ℕ, zero, suc, ◌<◌, ◌/◌, ◌%◌, ◌++◌, List, [], ◌∷◌, Bool, true, codes, ◌&&◌, slice_index, inl, inr, refl, ap₂, ◌∙◌, arith}
+use Rattle.std.proofs.Common.{◌≡◌, ℕ, zero, suc, ◌<◌, ◌/◌, ◌%◌, ◌++◌, List, [], ◌∷◌, Bool, true, codes, ◌&&◌}
+use Rattle.std.proofs.Common.{slice_index, inl, inr, refl, ap₂, ◌∙◌, arith}
 use Rattle.std.specs.Prelude.{nat_lt}
 use Rattle.std.proofs.lemmas.Bool.{and_parts, cases_lt, ltb-true}
 use Rattle.std.proofs.lemmas.Grind.{flat_map-append}
@@ -31,7 +32,8 @@ all_between-at (suc n) digit h below =
           rw e parts.0
     ]
 
-plain-digit : (digit : ℕ) → digit < 16 → escape_byte (slice_index upper_digits digit) ≡ slice_index upper_digits digit ∷ []
+plain-digit : (digit : ℕ) → digit < 16
+    → escape_byte (slice_index upper_digits digit) ≡ slice_index upper_digits digit ∷ []
 plain-digit digit below =
     let parts = and_parts (nat_lt 34 (slice_index upper_digits digit)) (nat_lt (slice_index upper_digits digit) 92)
     (all_between-at 16 digit refl below) in
@@ -40,7 +42,8 @@ plain-digit digit below =
     escape_byte_plain _ (λ e. omega arith) (λ e. omega arith) (omega arith)
 
 -- two digits more
-plain-byte : (byte : ℕ) (rest : List ℕ) → byte < 256 → IsPlain (encode_upper rest) → IsPlain (encode_upper (byte ∷ rest))
+plain-byte : (byte : ℕ) (rest : List ℕ) → byte < 256 → IsPlain (encode_upper rest)
+    → IsPlain (encode_upper (byte ∷ rest))
 unfolding encode_with
 plain-byte byte rest below h =
     rw (plain-digit (byte / 16) (omega arith), plain-digit (byte % 16) (omega arith), h) refl
@@ -58,7 +61,8 @@ plain-dash = refl
 
 pub plain-id : (id : ℕ) → IsPlain (id_text id)
 plain-id id =
-    plain-byte _ _ (omega arith) (plain-byte _ _ (omega arith) (plain-byte _ _ (omega arith) (plain-byte _ _ (omega arith) plain-nothing)))
+    plain-byte _ _ (omega arith)
+    (plain-byte _ _ (omega arith) (plain-byte _ _ (omega arith) (plain-byte _ _ (omega arith) plain-nothing)))
 
 pub plain_byte_text : (byte : ℕ) → byte < 256 → IsPlain (byte_text byte)
 plain_byte_text byte below = plain-byte byte [] below plain-nothing

@@ -1,5 +1,6 @@
 -- What is told is found by later lives.
-use Rattle.std.proofs.Common.{◌≡◌, ◌≢◌, inl, inr, ℕ, true, false, cond, List, [], ◌∷◌, ◌++◌, Option, Some, None, sym, ap, subst, ◌∙◌, arith, nat_cmp}
+use Rattle.std.proofs.Common.{◌≡◌, ◌≢◌, inl, inr, ℕ, true, false, cond, List, [], ◌∷◌, ◌++◌, Option, Some, None, sym}
+use Rattle.std.proofs.Common.{ap, subst, ◌∙◌, arith, nat_cmp}
 use Rattle.std.specs.List.{AllByRecursion}
 use Rattle.std.specs.Ordering.{eq_by_cmp}
 use Rattle.std.specs.Cmp.{nat_cmp_total}
@@ -9,7 +10,8 @@ use Rattle.device_registry.specs.Devices.{Learned, Devices, Change, entered, cha
 use Rattle.gateway_core.specs.Step.{State, Item, Answer, change_of, with_change, state_after}
 use Rattle.gateway_core.specs.Run.{Fate, Taken, Refused, RefusedAtWrite, state_with, Run}
 use Rattle.gateway_core.specs.Stops.{Left, nothing_left, told, pending, left_with, left_by, Safe}
-use Rattle.gateway_core.specs.Lives.{Life, begun, stopped_in, IsLife, AreLives, written, IsOfOther, Spares, StopSpares, LifeSpares, LivesKeep}
+use Rattle.gateway_core.specs.Lives.{Life, begun, stopped_in, IsLife, AreLives, written, IsOfOther, Spares, StopSpares}
+use Rattle.gateway_core.specs.Lives.{LifeSpares, LivesKeep}
 use Rattle.gateway_core.proofs.StopLemmas.{left_by-append}
 
 same_key : (q : ℕ) → eq_by_cmp nat_cmp q q ≡ true
@@ -18,15 +20,20 @@ same_key q = grind (arith, nat_tests)
 other_key : (q a : ℕ) → a ≢ q → eq_by_cmp nat_cmp q a ≡ false
 other_key q a h = grind (arith, nat_tests)
 
-get-entered : (devices : Devices) (id : ℕ) (o : Option Learned) (q : ℕ) → get (entered devices id o) q ≡ cond (eq_by_cmp nat_cmp q id) o (get devices q)
+get-entered : (devices : Devices) (id : ℕ) (o : Option Learned) (q : ℕ)
+    → get (entered devices id o) q ≡ cond (eq_by_cmp nat_cmp q id) o (get devices q)
 get-entered devices id (Some it) q = get-insert nat_cmp_total devices id it q
 get-entered devices id None q = get-remove nat_cmp_total devices id q
 
 get-same : (devices : Devices) (change : Change) → get (changed devices change) change.sender ≡ change.entry
-get-same devices change = get-entered devices change.sender change.entry change.sender ∙ ap (λ b. cond b change.entry (get devices change.sender)) (same_key change.sender)
+get-same devices change = get-entered devices change.sender change.entry change.sender
+    ∙ ap (λ b. cond b change.entry (get devices change.sender)) (same_key change.sender)
 
-get-other : (devices : Devices) (change : Change) (q : ℕ) → change.sender ≢ q → get (changed devices change) q ≡ get devices q
-get-other devices change q h = get-entered devices change.sender change.entry q ∙ ap (λ b. cond b change.entry (get devices q)) (other_key q change.sender h)
+get-other : (devices : Devices) (change : Change) (q : ℕ) → change.sender ≢ q
+    → get (changed devices change) q ≡ get devices q
+get-other devices change q h =
+    get-entered devices change.sender change.entry q
+    ∙ ap (λ b. cond b change.entry (get devices q)) (other_key q change.sender h)
 
 module _ (Before : Devices → Type 0) (sender : ℕ) (entry : Option Learned) where
   -- the sender has the entry, and so it has in all devices that a stop may leave
@@ -34,58 +41,89 @@ module _ (Before : Devices → Type 0) (sender : ℕ) (entry : Option Learned) w
     pub now : get devices sender ≡ entry
     pub safe : (d : Devices) → Safe Before left d → get d sender ≡ entry
 
-  after_told : (left : Left) (devices : Devices) (o : Option Change) → IsOfOther sender o → Kept left devices → Kept (told left devices o) (with_change devices o)
+  after_told : (left : Left) (devices : Devices) (o : Option Change) → IsOfOther sender o → Kept left devices
+      → Kept (told left devices o) (with_change devices o)
   after_told left devices None other kept = kept
   after_told left devices (Some change) other kept =
       let now = get-other devices change sender other ∙ kept.now in
-      record { now = now; safe = λ d safe. elim safe [ inl one ↦ elim one [ inl is ↦ ap (λ n. get n sender) is ∙ now | inr never ↦ absurd never ] | inr non ↦ absurd (let e = non.0 in cc) ] }
+      record {
+        now = now;
+        safe =
+            λ d safe. elim safe [
+              | inl one ↦
+                  elim one [ inl is ↦ ap (λ n. get n sender) is ∙ now | inr never ↦ absurd never ]
+              | inr non ↦
+                  absurd (let e = non.0 in cc)
+            ];
+      }
 
-  after_pending : (left : Left) (devices : Devices) (o : Option Change) → IsOfOther sender o → Kept left devices → Kept (pending left devices o) devices
+  after_pending : (left : Left) (devices : Devices) (o : Option Change) → IsOfOther sender o → Kept left devices
+      → Kept (pending left devices o) devices
   after_pending left devices None other kept = kept
   after_pending left devices (Some change) other kept = record {
     now = kept.now;
     safe = λ d safe. elim safe [
-      | inl one ↦ elim one [ inl is ↦ ap (λ n. get n sender) is ∙ get-other devices change sender other ∙ kept.now | inr more ↦ kept.safe d (inl more) ]
+      | inl one ↦ elim one [
+        | inl is ↦ ap (λ n. get n sender) is ∙ get-other devices change sender other
+            ∙ kept.now
+        | inr more ↦ kept.safe d (inl more)
+      ]
       | inr non ↦ kept.safe d (inr non)
     ];
   }
 
-  after_one : (left : Left) (state : State) (item : Item) (fate : Fate) → IsOfOther sender (written state item fate) → Kept left state.devices → Kept (left_with left state item fate) (state_with state item fate).devices
+  after_one : (left : Left) (state : State) (item : Item) (fate : Fate) → IsOfOther sender (written state item fate)
+      → Kept left state.devices → Kept (left_with left state item fate) (state_with state item fate).devices
   after_one left state item Taken other kept = after_told left state.devices (change_of state item) other kept
   after_one left state item (Refused cause) other kept = kept
-  after_one left state item (RefusedAtWrite cause) other kept = after_pending left state.devices (change_of state item) other kept
+  after_one left state item (RefusedAtWrite cause) other kept =
+      after_pending left state.devices (change_of state item) other kept
 
-  after_all : (left : Left) (state last : State) (items : List Item) (fates : List Fate) (answers : List Answer) → Run state items fates answers last → Spares sender state items fates
+  after_all : (left : Left) (state last : State) (items : List Item) (fates : List Fate) (answers : List Answer)
+      → Run state items fates answers last → Spares sender state items fates
       → Kept left state.devices → Kept (left_by left state items fates) last.devices
   after_all left state last [] [] [] run spares kept = subst (λ (s : State). Kept left s.devices) (sym run) kept
   after_all left state last (item ∷ items) (fate ∷ fates) (answer ∷ answers) run spares kept =
-      after_all (left_with left state item fate) (state_with state item fate) last items fates answers run.2 spares.1 (after_one left state item fate spares.0 kept)
+      after_all (left_with left state item fate) (state_with state item fate) last items fates answers run.2 spares.1
+      (after_one left state item fate spares.0 kept)
   after_all left state last [] [] (answer ∷ answers) run spares kept = absurd run
   after_all left state last [] (fate ∷ fates) answers run spares kept = absurd run
   after_all left state last (item ∷ items) [] answers run spares kept = absurd run
   after_all left state last (item ∷ items) (fate ∷ fates) [] run spares kept = absurd run
 
-  after_stop : (left : Left) (state : State) (stopped : Option Item) → StopSpares sender state stopped → Kept left state.devices → Kept (stopped_in left state stopped) state.devices
+  after_stop : (left : Left) (state : State) (stopped : Option Item) → StopSpares sender state stopped
+      → Kept left state.devices → Kept (stopped_in left state stopped) state.devices
   after_stop left state None spares kept = kept
   after_stop left state (Some item) spares kept = after_pending left state.devices (change_of state item) spares kept
 
 -- a life that finds the entry, and spares the sender, leaves it
-life_keeps : (sender : ℕ) (entry : Option Learned) (life : Life) → IsLife life → LifeSpares sender life → get life.found sender ≡ entry → get life.left sender ≡ entry
+life_keeps : (sender : ℕ) (entry : Option Learned) (life : Life) → IsLife life → LifeSpares sender life
+    → get life.found sender ≡ entry → get life.left sender ≡ entry
 life_keeps sender entry life is spares found =
     let Before = λ (d : Devices). d ≡ life.found in
     let start = begun life.base life.found in
-    let first : Kept Before sender entry nothing_left life.found = record { now = found; safe = λ d safe. elim safe [ inl never ↦ absurd never | inr same ↦ ap (λ n. get n sender) same.1 ∙ found ] } in
-    let all = after_all Before sender entry nothing_left start life.last life.items life.fates life.answers is.run spares.0 first in
-    (after_stop Before sender entry (left_by nothing_left start life.items life.fates) life.last life.stopped spares.1 all).safe life.left is.safe
+    let first : Kept Before sender entry nothing_left life.found =
+    record {
+      now = found;
+      safe = λ d safe. elim safe [ inl never ↦ absurd never | inr same ↦ ap (λ n. get n sender) same.1 ∙ found ];
+    } in
+    let all =
+    after_all Before sender entry nothing_left start life.last life.items life.fates life.answers is.run spares.0
+    first in
+    (after_stop Before sender entry (left_by nothing_left start life.items life.fates) life.last life.stopped spares.1
+    all).safe life.left is.safe
 
-lives_keep_found : (sender : ℕ) (entry : Option Learned) (found : Devices) (lives : List Life) (last : Devices) → AreLives found lives last → AllByRecursion (LifeSpares sender) lives
+lives_keep_found : (sender : ℕ) (entry : Option Learned) (found : Devices) (lives : List Life) (last : Devices)
+    → AreLives found lives last → AllByRecursion (LifeSpares sender) lives
     → get found sender ≡ entry → get last sender ≡ entry
 lives_keep_found sender entry found [] last are spares has = ap (λ n. get n sender) are ∙ has
 lives_keep_found sender entry found (life ∷ lives) last are spares has =
-    lives_keep_found sender entry life.left lives last are.2 spares.1 (life_keeps sender entry life are.1 spares.0 (ap (λ n. get n sender) are.0 ∙ has))
+    lives_keep_found sender entry life.left lives last are.2 spares.1
+    (life_keeps sender entry life are.1 spares.0 (ap (λ n. get n sender) are.0 ∙ has))
 
 -- the rest of a run, behind its first items
-run_on : (old mid last : State) (items others : List Item) (fates more : List Fate) (answers all : List Answer) → Run old items fates answers mid → Run old (items ++ others) (fates ++ more) all last
+run_on : (old mid last : State) (items others : List Item) (fates more : List Fate) (answers all : List Answer)
+    → Run old items fates answers mid → Run old (items ++ others) (fates ++ more) all last
     → (rest : List Answer) × Run mid others more rest last
 run_on old mid last [] others [] more [] all run whole = (all, subst (λ s. Run s others more all last) (sym run) whole)
 run_on old mid last (item ∷ items) others (fate ∷ fates) more (answer ∷ answers) (a ∷ all) run whole =
@@ -97,11 +135,22 @@ run_on old mid last (item ∷ items) others [] more answers all run whole = absu
 run_on old mid last (item ∷ items) others (fate ∷ fates) more [] all run whole = absurd run
 
 -- a change that is told is in all devices that a stop may leave
-told_kept : (Before : Devices → Type 0) (left : Left) (devices : Devices) (o : Option Change) (change : Change) → o ≡ Some change → Kept Before change.sender change.entry (told left devices o) (with_change devices o)
+told_kept : (Before : Devices → Type 0) (left : Left) (devices : Devices) (o : Option Change) (change : Change)
+    → o ≡ Some change → Kept Before change.sender change.entry (told left devices o) (with_change devices o)
 told_kept Before left devices o change is =
     let now = get-same devices change in
-    let kept : Kept Before change.sender change.entry (told left devices (Some change)) (with_change devices (Some change)) =
-    record { now = now; safe = λ d safe. elim safe [ inl one ↦ elim one [ inl same ↦ ap (λ n. get n change.sender) same ∙ now | inr never ↦ absurd never ] | inr non ↦ absurd (let e = non.0 in cc) ] } in
+    let kept : Kept Before change.sender change.entry (told left devices (Some change))
+    (with_change devices (Some change)) =
+    record {
+      now = now;
+      safe =
+          λ d safe. elim safe [
+            | inl one ↦
+                elim one [ inl same ↦ ap (λ n. get n change.sender) same ∙ now | inr never ↦ absurd never ]
+            | inr non ↦
+                absurd (let e = non.0 in cc)
+          ];
+    } in
     subst (λ o. Kept Before change.sender change.entry (told left devices o) (with_change devices o)) (sym is) kept
 
 pub lives_keep : LivesKeep
@@ -109,21 +158,31 @@ lives_keep life change lives last is tells spares are =
     let Before = λ (d : Devices). d ≡ life.found in
     let start = begun life.base life.found in
     let P = λ (items : List Item) (fates : List Fate). Run start items fates life.answers life.last in
-    let whole : Run start (tells.before ++ tells.item ∷ tells.after) (tells.fates ++ Taken ∷ tells.more) life.answers life.last =
-    subst (λ fates. P (tells.before ++ tells.item ∷ tells.after) fates) tells.fates_are (subst (λ items. P items life.fates) tells.items_are is.run) in
-    let rest = run_on start tells.at life.last tells.before (tells.item ∷ tells.after) tells.fates (Taken ∷ tells.more) tells.answers life.answers tells.run whole in
+    let whole : Run start (tells.before ++ tells.item ∷ tells.after)
+    (tells.fates ++ Taken ∷ tells.more) life.answers life.last =
+    subst (λ fates. P (tells.before ++ tells.item ∷ tells.after) fates) tells.fates_are
+    (subst (λ items. P items life.fates) tells.items_are is.run) in
+    let rest =
+    run_on start tells.at life.last tells.before (tells.item ∷ tells.after) tells.fates
+    (Taken ∷ tells.more) tells.answers life.answers tells.run whole in
     let early = left_by nothing_left start tells.before tells.fates in
     let one = told_kept Before early tells.at.devices (change_of tells.at tells.item) change tells.asks in
     let behind = told_run tells.at life.last tells.item tells.after tells.more rest.0 rest.1 in
-    let all = after_all Before change.sender change.entry _ (state_after tells.at tells.item) life.last tells.after tells.more behind.0 behind.1 tells.spared one in
-    let same : left_by nothing_left start life.items life.fates ≡ left_by (left_with early tells.at tells.item Taken) (state_after tells.at tells.item) tells.after tells.more =
-    ap (λ items. left_by nothing_left start items life.fates) tells.items_are ∙ ap (λ fates. left_by nothing_left start (tells.before ++ tells.item ∷ tells.after) fates) tells.fates_are
-    ∙ left_by-append nothing_left start tells.at tells.before (tells.item ∷ tells.after) tells.fates (Taken ∷ tells.more) tells.answers tells.run in
+    let all =
+    after_all Before change.sender change.entry _ (state_after tells.at tells.item) life.last tells.after tells.more
+    behind.0 behind.1 tells.spared one in
+    let same : left_by nothing_left start life.items life.fates
+    ≡ left_by (left_with early tells.at tells.item Taken) (state_after tells.at tells.item) tells.after tells.more =
+    ap (λ items. left_by nothing_left start items life.fates) tells.items_are
+    ∙ ap (λ fates. left_by nothing_left start (tells.before ++ tells.item ∷ tells.after) fates) tells.fates_are
+    ∙ left_by-append nothing_left start tells.at tells.before (tells.item ∷ tells.after) tells.fates
+    (Taken ∷ tells.more) tells.answers tells.run in
     let kept = after_stop Before change.sender change.entry _ life.last life.stopped tells.stop all in
     lives_keep_found change.sender change.entry life.left lives last are spares
     (kept.safe life.left (subst (λ l. Safe Before (stopped_in l life.last life.stopped) life.left) same is.safe))
   where
-    told_run : (at last : State) (item : Item) (after : List Item) (more : List Fate) (answers : List Answer) → Run at (item ∷ after) (Taken ∷ more) answers last
+    told_run : (at last : State) (item : Item) (after : List Item) (more : List Fate) (answers : List Answer)
+        → Run at (item ∷ after) (Taken ∷ more) answers last
         → (others : List Answer) × Run (state_after at item) after more others last
     told_run at last item after more (a ∷ answers) run = (answers, run.2)
     told_run at last item after more [] run = absurd run

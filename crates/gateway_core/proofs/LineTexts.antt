@@ -1,5 +1,6 @@
 -- The JSON values behind the lines have the texts of the lines, and hold no float.
-use Rattle.std.proofs.Common.{◌≡◌, ℕ, ℤ, pos, negsuc, ◌-ℤ◌, List, [], ◌∷◌, ◌++◌, codes, decimal, true, false, slice_get, Option, Some, None, refl, sym, ap₂, ◌∙◌, append_assoc}
+use Rattle.std.proofs.Common.{◌≡◌, ℕ, ℤ, pos, negsuc, ◌-ℤ◌, List, [], ◌∷◌, ◌++◌, codes, decimal, true, false, slice_get}
+use Rattle.std.proofs.Common.{Option, Some, None, refl, sym, ap₂, ◌∙◌, append_assoc}
 use Rattle.std.specs.Fmt.{signed_decimal}
 use Rattle.std.specs.List.{join_by, flat_map}
 use Rattle.json.specs.Print.{quoted}
@@ -8,14 +9,18 @@ use Rattle.serde_json.specs.Find.{of_integer, is_float}
 use Rattle.serde_json.proofs.OnLiterals.{serde_json_on_literals}
 use Rattle.profiles_rps.specs.Reading.{Meaning, value, word, raw, out_of_range, Entry}
 use Rattle.device_registry.specs.declared.device.Device.{Device}
-use Rattle.gateway_core.specs.Lines.{id_text, eep_text, outcome_text, dbm_text, named_text, entry_text, list_text, ReadingLine, reading_text, maker_text, TeachLine, teach_text, device_text, count_text, status_text, code_names, name_text, response_text}
+use Rattle.gateway_core.specs.Lines.{id_text, eep_text, outcome_text, dbm_text, named_text, entry_text, list_text}
+use Rattle.gateway_core.specs.Lines.{ReadingLine, reading_text, maker_text, TeachLine, teach_text, device_text}
+use Rattle.gateway_core.specs.Lines.{count_text, status_text, code_names, name_text, response_text}
 use Rattle.hex.specs.Hex.{encode_upper}
 use Rattle.gateway_core.specs.Responses.{Response}
 use Rattle.gateway_core.specs.declared.counts.Counts.{Counts}
 use Rattle.gateway_core.specs.declared.lines.teach.Outcome.{Outcome}
 use Rattle.gateway_core.specs.declared.lines.teach.Outcome.TheVariants.{Accepted, Deleted}
 use Rattle.gateway_core.proofs.HexTexts.{plain-id}
-use Rattle.gateway_core.specs.LineData.{IsPlain, dbm_data, named_data, entry_data, entries_data, reading_data, maker_data, teach_data, device_data, count_data, status_data, name_data, response_data}
+use Rattle.gateway_core.specs.LineData.{IsPlain, dbm_data, named_data, entry_data, entries_data, reading_data}
+use Rattle.gateway_core.specs.LineData.{maker_data, teach_data, device_data, count_data, status_data, name_data}
+use Rattle.gateway_core.specs.LineData.{response_data}
 
 -- ---- the parts of the lines
 
@@ -54,8 +59,11 @@ plain-outcome Deleted = refl
 
 -- the parts of a reading, grouped as the writer and as the definition group them
 grouped-value : (den name num unit : List ℕ)
-    → codes "{\"den\":" ++ (den ++ (codes ",\"name\":" ++ (name ++ (codes ",\"num\":" ++ (num ++ (codes ",\"unit\":" ++ (unit ++ codes "}")))))))
-    ≡ codes "{\"den\":" ++ den ++ codes ",\"name\":" ++ name ++ codes ",\"num\":" ++ num ++ codes ",\"unit\":" ++ unit ++ codes "}"
+    → codes "{\"den\":" ++
+    (den ++ (codes ",\"name\":"
+    ++ (name ++ (codes ",\"num\":" ++ (num ++ (codes ",\"unit\":" ++ (unit ++ codes "}")))))))
+    ≡ codes "{\"den\":" ++ den ++ codes ",\"name\":" ++ name ++ codes ",\"num\":" ++ num ++ codes ",\"unit\":" ++ unit
+    ++ codes "}"
 grouped-value den name num unit = simp append_assoc
 
 grouped-word : (name text : List ℕ)
@@ -75,7 +83,8 @@ grouped-out_of_range name digits = simp append_assoc
 
 text-named : (name : List ℕ) (meaning : Meaning) → compact_text (named_data name meaning) ≡ named_text name meaning
 unfolding serde_json_on_literals
-text-named name (value ratio unit) = rw (digits_of ratio.num) (grouped-value (decimal ratio.den) (quoted name) (signed_decimal ratio.num) (quoted unit))
+text-named name (value ratio unit) =
+    rw (digits_of ratio.num) (grouped-value (decimal ratio.den) (quoted name) (signed_decimal ratio.num) (quoted unit))
 text-named name (word text) = grouped-word (quoted name) (quoted text)
 text-named name (raw n) = grouped-raw (quoted name) (decimal n)
 text-named name (out_of_range n) = grouped-out_of_range (quoted name) (decimal n)
@@ -114,7 +123,8 @@ no_float-items (entry ∷ list) = rw (no_float-entry entry) (no_float-items list
 
 -- the parts of the line, grouped as the writer and as the definition group them
 grouped-reading : (dbm eep id list : List ℕ)
-    → (codes "{\"dbm\":" ++ (dbm ++ (codes ",\"eep\":\"" ++ ((eep ++ codes "\"") ++ (codes ",\"id\":\"" ++ ((id ++ codes "\"")
+    → (codes "{\"dbm\":"
+    ++ (dbm ++ (codes ",\"eep\":\"" ++ ((eep ++ codes "\"") ++ (codes ",\"id\":\"" ++ ((id ++ codes "\"")
     ++ (codes ",\"readings\":" ++ (list ++ codes ",\"type\":\"reading\"}")))))))) ++ codes "\n"
     ≡ codes "{\"dbm\":" ++ dbm ++ codes ",\"eep\":\"" ++ eep ++ codes "\",\"id\":\"" ++ id
     ++ codes "\",\"readings\":" ++ list ++ codes ",\"type\":\"reading\"}\n"
@@ -134,7 +144,8 @@ no_float-reading line = rw (no_float-dbm line.dbm, no_float-items line.readings)
 
 -- the parts of the line, grouped as the writer and as the definition group them
 grouped-teach : (eep id maker outcome : List ℕ)
-    → (codes "{\"eep\":\"" ++ ((eep ++ codes "\"") ++ (codes ",\"id\":\"" ++ ((id ++ codes "\"") ++ (codes ",\"maker\":" ++ (maker
+    → (codes "{\"eep\":\""
+    ++ ((eep ++ codes "\"") ++ (codes ",\"id\":\"" ++ ((id ++ codes "\"") ++ (codes ",\"maker\":" ++ (maker
     ++ (codes ",\"result\":\"" ++ ((outcome ++ codes "\"") ++ codes ",\"type\":\"teach\"}")))))))) ++ codes "\n"
     ≡ codes "{\"eep\":\"" ++ eep ++ codes "\",\"id\":\"" ++ id ++ codes "\",\"maker\":" ++ maker
     ++ codes ",\"result\":\"" ++ outcome ++ codes "\",\"type\":\"teach\"}\n"
@@ -154,12 +165,15 @@ no_float-teach line = rw (no_float-maker line.maker) refl
 
 -- the parts of the line, grouped as the writer and as the definition group them
 grouped-device : (eep id maker : List ℕ)
-    → (codes "{\"eep\":\"" ++ ((eep ++ codes "\"") ++ (codes ",\"id\":\"" ++ ((id ++ codes "\"") ++ (codes ",\"maker\":" ++ (maker
+    → (codes "{\"eep\":\""
+    ++ ((eep ++ codes "\"") ++ (codes ",\"id\":\"" ++ ((id ++ codes "\"") ++ (codes ",\"maker\":" ++ (maker
     ++ codes ",\"type\":\"device\"}")))))) ++ codes "\n"
-    ≡ codes "{\"eep\":\"" ++ eep ++ codes "\",\"id\":\"" ++ id ++ codes "\",\"maker\":" ++ maker ++ codes ",\"type\":\"device\"}\n"
+    ≡ codes "{\"eep\":\"" ++ eep ++ codes "\",\"id\":\"" ++ id ++ codes "\",\"maker\":" ++ maker
+    ++ codes ",\"type\":\"device\"}\n"
 grouped-device eep id maker = simp append_assoc
 
-pub text_device : (known : Device) → IsPlain (eep_text known.eep) → compact_text (device_data known) ++ codes "\n" ≡ device_text known
+pub text_device : (known : Device) → IsPlain (eep_text known.eep)
+    → compact_text (device_data known) ++ codes "\n" ≡ device_text known
 unfolding serde_json_on_literals
 text_device known plain =
     rw (plain, plain-id known.id, text-maker known.maker)
@@ -184,16 +198,20 @@ no_float_count count = refl
 
 -- the parts of the line, grouped as the writer and as the definition group them
 grouped-status : (ignored readings refused responses teach : List ℕ)
-    → (codes "{\"ignored\":" ++ (ignored ++ (codes ",\"mode\":\"closed\",\"readings\":" ++ (readings ++ (codes ",\"refused\":" ++ (refused
-    ++ (codes ",\"responses\":" ++ (responses ++ (codes ",\"teach\":" ++ (teach ++ codes ",\"type\":\"status\"}")))))))))) ++ codes "\n"
-    ≡ codes "{\"ignored\":" ++ ignored ++ codes ",\"mode\":\"closed\",\"readings\":" ++ readings ++ codes ",\"refused\":" ++ refused
+    → (codes "{\"ignored\":"
+    ++ (ignored ++ (codes ",\"mode\":\"closed\",\"readings\":" ++ (readings ++ (codes ",\"refused\":" ++ (refused
+    ++ (codes ",\"responses\":"
+    ++ (responses ++ (codes ",\"teach\":" ++ (teach ++ codes ",\"type\":\"status\"}")))))))))) ++ codes "\n"
+    ≡ codes "{\"ignored\":" ++ ignored ++ codes ",\"mode\":\"closed\",\"readings\":" ++ readings
+    ++ codes ",\"refused\":" ++ refused
     ++ codes ",\"responses\":" ++ responses ++ codes ",\"teach\":" ++ teach ++ codes ",\"type\":\"status\"}\n"
 grouped-status ignored readings refused responses teach = simp append_assoc
 
 pub text_status : (counts : Counts) → compact_text (status_data counts) ++ codes "\n" ≡ status_text counts
 unfolding serde_json_on_literals
 text_status counts =
-    grouped-status (decimal counts.ignored) (decimal counts.readings) (decimal counts.refused) (decimal counts.responses) (decimal counts.teach)
+    grouped-status (decimal counts.ignored) (decimal counts.readings) (decimal counts.refused)
+    (decimal counts.responses) (decimal counts.teach)
 
 pub no_float_status : (counts : Counts) → has_float (status_data counts) ≡ false
 no_float_status counts = refl
@@ -210,15 +228,19 @@ no_float-name (Some name) = refl
 
 -- the parts of the line, grouped as the writer and as the definition group them
 grouped-response : (code bytes name : List ℕ)
-    → (codes "{\"code\":" ++ (code ++ (codes ",\"data\":" ++ (bytes ++ (codes ",\"name\":" ++ (name ++ codes ",\"type\":\"response\"}")))))) ++ codes "\n"
-    ≡ codes "{\"code\":" ++ code ++ codes ",\"data\":" ++ bytes ++ codes ",\"name\":" ++ name ++ codes ",\"type\":\"response\"}\n"
+    → (codes "{\"code\":"
+    ++ (code ++ (codes ",\"data\":" ++ (bytes ++ (codes ",\"name\":" ++ (name ++ codes ",\"type\":\"response\"}"))))))
+    ++ codes "\n"
+    ≡ codes "{\"code\":" ++ code ++ codes ",\"data\":" ++ bytes ++ codes ",\"name\":" ++ name
+    ++ codes ",\"type\":\"response\"}\n"
 grouped-response code bytes name = simp append_assoc
 
 pub text-response : (response : Response) → compact_text (response_data response) ++ codes "\n" ≡ response_text response
 unfolding serde_json_on_literals
 text-response response =
     rw (text-name (slice_get code_names response.code))
-    (grouped-response (decimal response.code) (quoted (encode_upper response.bytes)) (name_text (slice_get code_names response.code)))
+    (grouped-response (decimal response.code) (quoted (encode_upper response.bytes))
+    (name_text (slice_get code_names response.code)))
 
 pub no_float-response : (response : Response) → has_float (response_data response) ≡ false
 no_float-response response = rw (no_float-name (slice_get code_names response.code)) refl

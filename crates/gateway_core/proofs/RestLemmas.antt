@@ -21,23 +21,29 @@ items_of-rest s (Piece w ∷ events) =
     let bring : brought s w ≡ brought (rest_of s) w =
     brought-rest s w ∙ ap (λ r. packets_in (r ++ w)) (sym (rest_of-rest_of s)) ∙ sym (brought-rest (rest_of s) w) in
     let others : items_of (s ++ w) events ≡ items_of (rest_of s ++ w) events =
-    items_of-rest (s ++ w) events ∙ ap (λ r. items_of r events) (framing_in_parts s w).1 ∙ sym (items_of-rest (rest_of s ++ w) events) in
+    items_of-rest (s ++ w) events ∙ ap (λ r. items_of r events) (framing_in_parts s w).1
+    ∙ sym (items_of-rest (rest_of s ++ w) events) in
     ap₂ (λ (ps : List Packet) (is : List Item). map Received ps ++ is) bring others
 items_of-rest s (Line line ∷ events) = ap (λ (is : List Item). Ordered line ∷ is) (items_of-rest s events)
 
 bytes_in-append : (events more : List Event) → bytes_in (events ++ more) ≡ bytes_in events ++ bytes_in more
 bytes_in-append [] more = refl
-bytes_in-append (Piece bytes ∷ events) more = ap (λ s. bytes ++ s) (bytes_in-append events more) ∙ sym (append_assoc bytes (bytes_in events) (bytes_in more))
+bytes_in-append (Piece bytes ∷ events) more =
+    ap (λ s. bytes ++ s) (bytes_in-append events more) ∙ sym (append_assoc bytes (bytes_in events) (bytes_in more))
 bytes_in-append (Line line ∷ events) more = bytes_in-append events more
 
 -- more events behind those that left this rest
-pub items_behind : (old mid : List ℕ) (events more : List Event) → mid ≡ rest_of (old ++ bytes_in events) → items_of old (events ++ more) ≡ items_of old events ++ items_of mid more
+pub items_behind : (old mid : List ℕ) (events more : List Event) → mid ≡ rest_of (old ++ bytes_in events)
+    → items_of old (events ++ more) ≡ items_of old events ++ items_of mid more
 items_behind old mid events more e =
     items_of-append old events more
-    ∙ ap (λ (is : List Item). items_of old events ++ is) (items_of-rest (old ++ bytes_in events) more ∙ ap (λ r. items_of r more) (sym e))
+    ∙ ap (λ (is : List Item). items_of old events ++ is)
+    (items_of-rest (old ++ bytes_in events) more ∙ ap (λ r. items_of r more) (sym e))
 
-pub rest_behind : (old mid : List ℕ) (events more : List Event) → mid ≡ rest_of (old ++ bytes_in events) → rest_of (mid ++ bytes_in more) ≡ rest_of (old ++ bytes_in (events ++ more))
+pub rest_behind : (old mid : List ℕ) (events more : List Event) → mid ≡ rest_of (old ++ bytes_in events)
+    → rest_of (mid ++ bytes_in more) ≡ rest_of (old ++ bytes_in (events ++ more))
 rest_behind old mid events more e =
     ap (λ r. rest_of (r ++ bytes_in more)) e
     ∙ sym (framing_in_parts (old ++ bytes_in events) (bytes_in more)).1
-    ∙ ap rest_of (append_assoc old (bytes_in events) (bytes_in more) ∙ ap (λ s. old ++ s) (sym (bytes_in-append events more)))
+    ∙ ap rest_of (append_assoc old (bytes_in events) (bytes_in more)
+    ∙ ap (λ s. old ++ s) (sym (bytes_in-append events more)))

@@ -1,17 +1,21 @@
 -- Runs of many items.
-use Rattle.std.proofs.Common.{inr, List, [], ◌∷◌, ◌++◌, refl, sym, ap, subst, ◌∙◌}
+use Rattle.std.proofs.Common.{◌≡◌, inr, List, [], ◌∷◌, ◌++◌, refl, sym, ap, subst, ◌∙◌}
 use Rattle.sqlite.specs.Held.{state}
 use Rattle.sqlite_trees.specs.declared.store.Store.{Ghosts}
 use Rattle.device_registry.specs.Holding.{MayFind}
-use Rattle.gateway_core.specs.Step.{State, Item, Answer}
-use Rattle.gateway_core.specs.Run.{Fate, Run, state_with, SameFates}
+use Rattle.gateway_core.specs.Step.{State, Item, Answer, said}
+use Rattle.gateway_core.specs.Run.{Fate, Taken, Refused, RefusedAtWrite, Run, cause_of, cause_text, answer_with}
+use Rattle.gateway_core.specs.Run.{state_with, SameRefusals}
 use Rattle.gateway_core.specs.Stops.{nothing_left, left_by, Safe}
 use Rattle.gateway_core.specs.Handling.{Sight, Handles}
 use Rattle.gateway_core.proofs.StopLemmas.{safe_joins, safe-weaker}
 
 -- a run goes on with another
-pub run-append : (old mid new : State) (items more : List Item) (fates others : List Fate) (answers after : List Answer) → Run old items fates answers mid → Run mid more others after new → Run old (items ++ more) (fates ++ others) (answers ++ after) new
-run-append old mid new [] more [] others [] after first second = let P : State → Type 0 = λ s. Run s more others after new in subst P first second
+pub run-append : (old mid new : State) (items more : List Item) (fates others : List Fate) (answers after : List Answer)
+    → Run old items fates answers mid → Run mid more others after new
+    → Run old (items ++ more) (fates ++ others) (answers ++ after) new
+run-append old mid new [] more [] others [] after first second =
+    let P : State → Type 0 = λ s. Run s more others after new in subst P first second
 run-append old mid new (item ∷ items) more (fate ∷ fates) others (answer ∷ answers) after (allows, is, first) second =
     (allows, is, run-append (state_with old item fate) mid new items more fates others answers after first second)
 run-append old mid new [] more [] others (answer ∷ answers) after first second = absurd first
@@ -25,10 +29,17 @@ module _ {S : Type 0} (g : Ghosts S) where
     base = refl;
     clean = λ honest. honest;
     registries = λ honest before. before;
-    went = λ honest start at. record { fates = []; last = start; run = refl; at = at; stop = λ left may. inr (refl, may) };
+    went = λ honest start at. record {
+      fates = [];
+      last = start;
+      run = refl;
+      at = at;
+      stop = λ left may. inr (refl, may);
+    };
   }
 
-  pub handles-append : (old mid new : Sight S) (items more : List Item) (answers after : List Answer) → Handles g old items answers mid → Handles g mid more after new
+  pub handles-append : (old mid new : Sight S) (items more : List Item) (answers after : List Answer)
+      → Handles g old items answers mid → Handles g mid more after new
       → Handles g old (items ++ more) (answers ++ after) new
   handles-append old mid new items more answers after first second = record {
     base = second.base ∙ first.base;
@@ -44,18 +55,49 @@ module _ {S : Type 0} (g : Ghosts S) where
           run = run-append start a.last b.last items more a.fates b.fates answers after a.run b.run;
           at = b.at;
           stop = λ left may. safe_joins Before start a.last items more a.fates b.fates answers left a.run
-              (safe-weaker (MayFind (state g mid.registry)) (Safe Before (left_by nothing_left start items a.fates)) a.stop _ left (b.stop left may));
+              (safe-weaker (MayFind (state g mid.registry)) (Safe Before (left_by nothing_left start items a.fates))
+              a.stop _ left (b.stop left may));
         };
   }
 
-pub same_fates : SameFates
-same_fates old left right [] [] [] [] x y = (refl, x ∙ sym y)
-same_fates old left right (item ∷ items) (fate ∷ fates) (a ∷ answers) (b ∷ others) (_, e, x) (_, f, y) =
-    let rest = same_fates (state_with old item fate) left right items fates answers others x y in
-    (ap (λ c. c ∷ answers) (e ∙ sym f) ∙ ap (λ cs. b ∷ cs) rest.0, rest.1)
-same_fates old left right [] [] [] (b ∷ others) x y = absurd y
-same_fates old left right [] [] (a ∷ answers) others x y = absurd x
-same_fates old left right [] (fate ∷ fates) answers others x y = absurd x
-same_fates old left right (item ∷ items) [] answers others x y = absurd x
-same_fates old left right (item ∷ items) (fate ∷ fates) [] others x y = absurd x
-same_fates old left right (item ∷ items) (fate ∷ fates) (a ∷ answers) [] x y = absurd y
+-- what is answered, and what is known then, hang on the cause alone
+answer-alike : (state : State) (item : Item) (fate other : Fate) → cause_of fate ≡ cause_of other
+    → answer_with state item fate ≡ answer_with state item other
+answer-alike state item Taken Taken e = refl
+answer-alike state item (Refused a) (Refused b) e = ap (λ c. said (cause_text c)) (cc)
+answer-alike state item (Refused a) (RefusedAtWrite b) e = ap (λ c. said (cause_text c)) (cc)
+answer-alike state item (RefusedAtWrite a) (Refused b) e = ap (λ c. said (cause_text c)) (cc)
+answer-alike state item (RefusedAtWrite a) (RefusedAtWrite b) e = ap (λ c. said (cause_text c)) (cc)
+answer-alike state item Taken (Refused b) e = absurd cc
+answer-alike state item Taken (RefusedAtWrite b) e = absurd cc
+answer-alike state item (Refused a) Taken e = absurd cc
+answer-alike state item (RefusedAtWrite a) Taken e = absurd cc
+
+state-alike : (state : State) (item : Item) (fate other : Fate) → cause_of fate ≡ cause_of other
+    → state_with state item other ≡ state_with state item fate
+state-alike state item Taken Taken e = refl
+state-alike state item (Refused a) (Refused b) e = refl
+state-alike state item (Refused a) (RefusedAtWrite b) e = refl
+state-alike state item (RefusedAtWrite a) (Refused b) e = refl
+state-alike state item (RefusedAtWrite a) (RefusedAtWrite b) e = refl
+state-alike state item Taken (Refused b) e = absurd cc
+state-alike state item Taken (RefusedAtWrite b) e = absurd cc
+state-alike state item (Refused a) Taken e = absurd cc
+state-alike state item (RefusedAtWrite a) Taken e = absurd cc
+
+pub same_refusals : SameRefusals
+same_refusals old left right [] [] [] [] [] alike x y = (refl, x ∙ sym y)
+same_refusals old left right (item ∷ items) (fate ∷ fates) (other ∷ others) (a ∷ answers) (b ∷ more) alike (_, e, x)
+    (_, f, y) =
+    let cause : cause_of fate ≡ cause_of other = cc in
+    let from = subst (λ s. Run s items others more right) (state-alike old item fate other cause) y in
+    let rest = same_refusals (state_with old item fate) left right items fates others answers more (cc) x from in
+    (ap (λ c. c ∷ answers) (e ∙ answer-alike old item fate other cause ∙ sym f) ∙ ap (λ cs. b ∷ cs) rest.0, rest.1)
+same_refusals old left right [] [] [] [] (b ∷ more) alike x y = absurd y
+same_refusals old left right [] [] [] (a ∷ answers) more alike x y = absurd x
+same_refusals old left right [] [] (other ∷ others) answers more alike x y = absurd y
+same_refusals old left right [] (fate ∷ fates) others answers more alike x y = absurd x
+same_refusals old left right (item ∷ items) [] others answers more alike x y = absurd x
+same_refusals old left right (item ∷ items) (fate ∷ fates) [] answers more alike x y = absurd y
+same_refusals old left right (item ∷ items) (fate ∷ fates) (other ∷ others) [] more alike x y = absurd x
+same_refusals old left right (item ∷ items) (fate ∷ fates) (other ∷ others) (a ∷ answers) [] alike x y = absurd y

@@ -1,5 +1,6 @@
 -- One item, done or refused.
-use Rattle.std.proofs.Common.{◌≡◌, inl, inr, ℕ, ◌≤◌, ◌+◌, ◌-◌, Bool, true, false, cond, IsTrue, IsSome, List, [], ◌∷◌, length, Option, Some, None, Result, Ok, Err, refl, sym, ap, subst, ◌∙◌, arith}
+use Rattle.std.proofs.Common.{◌≡◌, inl, inr, ℕ, ◌≤◌, ◌+◌, ◌-◌, Bool, true, false, cond, IsTrue, IsSome, List, [], ◌∷◌}
+use Rattle.std.proofs.Common.{length, Option, Some, None, Result, Ok, Err, refl, sym, ap, subst, ◌∙◌, arith}
 use Rattle.std.specs.Prelude.{if◌then◌else◌, unwrap_or}
 use Rattle.std.specs.Option.{option_map}
 use Rattle.std.specs.Ordering.{nat_cmp}
@@ -27,12 +28,14 @@ use Rattle.gateway_core.specs.declared.handler.Done.{Done}
 use Rattle.gateway_core.specs.Profiles.{is_supported}
 use Rattle.gateway_core.specs.Counts.{raised}
 use Rattle.gateway_core.specs.Orders.{order_of}
-use Rattle.gateway_core.specs.Step.{State, Item, Answer, Decision, Denies, Learns, change_in, said, order_decision, decision, removal, change_of, with_change, state_after}
+use Rattle.gateway_core.specs.Step.{State, Item, Answer, Decision, Denies, Learns, change_in, said, order_decision}
+use Rattle.gateway_core.specs.Step.{decision, removal, change_of, with_change, state_after}
 use Rattle.gateway_core.specs.Refusals.{cause_of}
 use Rattle.gateway_core.specs.Run.{needs, needs_help, cause_text, Cause, Taken, Refused, RefusedAtWrite, refused}
 use Rattle.gateway_core.specs.Stops.{nothing_left, told, pending, Safe}
 use Rattle.gateway_core.specs.Handling.{Sight, Went, Handles}
-use Rattle.gateway_core.specs.Tries.{Wanted, of_item, of_decision, IsMade, IsPending, Comes, Tries, answer_from, counts_from, Unlearned}
+use Rattle.gateway_core.specs.Tries.{Wanted, of_item, of_decision, IsMade, IsPending, Comes, Tries, answer_from}
+use Rattle.gateway_core.specs.Tries.{counts_from, Unlearned}
 
 -- ---- what is kept
 
@@ -40,7 +43,8 @@ pub keeps-same : (s : Known) (devices : Devices) → HasDevices s devices → Ke
 keeps-same s devices has = record { now = has; stop = λ left may. may }
 
 -- a write that is tried behind a look
-pub pends-after : (old mid new : Known) (change : Change) (devices : Devices) → Keeps old mid devices → Pends mid new change devices → Pends old new change devices
+pub pends-after : (old mid new : Known) (change : Change) (devices : Devices) → Keeps old mid devices
+    → Pends mid new change devices → Pends old new change devices
 pends-after old mid new change devices keeps pends = record {
   now = pends.now;
   stop = λ left may. elim (pends.stop left may) [ inl before ↦ inl (keeps.stop left before) | inr is ↦ inr is ];
@@ -51,7 +55,9 @@ pends-after old mid new change devices keeps pends = record {
 len-from_entries : (es : List (ℕ × Learned)) → len (from_entries {R = nat_cmp} es) ≤ length es
 len-from_entries [] = let none = len-empty nat_cmp Learned in omega (arith, none)
 len-from_entries (e ∷ es) =
-    let more = one _ _ (contains_key (from_entries {R = nat_cmp} es) e.0) (len-insert nat_cmp_total (from_entries es) e.0 e.1) in
+    let more =
+    one _ _ (contains_key (from_entries {R = nat_cmp} es) e.0)
+    (len-insert nat_cmp_total (from_entries es) e.0 e.1) in
     omega (arith, more, len-from_entries es)
   where
     one : (n m : ℕ) (b : Bool) → m ≡ cond b n (n + 1) → m ≤ n + 1
@@ -60,14 +66,17 @@ len-from_entries (e ∷ es) =
 
 -- with one device more than 999 others there are more than 1,000
 len-full : (devices : Devices) (id : ℕ) (it : Learned) → is_full devices id ≡ true → 1001 ≤ len (insert devices id it)
-len-full devices id it full = one _ _ _ (contains_key devices id) (len-insert nat_cmp_total devices id it) (len-remove nat_cmp_total devices id) (leb-true _ _ full)
+len-full devices id it full =
+    one _ _ _ (contains_key devices id) (len-insert nat_cmp_total devices id it) (len-remove nat_cmp_total devices id)
+    (leb-true _ _ full)
   where
     one : (n m k : ℕ) (b : Bool) → m ≡ cond b n (n + 1) → k ≡ cond b (n - 1) n → 1000 ≤ k → 1001 ≤ m
     one n m k true is less many = omega (arith, is, less, many)
     one n m k false is less many = omega (arith, is, less, many)
 
 -- where the registry is full, a write that is tried leaves nothing
-pub keeps-full : (old new : Known) (it : Device) (devices : Devices) → is_full devices it.id ≡ true → Pends old new (learned it) devices → Keeps old new devices
+pub keeps-full : (old new : Known) (it : Device) (devices : Devices) → is_full devices it.id ≡ true
+    → Pends old new (learned it) devices → Keeps old new devices
 keeps-full old new it devices full pends = record {
   now = pends.now;
   stop = λ left may. elim (pends.stop left may) [
@@ -82,10 +91,12 @@ keeps-full old new it devices full pends = record {
 
 -- ---- what an order takes
 
-pub add-help : (devices : Devices) (id : ℕ) (eep : Eep) → is_supported eep ≡ true → IsTrue (needs_help (order_decision devices (Ok (Add id eep))))
+pub add-help : (devices : Devices) (id : ℕ) (eep : Eep) → is_supported eep ≡ true
+    → IsTrue (needs_help (order_decision devices (Ok (Add id eep))))
 add-help devices id eep supported = rw supported (one (is_full devices id))
   where
-    one : (b : Bool) → IsTrue (needs_help (if b then Denies error.Full else Learns (record { id = id; eep = eep; maker = None })))
+    one : (b : Bool) → IsTrue
+        (needs_help (if b then Denies error.Full else Learns (record { id = id; eep = eep; maker = None })))
     one true = refl
     one false = refl
 
@@ -105,15 +116,25 @@ module _ {S : Type 0} (g : Ghosts S) where
 
   -- over another registry, with the same base ID and the same counts
   pub tries : (base : ℕ) (counts : Counts) (old new : Held S) (wanted : Devices → Wanted) (r : Result Done Refusal)
-      → (HasCleanDisk (state g new) → HasCleanDisk (state g old)) → (HasCleanDisk (state g new) → AreRegistries (state g new).may_leave)
-      → (HasCleanDisk (state g new) → (devices : Devices) → HasDevices (state g old) devices → Comes g old new devices (wanted devices) r)
-      → Tries g (record { base = base; counts = counts; registry = old }) wanted r (record { base = base; counts = counts; registry = new })
+      → (HasCleanDisk (state g new) → HasCleanDisk (state g old))
+      → (HasCleanDisk (state g new) → AreRegistries (state g new).may_leave)
+      → (HasCleanDisk (state g new) → (devices : Devices) → HasDevices (state g old) devices
+      → Comes g old new devices (wanted devices) r)
+      → Tries g (record { base = base; counts = counts; registry = old }) wanted r
+      (record { base = base; counts = counts; registry = new })
   tries base counts old new wanted r clean registries comes =
-      record { base = refl; counts = refl; clean = clean; registries = λ honest before. registries honest; comes = comes }
+      record {
+        base = refl;
+        counts = refl;
+        clean = clean;
+        registries = λ honest before. registries honest;
+        comes = comes;
+      }
 
   -- with nothing asked of the registry
   pub tries-alone : (v : Sight S) (wanted : Devices → Wanted) (r : Result Done Refusal)
-      → ((devices : Devices) → Keeps (state g v.registry) (state g v.registry) devices → Comes g v.registry v.registry devices (wanted devices) r) → Tries g v wanted r v
+      → ((devices : Devices) → Keeps (state g v.registry) (state g v.registry) devices
+      → Comes g v.registry v.registry devices (wanted devices) r) → Tries g v wanted r v
   tries-alone v wanted r comes = record {
     base = refl;
     counts = refl;
@@ -122,37 +143,50 @@ module _ {S : Type 0} (g : Ghosts S) where
     comes = λ honest devices has. comes devices (keeps-same (state g v.registry) devices has);
   }
 
-  at_write : (old new : Held S) (devices : Devices) (id : ℕ) (eep : Eep) (full : Bool) → is_full devices id ≡ full → Pends (state g old) (state g new) (learned (record { id = id; eep = eep; maker = None })) devices
-      → let d : Decision = if full then Denies error.Full else Learns (record { id = id; eep = eep; maker = None }) in IsPending g old new devices (needs_help d) (change_in d)
-  at_write old new devices id eep true full pends = (refl, keeps-full (state g old) (state g new) (record { id = id; eep = eep; maker = None }) devices full pends)
+  at_write : (old new : Held S) (devices : Devices) (id : ℕ) (eep : Eep) (full : Bool) → is_full devices id ≡ full
+      → Pends (state g old) (state g new) (learned (record { id = id; eep = eep; maker = None })) devices
+      → let d : Decision = if full then Denies error.Full else Learns (record { id = id; eep = eep; maker = None }) in
+      IsPending g old new devices (needs_help d) (change_in d)
+  at_write old new devices id eep true full pends =
+      (refl, keeps-full (state g old) (state g new) (record { id = id; eep = eep; maker = None }) devices full pends)
   at_write old new devices id eep false full pends = pends
 
   -- a device is not learned
-  pub add-comes : (counts : Counts) (old new : Held S) (devices : Devices) (id : ℕ) (eep : Eep) (why : LearnFault) (r : Result Done Refusal) → is_supported eep ≡ true → Unlearned why r
-      → RefusesToLearn (state g old) (state g new) (record { id = id; eep = eep; maker = None }) devices why → Comes g old new devices (of_decision counts devices (order_decision devices (Ok (Add id eep)))) r
-  add-comes counts old new devices id eep fault.Full r supported (done, is, gives) (full, keeps) = rw (is, supported, full) (gives, keeps)
-  add-comes counts old new devices id eep (fault.Refused cause) r supported is pends = rw (is, supported) (at_write old new devices id eep (is_full devices id) refl pends)
+  pub add-comes : (counts : Counts) (old new : Held S) (devices : Devices) (id : ℕ) (eep : Eep) (why : LearnFault)
+      (r : Result Done Refusal) → is_supported eep ≡ true → Unlearned why r
+      → RefusesToLearn (state g old) (state g new) (record { id = id; eep = eep; maker = None }) devices why
+      → Comes g old new devices (of_decision counts devices (order_decision devices (Ok (Add id eep)))) r
+  add-comes counts old new devices id eep fault.Full r supported (done, is, gives) (full, keeps) =
+      rw (is, supported, full) (gives, keeps)
+  add-comes counts old new devices id eep (fault.Refused cause) r supported is pends =
+      rw (is, supported) (at_write old new devices id eep (is_full devices id) refl pends)
 
   -- an order behind a line
-  pub tries-order : (counts : Counts) (old new : Sight S) (line : List ℕ) (r : Result Done Refusal) (order : Result Order OrderFault) → length line ≤ 200 → order_of line ≡ order
-      → Tries g old (λ devices. of_decision counts devices (order_decision devices order)) r new → Tries g old (λ devices. of_decision counts devices (decision devices line)) r new
+  pub tries-order : (counts : Counts) (old new : Sight S) (line : List ℕ) (r : Result Done Refusal)
+      (order : Result Order OrderFault) → length line ≤ 200 → order_of line ≡ order
+      → Tries g old (λ devices. of_decision counts devices (order_decision devices order)) r new
+      → Tries g old (λ devices. of_decision counts devices (decision devices line)) r new
   tries-order counts old new line r order short is tried = rw (le-ltb 200 (length line) short, is) tried
 
   -- ---- an item that was tried is handled
 
   -- a change that is committed, if any
-  made-now : (old new : Held S) (devices : Devices) (change : Option Change) → IsMade g old new devices change → HasDevices (state g new) (with_change devices change)
+  made-now : (old new : Held S) (devices : Devices) (change : Option Change) → IsMade g old new devices change
+      → HasDevices (state g new) (with_change devices change)
   made-now old new devices None keeps = keeps.now
   made-now old new devices (Some change) commits = commits.now
 
   made-safe : (old new : Held S) (devices : Devices) (change : Option Change) → IsMade g old new devices change
-      → (left : Devices) → MayFind (state g new) left → Safe (MayFind (state g old)) (told nothing_left devices change) left
+      → (left : Devices) → MayFind (state g new) left
+      → Safe (MayFind (state g old)) (told nothing_left devices change) left
   made-safe old new devices None keeps left may = inr (refl, keeps.stop left may)
   made-safe old new devices (Some change) commits left may = inl (inl (commits.stop left may))
 
   -- what is refused at its write
-  at_write-went : (old new : Sight S) (start : State) (item : Item) (cause : Cause) (change : Option Change) → change_of start item ≡ change → new.base ≡ start.base → new.counts ≡ (refused start).counts
-      → IsPending g old.registry new.registry start.devices (needs start item) change → Went g old start (item ∷ []) (said (cause_text cause) ∷ []) new
+  at_write-went : (old new : Sight S) (start : State) (item : Item) (cause : Cause) (change : Option Change)
+      → change_of start item ≡ change → new.base ≡ start.base → new.counts ≡ (refused start).counts
+      → IsPending g old.registry new.registry start.devices (needs start item) change
+      → Went g old start (item ∷ []) (said (cause_text cause) ∷ []) new
   at_write-went old new start item cause None asks base counts (help, keeps) = record {
     fates = Refused cause ∷ [];
     last = refused start;
@@ -165,17 +199,25 @@ module _ {S : Type 0} (g : Ghosts S) where
     last = refused start;
     run = (subst (λ o. IsSome o) (sym asks) refl, refl, refl);
     at = (base, pends.now, counts);
-    stop = λ left may. subst (λ o. Safe (MayFind (state g old.registry)) (pending nothing_left start.devices o) left) (sym asks)
+    stop = λ left may. subst (λ o. Safe (MayFind (state g old.registry)) (pending nothing_left start.devices o) left)
+        (sym asks)
         (elim (pends.stop left may) [ inl before ↦ inr (refl, before) | inr is ↦ inl (inl is) ]);
   }
 
-  comes-went : (old new : Sight S) (start : State) (item : Item) (r : Result Done Refusal) → new.base ≡ start.base → new.counts ≡ counts_from start.counts r
-      → Comes g old.registry new.registry start.devices (of_item start item) r → Went g old start (item ∷ []) (answer_from r ∷ []) new
+  comes-went : (old new : Sight S) (start : State) (item : Item) (r : Result Done Refusal) → new.base ≡ start.base
+      → new.counts ≡ counts_from start.counts r
+      → Comes g old.registry new.registry start.devices (of_item start item) r
+      → Went g old start (item ∷ []) (answer_from r ∷ []) new
   comes-went old new start item (Ok done) base counts ((says, counted), made) = record {
     fates = Taken ∷ [];
     last = state_after start item;
     run = (tt, says, refl);
-    at = (base, made-now old.registry new.registry start.devices (change_of start item) made, counts ∙ ap (raised start.counts) counted);
+    at = (
+      base,
+      made-now old.registry new.registry start.devices (change_of start item) made,
+      counts
+          ∙ ap (raised start.counts) counted,
+    );
     stop = made-safe old.registry new.registry start.devices (change_of start item) made;
   }
   comes-went old new start item (Err (Before cause)) base counts (help, keeps) = record {
@@ -185,7 +227,8 @@ module _ {S : Type 0} (g : Ghosts S) where
     at = (base, keeps.now, counts);
     stop = λ left may. inr (refl, keeps.stop left may);
   }
-  comes-went old new start item (Err (AtWrite cause)) base counts pending = at_write-went old new start item (cause_of cause) (change_of start item) refl base counts pending
+  comes-went old new start item (Err (AtWrite cause)) base counts pending =
+      at_write-went old new start item (cause_of cause) (change_of start item) refl base counts pending
 
   -- what was tried is settled: it is counted
   pub record Settles (mid : Sight S) (r : Result Done Refusal) (answer : Answer) (new : Sight S) : Type 0 where
@@ -194,10 +237,14 @@ module _ {S : Type 0} (g : Ghosts S) where
     pub counts : new.counts ≡ counts_from mid.counts r
     pub registry : new.registry ≡ mid.registry
 
-  pub tries-handles : (old mid new : Sight S) (item : Item) (r : Result Done Refusal) (answer : Answer) → Settles mid r answer new
-      → Tries g old (λ devices. of_item (record { base = old.base; counts = old.counts; devices = devices }) item) r mid → Handles g old (item ∷ []) (answer ∷ []) new
+  pub tries-handles : (old mid new : Sight S) (item : Item) (r : Result Done Refusal) (answer : Answer)
+      → Settles mid r answer new
+      → Tries g old (λ devices. of_item (record { base = old.base; counts = old.counts; devices = devices }) item) r mid
+      → Handles g old (item ∷ []) (answer ∷ []) new
   tries-handles old mid new item r answer settles tries =
-      let Over = λ (registry : Held S). Tries g old (λ devices. of_item (record { base = old.base; counts = old.counts; devices = devices }) item) r
+      let Over =
+      λ (registry : Held S).
+      Tries g old (λ devices. of_item (record { base = old.base; counts = old.counts; devices = devices }) item) r
       (record { base = mid.base; counts = mid.counts; registry = registry }) in
       let tried : Over new.registry = subst Over (sym settles.registry) tries in
       record {
@@ -206,8 +253,12 @@ module _ {S : Type 0} (g : Ghosts S) where
         registries = tried.registries;
         went = λ honest start at.
             let come = tried.comes honest start.devices at.1 in
-            let Here = λ (base : ℕ) (counts : Counts). Comes g old.registry new.registry start.devices (of_item (record { base = base; counts = counts; devices = start.devices }) item) r in
+            let Here =
+            λ (base : ℕ) (counts : Counts).
+            Comes g old.registry new.registry start.devices
+            (of_item (record { base = base; counts = counts; devices = start.devices }) item) r in
             let here = subst (λ counts. Here start.base counts) at.2 (subst (λ base. Here base old.counts) at.0 come) in
             subst (λ a. Went g old start (item ∷ []) (a ∷ []) new) (sym settles.answer_is)
-            (comes-went old new start item r (settles.base ∙ tried.base ∙ at.0) (settles.counts ∙ ap (λ c. counts_from c r) (tried.counts ∙ at.2)) here);
+            (comes-went old new start item r (settles.base ∙ tried.base ∙ at.0)
+            (settles.counts ∙ ap (λ c. counts_from c r) (tried.counts ∙ at.2)) here);
       }

@@ -5,22 +5,26 @@ use Rattle.sqlite.specs.State.{HasCleanDisk}
 use Rattle.sqlite_trees.specs.declared.store.Store.{Ghosts}
 use Rattle.device_registry.specs.Devices.{Devices, Change}
 use Rattle.device_registry.specs.Holding.{HasDevices, MayFind, MayLeave}
-use Rattle.gateway_core.specs.Lines.{TeachLine, teach_text}
-use Rattle.gateway_core.specs.Step.{State, Item, Answer, said, change_of}
-use Rattle.gateway_core.specs.Run.{Fate, answer_with}
+use Rattle.gateway_core.specs.Step.{State, Item, Answer, change_of}
+use Rattle.gateway_core.specs.Run.{Fate}
 use Rattle.gateway_core.specs.Handling.{Sight, IsAt, Handles}
 use Rattle.gateway_core.specs.Lives.{IsLife, begun}
-use Rattle.gateway_core.specs.Prefixes.{IsTold}
 
 -- a life that found these devices, handled these items and was stopped in this one may leave those
-pub record LeavesALife (base : ℕ) (found : Devices) (items : List Item) (answers : List Answer) (stopped : Option Item) (left : Devices) : Type 0 where
+pub record LeavesALife (base : ℕ) (found : Devices) (items : List Item) (answers : List Answer) (stopped : Option Item)
+    (left : Devices) : Type 0 where
   pub fates : List Fate
   pub last : State
-  pub is : IsLife (record { base = base; found = found; items = items; fates = fates; answers = answers; last = last; stopped = stopped; left = left })
-
--- a teach line is answered only where the item asks for a change and is taken
-abbrev pub TeachLinesAreTold : Type 0
-TeachLinesAreTold = (state : State) (item : Item) (fate : Fate) (line : TeachLine) → answer_with state item fate ≡ said (teach_text line) → IsTold state item fate
+  pub is : IsLife (record {
+    base = base;
+    found = found;
+    items = items;
+    fates = fates;
+    answers = answers;
+    last = last;
+    stopped = stopped;
+    left = left;
+  })
 
 module _ {S : Type 0} (g : Ghosts S) where
   -- a life begins: the gateway knows what was found, and a stop leaves that and nothing else
@@ -30,13 +34,18 @@ module _ {S : Type 0} (g : Ghosts S) where
 
   -- whatever is handled from there on, what a stop leaves then is what a life may leave
   abbrev pub CallsLeaveALife : Type 0
-  CallsLeaveALife = (old new : Sight S) (found : Devices) (items : List Item) (answers : List Answer) → HasCleanDisk (state g new.registry) → BeginsAt old found → Handles g old items answers new
+  CallsLeaveALife = (old new : Sight S) (found : Devices) (items : List Item) (answers : List Answer)
+      → HasCleanDisk (state g new.registry) → BeginsAt old found → Handles g old items answers new
       → (left : Devices) → MayFind (state g new.registry) left → LeavesALife old.base found items answers None left
 
-  -- and so it is within the next item, from the moment that its write is tried: while it runs, where it is refused, and once it is
-  -- committed and not yet answered
+  -- and so it is within the next item, from the moment that its write is tried: while it runs, where it is refused, and
+  -- once it is committed and not yet answered
   abbrev pub StopsLeaveALife : Type 0
-  StopsLeaveALife = (old new : Sight S) (within : Held S) (found : Devices) (items : List Item) (answers : List Answer) (item : Item) (change : Change) → HasCleanDisk (state g within) → HasCleanDisk (state g new.registry)
-      → BeginsAt old found → Handles g old items answers new → ((start : State) → IsAt g new start → change_of start item ≡ Some change)
-      → ((devices : Devices) → HasDevices (state g new.registry) devices → MayLeave (state g new.registry) (state g within) change devices)
+  StopsLeaveALife =
+      (old new : Sight S) (within : Held S) (found : Devices) (items : List Item) (answers : List Answer) (item : Item)
+      (change : Change) → HasCleanDisk (state g within) → HasCleanDisk (state g new.registry)
+      → BeginsAt old found → Handles g old items answers new
+      → ((start : State) → IsAt g new start → change_of start item ≡ Some change)
+      → ((devices : Devices) → HasDevices (state g new.registry) devices
+      → MayLeave (state g new.registry) (state g within) change devices)
       → (left : Devices) → MayFind (state g within) left → LeavesALife old.base found items answers (Some item) left

@@ -8,7 +8,8 @@ use Rattle.gateway_core.specs.Counts.{none_counted}
 use Rattle.gateway_core.specs.Step.{Item, Received, Ordered, Answer}
 use Rattle.gateway_core.specs.Handling.{Sight, Handles}
 
--- the registry and the base ID, the packets that wait to be handled, and the bytes behind them, of which one more packet may come
+-- the registry and the base ID, the packets that wait to be handled, and the bytes behind them, of which one more
+-- packet may come
 pub record Value (S : Type 0) : Type 0 where
   pub sight : Sight S
   pub ready : List Packet
@@ -16,7 +17,8 @@ pub record Value (S : Type 0) : Type 0 where
 
 -- a gateway with this base ID over this registry, which has counted nothing and to which no byte has come
 abbrev pub new_value : {S : Type 0} → ℕ → Held S → Value S
-new_value base registry = record { sight = record { base = base; counts = none_counted; registry = registry }; ready = []; rest = [] }
+new_value base registry =
+    record { sight = record { base = base; counts = none_counted; registry = registry }; ready = []; rest = [] }
 
 -- a call, with what it was given and what it answered
 pub data Call : Type 0 where
@@ -29,10 +31,12 @@ module _ {S : Type 0} (g : Ghosts S) where
   abbrev pub Moves : Value S → Call → Value S → Type 0
   -- a byte goes behind the rest, which is framed anew; this is allowed where no packet waits
   Moves old (Byte byte) new =
-      (old.ready ≡ []) × (new.sight ≡ old.sight) × (new.ready ≡ packets_in (old.rest ++ byte ∷ [])) × (new.rest ≡ rest_of (old.rest ++ byte ∷ []))
+      (old.ready ≡ []) × (new.sight ≡ old.sight) × (new.ready ≡ packets_in (old.rest ++ byte ∷ []))
+      × (new.rest ≡ rest_of (old.rest ++ byte ∷ []))
   -- the first packet that waits is handled
   Moves old (Next (Some answer)) new =
-      (packet : Packet) × (old.ready ≡ packet ∷ new.ready) × (new.rest ≡ old.rest) × Handles g old.sight (Received packet ∷ []) (answer ∷ []) new.sight
+      (packet : Packet) × (old.ready ≡ packet ∷ new.ready) × (new.rest ≡ old.rest)
+      × Handles g old.sight (Received packet ∷ []) (answer ∷ []) new.sight
   -- no packet waits
   Moves old (Next None) new = (old.ready ≡ []) × (new ≡ old)
   -- a line is handled
@@ -64,12 +68,14 @@ abbrev pub AreItems : List Call → List Packet → List Item → Type 0
 AreItems [] packets items = (packets ≡ []) × (items ≡ [])
 AreItems (Byte byte ∷ calls) packets items = AreItems calls packets items
 AreItems (Next None ∷ calls) packets items = AreItems calls packets items
-AreItems (Next (Some answer) ∷ calls) (packet ∷ packets) (item ∷ items) = (item ≡ Received packet) × AreItems calls packets items
+AreItems (Next (Some answer) ∷ calls) (packet ∷ packets) (item ∷ items) =
+    (item ≡ Received packet) × AreItems calls packets items
 AreItems (Order line answer ∷ calls) packets (item ∷ items) = (item ≡ Ordered line) × AreItems calls packets items
 AreItems calls packets items = ⊥
 
--- The packets handled, and behind them those that wait, are the packets of the bytes given. So those handled are a first part
--- of these, and all of them where none waits. The answers are a run on packets and lines, in the order of the calls.
+-- The packets handled, and behind them those that wait, are the packets of the bytes given. So those handled are a
+-- first part of these, and all of them where none waits. The answers are a run on packets and lines, in the order of
+-- the calls.
 pub record IsARun {S : Type 0} (g : Ghosts S) (old : Value S) (calls : List Call) (new : Value S) : Type 0 where
   pub handled : List Packet
   pub items : List Item

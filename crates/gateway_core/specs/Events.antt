@@ -3,7 +3,7 @@ use Rattle.std.specs.Prelude.{◌≡◌, ℕ, List, [], ◌∷◌, ◌++◌, len
 use Rattle.esp3_frames.specs.Packet.{Packet}
 use Rattle.esp3_frames.specs.Frames.{packets_in}
 use Rattle.gateway_core.specs.Step.{State, Item, Received, Ordered, Answer}
-use Rattle.gateway_core.specs.Run.{Fate, Run}
+use Rattle.gateway_core.specs.Run.{Fate, Run, RefuseAlike}
 
 pub data Event : Type 0 where
   Piece : (bytes : List ℕ) → Event
@@ -45,10 +45,15 @@ bytes_between (Line line ∷ events) = [] ∷ bytes_between events
 -- however the bytes between two lines are cut into pieces, the items are the same
 abbrev pub CutsDoNotMatter : Type 0
 CutsDoNotMatter = (stream : List ℕ) (events others : List Event) →
-    lines_in events ≡ lines_in others → bytes_between events ≡ bytes_between others → items_of stream events ≡ items_of stream others
+    lines_in events ≡ lines_in others → bytes_between events ≡ bytes_between others
+    → items_of stream events ≡ items_of stream others
 
--- and where the same of them are refused, each for the same cause, the answers are the same, and so is what is known in the end
+-- and where the same of them are refused, each for the same cause, the answers are the same, and so is what is known in
+-- the end
 abbrev pub CutsAreAnsweredAlike : Type 0
-CutsAreAnsweredAlike = (stream : List ℕ) (events others : List Event) (old left right : State) (fates : List Fate) (answers more : List Answer) →
-    lines_in events ≡ lines_in others → bytes_between events ≡ bytes_between others →
-    Run old (items_of stream events) fates answers left → Run old (items_of stream others) fates more right → (answers ≡ more) × (left ≡ right)
+CutsAreAnsweredAlike =
+    (stream : List ℕ) (events others : List Event) (old left right : State) (fates after : List Fate)
+    (answers more : List Answer)
+    → lines_in events ≡ lines_in others → bytes_between events ≡ bytes_between others → RefuseAlike fates after
+    → Run old (items_of stream events) fates answers left → Run old (items_of stream others) after more right
+    → (answers ≡ more) × (left ≡ right)

@@ -1,5 +1,5 @@
--- How the gateway handles items, over its registry: what it answers, what it knows afterwards, and what a stop may leave.
--- All this has one premise, the store's own: so far the disk has returned what was written.
+-- How the gateway handles items, over its registry: what it answers, what it knows afterwards, and what a stop may
+-- leave. All this has one premise, the store's own: so far the disk has returned what was written.
 use Rattle.std.specs.Prelude.{◌≡◌, ℕ, List, refl}
 use Rattle.std.specs.Coded.{Coded, code_by, coded×, coded_ℕ}
 use Rattle.sqlite.specs.Held.{Held, held_code, state}
@@ -19,32 +19,44 @@ pub record Sight (S : Type 0) : Type 0 where
   pub registry : Held S
 
 abbrev counts_code : Coded Counts
-counts_code = code_by (ℕ × (ℕ × (ℕ × (ℕ × ℕ)))) (coded× coded_ℕ (coded× coded_ℕ (coded× coded_ℕ (coded× coded_ℕ coded_ℕ))))
+counts_code =
+    code_by (ℕ × (ℕ × (ℕ × (ℕ × ℕ)))) (coded× coded_ℕ (coded× coded_ℕ (coded× coded_ℕ (coded× coded_ℕ coded_ℕ))))
     (λ c. (c.ignored, (c.readings, (c.refused, (c.responses, c.teach)))))
-    (λ p. record { ignored = p.0; readings = p.1.0; refused = p.1.1.0; responses = p.1.1.1.0; teach = p.1.1.1.1 }) (λ _. refl)
+    (λ p. record { ignored = p.0; readings = p.1.0; refused = p.1.1.0; responses = p.1.1.1.0; teach = p.1.1.1.1 })
+    (λ _. refl)
 
 abbrev pub sight_code : {S : Type 0} → Coded S → Coded (Sight S)
-sight_code {S} store = code_by (ℕ × (Counts × Held S)) (coded× coded_ℕ (coded× counts_code (held_code store))) (λ v. (v.base, (v.counts, v.registry)))
+sight_code {S} store =
+    code_by (ℕ × (Counts × Held S)) (coded× coded_ℕ (coded× counts_code (held_code store)))
+    (λ v. (v.base, (v.counts, v.registry)))
     (λ p. record { base = p.0; counts = p.1.0; registry = p.1.1 }) (λ _. refl)
 
 -- this is what the gateway knows
 abbrev pub IsAt : {S : Type 0} → Ghosts S → Sight S → State → Type 0
 IsAt g v s = (v.base ≡ s.base) × HasDevices (state g v.registry) s.devices × (v.counts ≡ s.counts)
 
+-- while the disk has returned what was written, there is a state that the gateway knows
+abbrev pub KnowsState : {S : Type 0} → Ghosts S → Sight S → Type 0
+KnowsState g v = HasCleanDisk (state g v.registry) → (start : State) × IsAt g v start
+
 module _ {S : Type 0} (g : Ghosts S) where
-  -- From what was known at the start, the items are handled with these answers and some fates. The gateway then knows what
-  -- they make of it, and a stop leaves what is safe for them.
-  pub record Went (old : Sight S) (start : State) (items : List Item) (answers : List Answer) (new : Sight S) : Type 0 where
+  -- From what was known at the start, the items are handled with these answers and some fates. The gateway then knows
+  -- what they make of it, and a stop leaves what is safe for them.
+  pub record Went (old : Sight S) (start : State) (items : List Item) (answers : List Answer)
+      (new : Sight S) : Type 0 where
     pub fates : List Fate
     pub last : State
     pub run : Run start items fates answers last
     pub at : IsAt g new last
-    pub stop : (left : Devices) → MayFind (state g new.registry) left → Safe (MayFind (state g old.registry)) (left_by nothing_left start items fates) left
+    pub stop : (left : Devices) → MayFind (state g new.registry) left
+        → Safe (MayFind (state g old.registry)) (left_by nothing_left start items fates) left
 
   -- the items are handled with these answers, whatever the gateway knew
   pub record Handles (old : Sight S) (items : List Item) (answers : List Answer) (new : Sight S) : Type 0 where
     pub base : new.base ≡ old.base
     pub clean : HasCleanDisk (state g new.registry) → HasCleanDisk (state g old.registry)
     -- what a stop leaves is a registry still
-    pub registries : HasCleanDisk (state g new.registry) → AreRegistries (state g old.registry).may_leave → AreRegistries (state g new.registry).may_leave
-    pub went : HasCleanDisk (state g new.registry) → (start : State) → IsAt g old start → Went old start items answers new
+    pub registries : HasCleanDisk (state g new.registry) → AreRegistries (state g old.registry).may_leave
+        → AreRegistries (state g new.registry).may_leave
+    pub went : HasCleanDisk (state g new.registry) → (start : State) → IsAt g old start
+        → Went old start items answers new

@@ -14,6 +14,7 @@ pub mod Refusals
 pub mod Tries
 pub mod Lives
 pub mod Prefixes
+pub mod Telling
 pub mod Beginnings
 pub mod Events
 pub mod Calls

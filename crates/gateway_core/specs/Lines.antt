@@ -12,7 +12,8 @@ use Rattle.device_registry.specs.declared.device.Device.{Device}
 use Rattle.gateway_core.specs.Responses.{Response}
 use Rattle.gateway_core.specs.declared.counts.Counts.{Counts}
 use Rattle.gateway_core.specs.declared.lines.error.ErrorName.{ErrorName}
-use Rattle.gateway_core.specs.declared.lines.error.ErrorName.TheVariants.{Syntax, TooLong, Range, UnknownDevice, Full, UnsupportedProfile, Memory, Store}
+use Rattle.gateway_core.specs.declared.lines.error.ErrorName.TheVariants.{Syntax, TooLong, Range, UnknownDevice, Full}
+use Rattle.gateway_core.specs.declared.lines.error.ErrorName.TheVariants.{UnsupportedProfile, Memory, Store}
 use Rattle.gateway_core.specs.declared.lines.teach.Outcome.{Outcome}
 use Rattle.gateway_core.specs.declared.lines.teach.Outcome.TheVariants.{Accepted, Deleted}
 
@@ -35,14 +36,16 @@ abbrev pub dbm_text : Option ℕ → List ℕ
 dbm_text None = codes "null"
 dbm_text (Some byte) = signed_decimal (pos 0 -ℤ pos byte)
 
--- a reading as an object: a value in a unit, a word, a number, or a number out of range; `quoted` writes JSON's shortest escapes
+-- a reading as an object: a value in a unit, a word, a number, or a number out of range; `quoted` writes JSON's
+-- shortest escapes
 abbrev pub named_text : List ℕ → Meaning → List ℕ
 named_text name (value ratio unit) =
     codes "{\"den\":" ++ decimal ratio.den ++ codes ",\"name\":" ++ quoted name
     ++ codes ",\"num\":" ++ signed_decimal ratio.num ++ codes ",\"unit\":" ++ quoted unit ++ codes "}"
 named_text name (word text) = codes "{\"name\":" ++ quoted name ++ codes ",\"word\":" ++ quoted text ++ codes "}"
 named_text name (raw n) = codes "{\"name\":" ++ quoted name ++ codes ",\"raw\":" ++ decimal n ++ codes "}"
-named_text name (out_of_range n) = codes "{\"name\":" ++ quoted name ++ codes ",\"out_of_range\":" ++ decimal n ++ codes "}"
+named_text name (out_of_range n) =
+    codes "{\"name\":" ++ quoted name ++ codes ",\"out_of_range\":" ++ decimal n ++ codes "}"
 
 abbrev pub entry_text : Entry → List ℕ
 entry_text entry = named_text entry.name entry.meaning

@@ -8,8 +8,8 @@ use Rattle.gateway_core.specs.Step.{State, Item, Answer, change_of, state_after}
 use Rattle.gateway_core.specs.Run.{Fate, Taken, Refused, RefusedAtWrite, state_with, Run}
 use Rattle.gateway_core.specs.Stops.{Left, nothing_left, pending, left_by, Safe}
 
--- the base ID, the devices found, the items with their fates and answers, what was known after them, the item in work at the
--- stop, and the devices that the stop left
+-- the base ID, the devices found, the items with their fates and answers, what was known after them, the item in work
+-- at the stop, and the devices that the stop left
 pub record Life : Type 0 where
   pub base : ℕ
   pub found : Devices
@@ -31,7 +31,9 @@ stopped_in left state (Some item) = pending left state.devices (change_of state 
 
 pub record IsLife (life : Life) : Type 0 where
   pub run : Run (begun life.base life.found) life.items life.fates life.answers life.last
-  pub safe : Safe (λ devices. devices ≡ life.found) (stopped_in (left_by nothing_left (begun life.base life.found) life.items life.fates) life.last life.stopped) life.left
+  pub safe : Safe (λ devices. devices ≡ life.found)
+      (stopped_in (left_by nothing_left (begun life.base life.found) life.items life.fates) life.last life.stopped)
+      life.left
 
 -- each life finds what the one before left
 abbrev pub AreLives : Devices → List Life → Devices → Type 0
@@ -50,7 +52,8 @@ IsOfOther sender (Some change) = change.sender ≢ sender
 
 -- none of the items learns or forgets the sender, be it taken or refused at its write
 abbrev pub Spares : ℕ → State → List Item → List Fate → Type 0
-Spares sender state (item ∷ items) (fate ∷ fates) = IsOfOther sender (written state item fate) × Spares sender (state_with state item fate) items fates
+Spares sender state (item ∷ items) (fate ∷ fates) =
+    IsOfOther sender (written state item fate) × Spares sender (state_with state item fate) items fates
 Spares sender state items fates = Unit {0}
 
 abbrev pub StopSpares : ℕ → State → Option Item → Type 0
@@ -58,7 +61,8 @@ StopSpares sender state None = Unit {0}
 StopSpares sender state (Some item) = IsOfOther sender (change_of state item)
 
 abbrev pub LifeSpares : ℕ → Life → Type 0
-LifeSpares sender life = Spares sender (begun life.base life.found) life.items life.fates × StopSpares sender life.last life.stopped
+LifeSpares sender life =
+    Spares sender (begun life.base life.found) life.items life.fates × StopSpares sender life.last life.stopped
 
 -- the life told that the change is made, and then nothing in it learned or forgot the sender
 pub record Tells (life : Life) (change : Change) : Type 0 where
@@ -79,4 +83,5 @@ pub record Tells (life : Life) (change : Change) : Type 0 where
 -- what is told learned or forgotten is found so by every later life, until an item learns or forgets the sender
 abbrev pub LivesKeep : Type 0
 LivesKeep = (life : Life) (change : Change) (lives : List Life) (last : Devices) →
-    IsLife life → Tells life change → AllByRecursion (LifeSpares change.sender) lives → AreLives life.left lives last → get last change.sender ≡ change.entry
+    IsLife life → Tells life change → AllByRecursion (LifeSpares change.sender) lives → AreLives life.left lives last
+    → get last change.sender ≡ change.entry

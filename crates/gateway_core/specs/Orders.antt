@@ -1,5 +1,7 @@
--- The orders that a line of the desk spells. Own choice: words stand as written, with exactly one space between two of them.
-use Rattle.std.specs.Prelude.{◌≡◌, ◌≢◌, ℕ, ◌==◌, ◌&&◌, List, [], ◌∷◌, ◌++◌, codes, length, drop, slice_range, slice_index_or, Option, Some, None, Result, Ok, Err, nat_eq, if◌then◌else◌}
+-- The orders that a line of the desk spells. Own choice: words stand as written, with exactly one space between two of
+-- them.
+use Rattle.std.specs.Prelude.{◌≡◌, ◌≢◌, ℕ, ◌==◌, ◌&&◌, List, [], ◌∷◌, ◌++◌, codes, length, drop, slice_range}
+use Rattle.std.specs.Prelude.{slice_index_or, Option, Some, None, Result, Ok, Err, nat_eq, if◌then◌else◌}
 use Rattle.std.specs.Cmp.Lexicographic.{pointwise}
 use Rattle.std.specs.List.{starts_with}
 use Rattle.hex.specs.Hex.{decode_of, decode_sized}
@@ -13,7 +15,8 @@ use Rattle.gateway_core.specs.declared.orders.OrderFault.TheVariants.{Syntax, Ra
 
 -- eight hexadecimal digits of either case
 abbrev pub SpellsId : List ℕ → ℕ → Type 0
-SpellsId digits id = (bytes : List ℕ) × (length bytes ≡ 4) × (decode_of digits ≡ Ok bytes) × (id ≡ from_be_bytes w32 bytes)
+SpellsId digits id =
+    (bytes : List ℕ) × (length bytes ≡ 4) × (decode_of digits ≡ Ok bytes) × (id ≡ from_be_bytes w32 bytes)
 
 -- three pairs of hexadecimal digits of either case, with `-` between them
 pub record SpellsEep (text : List ℕ) (eep : Eep) : Type 0 where
@@ -27,7 +30,8 @@ pub record SpellsEep (text : List ℕ) (eep : Eep) : Type 0 where
 
 -- the line has the shape of the order, whatever its numbers
 abbrev pub HasShape : List ℕ → Order → Type 0
-HasShape line (Add id eep) = (digits text : List ℕ) × (line ≡ codes "add " ++ digits ++ codes " " ++ text) × SpellsId digits id × SpellsEep text eep
+HasShape line (Add id eep) = (digits text : List ℕ) × (line ≡ codes "add " ++ digits ++ codes " " ++ text)
+    × SpellsId digits id × SpellsEep text eep
 HasShape line (Remove id) = (digits : List ℕ) × (line ≡ codes "remove " ++ digits) × SpellsId digits id
 HasShape line ListAll = line ≡ codes "list"
 HasShape line Status = line ≡ codes "status"
@@ -80,7 +84,8 @@ remove_order None = Err Syntax
 -- the order that a line spells, or why it spells none
 abbrev pub order_of : List ℕ → Result Order OrderFault
 order_of line =
-    if starts_with nat_eq line (codes "add ") && slice_index_or line 12 0 == 32 then add_order (id_in (slice_range line 4 12)) (eep_in (drop 13 line))
+    if starts_with nat_eq line (codes "add ") && slice_index_or line 12 0 == 32 then add_order
+    (id_in (slice_range line 4 12)) (eep_in (drop 13 line))
     else if starts_with nat_eq line (codes "remove ") then remove_order (id_in (drop 7 line))
     else if pointwise nat_eq line (codes "list") then Ok ListAll
     else if pointwise nat_eq line (codes "status") then Ok Status
@@ -90,5 +95,6 @@ order_of line =
 pub record OrdersAreSpelled : Type 0 where
   pub spelled : (line : List ℕ) (order : Order) → order_of line ≡ Ok order → Spells line order
   pub only : (line : List ℕ) (order : Order) → Spells line order → order_of line ≡ Ok order
-  pub out_of_range : (line : List ℕ) → order_of line ≡ Err Range → (order : Order) × HasShape line order × (¬ IsInRange order)
+  pub out_of_range : (line : List ℕ) → order_of line ≡ Err Range
+      → (order : Order) × HasShape line order × (¬ IsInRange order)
   pub no_shape : (line : List ℕ) → order_of line ≡ Err Syntax → (order : Order) → ¬ HasShape line order

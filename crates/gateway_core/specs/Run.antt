@@ -1,12 +1,14 @@
 -- What the gateway does with many items, of which some may be refused.
-use Rattle.std.specs.Prelude.{◌≡◌, if◌then◌else◌, ◌||◌, Bool, true, false, is_some, IsTrue, IsSome, ℕ, ◌+◌, ◌^◌, ◌<◌, List, [], ◌∷◌}
+use Rattle.std.specs.Prelude.{◌≡◌, if◌then◌else◌, ◌||◌, Bool, true, false, is_some, IsTrue, IsSome, ℕ, ◌+◌, ◌^◌, ◌<◌}
+use Rattle.std.specs.Prelude.{List, [], ◌∷◌, map, Option, Some, None}
 use Rattle.gateway_core.specs.declared.counts.Count.TheVariants as count
 use Rattle.gateway_core.specs.declared.lines.error.ErrorName.{ErrorName}
 use Rattle.gateway_core.specs.declared.lines.error.ErrorName.TheVariants as error
 use Rattle.gateway_core.specs.Counts.{counted, count_with}
 use Rattle.gateway_core.specs.Lines.{error_text}
 use Rattle.gateway_core.specs.Responses.{response_in}
-use Rattle.gateway_core.specs.Step.{State, Item, Received, Ordered, Answer, said, Decision, Denies, Learns, Forgets, Lists, Reports, decision, data_telegram, answer_to, change_of, state_after}
+use Rattle.gateway_core.specs.Step.{State, Item, Received, Ordered, Answer, said, Decision, Denies, Learns, Forgets}
+use Rattle.gateway_core.specs.Step.{Lists, Reports, decision, data_telegram, answer_to, change_of, state_after}
 
 -- the errors that are told by the line alone; the others are told by the devices
 abbrev pub is_of_line : ErrorName → Bool
@@ -76,10 +78,22 @@ Run old (item ∷ items) (fate ∷ fates) (answer ∷ answers) new =
     Allows old item fate × (answer ≡ answer_with old item fate) × Run (state_with old item fate) items fates answers new
 Run old items fates answers new = ⊥
 
--- where the same items are refused, each for the same cause, the answers are the same, and so is what is known in the end
-abbrev pub SameFates : Type 0
-SameFates = (old left right : State) (items : List Item) (fates : List Fate) (answers others : List Answer) →
-    Run old items fates answers left → Run old items fates others right → (answers ≡ others) × (left ≡ right)
+-- what an item was refused for, if it was
+abbrev pub cause_of : Fate → Option Cause
+cause_of Taken = None
+cause_of (Refused cause) = Some cause
+cause_of (RefusedAtWrite cause) = Some cause
+
+-- the same items are refused, each for the same cause, be it before its write or at it
+abbrev pub RefuseAlike : List Fate → List Fate → Type 0
+RefuseAlike fates others = map cause_of fates ≡ map cause_of others
+
+-- where the same items are refused, each for the same cause, the answers are the same, and so is what is known in the
+-- end
+abbrev pub SameRefusals : Type 0
+SameRefusals = (old left right : State) (items : List Item) (fates others : List Fate) (answers more : List Answer)
+    → RefuseAlike fates others
+    → Run old items fates answers left → Run old items others more right → (answers ≡ more) × (left ≡ right)
 
 -- how many of the fates are refusals
 abbrev pub refusals : List Fate → ℕ
@@ -91,4 +105,5 @@ refusals (RefusedAtWrite cause ∷ fates) = 1 + refusals fates
 -- the count of refused items is raised once for each of them, and by nothing else
 abbrev pub RefusalsAreCounted : Type 0
 RefusalsAreCounted = (old new : State) (items : List Item) (fates : List Fate) (answers : List Answer) →
-    Run old items fates answers new → old.counts.refused < 2 ^ 64 → new.counts.refused ≡ count_with old.counts.refused (refusals fates)
+    Run old items fates answers new → old.counts.refused < 2 ^ 64
+    → new.counts.refused ≡ count_with old.counts.refused (refusals fates)

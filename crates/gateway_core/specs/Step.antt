@@ -21,12 +21,14 @@ use Rattle.gateway_core.specs.Address.{is_passed_over}
 use Rattle.gateway_core.specs.Profiles.{is_supported, readings_of}
 use Rattle.gateway_core.specs.Counts.{raised}
 use Rattle.profiles_rps.specs.Reading.{Entry}
-use Rattle.gateway_core.specs.Lines.{reading_text, TeachLine, teach_text, listing_text, status_text, response_text, error_text}
+use Rattle.gateway_core.specs.Lines.{reading_text, TeachLine, teach_text, listing_text, status_text, response_text}
+use Rattle.gateway_core.specs.Lines.{error_text}
 use Rattle.gateway_core.specs.Orders.{order_of}
 use Rattle.gateway_core.specs.Responses.{Response, response_in}
 use Rattle.gateway_core.specs.TeachIn.{is_teach_in}
 
--- what the gateway knows: the base ID of its radio module, which no item changes, what it has counted, and the learned devices
+-- what the gateway knows: the base ID of its radio module, which no item changes, what it has counted, and the learned
+-- devices
 pub record State : Type 0 where
   pub base : ℕ
   pub counts : Counts
@@ -55,7 +57,8 @@ pub record Effect : Type 0 where
 abbrev pub ignored : Effect
 ignored = record { count = count.Ignored; text = [] }
 
--- a telegram is looked at unless it is passed over, or is a teach-in telegram: nobody teaches while the gateway is not learning
+-- a telegram is looked at unless it is passed over, or is a teach-in telegram: nobody teaches while the gateway is not
+-- learning
 abbrev pub looked_at : ℕ → Result Telegram TelegramFault → Option Telegram
 looked_at base (Err fault) = None
 looked_at base (Ok t) = if is_passed_over base t || is_teach_in t then None else Some t
@@ -67,7 +70,10 @@ data_telegram base packet = looked_at base (telegram_of packet)
 abbrev pub reading_effect : Telegram → Eep → Option (List Entry) → Effect
 reading_effect t eep None = ignored
 reading_effect t eep (Some readings) =
-    record { count = count.Reading; text = reading_text (record { dbm = t.dbm; eep = eep; id = t.sender; readings = readings }) }
+    record {
+      count = count.Reading;
+      text = reading_text (record { dbm = t.dbm; eep = eep; id = t.sender; readings = readings });
+    }
 
 abbrev pub sender_effect : Telegram → Option Device → Effect
 sender_effect t None = ignored
@@ -87,7 +93,8 @@ packet_effect state packet = effect_by state.devices (response_in packet) (data_
 
 -- ---- a line
 
--- what becomes of a line: it is answered with an error, a device is learned or forgotten, all are listed, or the counts are told
+-- what becomes of a line: it is answered with an error, a device is learned or forgotten, all are listed, or the counts
+-- are told
 pub data Decision : Type 0 where
   Denies : (name : ErrorName) → Decision
   Learns : (known : Device) → Decision
@@ -104,14 +111,16 @@ abbrev pub order_decision : Devices → Result Order OrderFault → Decision
 order_decision devices (Err Syntax) = Denies error.Syntax
 order_decision devices (Err Range) = Denies error.Range
 order_decision devices (Ok (Add id eep)) =
-    if is_supported eep then (if is_full devices id then Denies error.Full else Learns (record { id = id; eep = eep; maker = None }))
+    if is_supported eep then
+    (if is_full devices id then Denies error.Full else Learns (record { id = id; eep = eep; maker = None }))
     else Denies error.UnsupportedProfile
 order_decision devices (Ok (Remove id)) = removal (device_of devices id)
 order_decision devices (Ok ListAll) = Lists
 order_decision devices (Ok Status) = Reports
 
 abbrev pub decision : Devices → List ℕ → Decision
-decision devices line = if nat_lt 200 (length line) then Denies error.TooLong else order_decision devices (order_of line)
+decision devices line =
+    if nat_lt 200 (length line) then Denies error.TooLong else order_decision devices (order_of line)
 
 -- the line that tells what came of a device
 abbrev pub told_of : Device → Outcome → TeachLine
@@ -155,4 +164,9 @@ with_change devices (Some change) = changed devices change
 
 -- what is known after an item that is taken
 abbrev pub state_after : State → Item → State
-state_after state item = record { base = state.base; counts = raised state.counts (count_of state item); devices = with_change state.devices (change_of state item) }
+state_after state item =
+    record {
+      base = state.base;
+      counts = raised state.counts (count_of state item);
+      devices = with_change state.devices (change_of state item);
+    }

@@ -29,7 +29,8 @@ left_with left state item (RefusedAtWrite cause) = pending left state.devices (c
 
 -- the items one after another, from this state on
 abbrev pub left_by : Left → State → List Item → List Fate → Left
-left_by left state (item ∷ items) (fate ∷ fates) = left_by (left_with left state item fate) (state_with state item fate) items fates
+left_by left state (item ∷ items) (fate ∷ fates) =
+    left_by (left_with left state item fate) (state_with state item fate) items fates
 left_by left state items fates = left
 
 abbrev pub IsOneOf : List Devices → Devices → Type 0
@@ -43,6 +44,7 @@ Safe Before left devices = IsOneOf left.maps devices ⊎ ((left.renewed ≡ fals
 -- what is safe for a second list of items, behind what is safe for a first, is safe for both joined
 abbrev pub SafeJoins : (Devices → Type 0) → Type 0
 SafeJoins Before =
-    (old mid : State) (items others : List Item) (fates more : List Fate) (answers : List Answer) (devices : Devices) → Run old items fates answers mid
+    (old mid : State) (items others : List Item) (fates more : List Fate) (answers : List Answer) (devices : Devices)
+    → Run old items fates answers mid
     → Safe (Safe Before (left_by nothing_left old items fates)) (left_by nothing_left mid others more) devices
     → Safe Before (left_by nothing_left old (items ++ others) (fates ++ more)) devices

@@ -18,7 +18,8 @@ use Rattle.gateway_core.specs.declared.refusal.Refusal.TheVariants.{Before, AtWr
 use Rattle.gateway_core.specs.Counts.{counted, raised}
 use Rattle.gateway_core.specs.Lines.{error_text}
 use Rattle.gateway_core.specs.Responses.{Response}
-use Rattle.gateway_core.specs.Step.{State, Item, Answer, said, Effect, telegram_effect, effect_by, Decision, decision_answer, change_in, answer_to, count_of, change_of}
+use Rattle.gateway_core.specs.Step.{State, Item, Answer, said, Effect, telegram_effect, effect_by, Decision}
+use Rattle.gateway_core.specs.Step.{decision_answer, change_in, answer_to, count_of, change_of}
 use Rattle.gateway_core.specs.Refusals.{as_told, cause_in}
 use Rattle.gateway_core.specs.Run.{needs, needs_help, cause_text}
 use Rattle.gateway_core.specs.Replies.{answer_of}
@@ -32,11 +33,22 @@ pub record Wanted : Type 0 where
   pub help : Bool
 
 abbrev pub of_item : State → Item → Wanted
-of_item state item = record { answer = answer_to state item; count = count_of state item; change = change_of state item; help = needs state item }
+of_item state item =
+    record {
+      answer = answer_to state item;
+      count = count_of state item;
+      change = change_of state item;
+      help = needs state item;
+    }
 
 abbrev pub of_decision : Counts → Devices → Decision → Wanted
 of_decision counts devices decision =
-    record { answer = decision_answer counts devices decision; count = None; change = change_in decision; help = needs_help decision }
+    record {
+      answer = decision_answer counts devices decision;
+      count = None;
+      change = change_in decision;
+      help = needs_help decision;
+    }
 
 abbrev pub of_effect : Effect → Bool → Wanted
 of_effect effect help = record { answer = said effect.text; count = Some effect.count; change = None; help = help }
@@ -45,7 +57,8 @@ abbrev pub of_telegram : Devices → Option Telegram → Wanted
 of_telegram devices telegram = of_effect (telegram_effect devices telegram) (is_some telegram)
 
 abbrev pub of_packet : Devices → Option Response → Option Telegram → Wanted
-of_packet devices response telegram = of_effect (effect_by devices response telegram) (is_some response || is_some telegram)
+of_packet devices response telegram =
+    of_effect (effect_by devices response telegram) (is_some response || is_some telegram)
 
 -- what is done gives this answer and raises this count
 abbrev pub Gives : Done → Answer → Option Count → Type 0
@@ -72,12 +85,15 @@ module _ {S : Type 0} (g : Ghosts S) (old new : Held S) (devices : Devices) wher
   Comes wanted (Err (AtWrite cause)) = IsPending wanted.help wanted.change
 
 -- what is wanted, by the devices that the registry has, is done or refused; it is not counted yet
-pub record Tries {S : Type 0} (g : Ghosts S) (old : Sight S) (wanted : Devices → Wanted) (result : Result Done Refusal) (new : Sight S) : Type 0 where
+pub record Tries {S : Type 0} (g : Ghosts S) (old : Sight S) (wanted : Devices → Wanted) (result : Result Done Refusal)
+    (new : Sight S) : Type 0 where
   pub base : new.base ≡ old.base
   pub counts : new.counts ≡ old.counts
   pub clean : HasCleanDisk (state g new.registry) → HasCleanDisk (state g old.registry)
-  pub registries : HasCleanDisk (state g new.registry) → AreRegistries (state g old.registry).may_leave → AreRegistries (state g new.registry).may_leave
-  pub comes : HasCleanDisk (state g new.registry) → (devices : Devices) → HasDevices (state g old.registry) devices → Comes g old.registry new.registry devices (wanted devices) result
+  pub registries : HasCleanDisk (state g new.registry) → AreRegistries (state g old.registry).may_leave
+      → AreRegistries (state g new.registry).may_leave
+  pub comes : HasCleanDisk (state g new.registry) → (devices : Devices) → HasDevices (state g old.registry) devices
+      → Comes g old.registry new.registry devices (wanted devices) result
 
 -- the answer to what is done, or refused
 abbrev pub answer_from : Result Done Refusal → Answer

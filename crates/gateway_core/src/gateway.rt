@@ -40,7 +40,7 @@ impl From<AllocError> for StartFault {
 /// may come.
 #[derive(Drop)]
 pub struct Gateway<S: Alter> {
-    handler: Handler<S>,
+    pub(crate) handler: Handler<S>,
     framer: Framer,
     packet: PacketBuf,
 }
@@ -53,7 +53,8 @@ impl<S: Alter> Model for Gateway<S> {
 
     ghost coded = { value_code S.code };
 
-    ghost view = { λ gateway. record { sight = gateway.handler; ready = gateway.framer.ready; rest = gateway.framer.rest } };
+    ghost view = { λ gateway.
+        record { sight = gateway.handler; ready = gateway.framer.ready; rest = gateway.framer.rest } };
 }
 
 impl<S: Alter + Drop> Gateway<S> {

@@ -12,8 +12,10 @@ ghost use Rattle.gateway_core.specs.Replies.{answer_of};
 ghost use Rattle.gateway_core.specs.Refusals.{cause_in};
 ghost use Rattle.gateway_core.specs.Responses;
 ghost use Rattle.gateway_core.specs.Run.{cause_text};
-ghost use Rattle.gateway_core.specs.Step.{Lists, Ordered, Received, Reports, data_telegram, decision, order_decision, said, sender_effect};
-ghost use Rattle.gateway_core.specs.Tries.{Gives, Has, Tries, Unlearned, answer_from, counts_from, of_decision, of_packet, of_telegram};
+ghost use Rattle.gateway_core.specs.Step.{Lists, Ordered, Received, Reports, data_telegram, decision, order_decision};
+ghost use Rattle.gateway_core.specs.Step.{said, sender_effect};
+ghost use Rattle.gateway_core.specs.Tries.{Gives, Has, Tries, Unlearned, answer_from, counts_from};
+ghost use Rattle.gateway_core.specs.Tries.{of_decision, of_packet, of_telegram};
 
 use crate::address::is_passed_over;
 use crate::counts::{Count, Counts};
@@ -47,7 +49,7 @@ pub struct Handler<S: Alter> {
     alloc: Global,
     base: u32,
     counts: Counts,
-    registry: Registry<S>,
+    pub(crate) registry: Registry<S>,
 }
 
 impl<S: Alter> Model for Handler<S> {
@@ -194,8 +196,8 @@ impl<S: Alter> Handler<S> {
 
     // Learns a device that the desk names. The line is made before the write, and nothing is refused behind it.
     fn try_add(&mut self, id: u32, eep: Eep) -> Result<Done, Refusal>
-        ensures { Tries S.Store self.old
-            (λ devices. of_decision self.old.counts devices (order_decision devices (Ok (Order.Add id eep)))) result self.new }
+        ensures { Tries S.Store self.old (λ devices. of_decision self.old.counts devices
+            (order_decision devices (Ok (Order.Add id eep)))) result self.new }
     {
         if !profiles::is_supported(eep) {
             return Ok(denied(ErrorName::UnsupportedProfile));
@@ -216,8 +218,8 @@ impl<S: Alter> Handler<S> {
 
     // Forgets a device that the desk names. The line is made before the write, and nothing is refused behind it.
     fn try_remove(&mut self, id: u32) -> Result<Done, Refusal>
-        ensures { Tries S.Store self.old
-            (λ devices. of_decision self.old.counts devices (order_decision devices (Ok (Order.Remove id)))) result self.new }
+        ensures { Tries S.Store self.old (λ devices. of_decision self.old.counts devices
+            (order_decision devices (Ok (Order.Remove id)))) result self.new }
     {
         let Some(device) = self.registry.find(id)? else {
             return Ok(denied(ErrorName::UnknownDevice));

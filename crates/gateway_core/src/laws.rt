@@ -1,19 +1,22 @@
-//! Laws of the definitions. Each function does nothing: its contract is the law.
+//! Laws of the definitions, and of every gateway. Each function does nothing: its contract is the law.
 ghost use Rattle.std.specs.Prelude.{◌≡◌, ℕ, List, [], ◌++◌};
 ghost use Rattle.sqlite.specs.Held.{Held, state};
 ghost use Rattle.esp3_frames.specs.Frames.{packets_in, rest_of};
 ghost use Rattle.device_registry.specs.Holding.{MayFind};
-ghost use Rattle.gateway_core.specs.Beginnings.{CallsLeaveALife, StopsLeaveALife, TeachLinesAreTold};
+ghost use Rattle.gateway_core.specs.Beginnings.{CallsLeaveALife, StopsLeaveALife};
 ghost use Rattle.gateway_core.specs.Calls.{CallsAreARun};
 ghost use Rattle.gateway_core.specs.Events.{CutsAreAnsweredAlike, CutsDoNotMatter, Event, brought, bytes_in, items_of};
-ghost use Rattle.gateway_core.specs.Handling.{Handles, Sight};
+ghost use Rattle.gateway_core.specs.Handling.{Handles, KnowsState, Sight};
 ghost use Rattle.gateway_core.specs.Lives.{LivesKeep};
 ghost use Rattle.gateway_core.specs.Orders.{OrdersAreSpelled};
-ghost use Rattle.gateway_core.specs.Prefixes.{LeftIsPrefix, SafeIsPrefix};
-ghost use Rattle.gateway_core.specs.Run.{RefusalsAreCounted, SameFates};
+ghost use Rattle.gateway_core.specs.Prefixes.{LeftIsPrefix, SafeIsPrefix, ToldStandBefore};
+ghost use Rattle.gateway_core.specs.Run.{RefusalsAreCounted, SameRefusals};
 ghost use Rattle.gateway_core.specs.Step.{Answer, Item};
 ghost use Rattle.gateway_core.specs.Stops.{SafeJoins};
+ghost use Rattle.gateway_core.specs.Telling.{TeachLinesAreTold};
 
+use crate::gateway::Gateway;
+use device_registry::laws::devices_are_held;
 use sqlite::Alter;
 
 /// The computed order of a line is the one that the line spells.
@@ -38,12 +41,14 @@ pub fn items_in_parts()
 pub fn handles_join<S: Alter>()
     ensures nothing { (sight : Sight S) → Handles S.Store sight [] [] sight }
     ensures join { (old mid new : Sight S) (items more : List Item) (answers after : List Answer) →
-        Handles S.Store old items answers mid → Handles S.Store mid more after new → Handles S.Store old (items ++ more) (answers ++ after) new }
+        Handles S.Store old items answers mid → Handles S.Store mid more after new
+        → Handles S.Store old (items ++ more) (answers ++ after) new }
 {}
 
-/// Where the same items are refused, each for the same cause, the answers are the same.
-pub fn same_fates()
-    ensures { SameFates }
+/// Where the same items are refused, each for the same cause, the answers are the same, be they refused before their
+/// writes or at them.
+pub fn same_refusals()
+    ensures { SameRefusals }
 {}
 
 /// However the bytes between two lines are cut into pieces, the answers are the same where the same items are
@@ -74,9 +79,10 @@ pub fn lives_keep()
 {}
 
 /// What a stop may leave is what was known after a first part of the items, and that part has every item that was
-/// told done.
+/// told done: in whatever way the items are parted at one that was told, it stands in that first part.
 pub fn safe_is_prefix()
-    ensures { SafeIsPrefix }
+    ensures safe { SafeIsPrefix }
+    ensures told { ToldStandBefore }
 {}
 
 /// What a life leaves is what was known after a first part of its items that has every told one, or after all of them
@@ -85,7 +91,8 @@ pub fn left_is_prefix()
     ensures { LeftIsPrefix }
 {}
 
-/// A teach line is answered only where an item asks for a change and the change is committed.
+/// A teach line is answered only where an item is taken that learns the device of which the line tells, where it tells
+/// `accepted`, or forgets it, where it tells `deleted`.
 pub fn teach_lines_are_told()
     ensures { TeachLinesAreTold }
 {}
@@ -100,3 +107,10 @@ pub fn calls_leave_a_life<S: Alter>()
 pub fn stops_leave_a_life<S: Alter>()
     ensures { StopsLeaveALife S.Store }
 {}
+
+/// Whatever gateway there is knows a state, while the disk has returned what was written.
+pub fn a_state_is_known<S: Alter>(gateway: &Gateway<S>)
+    ensures { KnowsState S.Store gateway.now.sight }
+{
+    devices_are_held(&gateway.handler.registry);
+}

@@ -15,7 +15,8 @@ impl Verdict {
     /// The verdict on a change that is committed.
     pub fn committed(receipt: Receipt) -> Verdict
         ensures id { result.id ≡ receipt.id }
-        ensures outcome { MatchBool receipt.is_learned (result.outcome ≡ Outcome.Accepted) (result.outcome ≡ Outcome.Deleted) }
+        ensures outcome { MatchBool receipt.is_learned (result.outcome ≡ Outcome.Accepted)
+            (result.outcome ≡ Outcome.Deleted) }
     {
         let (id, is_learned) = receipt.spend();
         let outcome = if is_learned {

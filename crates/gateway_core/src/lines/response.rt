@@ -32,8 +32,8 @@ fn response_value(alloc: Global, code: u8, bytes: &[u8]) -> Result<Value, AllocE
     json!(in alloc; {"code": code, "data": data, "name": name, "type": "response"})
 }
 
-/// The line that tells what the radio module answered: the return code, the bytes behind it as hexadecimal digits, and the
-/// name of the code, `null` where it has none.
+/// The line that tells what the radio module answered: the return code, the bytes behind it as hexadecimal digits, and
+/// the name of the code, `null` where it has none.
 ///
 /// `{"code":0,"data":"FF800000","name":"OK","type":"response"}`
 ///

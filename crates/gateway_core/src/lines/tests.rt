@@ -23,7 +23,8 @@ fn reading_lines(rt: HostRuntime) -> Result<(), Fail> {
     let line = reading_line(rt.alloc(), None, 1, CONTACT, &readings)?;
     assert!(rt;
         line.as_bytes()
-            == b"{\"dbm\":null,\"eep\":\"D5-00-01\",\"id\":\"00000001\",\"readings\":[],\"type\":\"reading\"}\n".as_slice()
+            == b"{\"dbm\":null,\"eep\":\"D5-00-01\",\"id\":\"00000001\",\"readings\":[],\
+                \"type\":\"reading\"}\n".as_slice()
     );
     readings.push(Reading {
         name: "CO",
@@ -32,7 +33,8 @@ fn reading_lines(rt: HostRuntime) -> Result<(), Fail> {
     let line = reading_line(rt.alloc(), Some(45), 0x01800ABC, CONTACT, &readings)?;
     assert!(rt;
         line.as_bytes()
-            == b"{\"dbm\":-45,\"eep\":\"D5-00-01\",\"id\":\"01800ABC\",\"readings\":[{\"name\":\"CO\",\"word\":\"closed\"}],\"type\":\"reading\"}\n".as_slice()
+            == b"{\"dbm\":-45,\"eep\":\"D5-00-01\",\"id\":\"01800ABC\",\"readings\":[{\"name\":\"CO\",\
+                \"word\":\"closed\"}],\"type\":\"reading\"}\n".as_slice()
     );
     Ok(())
 }
@@ -55,7 +57,9 @@ fn lines_of_all_kinds_of_readings(rt: HostRuntime) -> Result<(), Fail> {
     let line = reading_line(rt.alloc(), Some(0), 0xFF800000, CONTACT, &readings)?;
     assert!(rt;
         line.as_bytes()
-            == b"{\"dbm\":0,\"eep\":\"D5-00-01\",\"id\":\"FF800000\",\"readings\":[{\"den\":51,\"name\":\"TMP\",\"num\":1024,\"unit\":\"C\"},{\"name\":\"TI\",\"raw\":15},{\"name\":\"HUM\",\"out_of_range\":251}],\"type\":\"reading\"}\n".as_slice()
+            == b"{\"dbm\":0,\"eep\":\"D5-00-01\",\"id\":\"FF800000\",\"readings\":[{\"den\":51,\"name\":\"TMP\",\
+                \"num\":1024,\"unit\":\"C\"},{\"name\":\"TI\",\"raw\":15},{\"name\":\"HUM\",\"out_of_range\":251}],\
+                \"type\":\"reading\"}\n".as_slice()
     );
     Ok(())
 }
@@ -89,7 +93,8 @@ fn status_lines(rt: HostRuntime) -> Result<(), Fail> {
     let line = status_line(rt.alloc(), &counts)?;
     assert!(rt;
         line.as_bytes()
-            == b"{\"ignored\":2,\"mode\":\"closed\",\"readings\":18446744073709551615,\"refused\":3,\"responses\":4,\"teach\":5,\"type\":\"status\"}\n".as_slice()
+            == b"{\"ignored\":2,\"mode\":\"closed\",\"readings\":18446744073709551615,\"refused\":3,\"responses\":4,\
+                \"teach\":5,\"type\":\"status\"}\n".as_slice()
     );
     Ok(())
 }
@@ -113,7 +118,9 @@ fn listings(rt: HostRuntime) -> Result<(), Fail> {
     let lines = device_lines(rt.alloc(), &[contact, switch])?;
     assert!(rt;
         lines.as_bytes()
-            == b"{\"eep\":\"D5-00-01\",\"id\":\"01800ABC\",\"maker\":null,\"type\":\"device\"}\n{\"eep\":\"D2-01-12\",\"id\":\"FFFFFFFE\",\"maker\":70,\"type\":\"device\"}\n{\"count\":2,\"type\":\"list\"}\n".as_slice()
+            == b"{\"eep\":\"D5-00-01\",\"id\":\"01800ABC\",\"maker\":null,\"type\":\"device\"}\n\
+                {\"eep\":\"D2-01-12\",\"id\":\"FFFFFFFE\",\"maker\":70,\"type\":\"device\"}\n\
+                {\"count\":2,\"type\":\"list\"}\n".as_slice()
     );
     let none = device_lines(rt.alloc(), &[])?;
     assert!(rt; none.as_bytes() == b"{\"count\":0,\"type\":\"list\"}\n".as_slice());

@@ -6,4 +6,9 @@ use Rattle.gateway_core.proofs.handler.Handler.packet.Goals as goal
 pub returns : goal.returns
 returns g c =
     tries-handles g.S.Store _ _ _ (Received (packet_of c.args.packet.now)) _ _
-    (record { answer_is = c.settle.ensures.answer; base = c.settle.ensures.base; counts = c.settle.ensures.counts; registry = c.settle.ensures.registry }) c.try_packet-tried.ensures
+    (record {
+      answer_is = c.settle.ensures.answer;
+      base = c.settle.ensures.base;
+      counts = c.settle.ensures.counts;
+      registry = c.settle.ensures.registry;
+    }) c.try_packet-tried.ensures

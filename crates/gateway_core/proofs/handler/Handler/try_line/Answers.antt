@@ -6,7 +6,8 @@ use Rattle.gateway_core.proofs.TryLemmas.{tries-alone, tries-order}
 use Rattle.gateway_core.proofs.handler.Handler.try_line.Goals as goal
 
 pub returns-then-line-gt-LONGEST : goal.returns-then-line-gt-LONGEST
-returns-then-line-gt-LONGEST g c = tries-alone g.S.Store _ _ _ (λ devices keeps. rw (lt-ltb 200 _ c.if-line-gt-LONGEST.true) (c.denied.ensures, keeps))
+returns-then-line-gt-LONGEST g c =
+    tries-alone g.S.Store _ _ _ (λ devices keeps. rw (lt-ltb 200 _ c.if-line-gt-LONGEST.true) (c.denied.ensures, keeps))
 
 pub returns-in-Ok-Add : goal.returns-in-Ok-Add
 returns-in-Ok-Add g c =

@@ -21,5 +21,10 @@ pub returns : goal.returns
 returns g c =
     rw (← c.self.view_is) (tries g.S.Store _ _ _ _ _ _ c.all.ensures.clean c.all.ensures.registries
     (λ honest devices has.
-    let found = c.in_ok-all.ensures.devices honest devices has in
-    ((c.told.ensures.0 ∙ ap said (c.in_ok-lines.ensures ∙ ap listing_text (c.as_slice.ensures.value ∙ found.0)), c.told.ensures.1), found.1)))
+    let found = c.in_ok-all.ensures.devices honest devices has in (
+      (
+        c.told.ensures.0 ∙ ap said (c.in_ok-lines.ensures ∙ ap listing_text (c.as_slice.ensures.value ∙ found.0)),
+        c.told.ensures.1,
+      ),
+      found.1,
+    )))

@@ -25,7 +25,9 @@ returns-in_err-draft g c =
 
 pub returns-in-Err : goal.returns-in-Err
 returns-in-Err g c =
-    rw (← c.self.view_is) (tries g.S.Store _ _ _ _ _ _ (λ honest. c.find.ensures.clean (c.forget.ensures.clean honest)) c.forget.ensures.registries
+    rw (← c.self.view_is)
+    (tries g.S.Store _ _ _ _ _ _ (λ honest. c.find.ensures.clean (c.forget.ensures.clean honest))
+    c.forget.ensures.registries
     (λ honest devices has.
     let found = c.in_ok-device.ensures.devices (c.forget.ensures.clean honest) devices has in
     let known = sym c.in-Some.is ∙ found.0 in
@@ -34,9 +36,13 @@ returns-in-Err g c =
 
 pub returns : goal.returns
 returns g c =
-    rw (← c.self.view_is) (tries g.S.Store _ _ _ _ _ _ (λ honest. c.find.ensures.clean (c.forget.ensures.clean honest)) c.forget.ensures.registries
+    rw (← c.self.view_is)
+    (tries g.S.Store _ _ _ _ _ _ (λ honest. c.find.ensures.clean (c.forget.ensures.clean honest))
+    c.forget.ensures.registries
     (λ honest devices has.
     let found = c.in_ok-device.ensures.devices (c.forget.ensures.clean honest) devices has in
     let known = sym c.in-Some.is ∙ found.0 in
-    rw (sym known, device_of-id devices c.args.id c.in-Some.device known)
-    ((c.told.ensures.0 ∙ ap said (c.tell-line.ensures ∙ c.in_ok-draft.ensures.line), c.told.ensures.1), c.in-Ok.ensures.devices honest devices found.1.now)))
+    rw (sym known, device_of-id devices c.args.id c.in-Some.device known) (
+      (c.told.ensures.0 ∙ ap said (c.tell-line.ensures ∙ c.in_ok-draft.ensures.line), c.told.ensures.1),
+      c.in-Ok.ensures.devices honest devices found.1.now,
+    )))

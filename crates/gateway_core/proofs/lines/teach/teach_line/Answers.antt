@@ -22,4 +22,5 @@ returns-clause-line c =
       maker = c.args.maker;
       outcome = c.args.outcome;
     } in
-    c.in_ok-line.ensures ∙ ap (λ value. compact_text value ++ codes "\n") c.in_ok-value.ensures.value ∙ text-teach line c.in_ok-value.ensures.plain
+    c.in_ok-line.ensures ∙ ap (λ value. compact_text value ++ codes "\n") c.in_ok-value.ensures.value
+    ∙ text-teach line c.in_ok-value.ensures.plain
