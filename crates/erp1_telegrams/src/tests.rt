@@ -78,7 +78,7 @@ fn data_of(rorg: u8, payload_len: usize) -> ArrayVec<u8, 24> {
     data
 }
 
-// For each kind the shortest and the longest payload, and one byte less and more.
+// For each kind all lengths up to fifteen bytes, read from a packet and given by a caller.
 #[test]
 fn lengths_of_payloads(rt: HostRuntime) {
     let cases: [(u8, usize, usize); 5] = [
@@ -88,8 +88,11 @@ fn lengths_of_payloads(rt: HostRuntime) {
         (0xD2, 1, 14),
         (0xD4, 7, 7),
     ];
+    let zeros = [0; 16];
     for (rorg, shortest, longest) in cases {
         for len in 0..16_usize {
+            let payload = zeros.get(..len).unwrap_or(&[]);
+            let made = Telegram::new(rorg, payload, 0x0180_0ABC, 0, BROADCAST, None);
             let body = data_of(rorg, len);
             let packet = PacketRef {
                 kind: 1,
@@ -98,7 +101,9 @@ fn lengths_of_payloads(rt: HostRuntime) {
             };
             if len < shortest || len > longest {
                 assert_eq!(rt; read(&packet).err(), Some(TelegramFault::BadLength));
+                assert_eq!(rt; made.err(), Some(TelegramFault::BadLength));
             } else {
+                assert_eq!(rt; made.map(|telegram| telegram.payload().len()), Ok(len));
                 assert_eq!(rt;
                     read(&packet).map(|telegram| telegram.payload().len()),
                     Ok(len)

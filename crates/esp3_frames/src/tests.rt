@@ -76,11 +76,28 @@ fn headers(rt: HostRuntime) {
         read_header(&[0x55, 0x04, 0x01, 0x00, 0x09, 0x0C]),
         Err(HeaderFault::TooLong)
     );
+    let without_data = Header {
+        data_len: 0,
+        opt_len: 1,
+        kind: 9,
+    };
+    assert_eq!(rt;
+        read_header(&[0x55, 0x00, 0x00, 0x01, 0x09, 0x2A]),
+        Ok(without_data)
+    );
 }
 
 // Each of these has two faults, and the first of the two is told.
 #[test]
 fn headers_with_two_faults(rt: HostRuntime) {
+    assert_eq!(rt;
+        read_header(&[0x54, 0x00, 0x00, 0x00, 0x00, 0x00]),
+        Err(HeaderFault::NotSync)
+    );
+    assert_eq!(rt;
+        read_header(&[0x54, 0x04, 0x01, 0x00, 0x09, 0x0C]),
+        Err(HeaderFault::NotSync)
+    );
     assert_eq!(rt;
         read_header(&[0x54, 0x00, 0x07, 0x07, 0x01, 0x7B]),
         Err(HeaderFault::NotSync)
@@ -115,6 +132,40 @@ fn a_packet(rt: HostRuntime) -> Result<(), Fail> {
     Ok(())
 }
 
+// One wrong check byte, though the other fits; a byte too few, and a byte too many.
+#[test]
+fn no_packets(rt: HostRuntime) {
+    let mut wrong = CONTACT;
+    wrong[5] = 0x7B;
+    assert!(rt; read_packet(&wrong).is_none());
+    wrong[5] = 0x7A;
+    wrong[20] = 0x1E;
+    assert!(rt; read_packet(&wrong).is_none());
+    assert!(rt; read_packet(&CONTACT[..20]).is_none());
+    let mut longer = [0; 22];
+    longer[..21].copy_from_slice(&CONTACT);
+    assert!(rt; read_packet(&longer).is_none());
+    assert!(rt; read_packet(&longer[..21]).is_some());
+}
+
+// All bytes behind these headers are 00, and so is the check byte of such data.
+#[test]
+fn long_packets_of_zeros(rt: HostRuntime) -> Result<(), Fail> {
+    let mut text = [0; 1286];
+    text[..6].copy_from_slice(&[0x55, 0x04, 0x00, 0xFF, 0x09, 0xB0]);
+    let packet = read_packet(&text).ok_or("no packet of 1,286 bytes")?;
+    assert_eq!(rt; packet.kind, 9);
+    assert_eq!(rt; packet.body, [0; 1024].as_slice());
+    assert_eq!(rt; packet.opt, [0; 255].as_slice());
+    text[..6].copy_from_slice(&[0x55, 0x00, 0x00, 0xFF, 0x09, 0xE8]);
+    let packet = read_packet(&text[..262]).ok_or("no packet without data")?;
+    assert!(rt; packet.body.is_empty());
+    assert_eq!(rt; packet.opt, [0; 255].as_slice());
+    text[..6].copy_from_slice(&[0x55, 0x04, 0x01, 0x00, 0x09, 0x0C]);
+    assert!(rt; read_packet(&text[..1032]).is_none());
+    Ok(())
+}
+
 #[test]
 fn longest_packets(rt: HostRuntime) {
     assert_eq!(rt; LONGEST_PACKET, 1286);
@@ -138,4 +189,10 @@ fn longest_packets(rt: HostRuntime) {
         write_packet(9, &data, &[], &mut out),
         Err(PacketFault::TooLong)
     );
+    out.clear();
+    assert_eq!(rt; write_packet(9, &data[..1024], &[], &mut out), Ok(()));
+    assert_eq!(rt; out.len(), 1031);
+    out.clear();
+    assert_eq!(rt; write_packet(9, &[], &data[..255], &mut out), Ok(()));
+    assert_eq!(rt; out.len(), 262);
 }

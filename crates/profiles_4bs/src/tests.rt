@@ -177,10 +177,12 @@ fn gas_panel_and_meter(rt: HostRuntime) -> Result<(), Fail> {
 fn refusals(rt: HostRuntime) -> Result<(), Fail> {
     let contact = Telegram::new(0xD5, &[0x00], 0x0180_0ABC, 0x00, BROADCAST, None)?;
     let teach_in = telegram(0x0828_4680)?;
-    let cases: [(Eep, &Telegram, Unreadable); 4] = [
+    let four_bytes = Telegram::new(0xD2, &[0, 0, 0, 8], 0x0180_0ABC, 0x00, BROADCAST, None)?;
+    let cases: [(Eep, &Telegram, Unreadable); 5] = [
         (eep(0x38, 0x08), &contact, Unreadable::NotSupported),
         (eep(0x38, 0x08), &teach_in, Unreadable::NotSupported),
         (TEMPERATURE, &contact, Unreadable::WrongKind),
+        (TEMPERATURE, &four_bytes, Unreadable::WrongKind),
         (TEMPERATURE, &teach_in, Unreadable::OtherMessage),
     ];
     let before = Reading {
@@ -194,6 +196,16 @@ fn refusals(rt: HostRuntime) -> Result<(), Fail> {
         assert_eq!(rt; readings.as_slice(), [before].as_slice());
     }
     Ok(())
+}
+
+/// The types that stand beside this FUNC.
+fn types_of<'a>(func: u8, table: &[(u8, &'a [u8])]) -> &'a [u8] {
+    for (other, types) in table {
+        if *other == func {
+            return types;
+        }
+    }
+    &[]
 }
 
 #[test]
@@ -214,17 +226,16 @@ fn supported_profiles(rt: HostRuntime) {
         (0x10, &[0x03, 0x05]),
         (0x12, &[0x01, 0x02, 0x03]),
     ];
-    for (func, types) in supported {
-        for typ in 0..=0x7Fu8 {
-            assert_eq!(rt; supports(eep(func, typ)), types.contains(&typ));
+    for rorg in [0xF6, 0xD5, 0xA5, 0xD2, 0xD4] {
+        for func in 0..=0xFFu8 {
+            let types = types_of(func, &supported);
+            for typ in 0..=0xFFu8 {
+                assert_eq!(rt;
+                    supports(Eep { rorg, func, typ }),
+                    rorg == 0xA5 && types.contains(&typ),
+                    "{rorg} {func} {typ}"
+                );
+            }
         }
     }
-    assert!(rt; !supports(eep(0x38, 0x08)));
-    assert!(rt;
-        !supports(Eep {
-            rorg: 0xD5,
-            func: 0x12,
-            typ: 0x01
-        })
-    );
 }

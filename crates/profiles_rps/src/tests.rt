@@ -101,12 +101,17 @@ fn refusals(rt: HostRuntime) -> Result<(), Fail> {
     };
     let contact = telegram(0xD5, 0x00, 0x00)?;
     let rocker = telegram(0xF6, 0x70, 0x30)?;
+    let like_a_contact = telegram(0xF6, 0x09, 0x30)?;
+    let one_byte = telegram(0xD2, 0x09, 0x30)?;
     let four_byte = Telegram::new(0xA5, &[0, 0, 0, 8], 0x0180_0ABC, 0, BROADCAST, None)?;
-    let cases: [(Eep, &Telegram, Unreadable); 6] = [
+    let cases: [(Eep, &Telegram, Unreadable); 9] = [
         (other, &contact, Unreadable::NotSupported),
         (TWO_ROCKERS, &contact, Unreadable::WrongKind),
+        (TWO_ROCKERS, &one_byte, Unreadable::WrongKind),
         (TWO_ROCKERS, &four_byte, Unreadable::WrongKind),
         (CONTACT, &rocker, Unreadable::WrongKind),
+        (CONTACT, &like_a_contact, Unreadable::WrongKind),
+        (CONTACT, &one_byte, Unreadable::WrongKind),
         (CONTACT, &four_byte, Unreadable::WrongKind),
         (CONTACT, &contact, Unreadable::OtherMessage),
     ];
@@ -129,16 +134,15 @@ fn supported_profiles(rt: HostRuntime) {
         (0xF6, 0x03, 0x02),
         (0xD5, 0x00, 0x01),
     ];
-    for (rorg, func, typ) in supported {
-        assert!(rt; supports(Eep { rorg, func, typ }));
-    }
-    let others: [(u8, u8, u8); 4] = [
-        (0xF6, 0x01, 0x02),
-        (0xF6, 0x02, 0x03),
-        (0xD5, 0x00, 0x02),
-        (0xA5, 0x02, 0x01),
-    ];
-    for (rorg, func, typ) in others {
-        assert!(rt; !supports(Eep { rorg, func, typ }));
+    for rorg in [0xF6, 0xD5, 0xA5, 0xD2, 0xD4] {
+        for func in 0..=0xFFu8 {
+            for typ in 0..=0xFFu8 {
+                assert_eq!(rt;
+                    supports(Eep { rorg, func, typ }),
+                    supported.contains(&(rorg, func, typ)),
+                    "{rorg} {func} {typ}"
+                );
+            }
+        }
     }
 }

@@ -154,15 +154,34 @@ fn refusals(rt: HostRuntime) -> Result<(), Fail> {
         typ: 0x13,
         ..SWITCH
     };
-    let cases: [(Eep, u8, &[u8], Unreadable); 9] = [
+    let cases: [(Eep, u8, &[u8], Unreadable); 13] = [
         (other, 0xD2, &[0x04, 0x60, 0xE4], Unreadable::NotSupported),
         (other, 0xF6, &[0x04], Unreadable::NotSupported),
         (SWITCH, 0xF6, &[0x02], Unreadable::WrongKind),
+        (
+            SWITCH,
+            0xA5,
+            &[0x04, 0x60, 0xE4, 0x00],
+            Unreadable::WrongKind,
+        ),
+        (BLINDS, 0xF6, &[0x04], Unreadable::WrongKind),
+        (
+            BLINDS,
+            0xA5,
+            &[0x32, 0x7F, 0x00, 0x04],
+            Unreadable::WrongKind,
+        ),
         (SWITCH, 0xD2, &[0x02], Unreadable::OtherMessage),
         (SWITCH, 0xD2, &[0x04], Unreadable::WrongLength),
         (SWITCH, 0xD2, &[0x04, 0x60], Unreadable::WrongLength),
         (SWITCH, 0xD2, &[0x07, 0x60, 0xE4], Unreadable::WrongLength),
         (BLINDS, 0xD2, &[0x32, 0x7F, 0x01], Unreadable::WrongLength),
+        (
+            BLINDS,
+            0xD2,
+            &[0x32, 0x7F, 0x00, 0x01, 0x00],
+            Unreadable::WrongLength,
+        ),
         (
             BLINDS,
             0xD2,
@@ -188,17 +207,17 @@ fn refusals(rt: HostRuntime) -> Result<(), Fail> {
 
 #[test]
 fn supported_profiles(rt: HostRuntime) {
-    for typ in 0x00..=0x12 {
-        assert!(rt; supports(Eep { typ, ..SWITCH }));
-    }
-    assert!(rt; supports(BLINDS));
-    let others: [(u8, u8, u8); 4] = [
-        (0xD2, 0x01, 0x13),
-        (0xD2, 0x05, 0x01),
-        (0xD2, 0x00, 0x00),
-        (0xA5, 0x05, 0x00),
-    ];
-    for (rorg, func, typ) in others {
-        assert!(rt; !supports(Eep { rorg, func, typ }));
+    for rorg in [0xF6, 0xD5, 0xA5, 0xD2, 0xD4] {
+        for func in 0..=0xFFu8 {
+            for typ in 0..=0xFFu8 {
+                let is_switch = func == 0x01 && typ <= 0x12;
+                let is_blinds = func == 0x05 && typ == 0x00;
+                assert_eq!(rt;
+                    supports(Eep { rorg, func, typ }),
+                    rorg == 0xD2 && (is_switch || is_blinds),
+                    "{rorg} {func} {typ}"
+                );
+            }
+        }
     }
 }
