@@ -1,5 +1,5 @@
 -- What the query that counts the other senders shows.
-use Rattle.std.proofs.Common.{nat_le, ◌≤◌, min, get_or, arith, ◌≡◌, ℕ, pos, List, [], ◌∷◌, ◌++◌, map, filter, length, suc, Bool, true, false, not, cond, Some, refl, sym, ap, subst, ◌∙◌, codes, is_eq, Ordering, Less, Equal, Greater}
+use Rattle.std.proofs.Common.{nat_le, ◌≤◌, min, get_or, arith, ◌≡◌, ℕ, pos, List, [], ◌∷◌, ◌++◌, map, filter, length, suc, Bool, true, false, not, cond, Some, refl, sym, ap, subst, ◌∙◌, codes, is_eq, Ordering, Less, Equal, Greater, Result, IfOk, IfErr}
 use Rattle.std.specs.Ordering.{is_ne}
 use Rattle.std.specs.List.{AllByRecursion, list_all, flat_map, AllZip}
 use Rattle.std.specs.FinMap.{len, remove}
@@ -12,7 +12,8 @@ use Rattle.sqlite.specs.Order.{Row, column, value_cmp}
 use Rattle.sqlite.specs.Collation.TheVariants.{Binary}
 use Rattle.sqlite.specs.Query.{IsAnswer, output, page, Output}
 use Rattle.sqlite.specs.Program.{overlay}
-use Rattle.sqlite.specs.State.{State, Shown}
+use Rattle.sqlite.specs.declared.error.Error.{Error}
+use Rattle.sqlite.specs.State.{State, HasCleanDisk, Survives, Shown, FailsToQuery, CommitsShowing}
 use Rattle.sqlite.specs.Command.TheVariants.{Select}
 use Rattle.sqlite_trees.specs.Tree.{Trees, without_rowid, has_rowid}
 use Rattle.sqlite_sql.specs.Term.{Env, eval, holds, lit}
@@ -25,7 +26,7 @@ use Rattle.sqlite_sql.specs.declared.aggregate.AggregateOp.TheVariants.{CountRow
 use Rattle.sqlite.proofs.Callers.{IsPlain, reads_as, one_permutation}
 use Rattle.device_registry.specs.Tables.{others_text}
 use Rattle.sqlite.specs.Listing.{understood}
-use Rattle.device_registry.specs.Ready.{IsReady, Shows}
+use Rattle.device_registry.specs.Ready.{IsReady, Shows, Stays}
 use Rattle.device_registry.specs.Devices.{Devices, is_full}
 use Rattle.device_registry.specs.Stored.{IsDevice, Registers}
 use Rattle.device_registry.proofs.StatementTexts.{is_other, others_query, program_of}
@@ -35,6 +36,7 @@ use Rattle.device_registry.proofs.SenderTests.{asked, and_true, truth_back, over
 use Rattle.device_registry.proofs.DistinctRows.{len_is}
 use Rattle.device_registry.proofs.RowWrites.{without_once}
 use Rattle.device_registry.proofs.DevicesHeld.{few_devices, fewer}
+use Rattle.device_registry.proofs.StatementSteps.{compiled_query_stays}
 
 -- the rows of other senders
 abbrev pub others : ℕ → List Row → List Env
@@ -100,6 +102,16 @@ counts old new id rows devices had h =
 
 pub others_plain : (s : State) → IsReady s → IsPlain (understood s.now.schema others_text)
 others_plain s ready = let r = ready.shows.registers.registry in (count_means s.now.schema r.tables.devices_at r.tables.devices r.tables.devices_stand).plain
+
+-- nothing is written by it
+pub others_stay : {V : Type 0} (id : ℕ) (text : List ℕ) (old mid new : State) (items : V → List Row) (r : Result V Error)
+    → Stays old mid → (HasCleanDisk mid → text ≡ others_text) → (HasCleanDisk mid → IsReady mid)
+    → Survives mid new (CommitsShowing text (asked id) mid)
+    → (HasCleanDisk new → IfOk r (λ v. Shown text (asked id) mid new (items v)))
+    → (HasCleanDisk new → IfErr r (FailsToQuery text (asked id) mid new)) → Stays old new
+others_stay id text old mid new items r first is ready survives shown failed =
+    compiled_query_stays others_text text (asked id) old mid new items r first is (λ clean. others_plain mid (ready clean))
+    survives shown failed
 
 shown_number : (v : Value) (n : ℕ) (row : Row) (more : List Row) → (v ∷ []) ∷ [] ≡ row ∷ more → column row 0 ≡ Int (pos n) → v ≡ Int (pos n)
 shown_number v n row more is number = ap (λ (rows : List Row). column (get_or rows 0 []) 0) is ∙ number

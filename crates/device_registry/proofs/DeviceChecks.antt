@@ -13,6 +13,7 @@ use Rattle.sqlite_sql.specs.declared.ops.CompareOp.TheVariants.{Le, Ge}
 use Rattle.device_registry.specs.Tables.{device_table}
 use Rattle.device_registry.specs.Devices.{Learned}
 use Rattle.device_registry.specs.Stored.{IsDevice, stored, eep_number, maker_number}
+use Rattle.device_registry.proofs.TestSteps.{both}
 
 -- the test of a CHECK that a number lies between two
 between : ℤ → ℤ → ℤ → Bool
@@ -23,10 +24,6 @@ truths true true = refl
 truths true false = refl
 truths false true = refl
 truths false false = refl
-
-both : (a b : Bool) → (a && b) ≡ true → (a ≡ true) × (b ≡ true)
-both true b h = (refl, h)
-both false b h = absurd cc
 
 at_least : (a b : ℤ) → is_ge (value_cmp (Int a) (Int b)) ≡ true → b ≤ℤ a
 at_least a b h = let e = ap is_ge (sym (value_cmp-Int a b)) ∙ h in grind (arith, ints, e)

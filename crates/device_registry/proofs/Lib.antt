@@ -33,6 +33,7 @@ pub mod StatementSteps
 pub mod StatementTexts
 pub mod TablePlaces
 pub mod TableTexts
+pub mod TestSteps
 pub mod TablesAdded
 pub mod TablesAlone
 pub mod TablesRecognized

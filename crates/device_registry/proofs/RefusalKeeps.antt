@@ -11,6 +11,7 @@ use Rattle.sqlite.specs.Steps.{FailsToCommit}
 use Rattle.sqlite.proofs.Callers.{IsPlain}
 use Rattle.device_registry.specs.Opening.{IsAtRest, Remains}
 use Rattle.device_registry.proofs.OpenCalls.{rests}
+use Rattle.device_registry.proofs.StatementSteps.{IsSpared, not_run, not_executed, not_shown}
 
 pub unchanged_remains : (old new : State) → IsUnchanged old new → Remains old new
 unchanged_remains old new same is_open rest = (rests old new same rest, same.0.now_is)
@@ -27,28 +28,13 @@ undone_remains old new back is_open rest =
     let both = back.undone is_open in
     back_at old new is_open back.autocommit (both.0 ∙ sym rest.settled) both.1 rest
 
-pub not_run_remains : (sql : List ℕ) (params : Row) (old new : State) (e : Error) → IsNotRun old new sql params e → Remains old new
-unfolding IsNotRun
-not_run_remains sql params old new e (inl h) = unchanged_remains old new h.1
-not_run_remains sql params old new e (inr h) = undone_remains old new h.3
+spared_remains : (old new : State) → IsSpared old new → Remains old new
+spared_remains old new (inl same) = unchanged_remains old new same
+spared_remains old new (inr back) = undone_remains old new back
 
-pub not_executed_remains : (sql : List ℕ) (params : Row) (old new : State) (e : Error) → Executes sql params old new (Err e) → Remains old new
-unfolding ExecutesIn
-not_executed_remains sql params old new e (inl h) = not_run_remains sql params old new e h
-not_executed_remains sql params old new e (inr h) = elim (cases_Bool (shows_rows false h.0)) [
-  | inl shows ↦ unchanged_remains old new (rw shows at h.2).1
-  | inr runs ↦ elim (rw runs at h.2) [
-    | inl same ↦ unchanged_remains old new same.1
-    | inr failed ↦ undone_remains old new failed.3
-  ]
-]
-
-pub not_shown_remains : (sql : List ℕ) (params : Row) (old new : State) → IsPlain (understood old.now.schema sql) → (e : Error) → FailsToQuery sql params old new e → Remains old new
-unfolding FailsToQuery
-not_shown_remains sql params old new plain e (inl h) = not_run_remains sql params old new e h
-not_shown_remains sql params old new plain e (inr h) =
-    let none = (subst IsPlain h.1.is plain).0 in
-    unchanged_remains old new (subst (FailsToShow old new sql h.0 (timed params h.0.formats h.1.now) e) none h.2).3
+spared_open : (old new : State) → IsSpared old new → IsTrue new.is_open → IsTrue old.is_open
+spared_open old new (inl same) is_open = same.0.was_open
+spared_open old new (inr back) is_open = back.was_open is_open
 
 -- what was asked before changed nothing
 pub remains_after : (old mid new : State) → IsUnchanged old mid → Remains mid new → Remains old new
@@ -61,16 +47,11 @@ err_told (Ok v) p = tt
 err_told (Err e) p = p
 
 -- what an open connection is known to be before it is asked
-pub asked : (old new : State) → (IsTrue old.is_open → IsAtRest old) → (IsTrue new.is_open → IsTrue old.is_open) → Remains old new → IsTrue new.is_open → IsAtRest new × (new.now ≡ old.now)
-asked old new rest was remains is_open = remains is_open (rest (was is_open))
-
-not_run_open : (sql : List ℕ) (params : Row) (old new : State) (e : Error) → IsNotRun old new sql params e → IsTrue new.is_open → IsTrue old.is_open
-unfolding IsNotRun
-not_run_open sql params old new e (inl h) is_open = h.1.0.was_open
-not_run_open sql params old new e (inr h) is_open = h.3.was_open is_open
-
-pub not_run_kept : (sql : List ℕ) (params : Row) (old new : State) (e : Error) → (IsTrue old.is_open → IsAtRest old) → IsNotRun old new sql params e → IsTrue new.is_open → IsAtRest new × (new.now ≡ old.now)
-not_run_kept sql params old new e rest h = asked old new rest (not_run_open sql params old new e h) (not_run_remains sql params old new e h)
+pub not_run_kept : (sql : List ℕ) (params : Row) (old new : State) (e : Error) → (IsTrue old.is_open → IsAtRest old)
+    → IsNotRun old new sql params e → IsTrue new.is_open → IsAtRest new × (new.now ≡ old.now)
+not_run_kept sql params old new e rest h is_open =
+    let is_spared = not_run sql params old new e h in
+    spared_remains old new is_spared is_open (rest (spared_open old new is_spared is_open))
 
 pub kept_if : {T E : Type 0} (r : Result T E) (old mid new : State) → IsUnchanged old mid → IsAtRest old → OnErr r (Remains mid new) → OnErr r (IsTrue new.is_open → IsAtRest new × (new.now ≡ old.now))
 kept_if (Ok v) old mid new same rest h = tt
@@ -78,19 +59,15 @@ kept_if (Err e) old mid new same rest h = λ is_open. remains_after old mid new 
 
 pub executed_if : (sql : List ℕ) (params : Row) (old new : State) (r : Result ℕ Error) → Executes sql params old new r → OnErr r (Remains old new)
 executed_if sql params old new (Ok n) h = tt
-executed_if sql params old new (Err e) h = not_executed_remains sql params old new e h
+executed_if sql params old new (Err e) h = spared_remains old new (not_executed sql params old new e h)
 
 pub queried_if : {V : Type 0} (sql : List ℕ) (params : Row) (old new : State) (r : Result V Error) → IsPlain (understood old.now.schema sql) → IfErr r (FailsToQuery sql params old new) → OnErr r (Remains old new)
 queried_if sql params old new (Ok v) plain h = tt
-queried_if sql params old new (Err e) plain h = not_shown_remains sql params old new plain e h
-
-pub after_if : {V E : Type 0} (r : Result V E) (old mid new : State) → IsUnchanged old mid → OnErr r (Remains mid new) → OnErr r (Remains old new)
-after_if (Ok v) old mid new same h = tt
-after_if (Err e) old mid new same h = remains_after old mid new same h
+queried_if sql params old new (Err e) plain h = spared_remains old new (not_shown sql params old new plain e h)
 
 -- ---- inside a transaction
 
-pub spared_commit : (old new : State) → IsUnchanged old new ⊎ IsRolledBack old new → KeepsCommit old new
+spared_commit : (old new : State) → IsSpared old new → KeepsCommit old new
 spared_commit old new (inl same) = record { was_open = λ _. same.0.was_open; committed = λ _. same.0.committed_is }
 spared_commit old new (inr back) = record { was_open = back.was_open; committed = λ is_open. (back.undone is_open).1 }
 

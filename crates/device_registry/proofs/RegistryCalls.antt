@@ -117,10 +117,6 @@ module _ {T E : Type 0} (old mid new : State) (change : Change) (result : Result
 
 -- ---- the arms of an answer
 
-on_err : {T E : Type 0} (P : T → Type 0) (Q : E → Type 0) (r : Result T E) → IsErr r → ((e : E) → Q e) → MatchResult r P Q
-on_err P Q (Ok x) is h = absurd (cc)
-on_err P Q (Err e) is h = h e
-
 on_both : {T E : Type 0} (P : T → Type 0) (Q : Type 0) (r : Result T E) → IfOk r P → Q → MatchResult r (λ x. P x × Q) (λ _. Q)
 on_both P Q (Ok x) p q = (p, q)
 on_both P Q (Err e) p q = q

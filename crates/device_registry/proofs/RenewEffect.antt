@@ -29,6 +29,7 @@ use Rattle.device_registry.proofs.StatementTexts.{program_of, renew_query}
 use Rattle.device_registry.proofs.SenderTests.{overlay_is}
 use Rattle.device_registry.proofs.TablesAlone.{StandsAlone}
 use Rattle.device_registry.proofs.RowWrites.{went, same_value, cast_int, cast_none, SparesOthers, spares}
+use Rattle.device_registry.proofs.TestSteps.{both}
 
 -- the row as the statement writes it
 abbrev pub version_row : Row
@@ -52,10 +53,6 @@ taken_out row it = ap (λ v. cond (not (is_eq (value_cmp v (Int (pos 1))))) (row
 -- the one row is replaced by itself
 pub replaced : (m : ℕ) (db : Trees) (row : Row) (it : IsVersion row) → db m ≡ row ∷ [] → edited db (edit_of db (meta_table m) (ids_of (written row ∷ [])) Given 1 (written row ∷ [])) ≡ version_row ∷ []
 replaced m db row it one = rw (it.key, cast_version m, one, taken_out row it) refl
-
-both : (a b : Bool) → (a && b) ≡ true → (a ≡ true) × (b ≡ true)
-both true b h = (refl, h)
-both false b h = absurd cc
 
 untrue : false ≡ true → ⊥
 untrue e = cc

@@ -1,6 +1,7 @@
 -- What the two queries show that read a whole table.
 use Rattle.sqlite.specs.declared.error.Error.{Error}
 use Rattle.std.proofs.Common.{◌≡◌, ◌≢◌, ◌<◌, ◌&&◌, ℕ, ℤ, Bool, true, false, not, ◌≤ℤ◌, negsuc, Less, Result, Ok, Err, IfOk, ◌≤◌, suc, pos, List, [], ◌∷◌, map, length, refl, sym, ap, subst, ◌∙◌, arith, codes}
+use Rattle.std.proofs.lemmas.Bool.{not-true}
 use Rattle.std.specs.List.{flat_map}
 use Rattle.std.specs.List.Sorted.{IsPermutation}
 use Rattle.std.proofs.lemmas.List.Sorted.{length_permutation}
@@ -34,6 +35,7 @@ use Rattle.device_registry.proofs.SenderTests.{overlay_is, above}
 use Rattle.device_registry.proofs.StatementTexts.{program_of, all_query}
 use Rattle.device_registry.proofs.ListDevicesMeaning.{all_means}
 use Rattle.device_registry.proofs.VersionMeaning.{version_query, version_means}
+use Rattle.device_registry.proofs.TestSteps.{both}
 
 abbrev envs : List Row → List Env
 envs rows = flat_map (λ r. ([] ∷ r ∷ []) ∷ []) rows
@@ -86,10 +88,6 @@ version_reads old new rows t h =
 Above : ℤ → Row → Type 0
 Above last row = (n : ℤ) × (column row 0 ≡ Int n) × (is_lt (int_cmp last n) ≡ true)
 
-both : (a b : Bool) → (a && b) ≡ true → (a ≡ true) × (b ≡ true)
-both true b h = (refl, h)
-both false b h = absurd cc
-
 number_above : (last : ℤ) (v : Value) → is_above last v ≡ true → (n : ℤ) × (v ≡ Int n) × (is_lt (int_cmp last n) ≡ true)
 number_above last (Int n) h = (n, refl, h)
 number_above last Null h = absurd cc
@@ -97,16 +95,12 @@ number_above last (Real x) h = absurd cc
 number_above last (Text t) h = absurd cc
 number_above last (Blob b) h = absurd cc
 
-untrue : (b : Bool) → not b ≡ true → b ≡ false
-untrue true h = absurd cc
-untrue false h = refl
-
 not_above : (a b : ℤ) → is_lt (int_cmp b a) ≡ false → a ≤ℤ b
 not_above a b h = grind (arith, ints, h)
 
 -- a value within two bounds is a number between them
 pub number_within : (low high : ℤ) (v : Value) → is_within low high v ≡ true → (n : ℤ) × (v ≡ Int n) × ((low ≤ℤ n) × (n ≤ℤ high))
-number_within low high (Int n) h = let two = both _ _ h in (n, refl, (not_above low n (untrue _ two.0), not_above n high (untrue _ two.1)))
+number_within low high (Int n) h = let two = both _ _ h in (n, refl, (not_above low n (not-true _ two.0), not_above n high (not-true _ two.1)))
 number_within low high Null h = absurd cc
 number_within low high (Real x) h = absurd cc
 number_within low high (Text t) h = absurd cc

@@ -1,7 +1,7 @@
 -- What the tests of a schema tell.
 use Rattle.std.proofs.Common.{inl, inr, suc, ◌≡◌, ◌≢◌, ℕ, ◌+◌, ◌==◌, List, [], ◌∷◌, Bool, true, false, not, ◌&&◌, ◌||◌, Some, None, Option, if◌then◌else◌, subst, refl, sym, ap, ◌∙◌, arith, IsTrue, is_some, is_none, slice_get, option_map, option_and_then, codes}
 use Rattle.std.proofs.lemmas.Bool.Decides.{nat_tests}
-use Rattle.std.proofs.lemmas.Bool.{cases_Bool}
+use Rattle.std.proofs.lemmas.Bool.{cases_Bool, not-true}
 use Rattle.std.specs.List.{AllByRecursion, list_any, list_all, position_from}
 use Rattle.sqlite.specs.Schema.{Schema}
 use Rattle.sqlite.specs.Table.{Table}
@@ -12,14 +12,7 @@ use Rattle.device_registry.specs.Tables.{meta_name, device_name}
 use Rattle.device_registry.specs.Stored.{AreSpared, SparesName, KeepsTree, HasTables}
 use Rattle.device_registry.specs.Opening.{IsClear}
 use Rattle.device_registry.specs.Places.{refers, is_referred, is_indexed, lacks_counts, is_clear, is_lone, is_left_alone, if_left_alone, tree_named, trees_in}
-
-both : (a b : Bool) → (a && b) ≡ true → (a ≡ true) × (b ≡ true)
-both true b h = (refl, h)
-both false b h = absurd cc
-
-untrue : (b : Bool) → not b ≡ true → b ≡ false
-untrue true h = absurd cc
-untrue false h = refl
+use Rattle.device_registry.proofs.TestSteps.{both}
 
 pub none_any : {X : Type 0} (test : X → Bool) (xs : List X) → list_any test xs ≡ false → AllByRecursion (λ x. test x ≡ false) xs
 none_any test [] h = tt
@@ -95,10 +88,10 @@ cleared schema h =
     let c = both _ _ b.0 in
     let d = both _ _ c.0 in
     record {
-      free_meta = untrue _ d.0;
-      free_devices = untrue _ d.1;
-      spared = spared schema (untrue _ c.1) (untrue _ b.1);
-      counted = counted schema ∙ untrue _ a.1;
+      free_meta = not-true _ d.0;
+      free_devices = not-true _ d.1;
+      spared = spared schema (not-true _ c.1) (not-true _ b.1);
+      counted = counted schema ∙ not-true _ a.1;
     }
 
 pub is_cleared : (schema : Schema) → IsClear schema → IsTrue (is_clear schema)
@@ -146,9 +139,9 @@ left_alone schema meta devices h =
     record {
       alone = all_both (KeepsTree meta_name meta) (KeepsTree device_name devices) (λ table. KeepsTree meta_name meta table × KeepsTree device_name devices table) (λ t p q. (p, q)) schema.tables
           (lone schema meta_name meta y.1) (lone schema device_name devices z.1);
-      spared = spared schema (untrue _ c.0) (untrue _ c.1);
+      spared = spared schema (not-true _ c.0) (not-true _ c.1);
       unindexed = all_both (λ index. index.table ≢ meta) (λ index. index.table ≢ devices) (λ index. (index.table ≢ meta) × (index.table ≢ devices)) (λ index p q. (p, q)) schema.indexes
-          (unindexed schema meta (untrue _ b.1)) (unindexed schema devices (untrue _ a.1));
+          (unindexed schema meta (not-true _ b.1)) (unindexed schema devices (not-true _ a.1));
     }
 
 -- the table of this name

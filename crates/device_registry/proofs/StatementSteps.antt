@@ -1,5 +1,5 @@
 -- From what the store says of a statement to what it does to the registry.
-use Rattle.std.proofs.Common.{◌≡◌, inl, inr, ℕ, List, [], append-nil, OnOk, false, None, Ok, Err, Result, IsTrue, IfOk, IfErr, sym, ap, subst, subst₂, ◌∙◌, arith}
+use Rattle.std.proofs.Common.{◌≡◌, ◌⊎◌, inl, inr, ℕ, List, [], append-nil, OnOk, false, None, Ok, Err, Result, IsTrue, IfOk, IfErr, sym, ap, subst, subst₂, ◌∙◌, arith}
 use Rattle.std.proofs.lemmas.Bool.{cases_Bool}
 use Rattle.sqlite.specs.Order.{Row}
 use Rattle.sqlite_trees.specs.Tree.{Trees}
@@ -52,20 +52,28 @@ undone old new back is_open = (
       },
 )
 
-pub not_run : (sql : List ℕ) (params : Row) (old new : State) (e : Error) → IsNotRun old new sql params e → GoesOn old new
-unfolding IsNotRun
-not_run sql params old new e (inl h) = unchanged old new h.1
-not_run sql params old new e (inr h) = undone old new h.3
+-- ---- a refusal
 
-pub not_executed : (sql : List ℕ) (params : Row) (old new : State) (e : Error) → Executes sql params old new (Err e) → GoesOn old new
+-- it changes nothing, or goes back to what was committed
+abbrev pub IsSpared : State → State → Type 0
+IsSpared old new = IsUnchanged old new ⊎ IsRolledBack old new
+
+pub spared : (old new : State) → IsSpared old new → GoesOn old new
+spared old new (inl same) = unchanged old new same
+spared old new (inr back) = undone old new back
+
+pub not_run : (sql : List ℕ) (params : Row) (old new : State) (e : Error) → IsNotRun old new sql params e → IsSpared old new
+unfolding IsNotRun
+not_run sql params old new e (inl h) = inl h.1
+not_run sql params old new e (inr h) = inr h.3
+
+pub not_executed : (sql : List ℕ) (params : Row) (old new : State) (e : Error) → Executes sql params old new (Err e)
+    → IsSpared old new
 unfolding ExecutesIn
 not_executed sql params old new e (inl h) = not_run sql params old new e h
 not_executed sql params old new e (inr h) = elim (cases_Bool (shows_rows false h.0)) [
-  | inl shows ↦ unchanged old new (rw shows at h.2).1
-  | inr runs ↦ elim (rw runs at h.2) [
-    | inl same ↦ unchanged old new same.1
-    | inr failed ↦ undone old new failed.3
-  ]
+  | inl shows ↦ inl (rw shows at h.2).1
+  | inr runs ↦ elim (rw runs at h.2) [ inl same ↦ inl same.1 | inr failed ↦ inr failed.3 ]
 ]
 
 -- ---- queries
@@ -77,12 +85,12 @@ module _ (sql : List ℕ) (params : Row) (old new : State) (plain : IsPlain (und
       let none = (subst IsPlain h.1.is plain).0 in
       (subst (ShowsRows old new sql h.0 (timed params h.0.formats h.1.now) rows) none h.2).3
 
-  pub not_shown : (e : Error) → FailsToQuery sql params old new e → GoesOn old new
+  pub not_shown : (e : Error) → FailsToQuery sql params old new e → IsSpared old new
   unfolding FailsToQuery
   not_shown e (inl h) = not_run sql params old new e h
   not_shown e (inr h) =
       let none = (subst IsPlain h.1.is plain).0 in
-      unchanged old new (subst (FailsToShow old new sql h.0 (timed params h.0.formats h.1.now) e) none h.2).3
+      inl (subst (FailsToShow old new sql h.0 (timed params h.0.formats h.1.now) e) none h.2).3
 
 -- ---- a call
 
@@ -93,7 +101,7 @@ stays_from old new survives goes_on = record {
   goes_on = goes_on;
 }
 
-pub stays_then : (old mid new : State) → Stays old mid → Stays mid new → Stays old new
+stays_then : (old mid new : State) → Stays old mid → Stays mid new → Stays old new
 stays_then old mid new first second = record {
   clean = λ clean. first.clean (second.clean clean);
   stop = λ clean trees left. first.stop (second.clean clean) trees (second.stop clean trees left);
@@ -104,7 +112,7 @@ pub ready_on : (old new : State) → GoesOn old new → IsTrue new.is_open → I
 ready_on old new goes_on is_open ready = record { devices = ready.devices; shows = (goes_on is_open).1 ready.devices ready.shows }
 
 -- a query that was asked of a ready registry
-pub query_stays : {V : Type 0} (sql : List ℕ) (params : Row) (old new : State) (items : V → List Row) (r : Result V Error) → (HasCleanDisk old → IsPlain (understood old.now.schema sql))
+query_stays : {V : Type 0} (sql : List ℕ) (params : Row) (old new : State) (items : V → List Row) (r : Result V Error) → (HasCleanDisk old → IsPlain (understood old.now.schema sql))
     → Survives old new (CommitsShowing sql params old) → (HasCleanDisk new → IfOk r (λ v. Shown sql params old new (items v))) → (HasCleanDisk new → IfErr r (FailsToQuery sql params old new)) → Stays old new
 query_stays sql params old new items r plain survives shown failed =
     let early = λ (clean : HasCleanDisk new). let was : HasCleanDisk old = omega (arith, survives.clean) in was in
@@ -116,15 +124,22 @@ query_stays sql params old new items r plain survives shown failed =
   where
     goes : (r : Result _ Error) → IsPlain (understood old.now.schema sql) → IfOk r (λ v. Shown sql params old new (items v)) → IfErr r (FailsToQuery sql params old new) → GoesOn old new
     goes (Ok v) known shown failed = unchanged old new (shown_same sql params old new known (items v) shown)
-    goes (Err e) known shown failed = not_shown sql params old new known e failed
+    goes (Err e) known shown failed = spared old new (not_shown sql params old new known e failed)
 
 pub ok_then : {T E : Type 0} (A B : T → Type 0) (r : Result T E) → ((v : T) → A v → B v) → IfOk r A → IfOk r B
 ok_then A B (Ok v) so it = so v it
 ok_then A B (Err e) so it = tt
 
--- a statement that was compiled from a plain text is plain
-pub plain_of : (schema : Schema) (text sql : List ℕ) → text ≡ sql → IsPlain (understood schema sql) → IsPlain (understood schema text)
-plain_of schema text sql is plain = subst (λ t. IsPlain (understood schema t)) (sym is) plain
+-- a query by a statement that was compiled from a plain text
+pub compiled_query_stays : {V : Type 0} (sql text : List ℕ) (params : Row) (old mid new : State) (items : V → List Row)
+    (r : Result V Error) → Stays old mid → (HasCleanDisk mid → text ≡ sql)
+    → (HasCleanDisk mid → IsPlain (understood mid.now.schema sql)) → Survives mid new (CommitsShowing text params mid)
+    → (HasCleanDisk new → IfOk r (λ v. Shown text params mid new (items v)))
+    → (HasCleanDisk new → IfErr r (FailsToQuery text params mid new)) → Stays old new
+compiled_query_stays sql text params old mid new items r first is plain survives shown failed =
+    let known = λ (clean : HasCleanDisk mid).
+    subst (λ t. IsPlain (understood mid.now.schema t)) (sym (is clean)) (plain clean) in
+    stays_then old mid new first (query_stays text params mid new items r known survives shown failed)
 
 -- and that answered
 pub query_ready : (sql : List ℕ) (params : Row) (old new : State) (rows : List Row) → IsPlain (understood old.now.schema sql) → IsReady old → Shown sql params old new rows → IsReady new
@@ -134,7 +149,7 @@ query_ready sql params old new rows plain ready h = let same = shown_same sql pa
 module _ {V : Type 0} (P : V → Type 0) (sql : List ℕ) (old new : State) where
   compiled_goes : (r : Result V Error) → IfOk r (λ v. P v × IsUnchanged old new) → IfErr r (λ e. (params : Row) → IsNotRun old new sql params e) → GoesOn old new
   compiled_goes (Ok v) ok err = unchanged old new ok.1
-  compiled_goes (Err e) ok err = not_run sql [] old new e (err [])
+  compiled_goes (Err e) ok err = spared old new (not_run sql [] old new e (err []))
 
   pub compiled_stays : (r : Result V Error) → Survives old new (λ _. ⊥) → (HasCleanDisk new → IfOk r (λ v. P v × IsUnchanged old new)) → (HasCleanDisk new → IfErr r (λ e. (params : Row) → IsNotRun old new sql params e)) → Stays old new
   compiled_stays r survives ok err = stays_from old new survives (λ clean. compiled_goes r (ok clean) (err clean))

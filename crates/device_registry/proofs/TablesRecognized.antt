@@ -35,7 +35,7 @@ use Rattle.sqlite_trees.specs.Sound.{Head, head_at, may_follow, are_in_order}
 use Rattle.sqlite_value.specs.Order.{bytes}
 use Rattle.std.specs.Char.{to_ascii_lowercase}
 use Rattle.std.proofs.lemmas.List.Folds.{list_any-append}
-use Rattle.std.proofs.lemmas.Bool.{cases_Bool}
+use Rattle.std.proofs.lemmas.Bool.{cases_Bool, not-true}
 use Rattle.device_registry.specs.Tables.{list_text, meta_name, device_name, meta_text, device_text, meta_table, device_table}
 use Rattle.device_registry.specs.Stored.{Stands, KeepsTree}
 use Rattle.device_registry.specs.Stored.{HasTables, IsRegistry}
@@ -47,12 +47,9 @@ use Rattle.device_registry.proofs.TableTexts.{meta_is, device_is}
 use Rattle.device_registry.proofs.ListObjectsMeaning.{list_query_is}
 use Rattle.device_registry.proofs.ListObjectsAnswer.{listing_shows}
 use Rattle.device_registry.proofs.SchemaTests.{IsNamed, IsPlaced, any_none, found, has_name, is_cleared}
+use Rattle.device_registry.proofs.TestSteps.{both}
 
 -- ---- what a line tells
-
-both : (a b : Bool) → (a && b) ≡ true → (a ≡ true) × (b ≡ true)
-both true b h = (refl, h)
-both false b h = absurd cc
 
 text_is : (v : Value) (text : List ℕ) → has_text v text ≡ true → v ≡ Text text
 text_is (Text t) text h = ap Text ((bytes_eq-Decides t text).0 h)
@@ -147,9 +144,6 @@ defined_as row t text made it lists is =
 abbrev name_in : Row → List ℕ
 name_in row = bytes (column row 2)
 
-lists_alike : (a b : List ℕ) → sound.same_name a b ≡ true → map to_ascii_lowercase a ≡ map to_ascii_lowercase b
-lists_alike a b h = (lowered a b).0 (names_agree a b ∙ h)
-
 not_both : (b : Bool) → b ≡ true → b ≡ false → ⊥
 not_both true h k = absurd cc
 not_both false h k = absurd cc
@@ -162,16 +156,12 @@ either_false : (a b : Bool) → (a || b) ≡ false → (a ≡ false) × (b ≡ f
 either_false true b h = absurd cc
 either_false false b h = (refl, h)
 
-untrue : (b : Bool) → not b ≡ true → b ≡ false
-untrue true h = absurd cc
-untrue false h = refl
-
 names_apart : (earlier : List Head) (rows : List Row) → are_in_order earlier (map (head_at 1) rows) ≡ true → NewIn earlier rows × IsAscending (λ a b. sound.same_name (name_in a) (name_in b) ≡ false) rows
 unfolding NewIn may_follow
 names_apart earlier [] h = (tt, tt)
 names_apart earlier (row ∷ rows) h =
     let parts = both _ _ h in
-    let first = untrue _ (both _ _ parts.0).0 in
+    let first = not-true _ (both _ _ parts.0).0 in
     let more = names_apart (earlier ++ head_at 1 row ∷ []) rows parts.1 in
     let split = all_weaker (λ r. list_any (λ (e : Head). sound.same_name (bytes e.1) (name_in r)) (earlier ++ head_at 1 row ∷ []) ≡ false)
     (λ r. (list_any (λ (e : Head). sound.same_name (bytes e.1) (name_in r)) earlier ≡ false) × (sound.same_name (name_in row) (name_in r) ≡ false))

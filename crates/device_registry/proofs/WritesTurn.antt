@@ -28,7 +28,7 @@ use Rattle.device_registry.proofs.LearnEffect.{learn_params, learns}
 use Rattle.device_registry.proofs.ForgetEffect.{forgets}
 use Rattle.device_registry.proofs.RenewEffect.{renews}
 use Rattle.device_registry.proofs.DevicesHeld.{put_registers, forgotten_registers, renewed_registers}
-use Rattle.device_registry.proofs.StatementSteps.{commits_as, not_executed}
+use Rattle.device_registry.proofs.StatementSteps.{commits_as, spared, not_executed}
 
 -- A statement that writes, and what it makes of a registry of devices for which there is room.
 module _ (sql : List ℕ) (params : Row) (change : Change) (HasRoom : Devices → Type 0)
@@ -80,7 +80,7 @@ module _ (sql : List ℕ) (params : Row) (change : Change) (HasRoom : Devices �
 
       err_of : (r : Result ℕ Error) → Executes sql params old new r → OnErr r (GoesOn old new)
       err_of (Ok count) h = tt
-      err_of (Err e) h = not_executed sql params old new e h
+      err_of (Err e) h = spared old new (not_executed sql params old new e h)
 
 learn_does : (id : ℕ) (it : Learned) → IsShort it.eep → (s : State) (after : Database) (text : List ℕ) (tally : Tally) (devices : Devices) (had : Registers s.now devices) → is_full devices id ≡ false
     → Does s.step_limit (mode_of s) (learn_params id it) s.now text None (InsertOr had.registry.tables.devices_at Replace (Values learn_terms 4) []) (Ok (tally, after)) → Registers after (insert devices id it)

@@ -31,18 +31,18 @@ fn compiled<S: Alter>(conn: &mut Connection<S>, sql: &str) -> Result<Statement, 
 fn rows_of<S: Alter>(
     conn: &mut Connection<S>,
     statement: &Statement,
-    id: i64,
+    id: u32,
 ) -> Result<Vec<Row>, Error>
     ensures shown { HasCleanDisk (state S.Store conn.new) → IfOk result
-        (λ rows. Shown statement.now.text (Int id ∷ []) (state S.Store conn.old)
+        (λ rows. Shown statement.now.text (Int (pos id) ∷ []) (state S.Store conn.old)
         (state S.Store conn.new) rows.items) }
     ensures failed { HasCleanDisk (state S.Store conn.new) →
-        IfErr result (FailsToQuery statement.now.text (Int id ∷ []) (state S.Store conn.old)
+        IfErr result (FailsToQuery statement.now.text (Int (pos id) ∷ []) (state S.Store conn.old)
         (state S.Store conn.new)) }
     ensures survives { Survives (state S.Store conn.old) (state S.Store conn.new)
-        (CommitsShowing statement.now.text (Int id ∷ []) (state S.Store conn.old)) }
+        (CommitsShowing statement.now.text (Int (pos id) ∷ []) (state S.Store conn.old)) }
 {
-    statement.query_all(conn, params![id])
+    statement.query_all(conn, params![i64::from(id)])
 }
 
 /// The rows of a sender.
@@ -53,7 +53,7 @@ pub(crate) fn look_up<S: Alter>(conn: &mut Connection<S>, id: u32) -> Result<Vec
         ((devices : Devices) → Shows (state S.Store conn.old) devices → AreFound (get devices id) rows.items)) }
 {
     let find = compiled(conn, "SELECT eep, maker FROM enogate_device WHERE id = ?1")?;
-    rows_of(conn, &find, i64::from(id))
+    rows_of(conn, &find, id)
 }
 
 /// Whether there is no room for a sender.
@@ -64,7 +64,7 @@ pub(crate) fn has_no_room<S: Alter>(conn: &mut Connection<S>, id: u32) -> Result
         ((devices : Devices) → Shows (state S.Store conn.old) devices → full ≡ is_full devices id)) }
 {
     let others = compiled(conn, "SELECT count(*) FROM enogate_device WHERE id <> ?1")?;
-    let rows = rows_of(conn, &others, i64::from(id))?;
+    let rows = rows_of(conn, &others, id)?;
     Ok(number(&rows)? >= MOST_DEVICES as u64)
 }
 

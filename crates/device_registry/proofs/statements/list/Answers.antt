@@ -4,17 +4,17 @@ use Rattle.sqlite.specs.Held.{state}
 use Rattle.device_registry.specs.Devices.{Devices, all_of}
 use Rattle.device_registry.specs.Ready.{Shows, IsReady, listed}
 use Rattle.device_registry.specs.Tables.{all_text}
-use Rattle.device_registry.proofs.StatementSteps.{query_stays, query_ready, stays_then, plain_of, ok_then}
+use Rattle.device_registry.proofs.StatementSteps.{compiled_query_stays, query_ready, ok_then}
 use Rattle.device_registry.proofs.ListDevicesAnswer.{all_plain, lists}
 use Rattle.device_registry.proofs.statements.list.Goals as goal
 
 pub returns-clause-stays : goal.returns-clause-stays
 returns-clause-stays g c =
     let mid = state g.S.Store c.compiled.new.conn in
-    let new = state g.S.Store c.query_all.new.conn in
-    stays_then (state g.S.Store c.args.conn.now) mid new c.compiled.ensures.stays
-    (query_stays c.in_ok-all.all.text [] mid new (λ v. v.items) c.query_all.result
-    (λ clean. plain_of mid.now.schema _ _ (c.in_ok-all.ensures.text clean) (all_plain mid (c.in_ok-all.ensures.ready clean))) c.query_all.ensures.survives c.query_all.ensures.ok c.query_all.ensures.err)
+    compiled_query_stays all_text c.in_ok-all.all.text [] (state g.S.Store c.args.conn.now) mid
+    (state g.S.Store c.query_all.new.conn) (λ v. v.items) c.query_all.result c.compiled.ensures.stays
+    c.in_ok-all.ensures.text (λ clean. all_plain mid (c.in_ok-all.ensures.ready clean))
+    c.query_all.ensures.survives c.query_all.ensures.ok c.query_all.ensures.err
 
 pub returns-clause-all : goal.returns-clause-all
 returns-clause-all g c clean =

@@ -1,25 +1,22 @@
-use Rattle.std.proofs.Common.{rules, arith, SFits, w64, to_z-of_z, subst}
+use Rattle.std.proofs.Common.{arith, subst}
 use Rattle.std.specs.FinMap.{get}
 use Rattle.sqlite.specs.State.{HasCleanDisk, Shown}
 use Rattle.sqlite.specs.Held.{state}
 use Rattle.device_registry.specs.Devices.{Devices}
 use Rattle.device_registry.specs.Ready.{Shows, IsReady, AreFound}
+use Rattle.device_registry.specs.Tables.{find_text}
 use Rattle.device_registry.proofs.SenderTests.{asked}
-use Rattle.device_registry.proofs.StatementSteps.{query_stays, stays_then, plain_of, ok_then}
+use Rattle.device_registry.proofs.StatementSteps.{compiled_query_stays, ok_then}
 use Rattle.device_registry.proofs.FindAnswer.{find_plain, looked_up}
 use Rattle.device_registry.proofs.statements.look_up.Goals as goal
 
 pub returns-clause-stays : goal.returns-clause-stays
 returns-clause-stays g c =
     let mid = state g.S.Store c.compiled.new.conn in
-    let new = state g.S.Store c.rows_of.new.conn in
-    let a : SFits w64 c.from.result = search rules in
-    stays_then (state g.S.Store c.args.conn.now) mid new c.compiled.ensures.stays
-    (query_stays c.in_ok-find.find.text (asked c.args.id) mid new (λ v. v.items) c.rows_of.result
-    (λ clean. plain_of mid.now.schema _ _ (c.in_ok-find.ensures.text clean) (find_plain mid (c.in_ok-find.ensures.ready clean)))
-    (rw c.from.ensures at (simp to_z-of_z at c.rows_of.ensures.survives))
-    (λ clean. rw c.from.ensures at (simp to_z-of_z at (c.rows_of.ensures.shown clean)))
-    (λ clean. rw c.from.ensures at (simp to_z-of_z at (c.rows_of.ensures.failed clean))))
+    compiled_query_stays find_text c.in_ok-find.find.text (asked c.args.id) (state g.S.Store c.args.conn.now) mid
+    (state g.S.Store c.rows_of.new.conn) (λ v. v.items) c.rows_of.result c.compiled.ensures.stays
+    c.in_ok-find.ensures.text (λ clean. find_plain mid (c.in_ok-find.ensures.ready clean))
+    c.rows_of.ensures.survives c.rows_of.ensures.shown c.rows_of.ensures.failed
 
 pub returns-clause-found : goal.returns-clause-found
 returns-clause-found g c clean =
@@ -28,11 +25,12 @@ returns-clause-found g c clean =
     let new = state g.S.Store c.rows_of.new.conn in
     let id = c.args.id in
     let text = c.in_ok-find.find.text in
-    let a : SFits w64 c.from.result = search rules in
     let early : HasCleanDisk mid = omega (arith, clean, c.rows_of.ensures.survives.clean) in
     let ready = c.in_ok-find.ensures.ready early in
-    ok_then (λ v. Shown text (asked id) mid new v.items) (λ v. IsReady new × ((devices : Devices) → Shows old devices → AreFound (get devices id) v.items)) c.rows_of.result
+    ok_then (λ v. Shown text (asked id) mid new v.items)
+    (λ v. IsReady new × ((devices : Devices) → Shows old devices → AreFound (get devices id) v.items)) c.rows_of.result
     (λ v shown.
-    let found = looked_up mid new id v.items ready (subst (λ t. Shown t (asked id) mid new v.items) (c.in_ok-find.ensures.text early) shown) in
+    let all = subst (λ t. Shown t (asked id) mid new v.items) (c.in_ok-find.ensures.text early) shown in
+    let found = looked_up mid new id v.items ready all in
     (found.0, λ devices shows. found.1 devices ((c.compiled.ensures.stays.goes_on early ready.shows.is_open).1 devices shows)))
-    (rw c.from.ensures at (simp to_z-of_z at (c.rows_of.ensures.shown clean)))
+    (c.rows_of.ensures.shown clean)
