@@ -1,4 +1,4 @@
--- All lines of more than 200 bytes are handled alike.
+-- All lines that are too long are handled alike.
 use Rattle.std.proofs.Common.{◌≡◌, ℕ, ◌<◌, List, [], ◌∷◌, length, refl, ap, sym, subst, ◌∙◌}
 use Rattle.std.specs.Prelude.{if◌then◌else◌, IsTrue, IsSome}
 use Rattle.std.proofs.lemmas.Bool.{lt-ltb}
@@ -7,16 +7,17 @@ use Rattle.sqlite_trees.specs.declared.store.Store.{Ghosts}
 use Rattle.device_registry.specs.Devices.{Devices}
 use Rattle.device_registry.specs.Holding.{MayFind}
 use Rattle.gateway_core.specs.declared.lines.error.ErrorName.TheVariants.{TooLong}
-use Rattle.gateway_core.specs.Orders.{order_of}
+use Rattle.gateway_core.specs.Orders.{longest_line, order_of}
 use Rattle.gateway_core.specs.Step.{State, Ordered, Answer, said, Decision, Denies, decision, decision_answer}
 use Rattle.gateway_core.specs.Step.{order_decision, change_in, with_change}
 use Rattle.gateway_core.specs.Run.{Fate, Taken, Refused, RefusedAtWrite, Run, needs_help, cause_text, refused}
 use Rattle.gateway_core.specs.Stops.{Left, nothing_left, told, pending, left_by, Safe}
 use Rattle.gateway_core.specs.Handling.{Sight, Went, Handles}
 
-decision-long : (devices : Devices) (line : List ℕ) → 200 < length line → decision devices line ≡ Denies TooLong
+decision-long : (devices : Devices) (line : List ℕ) → longest_line < length line
+    → decision devices line ≡ Denies TooLong
 decision-long devices line h =
-    ap (λ b. if b then Denies TooLong else order_decision devices (order_of line)) (lt-ltb 200 (length line) h)
+    ap (λ b. if b then Denies TooLong else order_decision devices (order_of line)) (lt-ltb longest_line (length line) h)
 
 -- a run on one order hangs on the decision alone
 run_alike : (old new : State) (short long : List ℕ) (fates : List Fate) (answers : List Answer)
@@ -58,9 +59,9 @@ module _ {S : Type 0} (g : Ghosts S) where
         subst P (left_alike start short long went.fates e) (went.stop left may);
   }
 
-  -- two lines of more than 200 bytes are handled alike
-  pub handles_alike : (old new : Sight S) (short long : List ℕ) (answers : List Answer) → 200 < length short
-      → 200 < length long → Handles g old (Ordered short ∷ []) answers new
+  -- two lines that are too long are handled alike
+  pub handles_alike : (old new : Sight S) (short long : List ℕ) (answers : List Answer) → longest_line < length short
+      → longest_line < length long → Handles g old (Ordered short ∷ []) answers new
       → Handles g old (Ordered long ∷ []) answers new
   handles_alike old new short long answers a b handled = record {
     base = handled.base;

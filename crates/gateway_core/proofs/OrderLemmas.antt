@@ -172,7 +172,7 @@ Speaks line (Ok order) = Spells line order
 Speaks line (Err Range) = (order : Order) × HasShape line order × (¬ IsInRange order)
 Speaks line (Err Syntax) = Unit {0}
 
--- an order whose ID may be the ID of all
+-- an order whose ID may be the broadcast ID
 speaks_by_range : (line : List ℕ) (id : ℕ) (order : Order) (b : Bool) → (id == 0xFFFF_FFFF) ≡ b → HasShape line order
     → (IsInRange order ≡ (id ≢ 0xFFFF_FFFF)) → Speaks line (if b then Err Range else Ok order)
 unfolding Speaks

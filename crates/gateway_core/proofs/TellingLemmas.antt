@@ -19,7 +19,7 @@ use Rattle.gateway_core.specs.declared.orders.Order.{Order}
 use Rattle.gateway_core.specs.declared.orders.Order.TheVariants.{Add, Remove, List as ListAll, Status}
 use Rattle.gateway_core.specs.declared.orders.OrderFault.{OrderFault}
 use Rattle.gateway_core.specs.declared.orders.OrderFault.TheVariants.{Syntax, Range}
-use Rattle.gateway_core.specs.Orders.{order_of}
+use Rattle.gateway_core.specs.Orders.{longest_line, order_of}
 use Rattle.gateway_core.specs.Profiles.{is_supported, readings_of}
 use Rattle.gateway_core.specs.Responses.{Response, response_in}
 use Rattle.profiles_rps.specs.Reading.{Entry}
@@ -208,7 +208,7 @@ forgets-known : (devices : Devices) (line : List ℕ) (known : Device) → decis
     → device_of devices known.id ≡ Some known
 forgets-known devices line known e =
     order-known devices (order_of line) known
-    (unless-long (nat_lt 200 (length line)) (order_decision devices (order_of line)) known e)
+    (unless-long (nat_lt longest_line (length line)) (order_decision devices (order_of line)) known e)
 
 -- ---- the lines of changes
 

@@ -1,5 +1,6 @@
 -- One item, done or refused.
-use Rattle.std.proofs.Common.{◌≡◌, inl, inr, ℕ, ◌≤◌, ◌+◌, ◌-◌, Bool, true, false, cond, IsTrue, IsSome, List, [], ◌∷◌}
+use Rattle.std.proofs.Common.{◌<◌, ◌≡◌, inl, inr, ℕ, ◌≤◌, ◌+◌, ◌-◌, Bool, true, false, cond, IsTrue, IsSome, List, []}
+use Rattle.std.proofs.Common.{◌∷◌}
 use Rattle.std.proofs.Common.{length, Option, Some, None, Result, Ok, Err, refl, sym, ap, subst, ◌∙◌, arith}
 use Rattle.std.specs.Prelude.{if◌then◌else◌, unwrap_or}
 use Rattle.std.specs.Option.{option_map}
@@ -14,7 +15,7 @@ use Rattle.erp1_telegrams.specs.declared.eep.Eep.{Eep}
 use Rattle.device_registry.specs.declared.device.Device.{Device}
 use Rattle.device_registry.specs.declared.fault.LearnFault.{LearnFault}
 use Rattle.device_registry.specs.declared.fault.LearnFault.TheVariants as fault
-use Rattle.device_registry.specs.Devices.{Learned, Devices, device, device_of, is_full, Change, learned}
+use Rattle.device_registry.specs.Devices.{most_devices, Learned, Devices, device, device_of, is_full, Change, learned}
 use Rattle.device_registry.proofs.ForCallers.{few_are_held}
 use Rattle.device_registry.specs.Holding.{HasDevices, MayFind, AreRegistries, Keeps, Pends, RefusesToLearn}
 use Rattle.gateway_core.specs.declared.lines.error.ErrorName.TheVariants as error
@@ -27,7 +28,7 @@ use Rattle.gateway_core.specs.declared.counts.Counts.{Counts}
 use Rattle.gateway_core.specs.declared.handler.Done.{Done}
 use Rattle.gateway_core.specs.Profiles.{is_supported}
 use Rattle.gateway_core.specs.Counts.{raised}
-use Rattle.gateway_core.specs.Orders.{order_of}
+use Rattle.gateway_core.specs.Orders.{longest_line, order_of}
 use Rattle.gateway_core.specs.Step.{State, Item, Answer, Decision, Denies, Learns, change_in, said, order_decision}
 use Rattle.gateway_core.specs.Step.{decision, removal, change_of, with_change, state_after}
 use Rattle.gateway_core.specs.Refusals.{cause_of}
@@ -64,13 +65,14 @@ len-from_entries (e ∷ es) =
     one n m true is = omega (arith, is)
     one n m false is = omega (arith, is)
 
--- with one device more than 999 others there are more than 1,000
-len-full : (devices : Devices) (id : ℕ) (it : Learned) → is_full devices id ≡ true → 1001 ≤ len (insert devices id it)
+-- with one device more than a full registry there are too many
+len-full : (devices : Devices) (id : ℕ) (it : Learned) → is_full devices id ≡ true
+    → most_devices < len (insert devices id it)
 len-full devices id it full =
     one _ _ _ (contains_key devices id) (len-insert nat_cmp_total devices id it) (len-remove nat_cmp_total devices id)
     (leb-true _ _ full)
   where
-    one : (n m k : ℕ) (b : Bool) → m ≡ cond b n (n + 1) → k ≡ cond b (n - 1) n → 1000 ≤ k → 1001 ≤ m
+    one : (n m k : ℕ) (b : Bool) → m ≡ cond b n (n + 1) → k ≡ cond b (n - 1) n → most_devices ≤ k → most_devices < m
     one n m k true is less many = omega (arith, is, less, many)
     one n m k false is less many = omega (arith, is, less, many)
 
@@ -163,10 +165,10 @@ module _ {S : Type 0} (g : Ghosts S) where
 
   -- an order behind a line
   pub tries-order : (counts : Counts) (old new : Sight S) (line : List ℕ) (r : Result Done Refusal)
-      (order : Result Order OrderFault) → length line ≤ 200 → order_of line ≡ order
+      (order : Result Order OrderFault) → length line ≤ longest_line → order_of line ≡ order
       → Tries g old (λ devices. of_decision counts devices (order_decision devices order)) r new
       → Tries g old (λ devices. of_decision counts devices (decision devices line)) r new
-  tries-order counts old new line r order short is tried = rw (le-ltb 200 (length line) short, is) tried
+  tries-order counts old new line r order short is tried = rw (le-ltb longest_line (length line) short, is) tried
 
   -- ---- an item that was tried is handled
 

@@ -10,6 +10,7 @@ is_base id = nat_le 0xFF80_0000 id && nat_le id 0xFFFF_FF80 && id % 128 == 0
 abbrev pub is_own : ℕ → ℕ → Bool
 is_own base id = nat_le base id && nat_le id (base + 127)
 
--- own choice: a telegram is passed over whose sender is the ID of all, or that is neither for all nor for this gateway
+-- own choice: a telegram is passed over whose sender is the broadcast ID, or that is neither for all nor for this
+-- gateway
 abbrev pub is_passed_over : ℕ → Telegram → Bool
 is_passed_over base t = t.sender == 0xFFFF_FFFF || not (t.dest == 0xFFFF_FFFF || is_own base t.dest)

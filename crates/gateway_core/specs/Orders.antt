@@ -13,6 +13,10 @@ use Rattle.gateway_core.specs.declared.orders.Order.TheVariants.{Add, Remove, Li
 use Rattle.gateway_core.specs.declared.orders.OrderFault.{OrderFault}
 use Rattle.gateway_core.specs.declared.orders.OrderFault.TheVariants.{Syntax, Range}
 
+-- the longest line of the desk, in bytes. Own choice
+abbrev pub longest_line : ℕ
+longest_line = 200
+
 -- eight hexadecimal digits of either case
 abbrev pub SpellsId : List ℕ → ℕ → Type 0
 SpellsId digits id =
@@ -36,7 +40,7 @@ HasShape line (Remove id) = (digits : List ℕ) × (line ≡ codes "remove " ++ 
 HasShape line ListAll = line ≡ codes "list"
 HasShape line Status = line ≡ codes "status"
 
--- the order's numbers are in range: no device has the ID of all
+-- the order's numbers are in range: no device has the broadcast ID
 abbrev pub IsInRange : Order → Type 0
 IsInRange (Add id eep) = id ≢ 0xFFFF_FFFF
 IsInRange (Remove id) = id ≢ 0xFFFF_FFFF

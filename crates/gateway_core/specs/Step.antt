@@ -23,7 +23,7 @@ use Rattle.gateway_core.specs.Counts.{raised}
 use Rattle.profiles_rps.specs.Reading.{Entry}
 use Rattle.gateway_core.specs.Lines.{reading_text, TeachLine, teach_text, listing_text, status_text, response_text}
 use Rattle.gateway_core.specs.Lines.{error_text}
-use Rattle.gateway_core.specs.Orders.{order_of}
+use Rattle.gateway_core.specs.Orders.{longest_line, order_of}
 use Rattle.gateway_core.specs.Responses.{Response, response_in}
 use Rattle.gateway_core.specs.TeachIn.{is_teach_in}
 
@@ -106,7 +106,7 @@ abbrev pub removal : Option Device → Decision
 removal None = Denies error.UnknownDevice
 removal (Some known) = Forgets known
 
--- own choice: a line has at most 200 bytes, and of several errors the first is told
+-- own choice: of several errors the first is told, and before all of them that the line is too long
 abbrev pub order_decision : Devices → Result Order OrderFault → Decision
 order_decision devices (Err Syntax) = Denies error.Syntax
 order_decision devices (Err Range) = Denies error.Range
@@ -120,7 +120,7 @@ order_decision devices (Ok Status) = Reports
 
 abbrev pub decision : Devices → List ℕ → Decision
 decision devices line =
-    if nat_lt 200 (length line) then Denies error.TooLong else order_decision devices (order_of line)
+    if nat_lt longest_line (length line) then Denies error.TooLong else order_decision devices (order_of line)
 
 -- the line that tells what came of a device
 abbrev pub told_of : Device → Outcome → TeachLine

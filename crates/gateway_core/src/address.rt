@@ -21,8 +21,8 @@ fn is_own(base: u32, id: u32) -> bool
     base <= id && id <= base + 127
 }
 
-/// Whether a telegram is passed over, since its sender is the ID of all, or since it is neither for all nor for one of
-/// the 128 IDs from `base` on.
+/// Whether a telegram is passed over, since its sender is the broadcast ID, or since it is neither for all nor for one
+/// of the 128 IDs from `base` on.
 pub fn is_passed_over(base: u32, telegram: &Telegram) -> bool
     requires { base ≤ 0xFFFF_FF80 }
     ensures { result ≡ Address.is_passed_over base telegram.now }

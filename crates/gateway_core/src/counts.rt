@@ -9,7 +9,7 @@ pub enum Count {
     Ignored,
     /// A telegram that was read.
     Reading,
-    /// An item that was refused for want of memory, or by the store.
+    /// An item that was refused because there was no memory, or by the store.
     Refused,
     /// A response of the radio module.
     Response,
@@ -22,7 +22,7 @@ pub struct Counts {
     pub ignored: u64,
     /// Packets of which a reading line was told.
     pub readings: u64,
-    /// Packets and orders that were refused for want of memory, or by the store.
+    /// Packets and orders that were refused because there was no memory, or by the store.
     pub refused: u64,
     /// Packets of which a response line was told.
     pub responses: u64,

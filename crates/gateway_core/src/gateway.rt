@@ -59,7 +59,7 @@ impl<S: Alter> Model for Gateway<S> {
 
 impl<S: Alter + Drop> Gateway<S> {
     /// A gateway over this registry, for a radio module with this base ID. An ID that is no base ID is refused first;
-    /// then want of memory for the framer.
+    /// then that there is no memory for the framer.
     pub fn new(alloc: Global, registry: Registry<S>, base: u32) -> Result<Gateway<S>, StartFault>
         ensures bad_base { (result ≡ Err StartFault.BadBase) ↔ (Address.is_base base ≡ false) }
         ensures ok { IfOk result (λ gateway. gateway ≡ new_value base registry) }

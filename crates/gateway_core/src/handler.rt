@@ -25,7 +25,7 @@ use crate::lines::reading::reading_line;
 use crate::lines::response::response_line;
 use crate::lines::status::status_line;
 use crate::lines::teach::{Outcome, teach_line};
-use crate::orders::{Order, OrderFault, parse};
+use crate::orders::{LONGEST_LINE, Order, OrderFault, parse};
 use crate::profiles;
 use crate::refusal::{Cause, Refusal};
 use crate::reply::{Desk, Reply};
@@ -38,9 +38,6 @@ use esp3_frames::PacketRef;
 use sqlite::{Alter, Connection};
 use std::alloc::{AllocError, Global};
 use std::marker::Model;
-
-/// The longest line of the desk, in bytes. Own choice.
-const LONGEST: usize = 200;
 
 /// What the gateway knows: the base ID of its radio module, what it has counted, and the registry of the learned
 /// devices.
@@ -255,7 +252,7 @@ impl<S: Alter> Handler<S> {
         ensures { Tries S.Store self.old
             (λ devices. of_decision self.old.counts devices (decision devices line.now)) result self.new }
     {
-        if line.len() > LONGEST {
+        if line.len() > LONGEST_LINE {
             return Ok(denied(ErrorName::TooLong));
         }
         match parse(line) {
@@ -269,7 +266,7 @@ impl<S: Alter> Handler<S> {
     }
 
     // Counts what is done or refused, and answers it.
-    fn settle(&mut self, tried: Result<Done, Refusal>) -> Reply
+    fn reply_to(&mut self, tried: Result<Done, Refusal>) -> Reply
         ensures answer { answer_of result ≡ answer_from tried }
         ensures base { self.new.base ≡ self.old.base }
         ensures counts { self.new.counts ≡ counts_from self.old.counts tried }
@@ -294,7 +291,7 @@ impl<S: Alter> Handler<S> {
         ensures { Handles S.Store self.old (Received (packet_of packet.now) ∷ []) (answer_of result ∷ []) self.new }
     {
         let tried = self.try_packet(packet);
-        self.settle(tried)
+        self.reply_to(tried)
     }
 
     /// Handles a line of the desk.
@@ -302,6 +299,6 @@ impl<S: Alter> Handler<S> {
         ensures { Handles S.Store self.old (Ordered line.now ∷ []) (answer_of result ∷ []) self.new }
     {
         let tried = self.try_line(line);
-        self.settle(tried)
+        self.reply_to(tried)
     }
 }

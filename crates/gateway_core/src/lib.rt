@@ -20,4 +20,5 @@ mod verdict;
 pub use address::is_base;
 pub use gateway::{Gateway, StartFault};
 pub use lines::line::Line;
+pub use orders::LONGEST_LINE;
 pub use reply::{Desk, Reply};

@@ -5,6 +5,9 @@ ghost use Rattle.gateway_core.specs.Orders.{add_order, byte_in, eep_in, id_in, o
 use erp1_telegrams::{BROADCAST, Eep};
 use hex::FromHex;
 
+/// The longest line of the desk, in bytes. Own choice.
+pub const LONGEST_LINE: usize = 200;
+
 /// An order of the desk.
 #[derive(Clone, Copy, Debug, PartialEq, Eq)]
 pub enum Order {

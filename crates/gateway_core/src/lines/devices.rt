@@ -52,7 +52,7 @@ fn count_line(alloc: Global, count: usize) -> Result<Line, AllocError>
 ///
 /// `{"eep":"D5-00-01","id":"01800ABC","maker":null,"type":"device"}`, `{"count":1,"type":"list"}`
 ///
-/// The only error is want of memory.
+/// The only error is that there is no memory.
 pub fn device_lines(alloc: Global, devices: &[Device]) -> Result<Line, AllocError>
     ensures { IfOk result (λ lines. lines ≡ listing_text devices.now) }
 {

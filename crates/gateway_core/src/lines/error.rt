@@ -8,7 +8,7 @@ ghost use Rattle.gateway_core.specs.Lines.{error_text};
 pub enum ErrorName {
     /// The line has not the shape of an order.
     Syntax,
-    /// The line is longer than 200 bytes.
+    /// The line is longer than `LONGEST_LINE`.
     TooLong,
     /// A number of the order is out of range.
     Range,

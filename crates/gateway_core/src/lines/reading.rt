@@ -77,7 +77,7 @@ fn reading_value(
 ///
 /// `{"dbm":-45,"eep":"D5-00-01","id":"01800ABC","readings":[{"name":"CO","word":"closed"}],"type":"reading"}`
 ///
-/// The only error is want of memory.
+/// The only error is that there is no memory.
 pub fn reading_line(
     alloc: Global,
     dbm: Option<u8>,

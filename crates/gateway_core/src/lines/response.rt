@@ -37,7 +37,7 @@ fn response_value(alloc: Global, code: u8, bytes: &[u8]) -> Result<Value, AllocE
 ///
 /// `{"code":0,"data":"FF800000","name":"OK","type":"response"}`
 ///
-/// The only error is want of memory.
+/// The only error is that there is no memory.
 pub fn response_line(alloc: Global, code: u8, bytes: &[u8]) -> Result<Line, AllocError>
     ensures { IfOk result (λ line. line ≡ response_text (record { code = code; bytes = bytes.now })) }
 {

@@ -29,7 +29,7 @@ fn status_value(alloc: Global, counts: &Counts) -> Result<Value, AllocError>
 ///
 /// `{"ignored":0,"mode":"closed","readings":1,"refused":0,"responses":0,"teach":0,"type":"status"}`
 ///
-/// The only error is want of memory.
+/// The only error is that there is no memory.
 #[tactic(auto, using(crate::proofs::LineTexts::text_status, crate::proofs::LineTexts::no_float_status))]
 pub fn status_line(alloc: Global, counts: &Counts) -> Result<Line, AllocError>
     ensures { IfOk result (λ line. line ≡ status_text counts.now) }

@@ -24,7 +24,8 @@ fn reading_lines(rt: HostRuntime) -> Result<(), Fail> {
     assert!(rt;
         line.as_bytes()
             == b"{\"dbm\":null,\"eep\":\"D5-00-01\",\"id\":\"00000001\",\"readings\":[],\
-                \"type\":\"reading\"}\n".as_slice()
+                \"type\":\"reading\"}\n"
+                .as_slice()
     );
     readings.push(Reading {
         name: "CO",
@@ -34,7 +35,8 @@ fn reading_lines(rt: HostRuntime) -> Result<(), Fail> {
     assert!(rt;
         line.as_bytes()
             == b"{\"dbm\":-45,\"eep\":\"D5-00-01\",\"id\":\"01800ABC\",\"readings\":[{\"name\":\"CO\",\
-                \"word\":\"closed\"}],\"type\":\"reading\"}\n".as_slice()
+                \"word\":\"closed\"}],\"type\":\"reading\"}\n"
+                .as_slice()
     );
     Ok(())
 }
@@ -59,7 +61,8 @@ fn lines_of_all_kinds_of_readings(rt: HostRuntime) -> Result<(), Fail> {
         line.as_bytes()
             == b"{\"dbm\":0,\"eep\":\"D5-00-01\",\"id\":\"FF800000\",\"readings\":[{\"den\":51,\"name\":\"TMP\",\
                 \"num\":1024,\"unit\":\"C\"},{\"name\":\"TI\",\"raw\":15},{\"name\":\"HUM\",\"out_of_range\":251}],\
-                \"type\":\"reading\"}\n".as_slice()
+                \"type\":\"reading\"}\n"
+                .as_slice()
     );
     Ok(())
 }
@@ -94,7 +97,8 @@ fn status_lines(rt: HostRuntime) -> Result<(), Fail> {
     assert!(rt;
         line.as_bytes()
             == b"{\"ignored\":2,\"mode\":\"closed\",\"readings\":18446744073709551615,\"refused\":3,\"responses\":4,\
-                \"teach\":5,\"type\":\"status\"}\n".as_slice()
+                \"teach\":5,\"type\":\"status\"}\n"
+                .as_slice()
     );
     Ok(())
 }
@@ -120,7 +124,8 @@ fn listings(rt: HostRuntime) -> Result<(), Fail> {
         lines.as_bytes()
             == b"{\"eep\":\"D5-00-01\",\"id\":\"01800ABC\",\"maker\":null,\"type\":\"device\"}\n\
                 {\"eep\":\"D2-01-12\",\"id\":\"FFFFFFFE\",\"maker\":70,\"type\":\"device\"}\n\
-                {\"count\":2,\"type\":\"list\"}\n".as_slice()
+                {\"count\":2,\"type\":\"list\"}\n"
+                .as_slice()
     );
     let none = device_lines(rt.alloc(), &[])?;
     assert!(rt; none.as_bytes() == b"{\"count\":0,\"type\":\"list\"}\n".as_slice());

@@ -7,8 +7,8 @@ pub returns : goal.returns
 returns g c =
     tries-handles g.S.Store _ _ _ (Received (packet_of c.args.packet.now)) _ _
     (record {
-      answer_is = c.settle.ensures.answer;
-      base = c.settle.ensures.base;
-      counts = c.settle.ensures.counts;
-      registry = c.settle.ensures.registry;
+      answer_is = c.reply_to.ensures.answer;
+      base = c.reply_to.ensures.base;
+      counts = c.reply_to.ensures.counts;
+      registry = c.reply_to.ensures.registry;
     }) c.try_packet-tried.ensures
