@@ -1,5 +1,6 @@
 -- A list of bits, cut before and behind a part of it.
-use Rattle.std.proofs.Common.{◌≡◌, ℕ, ◌+◌, ◌-◌, ◌*◌, ◌/◌, ◌%◌, ◌^◌, ◌<◌, ◌≤◌, List, ◌++◌, length, take, drop, sym, ap, ◌∙◌, arith, length-drop, subst}
+use Rattle.std.proofs.Common.{◌≡◌, ℕ, ◌+◌, ◌-◌, ◌*◌, ◌/◌, ◌%◌, ◌^◌, ◌<◌, ◌≤◌, List, ◌++◌, length, take, drop, sym, ap}
+use Rattle.std.proofs.Common.{◌∙◌, arith, length-drop, subst}
 use Rattle.std.proofs.lemmas.Nat.{shr_high, mod_low}
 use Rattle.std.proofs.lemmas.List.{take-append-drop, length-take-le, drop-drop, drop-take, take-take}
 use Rattle.bit_fields.specs.Bits.{number}
@@ -22,7 +23,8 @@ cut xs offset len h within =
     let back = drop (offset + len) xs in
     let behind : drop len (drop offset xs) ≡ back = drop-drop len offset xs in
     let whole : front ++ (middle ++ back) ≡ xs =
-    ap (λ l. front ++ (middle ++ l)) (sym behind) ∙ (ap (λ l. front ++ l) (take-append-drop len (drop offset xs)) ∙ take-append-drop offset xs) in
+    ap (λ l. front ++ (middle ++ l)) (sym behind)
+    ∙ (ap (λ l. front ++ l) (take-append-drop len (drop offset xs)) ∙ take-append-drop offset xs) in
     let rest : length (drop offset xs) ≡ length xs - offset = length-drop offset xs in
     let all : AreBits (front ++ (middle ++ back)) = subst AreBits (sym whole) h in
     record {
@@ -37,20 +39,27 @@ cut xs offset len h within =
 
 -- the number of a list of bits, by its three parts
 pub number-cut : (xs : List ℕ) (offset len : ℕ) → Cut xs offset len →
-    number xs ≡ (number (take offset xs) * 2 ^ len + number (take len (drop offset xs))) * 2 ^ (length xs - (offset + len)) + number (drop (offset + len) xs)
+    number xs ≡ (number (take offset xs) * 2 ^ len + number (take len (drop offset xs))) * 2 ^
+    (length xs - (offset + len)) + number (drop (offset + len) xs)
 number-cut xs offset len h =
     let e : number (take offset xs ++ (take len (drop offset xs) ++ drop (offset + len) xs))
-    ≡ (number (take offset xs) * 2 ^ length (take len (drop offset xs)) + number (take len (drop offset xs))) * 2 ^ length (drop (offset + len) xs) + number (drop (offset + len) xs)
+    ≡ (number (take offset xs) * 2 ^ length (take len (drop offset xs)) + number (take len (drop offset xs))) * 2 ^
+    length (drop (offset + len) xs) + number (drop (offset + len) xs)
     = number-three (take offset xs) (take len (drop offset xs)) (drop (offset + len) xs) in
-    sym (ap number h.whole) ∙ (e ∙ (ap (λ k. (number (take offset xs) * 2 ^ k + number (take len (drop offset xs))) * 2 ^ length (drop (offset + len) xs) + number (drop (offset + len) xs)) h.len_middle
-    ∙ ap (λ k. (number (take offset xs) * 2 ^ len + number (take len (drop offset xs))) * 2 ^ k + number (drop (offset + len) xs)) h.len_back))
+    sym (ap number h.whole)
+    ∙ (e ∙ (ap (λ k. (number (take offset xs) * 2 ^ k + number (take len (drop offset xs))) * 2 ^ length
+    (drop (offset + len) xs) + number (drop (offset + len) xs)) h.len_middle
+    ∙ ap (λ k. (number (take offset xs) * 2 ^ len + number (take len (drop offset xs))) * 2 ^ k + number
+    (drop (offset + len) xs)) h.len_back))
 
 pub middle-below : (xs : List ℕ) (offset len : ℕ) → Cut xs offset len → number (take len (drop offset xs)) < 2 ^ len
-middle-below xs offset len h = subst (λ (k : ℕ). number (take len (drop offset xs)) < 2 ^ k) h.len_middle (number-below _ h.middle)
+middle-below xs offset len h =
+    subst (λ (k : ℕ). number (take len (drop offset xs)) < 2 ^ k) h.len_middle (number-below _ h.middle)
 
 pub back-below : (xs : List ℕ) (offset len : ℕ) → Cut xs offset len →
     number (drop (offset + len) xs) < 2 ^ (length xs - (offset + len))
-back-below xs offset len h = subst (λ (k : ℕ). number (drop (offset + len) xs) < 2 ^ k) h.len_back (number-below _ h.back)
+back-below xs offset len h =
+    subst (λ (k : ℕ). number (drop (offset + len) xs) < 2 ^ k) h.len_back (number-below _ h.back)
 
 -- the number spelled by len bits from place offset, by the number that all bits spell
 pub number-part : (xs : List ℕ) (offset len : ℕ) → AreBits xs → offset + len ≤ length xs →
@@ -62,8 +71,10 @@ number-part xs offset len h within =
     ∙ mod_low _ len _ (middle-below xs offset len k))
 
 -- a part of a part
-pub part-part : (xs : List ℕ) (a r len m : ℕ) → r + len ≤ m → take len (drop r (take m (drop a xs))) ≡ take len (drop (a + r) xs)
+pub part-part : (xs : List ℕ) (a r len m : ℕ) → r + len ≤ m
+    → take len (drop r (take m (drop a xs))) ≡ take len (drop (a + r) xs)
 part-part xs a r len m h =
     let e : m ≡ r + (m - r) = omega arith in
     ap (λ k. take len (drop r (take k (drop a xs)))) e
-    ∙ (ap (take len) (drop-take r (m - r) (drop a xs)) ∙ (take-take len (m - r) _ (omega arith) ∙ ap (take len) (drop-drop r a xs)))
+    ∙ (ap (take len) (drop-take r (m - r) (drop a xs))
+    ∙ (take-take len (m - r) _ (omega arith) ∙ ap (take len) (drop-drop r a xs)))

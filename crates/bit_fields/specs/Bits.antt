@@ -1,5 +1,6 @@
--- Bits and fields of bytes. Bit offset 0 is the most significant bit of the first byte, and a field is a number whose most
--- significant bit stands first (EnOcean Equipment Profiles 2.6, on bit offsets). The form of the definitions is an own choice.
+-- Bits and fields of bytes. Bit offset 0 is the most significant bit of the first byte, and a field is a number whose
+-- most significant bit stands first (EnOcean Equipment Profiles 2.6, on bit offsets). The form of the definitions is an
+-- own choice.
 use Rattle.std.specs.Prelude.{◌≡◌, ℕ, ◌+◌, ◌*◌, ◌^◌, List, [], ◌∷◌, ◌++◌, length, take, drop}
 use Rattle.std.specs.Int.{bit_at}
 

@@ -4,8 +4,8 @@ ghost use Rattle.bit_fields.specs.Bits.{field, WithField};
 
 use crate::big_endian;
 
-/// The field of `L` bits at the bit offset `O` of `N` bytes, its most significant bit first. It has 1 to 32 bits and ends
-/// within the bytes; it may begin and end anywhere in a byte. The result is below 2 to the power of `L`.
+/// The field of `L` bits at the bit offset `O` of `N` bytes, its most significant bit first. It has 1 to 32 bits and
+/// ends within the bytes; it may begin and end anywhere in a byte. The result is below 2 to the power of `L`.
 ///
 /// `get::<1, 4, 3>(&[0x9B])` is 5, since 9B is 1001 1011 and the bits from offset 4 are 101
 /// (EnOcean Equipment Profiles 2.6, on bit offsets).
@@ -19,8 +19,9 @@ pub fn get<const N: usize, const O: usize, const L: usize>(bytes: &[u8; N]) -> u
     field_at(&bytes[..], O, L)
 }
 
-/// Writes `value` into the field of `L` bits at the bit offset `O` of `N` bytes, its most significant bit first, and leaves
-/// every other bit as it is. The field has 1 to 32 bits and ends within the bytes, and `value` is below 2 to the power of `L`.
+/// Writes `value` into the field of `L` bits at the bit offset `O` of `N` bytes, its most significant bit first, and
+/// leaves every other bit as it is. The field has 1 to 32 bits and ends within the bytes, and `value` is below 2 to the
+/// power of `L`.
 ///
 /// `put::<1, 4, 3>` of 5 turns the byte 91, which is 1001 0001, into 9B, which is 1001 1011
 /// (EnOcean Equipment Profiles 2.6, on bit offsets).

@@ -19,5 +19,6 @@ pub fn apart_field_stays()
 /// There is at most one way to set a field within the bytes: `WithField` says every bit.
 pub fn one_set()
     ensures { (bytes a b : List ℕ) (offset len value : ℕ) → All (λ byte. byte < 2 ^ 8) a → All (λ byte. byte < 2 ^ 8) b
-        → offset + len ≤ 8 * length bytes → WithField bytes offset len value a → WithField bytes offset len value b → a ≡ b }
+        → offset + len ≤ 8 * length bytes → WithField bytes offset len value a → WithField bytes offset len value b
+        → a ≡ b }
 {}

@@ -1,12 +1,13 @@
 -- The telegrams of radio packets (ISO/IEC 14543-3-10; EnOcean Serial Protocol 3, "Packet type 1: RADIO_ERP1").
-use Rattle.std.specs.Prelude.{◌≡◌, ℕ, ◌+◌, ◌-◌, ◌==◌, ◌||◌, ◌&&◌, nat_le, List, [], ◌∷◌, ◌++◌, length, slice_index, slice_range, Bool, false, not, IsTrue, if◌then◌else◌, Option, Some, None, Result, Ok, Err}
+use Rattle.std.specs.Prelude.{◌≡◌, ℕ, ◌+◌, ◌-◌, ◌==◌, ◌||◌, ◌&&◌, nat_le, List, [], ◌∷◌, ◌++◌, length, slice_index}
+use Rattle.std.specs.Prelude.{slice_range, Bool, false, not, IsTrue, if◌then◌else◌, Option, Some, None, Result, Ok, Err}
 use Rattle.std.specs.Int.{w32, from_be_bytes, to_be_bytes}
 use Rattle.esp3_frames.specs.Packet.{Packet}
 use Rattle.erp1_telegrams.specs.declared.telegram.TelegramFault.{TelegramFault}
 use Rattle.erp1_telegrams.specs.declared.telegram.TelegramFault.TheVariants.{NotRadio, OtherKind, BadLength}
 
--- what a telegram says: its kind, its payload, who sent it, its status, for whom it is, and how strongly it was received,
--- in dBm without the minus
+-- what a telegram says: its kind, its payload, who sent it, its status, for whom it is, and how strongly it was
+-- received, in dBm without the minus
 pub record Telegram : Type 0 where
   pub rorg : ℕ
   pub payload : List ℕ
@@ -30,7 +31,8 @@ fits rorg n =
     else false
 
 -- the destination in the optional data: the number of subtelegrams, the destination's ID, dBm, the security level
--- (EnOcean Serial Protocol 3, "Packet type 1: RADIO_ERP1", optional data). Own choice: shorter data is read as a broadcast
+-- (EnOcean Serial Protocol 3, "Packet type 1: RADIO_ERP1", optional data). Own choice: shorter data is read as a
+-- broadcast
 abbrev pub destination : List ℕ → ℕ
 destination (n ∷ a ∷ b ∷ c ∷ d ∷ dbm ∷ security ∷ more) = from_be_bytes w32 (a ∷ b ∷ c ∷ d ∷ [])
 destination opt = 0xFFFF_FFFF
@@ -40,8 +42,8 @@ abbrev pub strength : List ℕ → Option ℕ
 strength (n ∷ a ∷ b ∷ c ∷ d ∷ dbm ∷ security ∷ more) = Some dbm
 strength opt = None
 
--- The packet p carries the telegram t (EnOcean Serial Protocol 3, "Packet type 1: RADIO_ERP1"): its data is the kind, the
--- payload, the four bytes of the sender's ID, the high one first, and the status.
+-- The packet p carries the telegram t (EnOcean Serial Protocol 3, "Packet type 1: RADIO_ERP1"): its data is the kind,
+-- the payload, the four bytes of the sender's ID, the high one first, and the status.
 pub record CarriesTelegram (p : Packet) (t : Telegram) : Type 0 where
   pub kind : p.kind ≡ 1
   pub id : List ℕ

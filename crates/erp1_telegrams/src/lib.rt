@@ -1,5 +1,5 @@
-//! The radio telegrams of ISO/IEC 14543-3-10, in packets of EnOcean Serial Protocol 3 of the type RADIO_ERP1: read from a
-//! packet, and written as one. Nothing here takes memory.
+//! The radio telegrams of ISO/IEC 14543-3-10, in packets of EnOcean Serial Protocol 3 of the type RADIO_ERP1: read from
+//! a packet, and written as one. Nothing here takes memory.
 #![tactic(auto)]
 
 mod eep;

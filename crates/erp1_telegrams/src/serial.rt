@@ -12,9 +12,9 @@ use esp3_frames::{PacketFault, PacketRef, write_packet};
 /// The packet type RADIO_ERP1 (EnOcean Serial Protocol 3, "Packet types").
 const RADIO_ERP1: u8 = 1;
 
-/// Reads the telegram that a packet carries (EnOcean Serial Protocol 3, "Packet type 1: RADIO_ERP1"). A fault is the first
-/// one: `NotRadio`, `BadLength` where there is no data, `OtherKind`, and `BadLength` where the payload has not the length of
-/// its kind. Optional data shorter than seven bytes is read as a broadcast without dBm.
+/// Reads the telegram that a packet carries (EnOcean Serial Protocol 3, "Packet type 1: RADIO_ERP1"). A fault is the
+/// first one: `NotRadio`, `BadLength` where there is no data, `OtherKind`, and `BadLength` where the payload has not
+/// the length of its kind. Optional data shorter than seven bytes is read as a broadcast without dBm.
 pub fn read(p: &PacketRef<'_>) -> Result<Telegram, TelegramFault>
     ensures { result ≡ telegram_of (packet_of p.now) }
 {

@@ -34,8 +34,8 @@ pub enum TelegramFault {
     BadLength,
 }
 
-/// A telegram (ISO/IEC 14543-3-10) of one of the five kinds, with a payload of that kind's length. In contracts it is the
-/// record `Telegram` of `specs/Telegram.antt`.
+/// A telegram (ISO/IEC 14543-3-10) of one of the five kinds, with a payload of that kind's length. In contracts it is
+/// the record `Telegram` of `specs/Telegram.antt`.
 #[derive(Clone, Debug, Drop)]
 pub struct Telegram {
     rorg: u8,

@@ -1,5 +1,7 @@
 -- The check byte of one byte more, and what the table has.
-use Rattle.std.proofs.Common.{◌≡◌, ℕ, zero, suc, ◌+◌, ◌-◌, ◌*◌, ◌^◌, ◌<◌, Bool, true, false, cond, ltb, eqb, List, [], ◌∷◌, ◌++◌, length, get_or, bit_xor, refl, sym, ap, ◌∙◌, append_assoc, arith, length-append, inl, inr, zero-add}
+use Rattle.std.proofs.Common.{◌≡◌, ℕ, zero, suc, ◌+◌, ◌-◌, ◌*◌, ◌^◌, ◌<◌, Bool, true, false, cond, ltb, eqb, List, []}
+use Rattle.std.proofs.Common.{◌∷◌, ◌++◌, length, get_or, bit_xor, refl, sym, ap, ◌∙◌, append_assoc, arith}
+use Rattle.std.proofs.Common.{length-append, inl, inr, zero-add}
 use Rattle.std.specs.Int.Bits.{xor_assoc, xor_self, xor_zero_l, xor_zero_r}
 use Rattle.std.proofs.lemmas.Nat.{xor_comm, xor_block, xor_of_8, xor_lt}
 use Rattle.std.proofs.lemmas.Bool.{agree_below, agree_below_at, eqb-true, lt-ltb, le-ltb, cases_lt}
@@ -14,13 +16,15 @@ pub high_half : (r : ℕ) → r < 128 → times_x (128 + r) ≡ bit_xor (2 * r) 
 high_half r h =
     let e : ltb (2 * (128 + r)) 256 ≡ false = le-ltb (2 * (128 + r)) 256 (omega arith) in
     let s : 2 * (128 + r) ≡ 1 * 2 ^ 8 + 2 * r = omega arith in
-    let x : bit_xor (1 * 2 ^ 8 + 2 * r) (1 * 2 ^ 8 + 7) ≡ bit_xor 1 1 * 2 ^ 8 + bit_xor (2 * r) 7 = xor_block 8 1 1 (2 * r) 7 (omega arith) (omega arith) in
+    let x : bit_xor (1 * 2 ^ 8 + 2 * r) (1 * 2 ^ 8 + 7) ≡ bit_xor 1 1 * 2 ^ 8 + bit_xor (2 * r) 7 =
+    xor_block 8 1 1 (2 * r) 7 (omega arith) (omega arith) in
     let y : bit_xor (2 * (128 + r)) 0x107 ≡ 0 + bit_xor (2 * r) 7 = ap (λ n. bit_xor n 0x107) s ∙ x in
     rw e (y ∙ zero-add _)
 
 double_xor : (a b : ℕ) → 2 * bit_xor a b ≡ bit_xor (2 * a) (2 * b)
 double_xor a b =
-    let x : bit_xor (a * 2 ^ 1 + 0) (b * 2 ^ 1 + 0) ≡ bit_xor a b * 2 ^ 1 + bit_xor 0 0 = xor_block 1 a b 0 0 (omega arith) (omega arith) in
+    let x : bit_xor (a * 2 ^ 1 + 0) (b * 2 ^ 1 + 0) ≡ bit_xor a b * 2 ^ 1 + bit_xor 0 0 =
+    xor_block 1 a b 0 0 (omega arith) (omega arith) in
     let ea : a * 2 ^ 1 + 0 ≡ 2 * a = omega arith in
     let eb : b * 2 ^ 1 + 0 ≡ 2 * b = omega arith in
     omega (arith, x, ap (λ n. bit_xor n (b * 2 ^ 1 + 0)) ea, ap (λ n. bit_xor (2 * a) n) eb)
@@ -50,26 +54,37 @@ both_low a b ha hb =
 
 xor_high : (r b : ℕ) → r < 128 → b < 128 → bit_xor (128 + r) b ≡ 128 + bit_xor r b
 xor_high r b hr hb =
-    let x : bit_xor (1 * 2 ^ 7 + r) (0 * 2 ^ 7 + b) ≡ bit_xor 1 0 * 2 ^ 7 + bit_xor r b = xor_block 7 1 0 r b (omega arith) (omega arith) in
+    let x : bit_xor (1 * 2 ^ 7 + r) (0 * 2 ^ 7 + b) ≡ bit_xor 1 0 * 2 ^ 7 + bit_xor r b =
+    xor_block 7 1 0 r b (omega arith) (omega arith) in
     let y : bit_xor (128 + r) (0 + b) ≡ 128 + bit_xor r b = x in
     rw zero-add at y
 
 one_high : (r b : ℕ) → r < 128 → b < 128 → times_x (bit_xor (128 + r) b) ≡ bit_xor (times_x (128 + r)) (times_x b)
 one_high r b hr hb =
     let h : bit_xor r b < 2 ^ 7 = xor_lt 7 r b (omega arith) (omega arith) in
-    let e1 : times_x (bit_xor (128 + r) b) ≡ bit_xor (2 * bit_xor r b) 7 = ap times_x (xor_high r b hr hb) ∙ high_half (bit_xor r b) h in
-    let e2 : bit_xor (2 * bit_xor r b) 7 ≡ bit_xor (bit_xor (2 * r) 7) (2 * b) = ap (λ n. bit_xor n 7) (double_xor r b) ∙ swap_right (2 * r) (2 * b) 7 in
-    let e3 : bit_xor (bit_xor (2 * r) 7) (2 * b) ≡ bit_xor (times_x (128 + r)) (times_x b) = ap (λ n. bit_xor n (2 * b)) (sym (high_half r hr)) ∙ ap (λ n. bit_xor (times_x (128 + r)) n) (sym (low_half b hb)) in
+    let e1 : times_x (bit_xor (128 + r) b) ≡ bit_xor (2 * bit_xor r b) 7 =
+    ap times_x (xor_high r b hr hb) ∙ high_half (bit_xor r b) h in
+    let e2 : bit_xor (2 * bit_xor r b) 7 ≡ bit_xor (bit_xor (2 * r) 7) (2 * b) =
+    ap (λ n. bit_xor n 7) (double_xor r b) ∙ swap_right (2 * r) (2 * b) 7 in
+    let e3 : bit_xor (bit_xor (2 * r) 7) (2 * b) ≡ bit_xor (times_x (128 + r)) (times_x b) =
+    ap (λ n. bit_xor n (2 * b)) (sym (high_half r hr))
+    ∙ ap (λ n. bit_xor (times_x (128 + r)) n) (sym (low_half b hb)) in
     e1 ∙ e2 ∙ e3
 
-both_high : (r s : ℕ) → r < 128 → s < 128 → times_x (bit_xor (128 + r) (128 + s)) ≡ bit_xor (times_x (128 + r)) (times_x (128 + s))
+both_high : (r s : ℕ) → r < 128 → s < 128
+    → times_x (bit_xor (128 + r) (128 + s)) ≡ bit_xor (times_x (128 + r)) (times_x (128 + s))
 both_high r s hr hs =
     let h : bit_xor r s < 2 ^ 7 = xor_lt 7 r s (omega arith) (omega arith) in
-    let x : bit_xor (1 * 2 ^ 7 + r) (1 * 2 ^ 7 + s) ≡ bit_xor 1 1 * 2 ^ 7 + bit_xor r s = xor_block 7 1 1 r s (omega arith) (omega arith) in
+    let x : bit_xor (1 * 2 ^ 7 + r) (1 * 2 ^ 7 + s) ≡ bit_xor 1 1 * 2 ^ 7 + bit_xor r s =
+    xor_block 7 1 1 r s (omega arith) (omega arith) in
     let y : bit_xor (128 + r) (128 + s) ≡ 0 + bit_xor r s = x in
-    let e1 : times_x (bit_xor (128 + r) (128 + s)) ≡ bit_xor (2 * r) (2 * s) = ap times_x (y ∙ zero-add _) ∙ low_half (bit_xor r s) h ∙ double_xor r s in
-    let e2 : bit_xor (bit_xor (2 * r) 7) (bit_xor (2 * s) 7) ≡ bit_xor (2 * r) (2 * s) = sym (xor_assoc (bit_xor (2 * r) 7) (2 * s) 7) ∙ ap (λ n. bit_xor n 7) (swap_right (2 * r) 7 (2 * s)) ∙ cancel_right (bit_xor (2 * r) (2 * s)) 7 in
-    e1 ∙ sym e2 ∙ ap (λ n. bit_xor n (bit_xor (2 * s) 7)) (sym (high_half r hr)) ∙ ap (λ n. bit_xor (times_x (128 + r)) n) (sym (high_half s hs))
+    let e1 : times_x (bit_xor (128 + r) (128 + s)) ≡ bit_xor (2 * r) (2 * s) =
+    ap times_x (y ∙ zero-add _) ∙ low_half (bit_xor r s) h ∙ double_xor r s in
+    let e2 : bit_xor (bit_xor (2 * r) 7) (bit_xor (2 * s) 7) ≡ bit_xor (2 * r) (2 * s) =
+    sym (xor_assoc (bit_xor (2 * r) 7) (2 * s) 7) ∙ ap (λ n. bit_xor n 7) (swap_right (2 * r) 7 (2 * s))
+    ∙ cancel_right (bit_xor (2 * r) (2 * s)) 7 in
+    e1 ∙ sym e2 ∙ ap (λ n. bit_xor n (bit_xor (2 * s) 7)) (sym (high_half r hr))
+    ∙ ap (λ n. bit_xor (times_x (128 + r)) n) (sym (high_half s hs))
 
 pub times_x-xor : (a b : ℕ) → a < 256 → b < 256 → times_x (bit_xor a b) ≡ bit_xor (times_x a) (times_x b)
 times_x-xor a b ha hb = elim (cases_lt a 128) [
@@ -78,17 +93,21 @@ times_x-xor a b ha hb = elim (cases_lt a 128) [
     | inr gb ↦
         let s : ℕ = b - 128 in
         let e : b ≡ 128 + s = omega arith in
-        ap times_x (xor_comm a b) ∙ ap (λ n. times_x (bit_xor n a)) e ∙ one_high s a (omega arith) la ∙ xor_comm (times_x (128 + s)) (times_x a) ∙ ap (λ n. bit_xor (times_x a) (times_x n)) (sym e)
+        ap times_x (xor_comm a b) ∙ ap (λ n. times_x (bit_xor n a)) e ∙ one_high s a (omega arith) la
+        ∙ xor_comm (times_x (128 + s)) (times_x a) ∙ ap (λ n. bit_xor (times_x a) (times_x n)) (sym e)
   ]
   | inr ga ↦
       let r : ℕ = a - 128 in
       let ea : a ≡ 128 + r = omega arith in
       elim (cases_lt b 128) [
-        | inl lb ↦ ap (λ n. times_x (bit_xor n b)) ea ∙ one_high r b (omega arith) lb ∙ ap (λ n. bit_xor (times_x n) (times_x b)) (sym ea)
+        | inl lb ↦ ap (λ n. times_x (bit_xor n b)) ea ∙ one_high r b (omega arith) lb
+            ∙ ap (λ n. bit_xor (times_x n) (times_x b)) (sym ea)
         | inr gb ↦
             let s : ℕ = b - 128 in
             let eb : b ≡ 128 + s = omega arith in
-            ap (λ n. times_x (bit_xor n b)) ea ∙ ap (λ n. times_x (bit_xor (128 + r) n)) eb ∙ both_high r s (omega arith) (omega arith) ∙ ap (λ n. bit_xor (times_x n) (times_x (128 + s))) (sym ea) ∙ ap (λ n. bit_xor (times_x a) (times_x n)) (sym eb)
+            ap (λ n. times_x (bit_xor n b)) ea ∙ ap (λ n. times_x (bit_xor (128 + r) n)) eb
+            ∙ both_high r s (omega arith) (omega arith) ∙ ap (λ n. bit_xor (times_x n) (times_x (128 + s))) (sym ea)
+            ∙ ap (λ n. bit_xor (times_x a) (times_x n)) (sym eb)
       ]
 ]
 
@@ -104,7 +123,8 @@ bit_part false n h = omega arith
 pub remainder_byte : (bs : List Bool) → remainder bs < 256
 unfolding remainder
 remainder_byte [] = omega arith
-remainder_byte (b ∷ bs) = xor_of_8 _ _ (bit_part b (power (length bs + 8)) (power_byte (length bs + 8))) (remainder_byte bs)
+remainder_byte (b ∷ bs) =
+    xor_of_8 _ _ (bit_part b (power (length bs + 8)) (power_byte (length bs + 8))) (remainder_byte bs)
 
 pub check_nil : check [] ≡ 0
 unfolding check bits remainder
@@ -133,9 +153,12 @@ unfolding remainder
 remainder_last [] b = last_bit b ∙ sym (xor_zero_l (cond b 7 0))
 remainder_last (c ∷ bs) b =
     let n : length (bs ++ b ∷ []) + 8 ≡ suc (length bs + 8) = omega (arith, length-append bs (b ∷ [])) in
-    let p : power (length (bs ++ b ∷ []) + 8) ≡ times_x (power (length bs + 8)) = ap power n ∙ power_more (length bs + 8) in
-    let q : cond c (power (length (bs ++ b ∷ []) + 8)) 0 ≡ times_x (cond c (power (length bs + 8)) 0) = ap (λ n. cond c n 0) p ∙ more_bit c (power (length bs + 8)) in
-    let t = times_x-xor (cond c (power (length bs + 8)) 0) (remainder bs) (bit_part c (power (length bs + 8)) (power_byte (length bs + 8))) (remainder_byte bs) in
+    let p : power (length (bs ++ b ∷ []) + 8) ≡ times_x (power (length bs + 8)) =
+    ap power n ∙ power_more (length bs + 8) in
+    let q : cond c (power (length (bs ++ b ∷ []) + 8)) 0 ≡ times_x (cond c (power (length bs + 8)) 0) =
+    ap (λ n. cond c n 0) p ∙ more_bit c (power (length bs + 8)) in
+    let t = times_x-xor (cond c (power (length bs + 8)) 0) (remainder bs)
+    (bit_part c (power (length bs + 8)) (power_byte (length bs + 8))) (remainder_byte bs) in
     ap (λ n. bit_xor n (remainder (bs ++ b ∷ []))) q
     ∙ ap (λ n. bit_xor (times_x (cond c (power (length bs + 8)) 0)) n) (remainder_last bs b)
     ∙ sym (xor_assoc (times_x (cond c (power (length bs + 8)) 0)) (times_x (remainder bs)) (cond b 7 0))
@@ -153,19 +176,25 @@ shifted a (b ∷ bs) = shifted (times_x a) bs
 pub remainder_more : (xs ys : List Bool) → remainder (xs ++ ys) ≡ feed (remainder xs) ys
 unfolding feed
 remainder_more xs [] = ap remainder (append-nil xs)
-remainder_more xs (y ∷ ys) = ap remainder (sym (append_assoc xs (y ∷ []) ys)) ∙ remainder_more (xs ++ y ∷ []) ys ∙ ap (λ n. feed n ys) (remainder_last xs y)
+remainder_more xs (y ∷ ys) = ap remainder (sym (append_assoc xs (y ∷ []) ys)) ∙ remainder_more (xs ++ y ∷ []) ys
+    ∙ ap (λ n. feed n ys) (remainder_last xs y)
 
-pub feed_xor : (a c : ℕ) (ys : List Bool) → a < 256 → c < 256 → feed (bit_xor a c) ys ≡ bit_xor (shifted a ys) (feed c ys)
+pub feed_xor : (a c : ℕ) (ys : List Bool) → a < 256 → c < 256
+    → feed (bit_xor a c) ys ≡ bit_xor (shifted a ys) (feed c ys)
 unfolding feed shifted
 feed_xor a c [] ha hc = refl
 feed_xor a c (y ∷ ys) ha hc =
-    let e : bit_xor (times_x (bit_xor a c)) (cond y 7 0) ≡ bit_xor (times_x a) (bit_xor (times_x c) (cond y 7 0)) = ap (λ n. bit_xor n (cond y 7 0)) (times_x-xor a c ha hc) ∙ xor_assoc (times_x a) (times_x c) (cond y 7 0) in
-    ap (λ n. feed n ys) e ∙ feed_xor (times_x a) (bit_xor (times_x c) (cond y 7 0)) ys (times_x_byte a ha) (xor_of_8 _ _ (times_x_byte c hc) (bit_part y 7 (omega arith)))
+    let e : bit_xor (times_x (bit_xor a c)) (cond y 7 0) ≡ bit_xor (times_x a) (bit_xor (times_x c) (cond y 7 0)) =
+    ap (λ n. bit_xor n (cond y 7 0)) (times_x-xor a c ha hc) ∙ xor_assoc (times_x a) (times_x c) (cond y 7 0) in
+    ap (λ n. feed n ys) e
+    ∙ feed_xor (times_x a) (bit_xor (times_x c) (cond y 7 0)) ys (times_x_byte a ha)
+    (xor_of_8 _ _ (times_x_byte c hc) (bit_part y 7 (omega arith)))
 
 bits_last : (m : List ℕ) (b : ℕ) → bits (m ++ b ∷ []) ≡ bits m ++ byte_bits b
 unfolding bits
 bits_last [] b = append-nil (byte_bits b)
-bits_last (x ∷ m) b = ap (λ (ys : List Bool). byte_bits x ++ ys) (bits_last m b) ∙ sym (append_assoc (byte_bits x) (bits m) (byte_bits b))
+bits_last (x ∷ m) b =
+    ap (λ (ys : List Bool). byte_bits x ++ ys) (bits_last m b) ∙ sym (append_assoc (byte_bits x) (bits m) (byte_bits b))
 
 check_fed : (m : List ℕ) (b : ℕ) → check (m ++ b ∷ []) ≡ feed (check m) (byte_bits b)
 unfolding check
@@ -179,10 +208,13 @@ shifted_byte : (a b : ℕ) → shifted a (byte_bits b) ≡ eighth a
 unfolding eighth shifted byte_bits
 shifted_byte a b = refl
 
-shifted_xor : (a b : ℕ) (ys : List Bool) → a < 256 → b < 256 → shifted (bit_xor a b) ys ≡ bit_xor (shifted a ys) (shifted b ys)
+shifted_xor : (a b : ℕ) (ys : List Bool) → a < 256 → b < 256
+    → shifted (bit_xor a b) ys ≡ bit_xor (shifted a ys) (shifted b ys)
 unfolding shifted
 shifted_xor a b [] ha hb = refl
-shifted_xor a b (y ∷ ys) ha hb = ap (λ n. shifted n ys) (times_x-xor a b ha hb) ∙ shifted_xor (times_x a) (times_x b) ys (times_x_byte a ha) (times_x_byte b hb)
+shifted_xor a b (y ∷ ys) ha hb =
+    ap (λ n. shifted n ys) (times_x-xor a b ha hb)
+    ∙ shifted_xor (times_x a) (times_x b) ys (times_x_byte a ha) (times_x_byte b hb)
 
 pub eighth_xor : (a b : ℕ) → a < 256 → b < 256 → eighth (bit_xor a b) ≡ bit_xor (eighth a) (eighth b)
 unfolding eighth
@@ -204,7 +236,8 @@ pub check_next : (m : List ℕ) (b : ℕ) → b < 256 → check (m ++ b ∷ []) 
 check_next m b h =
     let hc = check_byte m in
     let x : bit_xor (check m) b < 256 = xor_of_8 (check m) b hc h in
-    let zero_fed : feed 0 (byte_bits b) ≡ eighth b = sym (check_fed [] b ∙ ap (λ n. feed n (byte_bits b)) check_nil) ∙ check_one b h in
+    let zero_fed : feed 0 (byte_bits b) ≡ eighth b =
+    sym (check_fed [] b ∙ ap (λ n. feed n (byte_bits b)) check_nil) ∙ check_one b h in
     check_fed m b
     ∙ ap (λ n. feed n (byte_bits b)) (sym (xor_zero_r (check m)))
     ∙ feed_xor (check m) 0 (byte_bits b) hc (omega arith)

@@ -1,7 +1,11 @@
--- The facts about the definitions that proofs cite, also those of the crates above: the laws, and steps that they are made of.
+-- The facts about the definitions that proofs cite, also those of the crates above: the laws, and steps that they are
+-- made of.
 pub use Rattle.esp3_frames.proofs.CheckLemmas.{check_next, check_nil}
 pub use Rattle.esp3_frames.proofs.PacketLemmas.{one_reading}
 pub use Rattle.esp3_frames.proofs.FrontLemmas.{front_partial}
-pub use Rattle.esp3_frames.proofs.FramingLemmas.{one_of_three, empty_may_become, framing_of, only_framing, rest_may_become, frames_of-may_become, framing_in_parts, front_never}
-pub use Rattle.esp3_frames.proofs.FramesByFront.{cases_front, front-empty, partial_short, whole_length, frames-never, frames-skipped, frames-partial, frames-whole, packets_in-one}
-pub use Rattle.esp3_frames.proofs.FrontByHeader.{front-short, front-good, front-bad, front_behind-partial, front_behind-whole, front_behind-never}
+pub use Rattle.esp3_frames.proofs.FramingLemmas.{one_of_three, empty_may_become, framing_of, only_framing}
+pub use Rattle.esp3_frames.proofs.FramingLemmas.{rest_may_become, frames_of-may_become, framing_in_parts, front_never}
+pub use Rattle.esp3_frames.proofs.FramesByFront.{cases_front, front-empty, partial_short, whole_length, frames-never}
+pub use Rattle.esp3_frames.proofs.FramesByFront.{frames-skipped, frames-partial, frames-whole, packets_in-one}
+pub use Rattle.esp3_frames.proofs.FrontByHeader.{front-short, front-good, front-bad, front_behind-partial}
+pub use Rattle.esp3_frames.proofs.FrontByHeader.{front_behind-whole, front_behind-never}

@@ -1,11 +1,14 @@
 -- The frames of a text, by what stands at its front.
-use Rattle.std.proofs.Common.{◌≡◌, ◌≢◌, ℕ, zero, suc, ◌+◌, ◌*◌, ◌<◌, ◌≤◌, Bool, false, cond, ◌&&◌, ◌==◌, eqb, get_or, List, [], ◌∷◌, ◌++◌, length, take, drop, refl, sym, ap, ◌∙◌, subst, arith, length-append, ◌⊎◌, inl, inr}
+use Rattle.std.proofs.Common.{◌≡◌, ◌≢◌, ℕ, zero, suc, ◌+◌, ◌*◌, ◌<◌, ◌≤◌, Bool, false, cond, ◌&&◌, ◌==◌, eqb, get_or}
+use Rattle.std.proofs.Common.{List, [], ◌∷◌, ◌++◌, length, take, drop, refl, sym, ap, ◌∙◌, subst, arith, length-append}
+use Rattle.std.proofs.Common.{◌⊎◌, inl, inr}
 use Rattle.std.proofs.Math.Seq.{take-append_seam}
 use Rattle.std.proofs.lemmas.List.{append-nil}
 use Rattle.std.proofs.lemmas.Bool.{ne_eqb}
 use Rattle.esp3_frames.specs.Packet.{longest_packet, Packet, IsPacket}
 use Rattle.esp3_frames.specs.Framing.Framing.{ends, finds}
-use Rattle.esp3_frames.specs.Frames.{Front, front_behind, front_of, Frames, frames_after, frames_of, packets_in, rest_of}
+use Rattle.esp3_frames.specs.Frames.{Front, front_behind, front_of, Frames, frames_after, frames_of, packets_in}
+use Rattle.esp3_frames.specs.Frames.{rest_of}
 use Rattle.esp3_frames.specs.Frames.Front.{Never, Partial, Whole}
 use Rattle.esp3_frames.proofs.PacketLemmas.{packet_length}
 use Rattle.esp3_frames.proofs.FrontLemmas.{front_partial, front_whole}
@@ -41,7 +44,8 @@ front-no_sync b (h ∷ l ∷ o ∷ []) n = no_begin b _ Partial n
 front-no_sync b (h ∷ l ∷ o ∷ k ∷ []) n = no_begin b _ Partial n
 front-no_sync b (h ∷ l ∷ o ∷ k ∷ c ∷ w) n = no_begin b _ (front_behind (256 * h + l) o k w) n
 
-pub frames-skipped : (w : List ℕ) (n : ℕ) → n ≤ length w → ((i : ℕ) → i < n → get_or w i 0 ≢ 0x55) → frames_of (drop n w) ≡ frames_of w
+pub frames-skipped : (w : List ℕ) (n : ℕ) → n ≤ length w → ((i : ℕ) → i < n → get_or w i 0 ≢ 0x55)
+    → frames_of (drop n w) ≡ frames_of w
 frames-skipped w zero h none = refl
 frames-skipped [] (suc n) h none = absurd (omega arith)
 frames-skipped (b ∷ w) (suc n) h none =
@@ -53,7 +57,11 @@ unfolding frames_after
 frames-partial [] e = refl
 frames-partial (b ∷ s) e = ap (stepped b s) e
 
-pub frames-whole : (s : List ℕ) (p : Packet) → front_of s ≡ Whole p → frames_of s ≡ record { ready = p ∷ packets_in (drop (length p.body + length p.opt + 7) s); rest = rest_of (drop (length p.body + length p.opt + 7) s) }
+pub frames-whole : (s : List ℕ) (p : Packet) → front_of s ≡ Whole p
+    → frames_of s ≡ record {
+      ready = p ∷ packets_in (drop (length p.body + length p.opt + 7) s);
+      rest = rest_of (drop (length p.body + length p.opt + 7) s);
+    }
 unfolding frames_after front_of
 frames-whole [] p e = absurd cc
 frames-whole (b ∷ s) p e =
@@ -69,14 +77,17 @@ partial_short s e =
     let some = l.proper in let body = l.whole.body in let opt = l.whole.opt in
     omega (arith, length-append s l.more)
 
-pub whole_length : (s : List ℕ) (p : Packet) → front_of s ≡ Whole p → (length p.body + length p.opt + 7 ≤ length s) × (length p.body + length p.opt + 7 ≤ longest_packet) × IsPacket p (take (length p.body + length p.opt + 7) s)
+pub whole_length : (s : List ℕ) (p : Packet) → front_of s ≡ Whole p
+    → (length p.body + length p.opt + 7 ≤ length s) × (length p.body + length p.opt + 7 ≤ longest_packet)
+    × IsPacket p (take (length p.body + length p.opt + 7) s)
 whole_length s p e =
     let h = front_whole s p e in
     let n = packet_length p h.front h.whole in
     let body = h.whole.body in let opt = h.whole.opt in (
       omega (arith, ap length h.is, length-append h.front h.rest),
       omega arith,
-      subst (IsPacket p) (sym (ap (λ (i : ℕ). take i s) (sym n) ∙ ap (λ (y : List ℕ). take (length h.front) y) h.is ∙ take-append_seam h.front h.rest)) h.whole,
+      subst (IsPacket p) (sym (ap (λ (i : ℕ). take i s) (sym n) ∙ ap (λ (y : List ℕ). take (length h.front) y) h.is
+          ∙ take-append_seam h.front h.rest)) h.whole,
     )
 
 pub front-empty : front_of [] ≡ Partial

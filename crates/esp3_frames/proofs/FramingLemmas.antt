@@ -1,5 +1,7 @@
 -- Each stream has exactly one framing, the computed one.
-use Rattle.std.proofs.Common.{◌≡◌, ℕ, zero, suc, ◌+◌, ◌*◌, ◌/◌, ◌%◌, ◌<◌, ◌≤◌, Bool, true, false, cond, List, [], ◌∷◌, ◌++◌, length, drop, refl, sym, ap, ◌∙◌, subst, append_assoc, arith, length-append, ◌⊎◌, inl, inr}
+use Rattle.std.proofs.Common.{◌≡◌, ℕ, zero, suc, ◌+◌, ◌*◌, ◌/◌, ◌%◌, ◌<◌, ◌≤◌, Bool, true, false, cond, List, [], ◌∷◌}
+use Rattle.std.proofs.Common.{◌++◌, length, drop, refl, sym, ap, ◌∙◌, subst, append_assoc, arith, length-append, ◌⊎◌}
+use Rattle.std.proofs.Common.{inl, inr}
 use Rattle.std.proofs.Math.Seq.{drop-append_seam}
 use Rattle.std.proofs.lemmas.Bool.{and_from, le-leb, eq-eqb}
 use Rattle.esp3_frames.specs.Check.{check}
@@ -29,20 +31,23 @@ behind_partial true x e h = cc
 behind_partial false x e h = cc
 
 -- the cells of a text that begins with a packet
-begins_cells : (p : Packet) (s h l o k c : ℕ) (t r : List ℕ) → (s ∷ h ∷ l ∷ o ∷ k ∷ c ∷ t) ≡ spelling p ++ r → IsPacket p (spelling p) → front_of (s ∷ h ∷ l ∷ o ∷ k ∷ c ∷ t) ≡ Never → ⊥
+begins_cells : (p : Packet) (s h l o k c : ℕ) (t r : List ℕ) → (s ∷ h ∷ l ∷ o ∷ k ∷ c ∷ t) ≡ spelling p ++ r
+    → IsPacket p (spelling p) → front_of (s ∷ h ∷ l ∷ o ∷ k ∷ c ∷ t) ≡ Never → ⊥
 unfolding front_of
 begins_cells p s h l o k c t r e hp d =
     let m : List ℕ = p.body ++ p.opt in
     let cells : (s ∷ h ∷ l ∷ o ∷ k ∷ c ∷ (m ++ check m ∷ [])) ≡ spelling p = cc in
     let et : t ≡ (m ++ check m ∷ []) ++ r = cc in
-    let hq : IsPacket p (s ∷ h ∷ l ∷ o ∷ k ∷ c ∷ (m ++ check m ∷ [])) = record { some = hp.some; body = hp.body; opt = hp.opt; bytes = cells } in
+    let hq : IsPacket p (s ∷ h ∷ l ∷ o ∷ k ∷ c ∷ (m ++ check m ∷ [])) =
+    record { some = hp.some; body = hp.body; opt = hp.opt; bytes = cells } in
     let parts = packet_parts p s h l o k c (m ++ check m ∷ []) cells in
     let high = parts.high in let low = parts.low in let opts = parts.opts in
     let n : 256 * h + l + o ≡ length m = omega (arith, length-append p.body p.opt) in
     let checked = tail_check m r t (256 * h + l + o) n (et ∙ append_assoc m (check m ∷ []) r) in
     kept _ _ (fit_parts p s h l o k c t (m ++ check m ∷ []) hq) (behind_whole _ _ _ (eq-eqb _ _ checked)) d
 
-begins_not_never : (w : List ℕ) (p : Packet) (r : List ℕ) → w ≡ spelling p ++ r → IsPacket p (spelling p) → front_of w ≡ Never → ⊥
+begins_not_never : (w : List ℕ) (p : Packet) (r : List ℕ) → w ≡ spelling p ++ r → IsPacket p (spelling p)
+    → front_of w ≡ Never → ⊥
 begins_not_never [] p r e hp d = cc
 begins_not_never (s ∷ []) p r e hp d = cc
 begins_not_never (s ∷ h ∷ []) p r e hp d = cc
@@ -51,16 +56,25 @@ begins_not_never (s ∷ h ∷ l ∷ o ∷ []) p r e hp d = cc
 begins_not_never (s ∷ h ∷ l ∷ o ∷ k ∷ []) p r e hp d = cc
 begins_not_never (s ∷ h ∷ l ∷ o ∷ k ∷ c ∷ t) p r e hp d = begins_cells p s h l o k c t r e hp d
 
-may_become_cells : (p : Packet) (s h l o k c : ℕ) (t more : List ℕ) → IsPacket p (s ∷ h ∷ l ∷ o ∷ k ∷ c ∷ (t ++ more)) → 0 < length more → front_of (s ∷ h ∷ l ∷ o ∷ k ∷ c ∷ t) ≡ Never → ⊥
+may_become_cells : (p : Packet) (s h l o k c : ℕ) (t more : List ℕ) → IsPacket p (s ∷ h ∷ l ∷ o ∷ k ∷ c ∷ (t ++ more))
+    → 0 < length more → front_of (s ∷ h ∷ l ∷ o ∷ k ∷ c ∷ t) ≡ Never → ⊥
 unfolding front_of
 may_become_cells p s h l o k c t more hp hm d =
     let parts = packet_parts p s h l o k c (t ++ more) hp.bytes in
     let high = parts.high in let low = parts.low in let opts = parts.opts in
     let m : List ℕ = p.body ++ p.opt in
-    let n : length t ≤ 256 * h + l + o = omega (arith, ap length parts.tail, length-append t more, length-append m (check m ∷ []), length-append p.body p.opt) in
+    let n : length t ≤ 256 * h + l + o =
+    omega (
+      arith,
+      ap length parts.tail,
+      length-append t more,
+      length-append m (check m ∷ []),
+      length-append p.body p.opt,
+    ) in
     kept _ _ (fit_parts p s h l o k c t (t ++ more) hp) (behind_partial _ _ (le-leb (length t) (256 * h + l + o) n)) d
 
-may_become_not_never : (w : List ℕ) (p : Packet) (more : List ℕ) → IsPacket p (w ++ more) → 0 < length more → front_of w ≡ Never → ⊥
+may_become_not_never : (w : List ℕ) (p : Packet) (more : List ℕ) → IsPacket p (w ++ more) → 0 < length more
+    → front_of w ≡ Never → ⊥
 unfolding front_of
 may_become_not_never [] p more hp hm d = cc
 may_become_not_never (s ∷ []) p more hp hm d =
@@ -68,23 +82,40 @@ may_become_not_never (s ∷ []) p more hp hm d =
     kept _ Partial (and_from _ _ (eq-eqb s 0x55 es) refl) partial_apart d
 may_become_not_never (s ∷ h ∷ []) p more hp hm d =
     let e = hp.bytes in let es : s ≡ 0x55 = cc in let eh : h ≡ length p.body / 256 = cc in let body = hp.body in
-    kept _ Partial (and_from _ _ (eq-eqb s 0x55 es) (test_fitting h 0 1 (record { low = omega arith; opts = omega arith; some = omega arith; fits = omega arith }))) partial_apart d
+    kept _ Partial (and_from _ _ (eq-eqb s 0x55 es)
+    (test_fitting h 0 1 (record { low = omega arith; opts = omega arith; some = omega arith; fits = omega arith })))
+    partial_apart d
 may_become_not_never (s ∷ h ∷ l ∷ []) p more hp hm d =
-    let e = hp.bytes in let es : s ≡ 0x55 = cc in let eh : h ≡ length p.body / 256 = cc in let el : l ≡ length p.body % 256 = cc in let body = hp.body in
-    kept _ Partial (and_from _ _ (eq-eqb s 0x55 es) (test_fitting h l 1 (record { low = omega arith; opts = omega arith; some = omega arith; fits = omega arith }))) partial_apart d
+    let e = hp.bytes in let es : s ≡ 0x55 = cc in let eh : h ≡ length p.body / 256 =
+    cc in let el : l ≡ length p.body % 256 = cc in let body = hp.body in
+    kept _ Partial (and_from _ _ (eq-eqb s 0x55 es)
+    (test_fitting h l 1 (record { low = omega arith; opts = omega arith; some = omega arith; fits = omega arith })))
+    partial_apart d
 may_become_not_never (s ∷ h ∷ l ∷ o ∷ []) p more hp hm d =
-    let e = hp.bytes in let es : s ≡ 0x55 = cc in let eh : h ≡ length p.body / 256 = cc in let el : l ≡ length p.body % 256 = cc in let eo : o ≡ length p.opt = cc in let body = hp.body in let opt = hp.opt in let some = hp.some in
-    kept _ Partial (and_from _ _ (eq-eqb s 0x55 es) (test_fitting h l o (record { low = omega arith; opts = omega arith; some = omega arith; fits = omega arith }))) partial_apart d
+    let e = hp.bytes in let es : s ≡ 0x55 = cc in let eh : h ≡ length p.body / 256 = cc in
+    let el : l ≡ length p.body % 256 = cc in let eo : o ≡ length p.opt = cc in let body = hp.body in
+    let opt = hp.opt in let some = hp.some in
+    kept _ Partial (and_from _ _ (eq-eqb s 0x55 es)
+    (test_fitting h l o (record { low = omega arith; opts = omega arith; some = omega arith; fits = omega arith })))
+    partial_apart d
 may_become_not_never (s ∷ h ∷ l ∷ o ∷ k ∷ []) p more hp hm d =
-    let e = hp.bytes in let es : s ≡ 0x55 = cc in let eh : h ≡ length p.body / 256 = cc in let el : l ≡ length p.body % 256 = cc in let eo : o ≡ length p.opt = cc in let body = hp.body in let opt = hp.opt in let some = hp.some in
-    kept _ Partial (and_from _ _ (eq-eqb s 0x55 es) (test_fitting h l o (record { low = omega arith; opts = omega arith; some = omega arith; fits = omega arith }))) partial_apart d
+    let e = hp.bytes in let es : s ≡ 0x55 = cc in let eh : h ≡ length p.body / 256 = cc in
+    let el : l ≡ length p.body % 256 = cc in let eo : o ≡ length p.opt = cc in let body = hp.body in
+    let opt = hp.opt in let some = hp.some in
+    kept _ Partial (and_from _ _ (eq-eqb s 0x55 es)
+    (test_fitting h l o (record { low = omega arith; opts = omega arith; some = omega arith; fits = omega arith })))
+    partial_apart d
 may_become_not_never (s ∷ h ∷ l ∷ o ∷ k ∷ c ∷ t) p more hp hm d = may_become_cells p s h l o k c t more hp hm d
 
 whole_spelling : (p : Packet) (v : List ℕ) → IsPacket p v → IsPacket p (spelling p)
 whole_spelling p v h = subst (IsPacket p) h.bytes h
 
 pub front_never : (w : List ℕ) → front_of w ≡ Never → NeverPacket w
-front_never w d = (λ h. begins_not_never w h.packet h.rest (h.is ∙ ap (λ (y : List ℕ). y ++ h.rest) h.whole.bytes) (whole_spelling h.packet h.front h.whole) d, λ l. may_become_not_never w l.packet l.more l.whole l.proper d)
+front_never w d = (
+  λ h. begins_not_never w h.packet h.rest (h.is ∙ ap (λ (y : List ℕ). y ++ h.rest) h.whole.bytes)
+      (whole_spelling h.packet h.front h.whole) d,
+  λ l. may_become_not_never w l.packet l.more l.whole l.proper d,
+)
 
 empty_front : front_of [] ≡ Partial
 unfolding front_of
@@ -96,17 +127,22 @@ stepped b s f =
     elim f [
       | Never ↦ frames_after zero s
       | Partial ↦ record { ready = []; rest = b ∷ s }
-      | Whole p ↦ let c = frames_after (length p.body + length p.opt + 6) s in record { ready = p ∷ c.ready; rest = c.rest }
+      | Whole p ↦ let c =
+          frames_after (length p.body + length p.opt + 6) s in record { ready = p ∷ c.ready; rest = c.rest }
     ]
 
 dropped : (b : ℕ) (s v r : List ℕ) (n : ℕ) → (b ∷ s) ≡ v ++ r → length v ≡ suc n → (n ≤ length s) × (r ≡ drop n s)
 dropped b s [] r n e h = absurd (omega arith)
 dropped b s (x ∷ v) r n e h =
     let es : s ≡ v ++ r = cc in
-    let lv : length v ≡ n = omega arith in
-    (omega (arith, ap length es, length-append v r), sym (ap (λ (m : ℕ). drop m s) (sym lv) ∙ ap (λ (y : List ℕ). drop (length v) y) es ∙ drop-append_seam v r))
+    let lv : length v ≡ n = omega arith in (
+      omega (arith, ap length es, length-append v r),
+      sym (ap (λ (m : ℕ). drop m s) (sym lv) ∙ ap (λ (y : List ℕ). drop (length v) y) es ∙ drop-append_seam v r),
+    )
 
-at_front : (b : ℕ) (s : List ℕ) (f : Front) → front_of (b ∷ s) ≡ f → ((n : ℕ) → n ≤ length s → Framing (drop n s) (frames_after n s).ready (frames_after n s).rest) → Framing (b ∷ s) (stepped b s f).ready (stepped b s f).rest
+at_front : (b : ℕ) (s : List ℕ) (f : Front) → front_of (b ∷ s) ≡ f
+    → ((n : ℕ) → n ≤ length s → Framing (drop n s) (frames_after n s).ready (frames_after n s).rest)
+    → Framing (b ∷ s) (stepped b s f).ready (stepped b s f).rest
 at_front b s Never e ih = skips (front_never (b ∷ s) e) (ih zero (omega arith))
 at_front b s Partial e ih = ends (front_partial (b ∷ s) e)
 at_front b s (Whole p) e ih =
@@ -116,7 +152,8 @@ at_front b s (Whole p) e ih =
     let d = dropped b s h.front h.rest n h.is l in
     finds {front = h.front} {s = drop n s} h.whole (h.is ∙ ap (λ (y : List ℕ). h.front ++ y) d.1) (ih n d.0)
 
-pub framing_after : (n : ℕ) (s : List ℕ) → n ≤ length s → Framing (drop n s) (frames_after n s).ready (frames_after n s).rest
+pub framing_after : (n : ℕ) (s : List ℕ) → n ≤ length s
+    → Framing (drop n s) (frames_after n s).ready (frames_after n s).rest
 unfolding frames_after
 framing_after zero [] h = ends (front_partial [] empty_front)
 framing_after (suc n) [] h = absurd (omega arith)
@@ -138,7 +175,8 @@ same_take p q v s w t hp hq e = elim (split_fronts v s w t e) [
 same_more : (p q : Packet) (ps qs : List Packet) → p ≡ q → ps ≡ qs → (p ∷ ps) ≡ (q ∷ qs)
 same_more p q ps qs e f = cc
 
-pub one_framing : {s : List ℕ} {ps qs : List Packet} {r t : List ℕ} → Framing s ps r → Framing s qs t → (ps ≡ qs) × (r ≡ t)
+pub one_framing : {s : List ℕ} {ps qs : List Packet} {r t : List ℕ} → Framing s ps r → Framing s qs t
+    → (ps ≡ qs) × (r ≡ t)
 one_framing (ends l) (ends m) = (refl, refl)
 one_framing (ends l) (skips d c) = absurd (d.1 l)
 one_framing (ends l) (finds hp e c) = absurd (begins_not_may _ (begins_of _ hp e) l)
@@ -147,7 +185,8 @@ one_framing (skips d c) (skips f g) = one_framing c g
 one_framing (skips d c) (finds hp e g) = absurd (d.0 (begins_of _ hp e))
 one_framing (finds hp e c) (ends m) = absurd (begins_not_may _ (begins_of _ hp e) m)
 one_framing (finds hp e c) (skips f g) = absurd (f.0 (begins_of _ hp e))
-one_framing (finds {p = p} {front = v} {s = s} {ps = ps} hp e c) (finds {p = q} {front = w} {s = t} {ps = qs} {rest = u} hq f g) =
+one_framing (finds {p = p} {front = v} {s = s} {ps = ps} hp e c)
+    (finds {p = q} {front = w} {s = t} {ps = qs} {rest = u} hq f g) =
     let same = same_take p q v s w t hp hq (sym e ∙ f) in
     let r = one_framing c (subst (λ (y : List ℕ). Framing y qs u) same.1 g) in
     (same_more p q ps qs same.0 r.0, r.1)
@@ -166,20 +205,26 @@ pub frames_of-may_become : (w : List ℕ) → MayBecomePacket w → ([] ≡ pack
 frames_of-may_become w l = only_framing w [] w (ends l)
 
 -- a framing goes on from its rest
-pub framing-append : {s : List ℕ} {ps : List Packet} {r : List ℕ} (t : List ℕ) (qs : List Packet) (u : List ℕ) → Framing s ps r → Framing (r ++ t) qs u → Framing (s ++ t) (ps ++ qs) u
+pub framing-append : {s : List ℕ} {ps : List Packet} {r : List ℕ} (t : List ℕ) (qs : List Packet) (u : List ℕ)
+    → Framing s ps r → Framing (r ++ t) qs u → Framing (s ++ t) (ps ++ qs) u
 framing-append t qs u (ends l) c = c
 framing-append t qs u (skips {b = b} {s = s} d c) g = skips (never-longer (b ∷ s) t d) (framing-append t qs u c g)
-framing-append t qs u (finds {front = v} {s = s} hp e c) g = finds hp (ap (λ (y : List ℕ). y ++ t) e ∙ append_assoc v s t) (framing-append t qs u c g)
+framing-append t qs u (finds {front = v} {s = s} hp e c) g =
+    finds hp (ap (λ (y : List ℕ). y ++ t) e ∙ append_assoc v s t) (framing-append t qs u c g)
 
-pub framing_in_parts : (s t : List ℕ) → (packets_in (s ++ t) ≡ packets_in s ++ packets_in (rest_of s ++ t)) × (rest_of (s ++ t) ≡ rest_of (rest_of s ++ t))
+pub framing_in_parts : (s t : List ℕ) → (packets_in (s ++ t) ≡ packets_in s ++ packets_in (rest_of s ++ t))
+    × (rest_of (s ++ t) ≡ rest_of (rest_of s ++ t))
 framing_in_parts s t =
-    let r = only_framing (s ++ t) _ _ (framing-append t (packets_in (rest_of s ++ t)) (rest_of (rest_of s ++ t)) (framing_of s) (framing_of (rest_of s ++ t))) in
+    let r = only_framing (s ++ t) _ _
+    (framing-append t (packets_in (rest_of s ++ t)) (rest_of (rest_of s ++ t)) (framing_of s)
+    (framing_of (rest_of s ++ t))) in
     (sym r.0, sym r.1)
 
 three : (w : List ℕ) (f : Front) → front_of w ≡ f → BeginsWithPacket w ⊎ (MayBecomePacket w ⊎ NeverPacket w)
 three w Never e = inr (inr (front_never w e))
 three w Partial e = inr (inl (front_partial w e))
-three w (Whole p) e = let h = front_whole w p e in inl (record { packet = p; front = h.front; rest = h.rest; whole = h.whole; is = h.is })
+three w (Whole p) e =
+    let h = front_whole w p e in inl (record { packet = p; front = h.front; rest = h.rest; whole = h.whole; is = h.is })
 
 pub one_of_three : (w : List ℕ) → BeginsWithPacket w ⊎ (MayBecomePacket w ⊎ NeverPacket w)
 one_of_three w = three w (front_of w) refl

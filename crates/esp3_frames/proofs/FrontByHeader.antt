@@ -1,5 +1,6 @@
 -- What stands at the front of a text, by its header.
-use Rattle.std.proofs.Common.{◌≡◌, ◌≢◌, ℕ, ◌+◌, ◌*◌, ◌<◌, ◌≤◌, Bool, true, false, cond, ◌&&◌, ◌==◌, eqb, ltb, leb, List, [], ◌∷◌, ◌++◌, length, take, drop, get_or, refl, sym, ap, ◌∙◌, subst, arith}
+use Rattle.std.proofs.Common.{◌≡◌, ◌≢◌, ℕ, ◌+◌, ◌*◌, ◌<◌, ◌≤◌, Bool, true, false, cond, ◌&&◌, ◌==◌, eqb, ltb, leb, List}
+use Rattle.std.proofs.Common.{[], ◌∷◌, ◌++◌, length, take, drop, get_or, refl, sym, ap, ◌∙◌, subst, arith}
 use Rattle.std.specs.Prelude.{Result, Ok, Err}
 use Rattle.std.proofs.lemmas.Bool.{and_parts, and_from, le-ltb, le-leb, lt-leb, eq-eqb, ne_eqb}
 use Rattle.esp3_frames.specs.Check.{check}
@@ -26,7 +27,8 @@ chosen : (t : Bool) (x : Front) → t ≡ true → cond t x Never ≡ x
 chosen true x e = refl
 chosen false x e = absurd cc
 
-front-header : (b f w : List ℕ) (x : Header) → ((i : ℕ) → get_or b i 0 < 256) → length f ≡ 6 → f ++ w ≡ b → header_of f ≡ Ok x → front_of b ≡ front_behind x.data_len x.opt_len x.kind w
+front-header : (b f w : List ℕ) (x : Header) → ((i : ℕ) → get_or b i 0 < 256) → length f ≡ 6 → f ++ w ≡ b
+    → header_of f ≡ Ok x → front_of b ≡ front_behind x.data_len x.opt_len x.kind w
 unfolding front_of
 front-header b f w x fits hf hb hx =
     let t = six f hf in
@@ -38,11 +40,16 @@ front-header b f w x fits hf hb hx =
     let ed : x.data_len ≡ 256 * h + l = (let e = r.is in cc) in
     let eo : x.opt_len ≡ o = (let e = r.is in cc) in
     let ek : x.kind ≡ k = (let e = r.is in cc) in
-    let good : (s == 0x55 && (lengths_fit h l o && c == check (h ∷ l ∷ o ∷ k ∷ []))) ≡ true = and_from _ _ (eq-eqb s 0x55 r.sync) (and_from _ _ (test_fitting h l o (record { low = hl; opts = ho; some = r.some; fits = r.fits })) (eq-eqb c _ r.checked)) in
+    let good : (s == 0x55 && (lengths_fit h l o && c == check (h ∷ l ∷ o ∷ k ∷ []))) ≡ true =
+    and_from _ _ (eq-eqb s 0x55 r.sync)
+    (and_from _ _ (test_fitting h l o (record { low = hl; opts = ho; some = r.some; fits = r.fits }))
+    (eq-eqb c _ r.checked)) in
     ap front_of (sym eb) ∙ chosen _ (front_behind (256 * h + l) o k w) good
-    ∙ sym (ap (λ (n : ℕ). front_behind n x.opt_len x.kind w) ed ∙ ap (λ (n : ℕ). front_behind (256 * h + l) n x.kind w) eo ∙ ap (λ (n : ℕ). front_behind (256 * h + l) o n w) ek)
+    ∙ sym (ap (λ (n : ℕ). front_behind n x.opt_len x.kind w) ed
+    ∙ ap (λ (n : ℕ). front_behind (256 * h + l) n x.kind w) eo ∙ ap (λ (n : ℕ). front_behind (256 * h + l) o n w) ek)
 
-good_header : (s h l o k c : ℕ) → (s == 0x55 && (lengths_fit h l o && c == check (h ∷ l ∷ o ∷ k ∷ []))) ≡ true → header_of (s ∷ h ∷ l ∷ o ∷ k ∷ c ∷ []) ≡ Ok (header_in (s ∷ h ∷ l ∷ o ∷ k ∷ c ∷ []))
+good_header : (s h l o k c : ℕ) → (s == 0x55 && (lengths_fit h l o && c == check (h ∷ l ∷ o ∷ k ∷ []))) ≡ true
+    → header_of (s ∷ h ∷ l ∷ o ∷ k ∷ c ∷ []) ≡ Ok (header_in (s ∷ h ∷ l ∷ o ∷ k ∷ c ∷ []))
 good_header s h l o k c e =
     let a = and_parts _ _ e in
     let b = and_parts _ _ a.1 in
@@ -61,33 +68,41 @@ never_or : (t : Bool) (x : Front) → (t ≡ true → ⊥) → cond t x Never �
 never_or true x n = absurd (n refl)
 never_or false x n = refl
 
-front-no_header : (b f w : List ℕ) (e : HeaderFault) → length f ≡ 6 → f ++ w ≡ b → header_of f ≡ Err e → front_of b ≡ Never
+front-no_header : (b f w : List ℕ) (e : HeaderFault) → length f ≡ 6 → f ++ w ≡ b → header_of f ≡ Err e
+    → front_of b ≡ Never
 unfolding front_of
 front-no_header b f w e hf hb he =
     let t = six f hf in
     let s = t.0 in let h = t.1 in let l = t.2 in let o = t.3 in let k = t.4 in let c = t.5 in
     let eb : s ∷ h ∷ l ∷ o ∷ k ∷ c ∷ w ≡ b = ap (λ (y : List ℕ). y ++ w) (sym t.6) ∙ hb in
-    ap front_of (sym eb) ∙ never_or _ (front_behind (256 * h + l) o k w) (λ good. apart _ e (sym (good_header s h l o k c good) ∙ sym (ap header_of t.6) ∙ he))
+    ap front_of (sym eb)
+    ∙ never_or _ (front_behind (256 * h + l) o k w)
+    (λ good. apart _ e (sym (good_header s h l o k c good) ∙ sym (ap header_of t.6) ∙ he))
 
 pub front_behind-partial : (d o k : ℕ) (w : List ℕ) → length w ≤ d + o → front_behind d o k w ≡ Partial
 front_behind-partial d o k w h = let e : leb (length w) (d + o) ≡ true = le-leb (length w) (d + o) h in rw e refl
 
-pub front_behind-whole : (d o k : ℕ) (w : List ℕ) → d + o < length w → get_or w (d + o) 0 ≡ check (take (d + o) w) → front_behind d o k w ≡ Whole (record { kind = k; body = take d (take (d + o) w); opt = drop d (take (d + o) w) })
+pub front_behind-whole : (d o k : ℕ) (w : List ℕ) → d + o < length w → get_or w (d + o) 0 ≡ check (take (d + o) w)
+    → front_behind d o k w ≡ Whole (record { kind = k; body = take d (take (d + o) w); opt = drop d (take (d + o) w) })
 front_behind-whole d o k w h g =
     let e1 : leb (length w) (d + o) ≡ false = lt-leb (length w) (d + o) h in
     let e2 : eqb (get_or w (d + o) 0) (check (take (d + o) w)) ≡ true = eq-eqb _ _ g in
     rw (e1, e2) refl
 
-pub front_behind-never : (d o k : ℕ) (w : List ℕ) → d + o < length w → get_or w (d + o) 0 ≢ check (take (d + o) w) → front_behind d o k w ≡ Never
+pub front_behind-never : (d o k : ℕ) (w : List ℕ) → d + o < length w → get_or w (d + o) 0 ≢ check (take (d + o) w)
+    → front_behind d o k w ≡ Never
 front_behind-never d o k w h g =
     let e1 : leb (length w) (d + o) ≡ false = lt-leb (length w) (d + o) h in
     let e2 : eqb (get_or w (d + o) 0) (check (take (d + o) w)) ≡ false = ne_eqb _ _ g in
     rw (e1, e2) refl
 
 -- a text of at least six bytes whose header is good
-pub front-good : (b : List ℕ) (x : Header) → ((i : ℕ) → get_or b i 0 < 256) → 6 ≤ length b → header_of (take 6 b) ≡ Ok x → front_of b ≡ front_behind x.data_len x.opt_len x.kind (drop 6 b)
-front-good b x fits long good = let s = six_first b (take 6 b) (drop 6 b) long refl refl in front-header b (take 6 b) (drop 6 b) x fits s.0 s.1 good
+pub front-good : (b : List ℕ) (x : Header) → ((i : ℕ) → get_or b i 0 < 256) → 6 ≤ length b → header_of (take 6 b) ≡ Ok x
+    → front_of b ≡ front_behind x.data_len x.opt_len x.kind (drop 6 b)
+front-good b x fits long good =
+    let s = six_first b (take 6 b) (drop 6 b) long refl refl in front-header b (take 6 b) (drop 6 b) x fits s.0 s.1 good
 
 -- a text of at least six bytes whose header is not
 pub front-bad : (b : List ℕ) (e : HeaderFault) → 6 ≤ length b → header_of (take 6 b) ≡ Err e → front_of b ≡ Never
-front-bad b e long bad = let s = six_first b (take 6 b) (drop 6 b) long refl refl in front-no_header b (take 6 b) (drop 6 b) e s.0 s.1 bad
+front-bad b e long bad =
+    let s = six_first b (take 6 b) (drop 6 b) long refl refl in front-no_header b (take 6 b) (drop 6 b) e s.0 s.1 bad

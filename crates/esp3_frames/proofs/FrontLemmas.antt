@@ -1,5 +1,7 @@
 -- The front of a text decides whether it begins with a packet, may become one, or never does.
-use Rattle.std.proofs.Common.{◌≡◌, ℕ, ◌+◌, ◌-◌, ◌*◌, ◌<◌, ◌≤◌, Bool, true, false, cond, ◌&&◌, eqb, leb, List, [], ◌∷◌, ◌++◌, length, take, drop, get_or, ◌==◌, replicate, refl, sym, ap, ◌∙◌, subst, append_assoc, arith, length-append, length-take, length-drop, ◌⊎◌, inl, inr}
+use Rattle.std.proofs.Common.{◌≡◌, ℕ, ◌+◌, ◌-◌, ◌*◌, ◌<◌, ◌≤◌, Bool, true, false, cond, ◌&&◌, eqb, leb, List, [], ◌∷◌}
+use Rattle.std.proofs.Common.{◌++◌, length, take, drop, get_or, ◌==◌, replicate, refl, sym, ap, ◌∙◌, subst}
+use Rattle.std.proofs.Common.{append_assoc, arith, length-append, length-take, length-drop, ◌⊎◌, inl, inr}
 use Rattle.std.proofs.Math.ListN.{length-replicate}
 use Rattle.std.proofs.lemmas.List.{take-append-drop}
 use Rattle.std.proofs.lemmas.Bool.{and_parts, and_from, ltb-true, leb-true, leb-false, eqb-true, lt-ltb, le-leb, eq-eqb}
@@ -23,13 +25,21 @@ fitting h l o e =
     let a = and_parts _ _ e in
     let b = and_parts _ _ a.0 in
     let c = and_parts _ _ a.1 in
-    record { low = ltb-true l 256 b.0; opts = (let e = leb-true o longest_optional_data c.0 in omega arith); some = ltb-true 0 _ c.1; fits = leb-true _ longest_data b.1 }
+    record {
+      low = ltb-true l 256 b.0;
+      opts = (let e = leb-true o longest_optional_data c.0 in omega arith);
+      some = ltb-true 0 _ c.1;
+      fits = leb-true _ longest_data b.1;
+    }
 
 pub test_fitting : (h l o : ℕ) → Fitting h l o → lengths_fit h l o ≡ true
-test_fitting h l o f = and_from _ _ (and_from _ _ (lt-ltb l 256 f.low) (le-leb _ longest_data f.fits)) (and_from _ _ (le-leb o longest_optional_data (let e = f.opts in omega arith)) (lt-ltb 0 _ f.some))
+test_fitting h l o f =
+    and_from _ _ (and_from _ _ (lt-ltb l 256 f.low) (le-leb _ longest_data f.fits))
+    (and_from _ _ (le-leb o longest_optional_data (let e = f.opts in omega arith)) (lt-ltb 0 _ f.some))
 
 -- a header that fits, with not more than the lengths behind it, may become a packet
-pub completed : (h l o k : ℕ) (w : List ℕ) → Fitting h l o → length w ≤ 256 * h + l + o → MayBecomePacket (0x55 ∷ h ∷ l ∷ o ∷ k ∷ check (h ∷ l ∷ o ∷ k ∷ []) ∷ w)
+pub completed : (h l o k : ℕ) (w : List ℕ) → Fitting h l o → length w ≤ 256 * h + l + o
+    → MayBecomePacket (0x55 ∷ h ∷ l ∷ o ∷ k ∷ check (h ∷ l ∷ o ∷ k ∷ []) ∷ w)
 completed h l o k w f hw =
     let d : ℕ = 256 * h + l in
     let z : List ℕ = replicate (d + o - length w) 0 in
@@ -57,7 +67,8 @@ completed h l o k w f hw =
           opts = sym ol;
           kind = refl;
           checked = refl;
-          tail = sym (append_assoc w z (check m ∷ [])) ∙ ap (λ (y : List ℕ). y ++ check y ∷ []) (sym (take-append-drop d m));
+          tail = sym (append_assoc w z (check m ∷ []))
+              ∙ ap (λ (y : List ℕ). y ++ check y ∷ []) (sym (take-append-drop d m));
         });
       };
     }
@@ -75,16 +86,24 @@ no_whole true p e = cc
 no_whole false p e = cc
 
 pub may_become_two : (h : ℕ) → lengths_fit h 0 1 ≡ true → MayBecomePacket (0x55 ∷ h ∷ [])
-may_become_two h e = may_become-shorter (0x55 ∷ h ∷ []) (0 ∷ 1 ∷ 0 ∷ check (h ∷ 0 ∷ 1 ∷ 0 ∷ []) ∷ []) (completed h 0 1 0 [] (fitting h 0 1 e) (omega arith))
+may_become_two h e =
+    may_become-shorter (0x55 ∷ h ∷ []) (0 ∷ 1 ∷ 0 ∷ check (h ∷ 0 ∷ 1 ∷ 0 ∷ []) ∷ [])
+    (completed h 0 1 0 [] (fitting h 0 1 e) (omega arith))
 
 pub may_become_three : (h l : ℕ) → lengths_fit h l 1 ≡ true → MayBecomePacket (0x55 ∷ h ∷ l ∷ [])
-may_become_three h l e = may_become-shorter (0x55 ∷ h ∷ l ∷ []) (1 ∷ 0 ∷ check (h ∷ l ∷ 1 ∷ 0 ∷ []) ∷ []) (completed h l 1 0 [] (fitting h l 1 e) (omega arith))
+may_become_three h l e =
+    may_become-shorter (0x55 ∷ h ∷ l ∷ []) (1 ∷ 0 ∷ check (h ∷ l ∷ 1 ∷ 0 ∷ []) ∷ [])
+    (completed h l 1 0 [] (fitting h l 1 e) (omega arith))
 
 pub may_become_five : (h l o k : ℕ) → lengths_fit h l o ≡ true → MayBecomePacket (0x55 ∷ h ∷ l ∷ o ∷ k ∷ [])
-may_become_five h l o k e = may_become-shorter (0x55 ∷ h ∷ l ∷ o ∷ k ∷ []) (check (h ∷ l ∷ o ∷ k ∷ []) ∷ []) (completed h l o k [] (fitting h l o e) (omega arith))
+may_become_five h l o k e =
+    may_become-shorter (0x55 ∷ h ∷ l ∷ o ∷ k ∷ []) (check (h ∷ l ∷ o ∷ k ∷ []) ∷ [])
+    (completed h l o k [] (fitting h l o e) (omega arith))
 
 -- which of the three a text behind a header is
-behind : (b c : Bool) (p : Packet) (f : Front) → cond b Partial (cond c (Whole p) Never) ≡ f → ((b ≡ true) × (f ≡ Partial)) ⊎ (((b ≡ false) × (c ≡ true) × (f ≡ Whole p)) ⊎ ((b ≡ false) × (c ≡ false) × (f ≡ Never)))
+behind : (b c : Bool) (p : Packet) (f : Front) → cond b Partial (cond c (Whole p) Never) ≡ f
+    → ((b ≡ true) × (f ≡ Partial))
+    ⊎ (((b ≡ false) × (c ≡ true) × (f ≡ Whole p)) ⊎ ((b ≡ false) × (c ≡ false) × (f ≡ Never)))
 behind true c p f e = inl (refl, sym e)
 behind false true p f e = inr (inl (refl, refl, sym e))
 behind false false p f e = inr (inr (refl, refl, sym e))
@@ -97,24 +116,40 @@ same_whole : (p q : Packet) → Whole p ≡ Whole q → q ≡ p
 same_whole p q e = cc
 
 -- a text that may become a packet by the test
-may_become_six : (s h l o k c : ℕ) (w : List ℕ) → front_of (s ∷ h ∷ l ∷ o ∷ k ∷ c ∷ w) ≡ Partial → MayBecomePacket (s ∷ h ∷ l ∷ o ∷ k ∷ c ∷ w)
+may_become_six : (s h l o k c : ℕ) (w : List ℕ) → front_of (s ∷ h ∷ l ∷ o ∷ k ∷ c ∷ w) ≡ Partial
+    → MayBecomePacket (s ∷ h ∷ l ∷ o ∷ k ∷ c ∷ w)
 unfolding front_of made
 may_become_six s h l o k c w e =
     let g = good _ _ Partial e (λ x. cc) in
     let a = and_parts _ _ g.0 in
     let b = and_parts _ _ a.1 in
-    let n : length w ≤ 256 * h + l + o = elim (behind (leb (length w) (256 * h + l + o)) (eqb (get_or w (256 * h + l + o) 0) (check (take (256 * h + l + o) w))) (made k (256 * h + l) o w) Partial g.1) [ inl x ↦ leb-true _ _ x.0 | inr x ↦ elim x [ inl y ↦ absurd (let z = y.2 in cc) | inr y ↦ absurd (let z = y.2 in cc) ] ] in
+    let n : length w ≤ 256 * h + l + o =
+    elim (behind (leb (length w) (256 * h + l + o))
+    (eqb (get_or w (256 * h + l + o) 0) (check (take (256 * h + l + o) w))) (made k (256 * h + l) o w) Partial g.1) [
+      | inl x ↦ leb-true _ _ x.0
+      | inr x ↦
+          elim x [ inl y ↦ absurd (let z = y.2 in cc) | inr y ↦ absurd (let z = y.2 in cc) ]
+    ] in
     let ec : c ≡ check (h ∷ l ∷ o ∷ k ∷ []) = eqb-true c _ b.1 in
-    may_become_sync s _ (eqb-true s 0x55 a.0) (subst (λ (n : ℕ). MayBecomePacket (0x55 ∷ h ∷ l ∷ o ∷ k ∷ n ∷ w)) (sym ec) (completed h l o k w (fitting h l o b.0) n))
+    may_become_sync s _ (eqb-true s 0x55 a.0)
+    (subst (λ (n : ℕ). MayBecomePacket (0x55 ∷ h ∷ l ∷ o ∷ k ∷ n ∷ w)) (sym ec)
+    (completed h l o k w (fitting h l o b.0) n))
 
 pub front_partial : (w : List ℕ) → front_of w ≡ Partial → MayBecomePacket w
 unfolding front_of
 front_partial [] e = may_become-shorter [] (0x55 ∷ 0 ∷ []) (may_become_two 0 refl)
-front_partial (s ∷ []) e = may_become_sync s [] (eqb-true s 0x55 (and_parts _ _ (chosen_partial _ e)).0) (may_become-shorter (0x55 ∷ []) (0 ∷ []) (may_become_two 0 refl))
-front_partial (s ∷ h ∷ []) e = let a = and_parts _ _ (chosen_partial _ e) in may_become_sync s _ (eqb-true s 0x55 a.0) (may_become_two h a.1)
-front_partial (s ∷ h ∷ l ∷ []) e = let a = and_parts _ _ (chosen_partial _ e) in may_become_sync s _ (eqb-true s 0x55 a.0) (may_become_three h l a.1)
-front_partial (s ∷ h ∷ l ∷ o ∷ []) e = let a = and_parts _ _ (chosen_partial _ e) in may_become_sync s _ (eqb-true s 0x55 a.0) (may_become-shorter (0x55 ∷ h ∷ l ∷ o ∷ []) (0 ∷ []) (may_become_five h l o 0 a.1))
-front_partial (s ∷ h ∷ l ∷ o ∷ k ∷ []) e = let a = and_parts _ _ (chosen_partial _ e) in may_become_sync s _ (eqb-true s 0x55 a.0) (may_become_five h l o k a.1)
+front_partial (s ∷ []) e =
+    may_become_sync s [] (eqb-true s 0x55 (and_parts _ _ (chosen_partial _ e)).0)
+    (may_become-shorter (0x55 ∷ []) (0 ∷ []) (may_become_two 0 refl))
+front_partial (s ∷ h ∷ []) e =
+    let a = and_parts _ _ (chosen_partial _ e) in may_become_sync s _ (eqb-true s 0x55 a.0) (may_become_two h a.1)
+front_partial (s ∷ h ∷ l ∷ []) e =
+    let a = and_parts _ _ (chosen_partial _ e) in may_become_sync s _ (eqb-true s 0x55 a.0) (may_become_three h l a.1)
+front_partial (s ∷ h ∷ l ∷ o ∷ []) e = let a = and_parts _ _ (chosen_partial _ e) in
+    may_become_sync s _ (eqb-true s 0x55 a.0)
+    (may_become-shorter (0x55 ∷ h ∷ l ∷ o ∷ []) (0 ∷ []) (may_become_five h l o 0 a.1))
+front_partial (s ∷ h ∷ l ∷ o ∷ k ∷ []) e = let a =
+    and_parts _ _ (chosen_partial _ e) in may_become_sync s _ (eqb-true s 0x55 a.0) (may_become_five h l o k a.1)
 front_partial (s ∷ h ∷ l ∷ o ∷ k ∷ c ∷ w) e = may_become_six s h l o k c w e
 
 -- a packet that the test finds stands there
@@ -124,7 +159,8 @@ pub record Found (p : Packet) (w : List ℕ) : Type 0 where
   pub whole : IsPacket p front
   pub is : w ≡ front ++ rest
 
-hit_six : (s h l o k c : ℕ) (w : List ℕ) (p : Packet) → front_of (s ∷ h ∷ l ∷ o ∷ k ∷ c ∷ w) ≡ Whole p → Found p (s ∷ h ∷ l ∷ o ∷ k ∷ c ∷ w)
+hit_six : (s h l o k c : ℕ) (w : List ℕ) (p : Packet) → front_of (s ∷ h ∷ l ∷ o ∷ k ∷ c ∷ w) ≡ Whole p
+    → Found p (s ∷ h ∷ l ∷ o ∷ k ∷ c ∷ w)
 unfolding front_of made
 hit_six s h l o k c w p e =
     let g = good _ _ (Whole p) e (λ x. cc) in
@@ -134,7 +170,9 @@ hit_six s h l o k c w p e =
     let n : ℕ = 256 * h + l + o in
     let ec : c ≡ check (h ∷ l ∷ o ∷ k ∷ []) = eqb-true c _ b.1 in
     let es : s ≡ 0x55 = eqb-true s 0x55 a.0 in
-    let t : (n < length w) × (get_or w n 0 ≡ check (take n w)) × (p ≡ made k (256 * h + l) o w) = elim (behind (leb (length w) n) (eqb (get_or w n 0) (check (take n w))) (made k (256 * h + l) o w) (Whole p) g.1) [
+    let t : (n < length w) × (get_or w n 0 ≡ check (take n w)) × (p ≡ made k (256 * h + l) o w) =
+    elim (behind (leb (length w) n) (eqb (get_or w n 0) (check (take n w))) (made k (256 * h + l) o w)
+    (Whole p) g.1) [
       | inl x ↦ absurd (let z = x.1 in cc)
       | inr x ↦ elim x [
         | inl y ↦ (leb-false _ _ y.0, eqb-true _ _ y.1, same_whole _ p (sym y.2))
@@ -144,8 +182,10 @@ hit_six s h l o k c w p e =
     record {
       front = 0x55 ∷ h ∷ l ∷ o ∷ k ∷ c ∷ take (n + 1) w;
       rest = drop (n + 1) w;
-      whole = subst (λ (q : Packet). IsPacket q (0x55 ∷ h ∷ l ∷ o ∷ k ∷ c ∷ take (n + 1) w)) (sym t.2) (is_made h l o k c w f.low f.opts f.some f.fits ec t.0 t.1);
-      is = ap (λ (m : ℕ). m ∷ h ∷ l ∷ o ∷ k ∷ c ∷ w) es ∙ ap (λ (y : List ℕ). 0x55 ∷ h ∷ l ∷ o ∷ k ∷ c ∷ y) (sym (take-append-drop (n + 1) w));
+      whole = subst (λ (q : Packet). IsPacket q (0x55 ∷ h ∷ l ∷ o ∷ k ∷ c ∷ take (n + 1) w)) (sym t.2)
+          (is_made h l o k c w f.low f.opts f.some f.fits ec t.0 t.1);
+      is = ap (λ (m : ℕ). m ∷ h ∷ l ∷ o ∷ k ∷ c ∷ w) es
+          ∙ ap (λ (y : List ℕ). 0x55 ∷ h ∷ l ∷ o ∷ k ∷ c ∷ y) (sym (take-append-drop (n + 1) w));
     }
 
 pub front_whole : (w : List ℕ) (p : Packet) → front_of w ≡ Whole p → Found p w
@@ -159,7 +199,8 @@ front_whole (s ∷ h ∷ l ∷ o ∷ k ∷ []) p e = absurd (no_whole _ p e)
 front_whole (s ∷ h ∷ l ∷ o ∷ k ∷ c ∷ w) p e = hit_six s h l o k c w p e
 
 -- a text that begins a packet passes the tests
-pub fit_parts : (p : Packet) (s h l o k c : ℕ) (w t : List ℕ) → IsPacket p (s ∷ h ∷ l ∷ o ∷ k ∷ c ∷ t) → (s == 0x55 && (lengths_fit h l o && c == check (h ∷ l ∷ o ∷ k ∷ []))) ≡ true
+pub fit_parts : (p : Packet) (s h l o k c : ℕ) (w t : List ℕ) → IsPacket p (s ∷ h ∷ l ∷ o ∷ k ∷ c ∷ t)
+    → (s == 0x55 && (lengths_fit h l o && c == check (h ∷ l ∷ o ∷ k ∷ []))) ≡ true
 fit_parts p s h l o k c w t hp =
     let r = packet_parts p s h l o k c t hp.bytes in
     let sync = r.sync in
@@ -169,4 +210,7 @@ fit_parts p s h l o k c w t hp =
     let some = hp.some in
     let body = hp.body in
     let opt = hp.opt in
-    and_from _ _ (eq-eqb s 0x55 sync) (and_from _ _ (test_fitting h l o (record { low = omega arith; opts = omega arith; some = omega arith; fits = omega arith })) (eq-eqb c _ r.checked))
+    and_from _ _ (eq-eqb s 0x55 sync)
+    (and_from _ _ (test_fitting h l o
+    (record { low = omega arith; opts = omega arith; some = omega arith; fits = omega arith }))
+    (eq-eqb c _ r.checked))

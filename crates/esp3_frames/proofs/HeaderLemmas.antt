@@ -1,5 +1,7 @@
 -- What a header says of the packet behind it.
-use Rattle.std.proofs.Common.{◌≡◌, ℕ, ◌+◌, ◌*◌, ◌/◌, ◌%◌, ◌<◌, ◌≤◌, Bool, true, false, cond, List, [], ◌∷◌, ◌++◌, length, take, drop, get_or, refl, sym, ap, ◌∙◌, subst, arith, length-append, length-take, length-drop}
+use Rattle.std.proofs.Common.{◌≡◌, ℕ, ◌+◌, ◌*◌, ◌/◌, ◌%◌, ◌<◌, ◌≤◌, Bool, true, false, cond, List, [], ◌∷◌, ◌++◌}
+use Rattle.std.proofs.Common.{length, take, drop, get_or, refl, sym, ap, ◌∙◌, subst, arith, length-append, length-take}
+use Rattle.std.proofs.Common.{length-drop}
 use Rattle.std.proofs.Math.Seq.{take-append_seam, get_or-append_seam}
 use Rattle.std.proofs.lemmas.List.{take-append-drop, take_all, take_more}
 use Rattle.std.proofs.lemmas.Bool.{eqb-true, not-false, ltb-false, eqb-false}
@@ -20,7 +22,8 @@ pub record Parts (p : Packet) (s h l o k c : ℕ) (w : List ℕ) : Type 0 where
   pub checked : c ≡ check (h ∷ l ∷ o ∷ k ∷ [])
   pub tail : w ≡ p.body ++ p.opt ++ check (p.body ++ p.opt) ∷ []
 
-pub packet_parts : (p : Packet) (s h l o k c : ℕ) (w : List ℕ) → (s ∷ h ∷ l ∷ o ∷ k ∷ c ∷ w) ≡ spelling p → Parts p s h l o k c w
+pub packet_parts : (p : Packet) (s h l o k c : ℕ) (w : List ℕ) → (s ∷ h ∷ l ∷ o ∷ k ∷ c ∷ w) ≡ spelling p
+    → Parts p s h l o k c w
 packet_parts p s h l o k c w e =
     let eh : h ≡ length p.body / 256 = cc in
     let el : l ≡ length p.body % 256 = cc in
@@ -33,13 +36,22 @@ packet_parts p s h l o k c w e =
       low = el;
       opts = eo;
       kind = ek;
-      checked = ec ∙ sym (ap (λ (n : ℕ). check (n ∷ l ∷ o ∷ k ∷ [])) eh ∙ ap (λ (n : ℕ). check ((length p.body / 256) ∷ n ∷ o ∷ k ∷ [])) el ∙ ap (λ (n : ℕ). check ((length p.body / 256) ∷ (length p.body % 256) ∷ n ∷ k ∷ [])) eo ∙ ap (λ (n : ℕ). check ((length p.body / 256) ∷ (length p.body % 256) ∷ length p.opt ∷ n ∷ [])) ek);
+      checked =
+          ec ∙ sym (ap (λ (n : ℕ). check (n ∷ l ∷ o ∷ k ∷ [])) eh
+          ∙ ap (λ (n : ℕ). check ((length p.body / 256) ∷ n ∷ o ∷ k ∷ [])) el
+          ∙ ap (λ (n : ℕ). check ((length p.body / 256) ∷ (length p.body % 256) ∷ n ∷ k ∷ [])) eo
+          ∙ ap (λ (n : ℕ). check ((length p.body / 256) ∷ (length p.body % 256) ∷ length p.opt ∷ n ∷ [])) ek);
       tail = cc;
     }
 
-pub parts_packet : (p : Packet) (s h l o k c : ℕ) (w : List ℕ) → Parts p s h l o k c w → (s ∷ h ∷ l ∷ o ∷ k ∷ c ∷ w) ≡ spelling p
+pub parts_packet : (p : Packet) (s h l o k c : ℕ) (w : List ℕ) → Parts p s h l o k c w
+    → (s ∷ h ∷ l ∷ o ∷ k ∷ c ∷ w) ≡ spelling p
 parts_packet p s h l o k c w r =
-    let checked : c ≡ check (header p) = r.checked ∙ (ap (λ (n : ℕ). check (n ∷ l ∷ o ∷ k ∷ [])) r.high ∙ ap (λ (n : ℕ). check ((length p.body / 256) ∷ n ∷ o ∷ k ∷ [])) r.low ∙ ap (λ (n : ℕ). check ((length p.body / 256) ∷ (length p.body % 256) ∷ n ∷ k ∷ [])) r.opts ∙ ap (λ (n : ℕ). check ((length p.body / 256) ∷ (length p.body % 256) ∷ length p.opt ∷ n ∷ [])) r.kind) in
+    let checked : c ≡ check (header p) =
+    r.checked ∙ (ap (λ (n : ℕ). check (n ∷ l ∷ o ∷ k ∷ [])) r.high
+    ∙ ap (λ (n : ℕ). check ((length p.body / 256) ∷ n ∷ o ∷ k ∷ [])) r.low
+    ∙ ap (λ (n : ℕ). check ((length p.body / 256) ∷ (length p.body % 256) ∷ n ∷ k ∷ [])) r.opts
+    ∙ ap (λ (n : ℕ). check ((length p.body / 256) ∷ (length p.body % 256) ∷ length p.opt ∷ n ∷ [])) r.kind) in
     cc
 
 -- the check behind the data
@@ -47,13 +59,17 @@ pub tail_check : (m r w : List ℕ) (n : ℕ) → n ≡ length m → w ≡ m ++ 
 tail_check m r w n en ew =
     let at : get_or (m ++ check m ∷ r) (length m) 0 ≡ check m = get_or-append_seam m (check m) r 0 in
     let front : take (length m) (m ++ check m ∷ r) ≡ m = take-append_seam m (check m ∷ r) in
-    ap (λ (i : ℕ). get_or w i 0) en ∙ ap (λ (y : List ℕ). get_or y (length m) 0) ew ∙ at ∙ sym (ap (λ (i : ℕ). check (take i w)) en ∙ ap (λ (y : List ℕ). check (take (length m) y)) ew ∙ ap check front)
+    ap (λ (i : ℕ). get_or w i 0) en ∙ ap (λ (y : List ℕ). get_or y (length m) 0) ew ∙ at
+    ∙ sym (ap (λ (i : ℕ). check (take i w)) en ∙ ap (λ (y : List ℕ). check (take (length m) y)) ew ∙ ap check front)
 
 -- what makes a packet
 unfoldable pub made : (k d o : ℕ) (w : List ℕ) → Packet
 made k d o w = record { kind = k; body = take d (take (d + o) w); opt = drop d (take (d + o) w) }
 
-pub is_made : (h l o k c : ℕ) (w : List ℕ) → l < 256 → o < 256 → 0 < 256 * h + l + o → 256 * h + l ≤ longest_data → c ≡ check (h ∷ l ∷ o ∷ k ∷ []) → 256 * h + l + o < length w → get_or w (256 * h + l + o) 0 ≡ check (take (256 * h + l + o) w) → IsPacket (made k (256 * h + l) o w) (0x55 ∷ h ∷ l ∷ o ∷ k ∷ c ∷ take (256 * h + l + o + 1) w)
+pub is_made : (h l o k c : ℕ) (w : List ℕ) → l < 256 → o < 256 → 0 < 256 * h + l + o → 256 * h + l ≤ longest_data
+    → c ≡ check (h ∷ l ∷ o ∷ k ∷ []) → 256 * h + l + o < length w
+    → get_or w (256 * h + l + o) 0 ≡ check (take (256 * h + l + o) w)
+    → IsPacket (made k (256 * h + l) o w) (0x55 ∷ h ∷ l ∷ o ∷ k ∷ c ∷ take (256 * h + l + o + 1) w)
 unfolding made
 is_made h l o k c w hl ho hs hd hc hw hk =
     let n : ℕ = 256 * h + l + o in
@@ -72,12 +88,14 @@ is_made h l o k c w hl ho hs hd hc hw hk =
         opts = sym ol;
         kind = refl;
         checked = hc;
-        tail = take_more w n 0 hw ∙ ap (λ (x : ℕ). take n w ++ x ∷ []) hk ∙ ap (λ (y : List ℕ). y ++ check y ∷ []) (sym (take-append-drop d (take n w)));
+        tail = take_more w n 0 hw ∙ ap (λ (x : ℕ). take n w ++ x ∷ []) hk
+            ∙ ap (λ (y : List ℕ). y ++ check y ∷ []) (sym (take-append-drop d (take n w)));
       });
     }
 
 -- a list of six
-pub six : (b : List ℕ) → length b ≡ 6 → (s : ℕ) × (h : ℕ) × (l : ℕ) × (o : ℕ) × (k : ℕ) × (c : ℕ) × (b ≡ s ∷ h ∷ l ∷ o ∷ k ∷ c ∷ [])
+pub six : (b : List ℕ) → length b ≡ 6 → (s : ℕ) × (h : ℕ) × (l : ℕ) × (o : ℕ) × (k : ℕ) × (c : ℕ)
+    × (b ≡ s ∷ h ∷ l ∷ o ∷ k ∷ c ∷ [])
 six [] e = absurd (omega arith)
 six (s ∷ []) e = absurd (omega arith)
 six (s ∷ h ∷ []) e = absurd (omega arith)
@@ -87,7 +105,8 @@ six (s ∷ h ∷ l ∷ o ∷ k ∷ []) e = absurd (omega arith)
 six (s ∷ h ∷ l ∷ o ∷ k ∷ c ∷ []) e = (s, h, l, o, k, c, refl)
 six (s ∷ h ∷ l ∷ o ∷ k ∷ c ∷ x ∷ w) e = absurd (omega arith)
 
-guard : (b : Bool) (e : HeaderFault) (y : Result Header HeaderFault) (x : Header) → cond b (Err e) y ≡ Ok x → (b ≡ false) × (y ≡ Ok x)
+guard : (b : Bool) (e : HeaderFault) (y : Result Header HeaderFault) (x : Header) → cond b (Err e) y ≡ Ok x
+    → (b ≡ false) × (y ≡ Ok x)
 guard true e y x h = absurd cc
 guard false e y x h = (refl, h)
 
@@ -96,7 +115,11 @@ ok_same y x e = cc
 
 -- a slice is its first six bytes and the others
 pub six_first : (b f w : List ℕ) → 6 ≤ length b → f ≡ take 6 b → w ≡ drop 6 b → (length f ≡ 6) × (f ++ w ≡ b)
-six_first b f w h ef ew = (ap length ef ∙ omega (arith, length-take 6 b), ap (λ (y : List ℕ). y ++ w) ef ∙ ap (λ (y : List ℕ). take 6 b ++ y) ew ∙ take-append-drop 6 b)
+six_first b f w h ef ew = (
+  ap length ef ∙ omega (arith, length-take 6 b),
+  ap (λ (y : List ℕ). y ++ w) ef
+      ∙ ap (λ (y : List ℕ). take 6 b ++ y) ew ∙ take-append-drop 6 b,
+)
 
 -- what a header that is read says
 pub record Heads (s h l o k c : ℕ) (x : Header) : Type 0 where
@@ -122,12 +145,16 @@ heads s h l o k c x e =
     }
 
 -- what `read_packet` knows of a slice whose header was read
-pub read_some : (b f w : List ℕ) (x : Header) → ((i : ℕ) → get_or b i 0 < 256) → length f ≡ 6 → f ++ w ≡ b → header_of f ≡ Ok x → length w ≡ x.data_len + x.opt_len + 1 → get_or w (x.data_len + x.opt_len) 0 ≡ check (take (x.data_len + x.opt_len) w) → IsPacket (made x.kind x.data_len x.opt_len w) b
+pub read_some : (b f w : List ℕ) (x : Header) → ((i : ℕ) → get_or b i 0 < 256) → length f ≡ 6 → f ++ w ≡ b
+    → header_of f ≡ Ok x → length w ≡ x.data_len + x.opt_len + 1
+    → get_or w (x.data_len + x.opt_len) 0 ≡ check (take (x.data_len + x.opt_len) w)
+    → IsPacket (made x.kind x.data_len x.opt_len w) b
 read_some b f w x fits hf hb hx hw hk =
     let t = six f hf in
     let h = t.1 in let l = t.2 in let o = t.3 in let k = t.4 in let c = t.5 in
     let r = heads t.0 h l o k c x (sym (ap header_of t.6) ∙ hx) in
-    let eb : 0x55 ∷ h ∷ l ∷ o ∷ k ∷ c ∷ w ≡ b = ap (λ (n : ℕ). n ∷ h ∷ l ∷ o ∷ k ∷ c ∷ w) (sym r.sync) ∙ ap (λ (y : List ℕ). y ++ w) (sym t.6) ∙ hb in
+    let eb : 0x55 ∷ h ∷ l ∷ o ∷ k ∷ c ∷ w ≡ b =
+    ap (λ (n : ℕ). n ∷ h ∷ l ∷ o ∷ k ∷ c ∷ w) (sym r.sync) ∙ ap (λ (y : List ℕ). y ++ w) (sym t.6) ∙ hb in
     let hl : l < 256 = subst (λ (y : List ℕ). get_or y 2 0 < 256) (sym eb) (fits 2) in
     let ho : o < 256 = subst (λ (y : List ℕ). get_or y 3 0 < 256) (sym eb) (fits 3) in
     let ed : x.data_len ≡ 256 * h + l = (let e = r.is in cc) in
@@ -135,14 +162,21 @@ read_some b f w x fits hf hb hx hw hk =
     let ek : x.kind ≡ k = (let e = r.is in cc) in
     let en : x.data_len + x.opt_len ≡ 256 * h + l + o = omega (arith, ed, eo) in
     let hw2 : 256 * h + l + o < length w = omega (arith, en, hw) in
-    let hk2 : get_or w (256 * h + l + o) 0 ≡ check (take (256 * h + l + o) w) = sym (ap (λ (n : ℕ). get_or w n 0) en) ∙ hk ∙ ap (λ (n : ℕ). check (take n w)) en in
+    let hk2 : get_or w (256 * h + l + o) 0 ≡ check (take (256 * h + l + o) w) =
+    sym (ap (λ (n : ℕ). get_or w n 0) en) ∙ hk ∙ ap (λ (n : ℕ). check (take n w)) en in
     let p = is_made h l o k c w hl ho r.some r.fits r.checked hw2 hk2 in
     let whole : take (256 * h + l + o + 1) w ≡ w = take_all (256 * h + l + o + 1) w (omega (arith, en, hw)) in
-    let q : IsPacket (made k (256 * h + l) o w) b = subst (λ (y : List ℕ). IsPacket (made k (256 * h + l) o w) y) (ap (λ (y : List ℕ). 0x55 ∷ h ∷ l ∷ o ∷ k ∷ c ∷ y) whole ∙ eb) p in
-    subst (λ (y : Packet). IsPacket y b) (sym (ap (λ (n : ℕ). made n x.data_len x.opt_len w) ek ∙ ap (λ (n : ℕ). made k n x.opt_len w) ed ∙ ap (λ (n : ℕ). made k (256 * h + l) n w) eo)) q
+    let q : IsPacket (made k (256 * h + l) o w) b =
+    subst (λ (y : List ℕ). IsPacket (made k (256 * h + l) o w) y)
+    (ap (λ (y : List ℕ). 0x55 ∷ h ∷ l ∷ o ∷ k ∷ c ∷ y) whole ∙ eb) p in
+    subst (λ (y : Packet). IsPacket y b)
+    (sym (ap (λ (n : ℕ). made n x.data_len x.opt_len w) ek ∙ ap (λ (n : ℕ). made k n x.opt_len w) ed
+    ∙ ap (λ (n : ℕ). made k (256 * h + l) n w) eo)) q
 
 -- a packet with that header has the length and the check
-pub read_none : (b f w : List ℕ) (x : Header) (p : Packet) → length f ≡ 6 → f ++ w ≡ b → header_of f ≡ Ok x → IsPacket p b → (length w ≡ x.data_len + x.opt_len + 1) × (get_or w (x.data_len + x.opt_len) 0 ≡ check (take (x.data_len + x.opt_len) w))
+pub read_none : (b f w : List ℕ) (x : Header) (p : Packet) → length f ≡ 6 → f ++ w ≡ b → header_of f ≡ Ok x
+    → IsPacket p b → (length w ≡ x.data_len + x.opt_len + 1)
+    × (get_or w (x.data_len + x.opt_len) 0 ≡ check (take (x.data_len + x.opt_len) w))
 read_none b f w x p hf hb hx hp =
     let t = six f hf in
     let h = t.1 in let l = t.2 in let o = t.3 in let k = t.4 in let c = t.5 in
@@ -151,7 +185,8 @@ read_none b f w x p hf hb hx hp =
     let parts = packet_parts p t.0 h l o k c w (eb ∙ hp.bytes) in
     let ed : x.data_len ≡ 256 * h + l = (let e = r.is in cc) in
     let eo : x.opt_len ≡ o = (let e = r.is in cc) in
-    let lens : x.data_len + x.opt_len ≡ length (p.body ++ p.opt) = omega (arith, ed, eo, parts.high, parts.low, parts.opts, length-append p.body p.opt) in (
+    let lens : x.data_len + x.opt_len ≡ length (p.body ++ p.opt) =
+    omega (arith, ed, eo, parts.high, parts.low, parts.opts, length-append p.body p.opt) in (
       ap length parts.tail ∙ omega (arith, lens, length-append (p.body ++ p.opt) (check (p.body ++ p.opt) ∷ [])),
       tail_check (p.body ++ p.opt) [] w (x.data_len + x.opt_len) lens parts.tail,
     )

@@ -1,5 +1,6 @@
 -- Packets and their prefixes.
-use Rattle.std.proofs.Common.{◌≡◌, ℕ, ◌+◌, ◌/◌, ◌%◌, ◌<◌, List, [], ◌∷◌, ◌++◌, length, refl, sym, ap, ◌∙◌, subst, append_assoc, arith, length-append, ◌⊎◌, inl, inr}
+use Rattle.std.proofs.Common.{◌≡◌, ℕ, ◌+◌, ◌/◌, ◌%◌, ◌<◌, List, [], ◌∷◌, ◌++◌, length, refl, sym, ap, ◌∙◌, subst}
+use Rattle.std.proofs.Common.{append_assoc, arith, length-append, ◌⊎◌, inl, inr}
 use Rattle.esp3_frames.specs.Check.{check}
 use Rattle.esp3_frames.specs.Packet.{Packet, spelling, IsPacket, OneReading}
 use Rattle.esp3_frames.specs.Framing.{BeginsWithPacket, MayBecomePacket, NeverPacket}
@@ -16,7 +17,8 @@ append_parts (a ∷ v) (b ∷ w) x y h e =
     (cc, r.1)
 
 -- of two fronts of one list, one begins the other
-pub split_fronts : (w t v r : List ℕ) → w ++ t ≡ v ++ r → ((m : List ℕ) × (w ≡ v ++ m) × (r ≡ m ++ t)) ⊎ ((m : List ℕ) × (v ≡ w ++ m) × (0 < length m))
+pub split_fronts : (w t v r : List ℕ) → w ++ t ≡ v ++ r
+    → ((m : List ℕ) × (w ≡ v ++ m) × (r ≡ m ++ t)) ⊎ ((m : List ℕ) × (v ≡ w ++ m) × (0 < length m))
 split_fronts w t [] r e = inl (w, refl, sym e)
 split_fronts [] t (b ∷ v) r e = inr (b ∷ v, refl, omega arith)
 split_fronts (a ∷ w) t (b ∷ v) r e =
@@ -30,7 +32,8 @@ split_fronts (a ∷ w) t (b ∷ v) r e =
 pub same_packet : (p q : Packet) → p.kind ≡ q.kind → p.body ≡ q.body → p.opt ≡ q.opt → p ≡ q
 same_packet p q a b c =
     let made : ℕ → List ℕ → List ℕ → Packet = λ k x y. record { kind = k; body = x; opt = y } in
-    ap (λ (k : ℕ). made k p.body p.opt) a ∙ ap (λ (x : List ℕ). made q.kind x p.opt) b ∙ ap (λ (y : List ℕ). made q.kind q.body y) c
+    ap (λ (k : ℕ). made k p.body p.opt) a ∙ ap (λ (x : List ℕ). made q.kind x p.opt) b
+    ∙ ap (λ (y : List ℕ). made q.kind q.body y) c
 
 pub one_reading : OneReading
 one_reading p q v w rest hv hw e =
@@ -39,8 +42,12 @@ one_reading p q v w rest hv hw e =
     let low : length q.body % 256 ≡ length p.body % 256 = cc in
     let opts : length q.opt ≡ length p.opt = cc in
     let kinds : q.kind ≡ p.kind = cc in
-    let tails : q.body ++ q.opt ++ check (q.body ++ q.opt) ∷ [] ≡ (p.body ++ p.opt ++ check (p.body ++ p.opt) ∷ []) ++ rest = cc in
-    let grouped : q.body ++ (q.opt ++ check (q.body ++ q.opt) ∷ []) ≡ p.body ++ (p.opt ++ (check (p.body ++ p.opt) ∷ rest)) = sym (append_assoc q.body q.opt (check (q.body ++ q.opt) ∷ [])) ∙ tails ∙ append_assoc (p.body ++ p.opt) (check (p.body ++ p.opt) ∷ []) rest ∙ append_assoc p.body p.opt (check (p.body ++ p.opt) ∷ rest) in
+    let tails : q.body ++ q.opt ++ check (q.body ++ q.opt) ∷ [] ≡ (p.body ++ p.opt ++ check (p.body ++ p.opt) ∷ [])
+    ++ rest = cc in
+    let grouped : q.body ++ (q.opt ++ check (q.body ++ q.opt) ∷ []) ≡ p.body
+    ++ (p.opt ++ (check (p.body ++ p.opt) ∷ rest)) = sym (append_assoc q.body q.opt (check (q.body ++ q.opt) ∷ []))
+    ∙ tails ∙ append_assoc (p.body ++ p.opt) (check (p.body ++ p.opt) ∷ []) rest
+    ∙ append_assoc p.body p.opt (check (p.body ++ p.opt) ∷ rest) in
     let bodies : length q.body ≡ length p.body = omega (arith, high, low) in
     let first = append_parts q.body p.body _ _ bodies grouped in
     let second = append_parts q.opt p.opt _ _ opts first.1 in
@@ -48,7 +55,8 @@ one_reading p q v w rest hv hw e =
     (same_packet p q (sym kinds) (sym first.0) (sym second.0), nothing)
 
 pub spelling_length : (p : Packet) → length (spelling p) ≡ length p.body + length p.opt + 7
-spelling_length p = omega (arith, length-append (p.body ++ p.opt) (check (p.body ++ p.opt) ∷ []), length-append p.body p.opt)
+spelling_length p =
+    omega (arith, length-append (p.body ++ p.opt) (check (p.body ++ p.opt) ∷ []), length-append p.body p.opt)
 
 pub packet_length : (p : Packet) (w : List ℕ) → IsPacket p w → length w ≡ length p.body + length p.opt + 7
 packet_length p w h = ap length h.bytes ∙ spelling_length p
@@ -56,7 +64,8 @@ packet_length p w h = ap length h.bytes ∙ spelling_length p
 -- a text is not both
 pub begins_not_may : (w : List ℕ) → BeginsWithPacket w → MayBecomePacket w → ⊥
 begins_not_may w h l =
-    let e : w ++ l.more ≡ h.front ++ (h.rest ++ l.more) = ap (λ (x : List ℕ). x ++ l.more) h.is ∙ append_assoc h.front h.rest l.more in
+    let e : w ++ l.more ≡ h.front ++ (h.rest ++ l.more) =
+    ap (λ (x : List ℕ). x ++ l.more) h.is ∙ append_assoc h.front h.rest l.more in
     let r = one_reading h.packet l.packet h.front (w ++ l.more) (h.rest ++ l.more) h.whole l.whole e in
     let x = l.proper in
     omega (arith, ap length r.1, length-append h.rest l.more)
@@ -82,7 +91,12 @@ pub never-longer : (w t : List ℕ) → NeverPacket w → NeverPacket (w ++ t)
 never-longer w t h = (
   λ hit. elim (split_fronts w t hit.front hit.rest hit.is) [
     | inl s ↦ h.0 (record { packet = hit.packet; front = hit.front; rest = s.0; whole = hit.whole; is = s.1 })
-    | inr s ↦ h.1 (record { packet = hit.packet; more = s.0; proper = s.2; whole = subst (IsPacket hit.packet) s.1 hit.whole })
+    | inr s ↦ h.1 (record {
+      packet = hit.packet;
+      more = s.0;
+      proper = s.2;
+      whole = subst (IsPacket hit.packet) s.1 hit.whole;
+    })
   ],
   λ live. h.1 (may_become-shorter w t live),
 )

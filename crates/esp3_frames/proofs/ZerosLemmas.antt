@@ -1,12 +1,14 @@
 -- What bytes 00 behind a message make of its check byte, and the check byte of a message in two parts.
-use Rattle.std.proofs.Common.{◌≡◌, ℕ, zero, suc, ◌+◌, ◌*◌, ◌/◌, ◌%◌, ◌<◌, Bool, true, false, cond, eqb, List, [], ◌∷◌, ◌++◌, length, replicate, get_or, bit_xor, refl, sym, ap, ◌∙◌, append_assoc, arith}
+use Rattle.std.proofs.Common.{◌≡◌, ℕ, zero, suc, ◌+◌, ◌*◌, ◌/◌, ◌%◌, ◌<◌, Bool, true, false, cond, eqb, List, [], ◌∷◌}
+use Rattle.std.proofs.Common.{◌++◌, length, replicate, get_or, bit_xor, refl, sym, ap, ◌∙◌, append_assoc, arith}
 use Rattle.std.specs.Int.Bits.{xor_assoc, xor_self, xor_zero_r}
 use Rattle.std.proofs.Math.ListN.{length-replicate}
 use Rattle.std.proofs.lemmas.Nat.{xor_comm, xor_of_8}
 use Rattle.std.proofs.lemmas.Bool.{agree_below, agree_below_at, eqb-true}
 use Rattle.esp3_frames.specs.Check.{times_x, power, byte_bits, bits, remainder, check, after_zeros}
 use Rattle.esp3_frames.specs.declared.check.TheConstants.{ONE_AFTER_ZEROS}
-use Rattle.esp3_frames.proofs.CheckLemmas.{times_x_byte, check_byte, check_one, remainder_byte, bit_part, feed, feed_xor, shifted, eighth, eighth_xor, remainder_more}
+use Rattle.esp3_frames.proofs.CheckLemmas.{times_x_byte, check_byte, check_one, remainder_byte, bit_part, feed}
+use Rattle.esp3_frames.proofs.CheckLemmas.{feed_xor, shifted, eighth, eighth_xor, remainder_more}
 
 -- one byte 00 more makes a byte of a byte, keeps sums, and can be put off
 one_byte : (c : ℕ) → check (c ∷ []) < 256
@@ -33,7 +35,9 @@ zeros_byte c (suc n) h = zeros_byte (check (c ∷ [])) n (one_byte c)
 zeros_xor : (a b n : ℕ) → a < 256 → b < 256 → after_zeros (bit_xor a b) n ≡ bit_xor (after_zeros a n) (after_zeros b n)
 unfolding after_zeros
 zeros_xor a b zero ha hb = refl
-zeros_xor a b (suc n) ha hb = ap (λ c. after_zeros c n) (one_xor a b ha hb) ∙ zeros_xor (check (a ∷ [])) (check (b ∷ [])) n (one_byte a) (one_byte b)
+zeros_xor a b (suc n) ha hb =
+    ap (λ c. after_zeros c n) (one_xor a b ha hb)
+    ∙ zeros_xor (check (a ∷ [])) (check (b ∷ [])) n (one_byte a) (one_byte b)
 
 zeros-times_x : (c n : ℕ) → c < 256 → after_zeros (times_x c) n ≡ times_x (after_zeros c n)
 unfolding after_zeros
@@ -60,7 +64,8 @@ zero_zeros (suc n) = ap (λ c. after_zeros c n) one_zero ∙ zero_zeros n
 bits-append : (m w : List ℕ) → bits (m ++ w) ≡ bits m ++ bits w
 unfolding bits
 bits-append [] w = refl
-bits-append (b ∷ m) w = ap (λ (ys : List Bool). byte_bits b ++ ys) (bits-append m w) ∙ sym (append_assoc (byte_bits b) (bits m) (bits w))
+bits-append (b ∷ m) w =
+    ap (λ (ys : List Bool). byte_bits b ++ ys) (bits-append m w) ∙ sym (append_assoc (byte_bits b) (bits m) (bits w))
 
 shifted_behind : (c b : ℕ) (ys : List Bool) → shifted c (byte_bits b ++ ys) ≡ shifted (eighth c) ys
 unfolding shifted eighth byte_bits
@@ -70,7 +75,8 @@ shifted_bits : (c : ℕ) (w : List ℕ) → c < 256 → shifted c (bits w) ≡ a
 unfolding bits after_zeros shifted
 shifted_bits c [] h = refl
 shifted_bits c (b ∷ w) h =
-    shifted_behind c b (bits w) ∙ ap (λ n. shifted n (bits w)) (sym (check_one c h)) ∙ shifted_bits (check (c ∷ [])) w (one_byte c)
+    shifted_behind c b (bits w) ∙ ap (λ n. shifted n (bits w)) (sym (check_one c h))
+    ∙ shifted_bits (check (c ∷ [])) w (one_byte c)
 
 fed_from_zero : (ys : List Bool) → feed 0 ys ≡ remainder ys
 unfolding remainder
@@ -117,7 +123,8 @@ bit_sum (suc n) c t = bit_xor (cond (eqb (c % 2) 1) t 0) (bit_sum n (c / 2) (tim
 bit_sum_byte : (n c t : ℕ) → t < 256 → bit_sum n c t < 256
 unfolding bit_sum
 bit_sum_byte zero c t h = omega arith
-bit_sum_byte (suc n) c t h = xor_of_8 _ _ (bit_part (eqb (c % 2) 1) t h) (bit_sum_byte n (c / 2) (times_x t) (times_x_byte t h))
+bit_sum_byte (suc n) c t h =
+    xor_of_8 _ _ (bit_part (eqb (c % 2) 1) t h) (bit_sum_byte n (c / 2) (times_x t) (times_x_byte t h))
 
 zeros_part : (b : Bool) (t k : ℕ) → cond b (after_zeros t k) 0 ≡ after_zeros (cond b t 0) k
 zeros_part true t k = refl
@@ -131,7 +138,8 @@ bit_sum-zeros (suc n) c t k h =
     ap (λ m. bit_xor m (bit_sum n (c / 2) (times_x (after_zeros t k)))) (zeros_part b t k)
     ∙ ap (λ m. bit_xor (after_zeros (cond b t 0) k) (bit_sum n (c / 2) m)) (sym (zeros-times_x t k h))
     ∙ ap (bit_xor (after_zeros (cond b t 0) k)) (bit_sum-zeros n (c / 2) (times_x t) k (times_x_byte t h))
-    ∙ sym (zeros_xor (cond b t 0) (bit_sum n (c / 2) (times_x t)) k (bit_part b t h) (bit_sum_byte n (c / 2) (times_x t) (times_x_byte t h)))
+    ∙ sym (zeros_xor (cond b t 0) (bit_sum n (c / 2) (times_x t)) k (bit_part b t h)
+    (bit_sum_byte n (c / 2) (times_x t) (times_x_byte t h)))
 
 own_bits : ℕ → Bool
 own_bits c = eqb (bit_sum 8 c 1) c
@@ -185,7 +193,8 @@ one_after n =
     ∙ sym (many_rounds 1 (n / 127) k (omega arith)) ∙ ap (after_zeros 1) e
 
 -- one bit's step of the sum
-pub bit_sum-step : (s n c t : ℕ) → bit_xor s (bit_sum (suc n) c t) ≡ bit_xor (bit_xor s (cond (eqb (c % 2) 1) t 0)) (bit_sum n (c / 2) (times_x t))
+pub bit_sum-step : (s n c t : ℕ)
+    → bit_xor s (bit_sum (suc n) c t) ≡ bit_xor (bit_xor s (cond (eqb (c % 2) 1) t 0)) (bit_sum n (c / 2) (times_x t))
 unfolding bit_sum
 bit_sum-step s n c t = sym (xor_assoc s (cond (eqb (c % 2) 1) t 0) (bit_sum n (c / 2) (times_x t)))
 

@@ -1,6 +1,7 @@
 -- The check byte of a message: the remainder of the message, times x^8, by x^8 + x^2 + x + 1. It starts at 0, and
 -- nothing is reflected or inverted at the end (EnOcean Serial Protocol 3, "CRC8 calculation").
-use Rattle.std.specs.Prelude.{ℕ, zero, suc, ◌+◌, ◌*◌, Bool, List, [], ◌∷◌, ◌++◌, length, ◌==◌, nat_lt, bit_xor, if◌then◌else◌}
+use Rattle.std.specs.Prelude.{ℕ, zero, suc, ◌+◌, ◌*◌, Bool, List, [], ◌∷◌, ◌++◌, length, ◌==◌, nat_lt, bit_xor}
+use Rattle.std.specs.Prelude.{if◌then◌else◌}
 use Rattle.std.specs.Int.{bit_at}
 
 -- a remainder times x: the double, less the polynomial where the double passes a byte
@@ -14,7 +15,9 @@ power (suc k) = times_x (power k)
 
 -- a byte's bits, the high one first
 unfoldable pub byte_bits : ℕ → List Bool
-byte_bits b = (bit_at b 7 == 1) ∷ (bit_at b 6 == 1) ∷ (bit_at b 5 == 1) ∷ (bit_at b 4 == 1) ∷ (bit_at b 3 == 1) ∷ (bit_at b 2 == 1) ∷ (bit_at b 1 == 1) ∷ (bit_at b 0 == 1) ∷ []
+byte_bits b =
+    (bit_at b 7 == 1) ∷ (bit_at b 6 == 1) ∷ (bit_at b 5 == 1) ∷ (bit_at b 4 == 1) ∷ (bit_at b 3 == 1) ∷
+    (bit_at b 2 == 1) ∷ (bit_at b 1 == 1) ∷ (bit_at b 0 == 1) ∷ []
 
 -- the bits of a message
 unfoldable pub bits : List ℕ → List Bool

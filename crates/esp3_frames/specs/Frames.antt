@@ -1,15 +1,19 @@
 -- The framing of a stream, computed. That it is the one framing of the stream is the law `one_framing`.
-use Rattle.std.specs.Prelude.{ℕ, zero, suc, ◌+◌, ◌*◌, List, [], ◌∷◌, length, take, drop, Bool, ◌&&◌, nat_lt, nat_le, ◌==◌, slice_index, slice_index_or, if◌then◌else◌}
+use Rattle.std.specs.Prelude.{ℕ, zero, suc, ◌+◌, ◌*◌, List, [], ◌∷◌, length, take, drop, Bool, ◌&&◌, nat_lt, nat_le}
+use Rattle.std.specs.Prelude.{◌==◌, slice_index, slice_index_or, if◌then◌else◌}
 use Rattle.esp3_frames.specs.Check.{check}
 use Rattle.esp3_frames.specs.Packet.{longest_data, longest_optional_data, Packet}
 
 -- a packet may have these two lengths, the first of them in two bytes
 abbrev pub lengths_fit : ℕ → ℕ → ℕ → Bool
-lengths_fit h l o = (nat_lt l 256 && nat_le (256 * h + l) longest_data) && (nat_le o longest_optional_data && nat_lt 0 (256 * h + l + o))
+lengths_fit h l o =
+    (nat_lt l 256 && nat_le (256 * h + l) longest_data) &&
+    (nat_le o longest_optional_data && nat_lt 0 (256 * h + l + o))
 
 -- some packet begins with these bytes, of which there are at most five: what has not come is taken for the best
 abbrev pub may_begin : List ℕ → Bool
-may_begin w = slice_index_or w 0 0x55 == 0x55 && lengths_fit (slice_index_or w 1 0) (slice_index_or w 2 0) (slice_index_or w 3 1)
+may_begin w =
+    slice_index_or w 0 0x55 == 0x55 && lengths_fit (slice_index_or w 1 0) (slice_index_or w 2 0) (slice_index_or w 3 1)
 
 -- what stands at the front of a text: no packet whatever follows, a part of one, or a whole one
 pub data Front : Type 0 where
@@ -21,11 +25,14 @@ pub data Front : Type 0 where
 abbrev pub front_behind : ℕ → ℕ → ℕ → List ℕ → Front
 front_behind d o kind w =
     if nat_le (length w) (d + o) then Partial
-    else if slice_index w (d + o) == check (take (d + o) w) then Whole (record { kind = kind; body = take d (take (d + o) w); opt = drop d (take (d + o) w) })
+    else if slice_index w (d + o) == check (take (d + o) w) then Whole
+    (record { kind = kind; body = take d (take (d + o) w); opt = drop d (take (d + o) w) })
     else Never
 
 unfoldable pub front_of : List ℕ → Front
-front_of (s ∷ h ∷ l ∷ o ∷ k ∷ c ∷ w) = if s == 0x55 && (lengths_fit h l o && c == check (h ∷ l ∷ o ∷ k ∷ [])) then front_behind (256 * h + l) o k w else Never
+front_of (s ∷ h ∷ l ∷ o ∷ k ∷ c ∷ w) =
+    if s == 0x55 && (lengths_fit h l o && c == check (h ∷ l ∷ o ∷ k ∷ [])) then front_behind
+    (256 * h + l) o k w else Never
 front_of w = if may_begin w then Partial else Never
 
 -- the packets of a stream, and the rest behind them
@@ -41,7 +48,8 @@ frames_after zero (b ∷ s) =
     elim (front_of (b ∷ s)) [
       | Never ↦ frames_after zero s
       | Partial ↦ record { ready = []; rest = b ∷ s }
-      | Whole p ↦ let c = frames_after (length p.body + length p.opt + 6) s in record { ready = p ∷ c.ready; rest = c.rest }
+      | Whole p ↦ let c =
+          frames_after (length p.body + length p.opt + 6) s in record { ready = p ∷ c.ready; rest = c.rest }
     ]
 
 abbrev pub frames_of : List ℕ → Frames

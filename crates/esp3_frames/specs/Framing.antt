@@ -26,5 +26,7 @@ NeverPacket w = (¬ BeginsWithPacket w) × (¬ MayBecomePacket w)
 -- byte.
 pub data Framing : List ℕ → List Packet → List ℕ → Type 0 where
   ends : {s : List ℕ} → MayBecomePacket s → Framing s [] s
-  skips : {b : ℕ} {s : List ℕ} {ps : List Packet} {rest : List ℕ} → NeverPacket (b ∷ s) → Framing s ps rest → Framing (b ∷ s) ps rest
-  finds : {w : List ℕ} {p : Packet} {front s : List ℕ} {ps : List Packet} {rest : List ℕ} → IsPacket p front → w ≡ front ++ s → Framing s ps rest → Framing w (p ∷ ps) rest
+  skips : {b : ℕ} {s : List ℕ} {ps : List Packet} {rest : List ℕ} → NeverPacket (b ∷ s) → Framing s ps rest
+      → Framing (b ∷ s) ps rest
+  finds : {w : List ℕ} {p : Packet} {front s : List ℕ} {ps : List Packet} {rest : List ℕ} → IsPacket p front
+      → w ≡ front ++ s → Framing s ps rest → Framing w (p ∷ ps) rest

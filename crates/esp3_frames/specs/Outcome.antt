@@ -1,5 +1,6 @@
 -- What the calls answer.
-use Rattle.std.specs.Prelude.{ℕ, ◌+◌, ◌*◌, List, length, not, nat_lt, ◌==◌, ◌||◌, slice_index, slice_range, if◌then◌else◌, Result, Ok, Err}
+use Rattle.std.specs.Prelude.{ℕ, ◌+◌, ◌*◌, List, length, not, nat_lt, ◌==◌, ◌||◌, slice_index, slice_range}
+use Rattle.std.specs.Prelude.{if◌then◌else◌, Result, Ok, Err}
 use Rattle.esp3_frames.specs.Check.{check}
 use Rattle.esp3_frames.specs.Packet.{longest_data, longest_optional_data, Packet, spelling}
 use Rattle.esp3_frames.specs.declared.packet.PacketRef.{PacketRef}
@@ -15,7 +16,8 @@ packet_of r = record { kind = r.kind; body = r.body.now; opt = r.opt.now }
 
 -- the lengths and the type that six bytes announce
 abbrev pub header_in : List ℕ → Header
-header_in b = record { data_len = 256 * slice_index b 1 + slice_index b 2; opt_len = slice_index b 3; kind = slice_index b 4 }
+header_in b =
+    record { data_len = 256 * slice_index b 1 + slice_index b 2; opt_len = slice_index b 3; kind = slice_index b 4 }
 
 -- the header in six bytes, or the first fault
 abbrev pub header_of : List ℕ → Result Header HeaderFault

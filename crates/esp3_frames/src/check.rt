@@ -77,8 +77,8 @@ fn times_x(c: u8) -> u8
     if c < 128 { 2 * c } else { (2 * (c - 128)) ^ 7 }
 }
 
-// The check byte of a message, from its check byte so far, once `count` bytes 00 more have come. The step is linear, so it
-// is the sum of what it makes of each bit.
+// The check byte of a message, from its check byte so far, once `count` bytes 00 more have come. The step is linear, so
+// it is the sum of what it makes of each bit.
 fn after_zeros(check: u8, count: usize) -> u8
     ensures { result ≡ Check.after_zeros check count }
 {

@@ -1,7 +1,9 @@
 //! Laws of the definitions. Each function does nothing: its contract is the law.
-ghost use Rattle.std.specs.Prelude.{◌≡◌, ◌≢◌, ℕ, ◌+◌, ◌<◌, ◌≤◌, List, [], ◌∷◌, ◌++◌, ◌⊎◌, length, take, drop, slice_index, bit_xor, replicate, if◌then◌else◌, Ok, Err};
+ghost use Rattle.std.specs.Prelude.{◌≡◌, ◌≢◌, ℕ, ◌+◌, ◌<◌, ◌≤◌, List, [], ◌∷◌, ◌++◌, ◌⊎◌, length, take, drop};
+ghost use Rattle.std.specs.Prelude.{slice_index, bit_xor, replicate, if◌then◌else◌, Ok, Err};
 ghost use Rattle.esp3_frames.specs.Check.{check, after_zeros};
-ghost use Rattle.esp3_frames.specs.Packet.{longest_data, longest_optional_data, longest_packet, Packet, IsPacket, OneReading};
+ghost use Rattle.esp3_frames.specs.Packet.{longest_data, longest_optional_data, longest_packet, Packet, IsPacket};
+ghost use Rattle.esp3_frames.specs.Packet.{OneReading};
 ghost use Rattle.esp3_frames.specs.Framing.{Framing, BeginsWithPacket, MayBecomePacket, NeverPacket};
 ghost use Rattle.esp3_frames.specs.Frames.{front_of, front_behind, may_begin, frames_of, packets_in, rest_of};
 ghost use Rattle.esp3_frames.specs.Frames.Front.{Never, Partial, Whole};
@@ -75,9 +77,11 @@ pub fn fronts()
 /// to the next sync byte are skipped.
 pub fn frames_by_front()
     ensures never { (w : List ℕ) → front_of w ≡ Never → (0 < length w) × (frames_of (drop 1 w) ≡ frames_of w) }
-    ensures skipped { (w : List ℕ) (n : ℕ) → n ≤ length w → ((i : ℕ) → i < n → slice_index w i ≢ 0x55) → frames_of (drop n w) ≡ frames_of w }
+    ensures skipped { (w : List ℕ) (n : ℕ) → n ≤ length w → ((i : ℕ) → i < n → slice_index w i ≢ 0x55) →
+        frames_of (drop n w) ≡ frames_of w }
     ensures partial { (w : List ℕ) → front_of w ≡ Partial → frames_of w ≡ record { ready = []; rest = w } }
-    ensures whole { (w : List ℕ) (p : Packet) → front_of w ≡ Whole p → let more = drop (length p.body + length p.opt + 7) w in
+    ensures whole { (w : List ℕ) (p : Packet) → front_of w ≡ Whole p →
+        let more = drop (length p.body + length p.opt + 7) w in
         frames_of w ≡ record { ready = p ∷ packets_in more; rest = rest_of more } }
     ensures one { (p : Packet) (w : List ℕ) → IsPacket p w → packets_in w ≡ p ∷ [] }
 {}
@@ -87,6 +91,6 @@ pub fn frames_by_front()
 pub fn front_by_header()
     ensures short { (b : List ℕ) → length b < 6 → front_of b ≡ (if may_begin b then Partial else Never) }
     ensures bad { (b : List ℕ) (e : HeaderFault) → 6 ≤ length b → header_of (take 6 b) ≡ Err e → front_of b ≡ Never }
-    ensures good { (b : List ℕ) (x : Header) → ((i : ℕ) → slice_index b i < 256) → 6 ≤ length b → header_of (take 6 b) ≡ Ok x →
-        front_of b ≡ front_behind x.data_len x.opt_len x.kind (drop 6 b) }
+    ensures good { (b : List ℕ) (x : Header) → ((i : ℕ) → slice_index b i < 256) → 6 ≤ length b →
+        header_of (take 6 b) ≡ Ok x → front_of b ≡ front_behind x.data_len x.opt_len x.kind (drop 6 b) }
 {}

@@ -1,5 +1,6 @@
 -- What a header at the front of some bytes says of them.
-use Rattle.std.proofs.Common.{◌≡◌, ◌≢◌, ℕ, ◌+◌, ◌<◌, ◌≤◌, Bool, true, false, cond, List, ◌++◌, length, take, drop, get_or, sym, ap, ◌∙◌, arith, length-append, length-take, length-drop, inl, inr}
+use Rattle.std.proofs.Common.{◌≡◌, ◌≢◌, ℕ, ◌+◌, ◌<◌, ◌≤◌, Bool, true, false, cond, List, ◌++◌, length, take, drop}
+use Rattle.std.proofs.Common.{get_or, sym, ap, ◌∙◌, arith, length-append, length-take, length-drop, inl, inr}
 use Rattle.std.specs.Prelude.{Some}
 use Rattle.std.proofs.lemmas.List.{get_or-drop, take-append-le}
 use Rattle.std.proofs.lemmas.Bool.{cases_eq}
@@ -9,7 +10,8 @@ use Rattle.esp3_frames.specs.Frames.{Front, front_of, front_behind, may_begin}
 use Rattle.esp3_frames.specs.Frames.Front.{Never, Partial, Whole}
 use Rattle.esp3_frames.specs.Outcome.{header_of}
 use Rattle.esp3_frames.specs.declared.packet.Header.{Header}
-use Rattle.esp3_frames.proofs.ForCallers.{front-short, front-good, front_behind-partial, front_behind-whole, front_behind-never, whole_length}
+use Rattle.esp3_frames.proofs.ForCallers.{front-short, front-good, front_behind-partial, front_behind-whole}
+use Rattle.esp3_frames.proofs.ForCallers.{front_behind-never, whole_length}
 use Rattle.esp3_resync.specs.Settled.{HasHeader, packet_at}
 
 -- less than six bytes that are not to be skipped
@@ -72,7 +74,15 @@ module _ (w : List ℕ) (h : Header) (is : front_of w ≡ Whole (packet_at h w))
   whole_sum =
       let m : List ℕ = take (len_of h) (drop 6 w) in
       let n = whole_length w (packet_at h w) is in
-      omega (arith, n.0, length-take h.data_len m, length-drop h.data_len m, length-take (len_of h) (drop 6 w), length-drop 6 w)
+      omega (
+        arith,
+        n.0,
+        length-take h.data_len m,
+        length-drop h.data_len m,
+        length-take (len_of h) (drop 6 w),
+        length-drop 6 w,
+      )
 
   pub whole_parts : (len_of h + 7 ≤ length w) × (len_of h + 7 ≤ longest_packet)
-  whole_parts = let n = whole_length w (packet_at h w) is in (omega (arith, n.0, whole_sum), omega (arith, n.1, whole_sum))
+  whole_parts =
+      let n = whole_length w (packet_at h w) is in (omega (arith, n.0, whole_sum), omega (arith, n.1, whole_sum))

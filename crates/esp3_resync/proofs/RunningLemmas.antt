@@ -1,9 +1,11 @@
 -- What a window keeps beside its bytes, as bytes come and go.
-use Rattle.std.proofs.Common.{◌≡◌, ℕ, ◌+◌, ◌-◌, ◌<◌, ◌≤◌, List, [], ◌∷◌, ◌++◌, length, take, drop, get_or, min, bit_xor, refl, sym, ap, ◌∙◌, append_assoc, arith, length-append, length-drop, inl, inr}
+use Rattle.std.proofs.Common.{◌≡◌, ℕ, ◌+◌, ◌-◌, ◌<◌, ◌≤◌, List, [], ◌∷◌, ◌++◌, length, take, drop, get_or, min, bit_xor}
+use Rattle.std.proofs.Common.{refl, sym, ap, ◌∙◌, append_assoc, arith, length-append, length-drop, inl, inr}
 use Rattle.std.specs.Prelude.{Result, Ok, Err, IsOk, OnOk}
 use Rattle.std.proofs.Math.Seq.{take-add, take-append_seam, take-append-add, get_or-append_seam}
 use Rattle.std.proofs.lemmas.Bool.{cases_lt}
-use Rattle.std.proofs.lemmas.List.{append-nil, get_or-drop, get_or_append_left, get_or_past, take_all, take-append-le, take-append-drop}
+use Rattle.std.proofs.lemmas.List.{append-nil, get_or-drop, get_or_append_left, get_or_past, take_all, take-append-le}
+use Rattle.std.proofs.lemmas.List.{take-append-drop}
 use Rattle.circular_buffer.specs.Buffer.{Buffer, buffer}
 use Rattle.esp3_frames.specs.Check.{check}
 use Rattle.esp3_frames.specs.Packet.{longest_packet}
@@ -22,7 +24,9 @@ running_empty = record {
 }
 
 module _ (b c : Buffer ℕ) (n : ℕ) (r : Running b c n) where
-  pub running_push : (x : ℕ) → x < 256 → length b.items < longest_packet → Running (buffer (b.items ++ x ∷ []) b.capacity) (buffer (c.items ++ n ∷ []) c.capacity) (check (bit_xor n x ∷ []))
+  pub running_push : (x : ℕ) → x < 256 → length b.items < longest_packet
+      → Running (buffer (b.items ++ x ∷ []) b.capacity) (buffer (c.items ++ n ∷ []) c.capacity)
+      (check (bit_xor n x ∷ []))
   running_push x hx short =
       let count = r.count in
       record {
@@ -47,14 +51,16 @@ module _ (b c : Buffer ℕ) (n : ℕ) (r : Running b c n) where
               let e : i ≡ length b.items = omega (arith, length-append b.items (x ∷ [])) in
               let f : i ≡ length c.items = omega arith in
               ap (λ k. get_or (c.items ++ n ∷ []) k 0) f ∙ get_or-append_seam c.items n [] 0 ∙ r.all
-              ∙ ap (λ (y : List ℕ). check (r.gone ++ y)) (sym (ap (λ k. take k (b.items ++ x ∷ [])) e ∙ take-append_seam b.items (x ∷ [])))
+              ∙ ap (λ (y : List ℕ). check (r.gone ++ y))
+              (sym (ap (λ k. take k (b.items ++ x ∷ [])) e ∙ take-append_seam b.items (x ∷ [])))
         ];
         all =
             ap (λ k. check (bit_xor k x ∷ [])) r.all ∙ sym (check_next (r.gone ++ b.items) x hx)
             ∙ ap check (append_assoc r.gone b.items (x ∷ []));
       }
 
-  pub running_skip : (k : ℕ) → k ≤ length b.items → Running (buffer (drop k b.items) b.capacity) (buffer (drop k c.items) c.capacity) n
+  pub running_skip : (k : ℕ) → k ≤ length b.items
+      → Running (buffer (drop k b.items) b.capacity) (buffer (drop k c.items) c.capacity) n
   running_skip k hk =
       let count = r.count in
       let within = r.within in
@@ -74,7 +80,9 @@ module _ (b c : Buffer ℕ) (n : ℕ) (r : Running b c n) where
       }
 
   -- the part of a message that is meant, by the check bytes at its two ends
-  pub running_part : (from len : ℕ) → from + len < length b.items → (get_or c.items from 0 ≡ check (r.gone ++ take from b.items)) × (get_or c.items (from + len) 0 ≡ check ((r.gone ++ take from b.items) ++ take len (drop from b.items)))
+  pub running_part : (from len : ℕ) → from + len < length b.items
+      → (get_or c.items from 0 ≡ check (r.gone ++ take from b.items))
+      × (get_or c.items (from + len) 0 ≡ check ((r.gone ++ take from b.items) ++ take len (drop from b.items)))
   running_part from len h = (
     r.before from (omega arith),
     r.before (from + len) h ∙ ap (λ (y : List ℕ). check (r.gone ++ y)) (take-add from len b.items)

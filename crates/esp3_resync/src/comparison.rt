@@ -121,7 +121,8 @@ fn long_stream(bytes: &mut Vec<u8>, draws: &mut Draws) -> Result<(), AllocError>
     Ok(())
 }
 
-// A header of the longest packet, `distance` bytes, another such header, and packets for as many bytes as they announce.
+// A header of the longest packet, `distance` bytes, another such header, and packets for as many bytes as they
+// announce.
 fn header_at_distance(
     bytes: &mut Vec<u8>,
     draws: &mut Draws,

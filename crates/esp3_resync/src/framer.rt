@@ -126,7 +126,8 @@ impl Framer {
     /// no memory.
     pub fn take(&mut self, out: &mut PacketBuf) -> bool
         ensures ready { IsTrue result ↔ (0 < length self.old.ready) }
-        ensures taken { OnTrue result ((p : Packet) × (out.new ≡ Some p) × (self.old.ready ≡ p ∷ self.new.ready) × (self.new.rest ≡ self.old.rest)) }
+        ensures taken { OnTrue result ((p : Packet) × (out.new ≡ Some p) × (self.old.ready ≡ p ∷ self.new.ready)
+            × (self.new.rest ≡ self.old.rest)) }
         ensures none { OnFalse result ((self.new ≡ self.old) × (out.new ≡ out.old)) }
     {
         let Some(header) = self.header else {

@@ -1,5 +1,6 @@
 //! The bytes that a framer holds, in a ring, with a running check byte beside each.
-ghost use Rattle.std.specs.Prelude.{◌≡◌, ℕ, ◌+◌, ◌<◌, ◌≤◌, [], ◌∷◌, ◌++◌, length, take, drop, slice_index, slice_index_or, vec_capacity, ◌==◌, OnSome, IfNone, IfOk};
+ghost use Rattle.std.specs.Prelude.{◌≡◌, ℕ, ◌+◌, ◌<◌, ◌≤◌, [], ◌∷◌, ◌++◌, length, take, drop, slice_index};
+ghost use Rattle.std.specs.Prelude.{slice_index_or, vec_capacity, ◌==◌, OnSome, IfNone, IfOk};
 ghost use Rattle.esp3_frames.specs.Check.{check};
 ghost use Rattle.esp3_frames.specs.Packet.{longest_packet};
 ghost use Rattle.esp3_resync.specs.Settled.{ReachesSync};
@@ -18,8 +19,8 @@ fn byte_or(ring: &HeapCircularBuffer<u8>, i: usize, other: u8) -> u8
 
 /// At most as many bytes of a stream as the longest packet has, taken in at the back and let go at the front.
 ///
-/// Beside each byte stands the check byte of all bytes that came before it. So the check byte of any part costs the same
-/// few steps, however long the part is, and a refused packet is only searched for the next sync byte.
+/// Beside each byte stands the check byte of all bytes that came before it. So the check byte of any part costs the
+/// same few steps, however long the part is, and a refused packet is only searched for the next sync byte.
 #[derive(Drop)]
 pub struct Window {
     bytes: HeapCircularBuffer<u8>,

@@ -1,9 +1,12 @@
 -- Greatest common divisors.
-use Rattle.std.proofs.Common.{◌≡◌, ℕ, ◌+◌, ◌*◌, ◌/◌, ◌%◌, ◌<◌, ◌≤◌, refl, sym, ap, ◌∙◌, arith, subst, suc, zero, eqb, Bool, true, false, cond, ◌&&◌}
+use Rattle.std.proofs.Common.{◌≡◌, ℕ, ◌+◌, ◌*◌, ◌/◌, ◌%◌, ◌<◌, ◌≤◌, refl, sym, ap, ◌∙◌, arith, subst, suc, zero, eqb}
+use Rattle.std.proofs.Common.{Bool, true, false, cond, ◌&&◌}
 use Rattle.std.specs.Int.{IsGcd}
 use Prim.Native.Nat.{◌∣◌}
-use Rattle.std.proofs.lemmas.Nat.Gcd.{le_of_dvd, dvd_of_mod-eq-zero, mod-eq-zero_of_dvd, same_from_IsGcd, IsGcd-from_zero, IsGcd-from_mod}
-use Rattle.std.proofs.Math.Nat.{div-mul_cancel, mul-dvd-mul_right, dvd_of_mul-dvd-mul_right, one-dvd, mul_assoc, dvd-mul_right, add-mul, mod-add-div', dvd-add_iff_left, dvd-mul_left_of_dvd}
+use Rattle.std.proofs.lemmas.Nat.Gcd.{le_of_dvd, dvd_of_mod-eq-zero, mod-eq-zero_of_dvd, same_from_IsGcd}
+use Rattle.std.proofs.lemmas.Nat.Gcd.{IsGcd-from_zero, IsGcd-from_mod}
+use Rattle.std.proofs.Math.Nat.{div-mul_cancel, mul-dvd-mul_right, dvd_of_mul-dvd-mul_right, one-dvd, mul_assoc}
+use Rattle.std.proofs.Math.Nat.{dvd-mul_right, add-mul, mod-add-div', dvd-add_iff_left, dvd-mul_left_of_dvd}
 use Rattle.std.proofs.lemmas.Bool.Decides.{nat_tests}
 use Rattle.exact_values.specs.Ratio.{greatest_divisor}
 
@@ -27,7 +30,8 @@ not_there a b g m ma mb e q =
     let t : eqb (a % m) 0 && eqb (b % m) 0 ≡ true = rw (ea, eb) refl in
     cc
 
-greatest_divisor_step : (k a b g : ℕ) → g ≤ suc k → 0 < g → IsGcd a b g → (g ≤ k → 0 < g → IsGcd a b g → greatest_divisor k a b ≡ g) →
+greatest_divisor_step : (k a b g : ℕ) → g ≤ suc k → 0 < g → IsGcd a b g
+    → (g ≤ k → 0 < g → IsGcd a b g → greatest_divisor k a b ≡ g) →
     cond (eqb (a % suc k) 0 && eqb (b % suc k) 0) (suc k) (greatest_divisor k a b) ≡ g
 greatest_divisor_step k a b g l p h lower = by_cases (eqb (a % suc k) 0 && eqb (b % suc k) 0) refl
   where
@@ -62,11 +66,13 @@ product_divisor zero a (suc b) c l = absurd (omega arith)
 product_divisor (suc k) a (suc b) c l =
     let lower = product_divisor k (suc b) (a % suc b) c (omega arith) in
     let m : a % suc b + a / suc b * suc b ≡ a = mod-add-div' a (suc b) in
-    let e : a % suc b * c + a / suc b * (suc b * c) ≡ a * c = rw (← mul_assoc (a / suc b) (suc b) c) (sym (add-mul (a % suc b) (a / suc b * suc b) c) ∙ ap (λ n. n * c) m) in (
+    let e : a % suc b * c + a / suc b * (suc b * c) ≡ a * c =
+    rw (← mul_assoc (a / suc b) (suc b) c) (sym (add-mul (a % suc b) (a / suc b * suc b) c) ∙ ap (λ n. n * c) m) in (
       lower.0,
       IsGcd-from_mod a (suc b) lower.0 lower.1,
       λ d p q.
-          lower.2 d q ((dvd-add_iff_left d (dvd-mul_left_of_dvd d q (a / suc b))).1 (subst (λ (n : ℕ). d ∣ n) (sym e) p)),
+          lower.2 d q ((dvd-add_iff_left d (dvd-mul_left_of_dvd d q (a / suc b))).1
+          (subst (λ (n : ℕ). d ∣ n) (sym e) p)),
     )
 
 -- what divides a product and has no common divisor with the first factor but 1 divides the other

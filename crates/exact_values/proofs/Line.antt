@@ -31,30 +31,38 @@ difference_below : (a b : ℕ) → b ≤ a → pos b -ℤ pos a ≡ neg_ℤ (pos
 difference_below a b h = omega (arith, ints)
 
 StandsFor-upward : (r a b : ℕ) (x y : ℤ) (v : Ratio) → a ≤ r → r ≤ b →
-    pos (10 * distance a b) *ℤ v.num ≡ pos v.den *ℤ (x *ℤ pos (distance a b) +ℤ (y -ℤ x) *ℤ pos (distance r a)) → StandsFor r a b x y v
+    pos (10 * distance a b) *ℤ v.num ≡ pos v.den *ℤ (x *ℤ pos (distance a b) +ℤ (y -ℤ x) *ℤ pos (distance r a))
+    → StandsFor r a b x y v
 unfolding StandsFor
 StandsFor-upward r a b x y v p q e =
     let k : distance a b ≡ b - a = omega arith in
     let j : distance r a ≡ r - a = omega arith in
-    let e' : pos (10 * (b - a)) *ℤ v.num ≡ pos v.den *ℤ (x *ℤ pos (b - a) +ℤ (y -ℤ x) *ℤ pos (r - a)) = rw (k, j) at e in
+    let e' : pos (10 * (b - a)) *ℤ v.num ≡ pos v.den *ℤ (x *ℤ pos (b - a) +ℤ (y -ℤ x) *ℤ pos (r - a)) =
+    rw (k, j) at e in
     rw (difference a b (omega arith), difference a r p, *ℤ_comm (pos (r - a)) (y -ℤ x)) e'
 
 StandsFor-downward : (r a b : ℕ) (x y : ℤ) (v : Ratio) → b ≤ r → r ≤ a →
-    pos (10 * distance a b) *ℤ v.num ≡ pos v.den *ℤ (x *ℤ pos (distance a b) +ℤ (y -ℤ x) *ℤ pos (distance r a)) → StandsFor r a b x y v
+    pos (10 * distance a b) *ℤ v.num ≡ pos v.den *ℤ (x *ℤ pos (distance a b) +ℤ (y -ℤ x) *ℤ pos (distance r a))
+    → StandsFor r a b x y v
 unfolding StandsFor
 StandsFor-downward r a b x y v p q e =
     let k : distance a b ≡ a - b = omega arith in
     let j : distance r a ≡ a - r = omega arith in
-    let e' : pos (10 * (a - b)) *ℤ v.num ≡ pos v.den *ℤ (x *ℤ pos (a - b) +ℤ (y -ℤ x) *ℤ pos (a - r)) = rw (k, j) at e in
+    let e' : pos (10 * (a - b)) *ℤ v.num ≡ pos v.den *ℤ (x *ℤ pos (a - b) +ℤ (y -ℤ x) *ℤ pos (a - r)) =
+    rw (k, j) at e in
     let left : pos 10 *ℤ neg_ℤ (pos (a - b)) *ℤ v.num ≡ neg_ℤ (pos (10 * (a - b)) *ℤ v.num) =
     ap (λ z. z *ℤ v.num) (*ℤ-neg (pos 10) (pos (a - b))) ∙ neg-*ℤ (pos 10 *ℤ pos (a - b)) v.num in
-    let right : pos v.den *ℤ (x *ℤ neg_ℤ (pos (a - b)) +ℤ neg_ℤ (pos (a - r)) *ℤ (y -ℤ x)) ≡ neg_ℤ (pos v.den *ℤ (x *ℤ pos (a - b) +ℤ (y -ℤ x) *ℤ pos (a - r))) =
+    let right : pos v.den *ℤ (x *ℤ neg_ℤ (pos (a - b)) +ℤ neg_ℤ (pos (a - r)) *ℤ (y -ℤ x))
+    ≡ neg_ℤ (pos v.den *ℤ (x *ℤ pos (a - b) +ℤ (y -ℤ x) *ℤ pos (a - r))) =
     ap (λ z. pos v.den *ℤ (z +ℤ neg_ℤ (pos (a - r)) *ℤ (y -ℤ x))) (*ℤ-neg x (pos (a - b)))
-    ∙ (ap (λ z. pos v.den *ℤ (neg_ℤ (x *ℤ pos (a - b)) +ℤ z)) (neg-*ℤ (pos (a - r)) (y -ℤ x) ∙ ap neg_ℤ (*ℤ_comm (pos (a - r)) (y -ℤ x)))
+    ∙ (ap (λ z. pos v.den *ℤ (neg_ℤ (x *ℤ pos (a - b)) +ℤ z))
+    (neg-*ℤ (pos (a - r)) (y -ℤ x) ∙ ap neg_ℤ (*ℤ_comm (pos (a - r)) (y -ℤ x)))
     ∙ (ap (λ z. pos v.den *ℤ z) (neg-+ℤ (x *ℤ pos (a - b)) ((y -ℤ x) *ℤ pos (a - r))) ∙ *ℤ-neg (pos v.den) _)) in
     rw (difference_below a b (omega arith), difference_below a r q) (left ∙ (ap neg_ℤ e' ∙ sym right))
 
 pub StandsFor-distances : (r a b : ℕ) (x y : ℤ) (v : Ratio) → min a b ≤ r → r ≤ max a b →
-    pos (10 * distance a b) *ℤ v.num ≡ pos v.den *ℤ (x *ℤ pos (distance a b) +ℤ (y -ℤ x) *ℤ pos (distance r a)) → StandsFor r a b x y v
+    pos (10 * distance a b) *ℤ v.num ≡ pos v.den *ℤ (x *ℤ pos (distance a b) +ℤ (y -ℤ x) *ℤ pos (distance r a))
+    → StandsFor r a b x y v
 StandsFor-distances r a b x y v p q e =
-    ⊎_elim (λ h. StandsFor-upward r a b x y v (omega arith) (omega arith) e) (λ h. StandsFor-downward r a b x y v (omega arith) (omega arith) e) (cases_lt a b)
+    ⊎_elim (λ h. StandsFor-upward r a b x y v (omega arith) (omega arith) e)
+    (λ h. StandsFor-downward r a b x y v (omega arith) (omega arith) e) (cases_lt a b)

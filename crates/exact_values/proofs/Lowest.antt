@@ -8,14 +8,17 @@ use Rattle.std.proofs.Math.Nat.{div-mul_cancel, zero-div, add-mul, dvd-mul_left,
 use borrow.Author.Differences.{up, down, same_in, same_out, product_is, quot_is, abs_is}
 use Rattle.std.proofs.lemmas.Int.{unsigned_abs-mul}
 use Rattle.exact_values.specs.Ratio.{Ratio, IsLowest, greatest_divisor, lowest}
-use Rattle.exact_values.proofs.Divisors.{dvd_of_quotient, IsGcd-divided, greatest_divisor_is, positive_divisor, dvd_of_coprime}
+use Rattle.exact_values.proofs.Divisors.{dvd_of_quotient, IsGcd-divided, greatest_divisor_is, positive_divisor}
+use Rattle.exact_values.proofs.Divisors.{dvd_of_coprime}
 
 -- n / d, in lowest terms
-pub lowest_is : (t : ℤ) (b g : ℕ) → 0 < b → IsGcd (unsigned_abs t) b g → lowest t b ≡ record { num = int_div t (pos g); den = b / g }
+pub lowest_is : (t : ℤ) (b g : ℕ) → 0 < b → IsGcd (unsigned_abs t) b g
+    → lowest t b ≡ record { num = int_div t (pos g); den = b / g }
 unfolding lowest
 lowest_is t b g p h =
     let q : 0 < g = positive_divisor b g p h.1 in
-    let e : greatest_divisor b (unsigned_abs t) b ≡ g = greatest_divisor_is b (unsigned_abs t) b g (le_of_dvd p h.1) q h in
+    let e : greatest_divisor b (unsigned_abs t) b ≡ g =
+    greatest_divisor_is b (unsigned_abs t) b g (le_of_dvd p h.1) q h in
     ap (λ n. record { num = int_div t (pos n); den = b / n }) e
 
 product_divided : (b n g : ℕ) → g ∣ n → g ∣ b → b * (n / g) ≡ b / g * n
@@ -25,7 +28,8 @@ product_divided b n g dn db =
     omega (arith, eb, en)
 
 -- a fraction in lowest terms has the value of the one that it was made of
-pub value_divided : (t : ℤ) (b g : ℕ) → 0 < g → g ∣ unsigned_abs t → g ∣ b → pos b *ℤ int_div t (pos g) ≡ pos (b / g) *ℤ t
+pub value_divided : (t : ℤ) (b g : ℕ) → 0 < g → g ∣ unsigned_abs t → g ∣ b
+    → pos b *ℤ int_div t (pos g) ≡ pos (b / g) *ℤ t
 value_divided (pos n) b g p dt db = ap pos (product_divided b n g dt db)
 value_divided (negsuc n) b g p dt db =
     let e = product_divided b (suc n) g dt db in
@@ -33,8 +37,10 @@ value_divided (negsuc n) b g p dt db =
     let u : up (int_div (negsuc n) (pos g)) ≡ 0 = q.0 ∙ zero-div g in
     let d : down (int_div (negsuc n) (pos g)) ≡ suc n / g = q.1 in
     let l = product_is (pos b) (int_div (negsuc n) (pos g)) in
-    let lu : up (pos b *ℤ int_div (negsuc n) (pos g)) ≡ b * up (int_div (negsuc n) (pos g)) + 0 * down (int_div (negsuc n) (pos g)) = l.0 in
-    let ld : down (pos b *ℤ int_div (negsuc n) (pos g)) ≡ b * down (int_div (negsuc n) (pos g)) + 0 * up (int_div (negsuc n) (pos g)) = l.1 in
+    let lu : up (pos b *ℤ int_div (negsuc n) (pos g))
+    ≡ b * up (int_div (negsuc n) (pos g)) + 0 * down (int_div (negsuc n) (pos g)) = l.0 in
+    let ld : down (pos b *ℤ int_div (negsuc n) (pos g))
+    ≡ b * down (int_div (negsuc n) (pos g)) + 0 * up (int_div (negsuc n) (pos g)) = l.1 in
     let r = product_is (pos (b / g)) (negsuc n) in
     let ru : up (pos (b / g) *ℤ negsuc n) ≡ b / g * 0 + 0 * suc n = r.0 in
     let rd : down (pos (b / g) *ℤ negsuc n) ≡ b / g * suc n + 0 * 0 = r.1 in
@@ -46,7 +52,8 @@ abs_divided : (t : ℤ) (g : ℕ) → 0 < g → unsigned_abs (int_div t (pos g))
 abs_divided (pos n) g p = refl
 abs_divided (negsuc n) g p = omega (arith, quot_is (negsuc n) g, abs_is (int_div (negsuc n) (pos g)))
 
-pub IsLowest_divided : (t : ℤ) (b g : ℕ) → 0 < b → IsGcd (unsigned_abs t) b g → IsLowest (record { num = int_div t (pos g); den = b / g })
+pub IsLowest_divided : (t : ℤ) (b g : ℕ) → 0 < b → IsGcd (unsigned_abs t) b g
+    → IsLowest (record { num = int_div t (pos g); den = b / g })
 IsLowest_divided t b g p h =
     let q : 0 < g = positive_divisor b g p h.1 in
     let least : g ≤ b = le_of_dvd p h.1 in

@@ -7,8 +7,8 @@ ghost use Rattle.exact_values.specs.Scale.{IsBetween, StandsFor, interpolated, s
 use crate::fraction::{Fraction, reduced};
 
 /// What `raw` stands for where `raw_lo` stands for `tenths_lo` tenths of a unit and `raw_hi` for `tenths_hi`, and the
-/// numbers between them in proportion (EnOcean Equipment Profiles 2.6, "Valid Range" and "Scale"): the exact fraction of
-/// the unit, in lowest terms. None where `raw` lies outside the two raw bounds, which themselves are within.
+/// numbers between them in proportion (EnOcean Equipment Profiles 2.6, "Valid Range" and "Scale"): the exact fraction
+/// of the unit, in lowest terms. None where `raw` lies outside the two raw bounds, which themselves are within.
 ///
 /// The raw bounds differ, stand in either order and are at most 65535; the tenths are at most a million either way.
 ///

@@ -6,16 +6,19 @@ use Rattle.erp1_telegrams.specs.declared.eep.Eep.{Eep}
 use Rattle.profiles_rps.specs.Rows.{Row}
 use Rattle.profiles_rps.specs.Profile.{Profiles, rows_in}
 
-option_map-or : {A B : Type 0} (f : A → B) (a b : Option A) → option_map f (option_or a b) ≡ option_or (option_map f a) (option_map f b)
+option_map-or : {A B : Type 0} (f : A → B) (a b : Option A)
+    → option_map f (option_or a b) ≡ option_or (option_map f a) (option_map f b)
 option_map-or f None b = refl
 option_map-or f (Some x) b = refl
 
 -- the rows of a profile in two tables
-rows_in-append : (xs ys : List Profiles) (eep : Eep) → rows_in (xs ++ ys) eep ≡ option_or (rows_in xs eep) (rows_in ys eep)
+rows_in-append : (xs ys : List Profiles) (eep : Eep)
+    → rows_in (xs ++ ys) eep ≡ option_or (rows_in xs eep) (rows_in ys eep)
 rows_in-append xs ys eep = rw (find-append, option_map-or) refl
 
 -- readings by the first of two tables that has the profile
-pub told-append : {A B : Type 0} (told : A → B) (read : List Row → B) (eep : Eep) (xs ys : List Profiles) (a b either : Option A) →
+pub told-append : {A B : Type 0} (told : A → B) (read : List Row → B) (eep : Eep) (xs ys : List Profiles)
+    (a b either : Option A) →
     either ≡ option_or a b →
     option_map told a ≡ option_map read (rows_in xs eep) →
     option_map told b ≡ option_map read (rows_in ys eep) →

@@ -6,9 +6,27 @@ use Rattle.profiles_rps.specs.Profile.{Profiles}
 -- the concentration of CO2, with the humidity and the temperature where there are sensors of these
 abbrev pub carbon_dioxide : List Row
 carbon_dioxide =
-    record { name = codes "HUM"; offset = 0; len = 8; condition = where_field 29 1 1; kind = range 0 200 (pos 0) (pos 1000) (codes "%") }
-    ∷ record { name = codes "CONC"; offset = 8; len = 8; condition = always; kind = range 0 255 (pos 0) (pos 25500) (codes "ppm") }
-    ∷ record { name = codes "TMP"; offset = 16; len = 8; condition = where_field 30 1 1; kind = range 0 255 (pos 0) (pos 510) (codes "C") }
+    record {
+      name = codes "HUM";
+      offset = 0;
+      len = 8;
+      condition = where_field 29 1 1;
+      kind = range 0 200 (pos 0) (pos 1000) (codes "%");
+    }
+    ∷ record {
+      name = codes "CONC";
+      offset = 8;
+      len = 8;
+      condition = always;
+      kind = range 0 255 (pos 0) (pos 25500) (codes "ppm");
+    }
+    ∷ record {
+      name = codes "TMP";
+      offset = 16;
+      len = 8;
+      condition = where_field 30 1 1;
+      kind = range 0 255 (pos 0) (pos 510) (codes "C");
+    }
     ∷ []
 
 -- A5-09-04

@@ -7,8 +7,20 @@ use Rattle.profiles_4bs.specs.Tenths.{minus}
 -- the humidity, and between two ends, in tenths, the temperature, where there is a temperature sensor
 abbrev pub humidity_and_temperature : ℤ → ℤ → List Row
 humidity_and_temperature coldest hottest =
-    record { name = codes "HUM"; offset = 8; len = 8; condition = always; kind = range 0 250 (pos 0) (pos 1000) (codes "%") }
-    ∷ record { name = codes "TMP"; offset = 16; len = 8; condition = where_field 30 1 1; kind = range 0 250 coldest hottest (codes "C") }
+    record {
+      name = codes "HUM";
+      offset = 8;
+      len = 8;
+      condition = always;
+      kind = range 0 250 (pos 0) (pos 1000) (codes "%");
+    }
+    ∷ record {
+      name = codes "TMP";
+      offset = 16;
+      len = 8;
+      condition = where_field 30 1 1;
+      kind = range 0 250 coldest hottest (codes "C");
+    }
     ∷ []
 
 -- A5-04-01: 0 to 40 C, A5-04-02: -20 to 60 C

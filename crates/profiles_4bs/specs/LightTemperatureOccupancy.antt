@@ -1,5 +1,5 @@
--- The light, temperature and occupancy sensors (EnOcean Equipment Profiles 2.6, "A5-08: Light, Temperature and Occupancy
--- Sensor").
+-- The light, temperature and occupancy sensors (EnOcean Equipment Profiles 2.6, "A5-08: Light, Temperature and
+-- Occupancy Sensor").
 use Rattle.std.specs.Prelude.{ℕ, ℤ, pos, List, [], ◌∷◌, codes}
 use Rattle.profiles_rps.specs.Rows.{Row, range, words, always}
 use Rattle.profiles_rps.specs.Profile.{Profiles}
@@ -14,9 +14,27 @@ on_or_off = (0, codes "on") ∷ (1, codes "off") ∷ []
 -- button; the ends are in tenths
 abbrev pub all_in_one : ℤ → ℤ → ℤ → List Row
 all_in_one brightest coldest hottest =
-    record { name = codes "SVC"; offset = 0; len = 8; condition = always; kind = range 0 255 (pos 0) (pos 51) (codes "V") }
-    ∷ record { name = codes "ILL"; offset = 8; len = 8; condition = always; kind = range 0 255 (pos 0) brightest (codes "lx") }
-    ∷ record { name = codes "TMP"; offset = 16; len = 8; condition = always; kind = range 0 255 coldest hottest (codes "C") }
+    record {
+      name = codes "SVC";
+      offset = 0;
+      len = 8;
+      condition = always;
+      kind = range 0 255 (pos 0) (pos 51) (codes "V");
+    }
+    ∷ record {
+      name = codes "ILL";
+      offset = 8;
+      len = 8;
+      condition = always;
+      kind = range 0 255 (pos 0) brightest (codes "lx");
+    }
+    ∷ record {
+      name = codes "TMP";
+      offset = 16;
+      len = 8;
+      condition = always;
+      kind = range 0 255 coldest hottest (codes "C");
+    }
     ∷ record { name = codes "PIRS"; offset = 30; len = 1; condition = always; kind = words on_or_off }
     ∷ record { name = codes "OCC"; offset = 31; len = 1; condition = always; kind = words pressed_or_released }
     ∷ []

@@ -3,11 +3,17 @@ use Rattle.std.specs.Prelude.{ℕ, List, [], ◌∷◌, codes}
 use Rattle.profiles_rps.specs.Rows.{Row, over_power, number, always, where_field}
 use Rattle.profiles_rps.specs.Profile.{Profiles}
 
--- The meter reading over ten to the power of the field of two bits at 30, and the tariff as the number itself. The bit 29
--- selects the unit: of a cumulative value, or of a current one
+-- The meter reading over ten to the power of the field of two bits at 30, and the tariff as the number itself. The bit
+-- 29 selects the unit: of a cumulative value, or of a current one
 abbrev pub reading_and_tariff : List ℕ → List ℕ → List Row
 reading_and_tariff cumulative current =
-    record { name = codes "MR"; offset = 0; len = 24; condition = where_field 29 1 0; kind = over_power 30 2 cumulative }
+    record {
+      name = codes "MR";
+      offset = 0;
+      len = 24;
+      condition = where_field 29 1 0;
+      kind = over_power 30 2 cumulative;
+    }
     ∷ record { name = codes "MR"; offset = 0; len = 24; condition = where_field 29 1 1; kind = over_power 30 2 current }
     ∷ record { name = codes "TI"; offset = 24; len = 4; condition = always; kind = number }
     ∷ []
@@ -16,5 +22,10 @@ reading_and_tariff cumulative current =
 abbrev pub meter : List Profiles
 meter =
     record { rorg = 0xA5; func = 0x12; types = 0x01 ∷ []; rows = reading_and_tariff (codes "kWh") (codes "W") }
-    ∷ record { rorg = 0xA5; func = 0x12; types = 0x02 ∷ 0x03 ∷ []; rows = reading_and_tariff (codes "m3") (codes "l/s") }
+    ∷ record {
+      rorg = 0xA5;
+      func = 0x12;
+      types = 0x02 ∷ 0x03 ∷ [];
+      rows = reading_and_tariff (codes "m3") (codes "l/s");
+    }
     ∷ []

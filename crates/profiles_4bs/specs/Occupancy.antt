@@ -6,8 +6,20 @@ use Rattle.profiles_rps.specs.Profile.{Profiles}
 -- the supply voltage where it is available, and whether somebody moves
 abbrev pub voltage_and_motion : List Row
 voltage_and_motion =
-    record { name = codes "SVC"; offset = 0; len = 8; condition = where_field 31 1 1; kind = range 0 250 (pos 0) (pos 50) (codes "V") }
-    ∷ record { name = codes "PIRS"; offset = 16; len = 8; condition = always; kind = parted 128 (codes "off") (codes "on") }
+    record {
+      name = codes "SVC";
+      offset = 0;
+      len = 8;
+      condition = where_field 31 1 1;
+      kind = range 0 250 (pos 0) (pos 50) (codes "V");
+    }
+    ∷ record {
+      name = codes "PIRS";
+      offset = 16;
+      len = 8;
+      condition = always;
+      kind = parted 128 (codes "off") (codes "on");
+    }
     ∷ []
 
 -- A5-07-01

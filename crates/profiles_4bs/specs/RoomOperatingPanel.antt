@@ -8,7 +8,13 @@ use Rattle.profiles_4bs.specs.OccupancyButton.{pressed_or_released}
 abbrev pub set_point_and_temperature : List Row
 set_point_and_temperature =
     record { name = codes "SP"; offset = 8; len = 8; condition = always; kind = number }
-    ∷ record { name = codes "TMP"; offset = 16; len = 8; condition = always; kind = range 255 0 (pos 0) (pos 400) (codes "C") }
+    ∷ record {
+      name = codes "TMP";
+      offset = 16;
+      len = 8;
+      condition = always;
+      kind = range 255 0 (pos 0) (pos 400) (codes "C");
+    }
     ∷ []
 
 -- the same, and the occupancy button

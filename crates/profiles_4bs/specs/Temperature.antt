@@ -7,13 +7,25 @@ use Rattle.profiles_4bs.specs.Tenths.{minus}
 -- a number of 8 bits, which falls from 255 to 0 as the temperature rises from one end to the other, in tenths
 abbrev pub of_8_bits : ℤ → ℤ → List Row
 of_8_bits coldest hottest =
-    record { name = codes "TMP"; offset = 16; len = 8; condition = always; kind = range 255 0 coldest hottest (codes "C") }
+    record {
+      name = codes "TMP";
+      offset = 16;
+      len = 8;
+      condition = always;
+      kind = range 255 0 coldest hottest (codes "C");
+    }
     ∷ []
 
 -- a number of 10 bits, which falls from 1023 to 0 in the same way
 abbrev pub of_10_bits : ℤ → ℤ → List Row
 of_10_bits coldest hottest =
-    record { name = codes "TMP"; offset = 14; len = 10; condition = always; kind = range 1023 0 coldest hottest (codes "C") }
+    record {
+      name = codes "TMP";
+      offset = 14;
+      len = 10;
+      condition = always;
+      kind = range 1023 0 coldest hottest (codes "C");
+    }
     ∷ []
 
 -- A5-02-01: -40 to 0 C, and for each type more both ends are 10 C more

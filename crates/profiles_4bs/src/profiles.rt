@@ -59,10 +59,10 @@ fn readings_of(eep: Eep, telegram: &Telegram) -> Result<Readings, Unreadable>
     readings_by(eep, bytes).ok_or(Unreadable::NotSupported)
 }
 
-/// Reads a telegram by a profile: `readings` is what it says, in the order of the profile's rows (EnOcean Equipment Profiles
-/// 2.6). On a refusal `readings` stays as it was. The refusals come in this order: `NotSupported` where the profile is not
-/// read, `WrongKind` where the telegram's RORG is not the profile's, `WrongLength` where the payload has not four bytes, and
-/// `OtherMessage` where the telegram is a 4BS teach-in.
+/// Reads a telegram by a profile: `readings` is what it says, in the order of the profile's rows (EnOcean Equipment
+/// Profiles 2.6). On a refusal `readings` stays as it was. The refusals come in this order: `NotSupported` where the
+/// profile is not read, `WrongKind` where the telegram's RORG is not the profile's, `WrongLength` where the payload has
+/// not four bytes, and `OtherMessage` where the telegram is a 4BS teach-in.
 pub fn read(eep: Eep, telegram: &Telegram, readings: &mut Readings) -> Result<(), Unreadable>
     ensures exact { told result readings.new.items ≡ readings_of eep telegram.now }
     ensures err { OnErr result (readings.new ≡ readings.old) }

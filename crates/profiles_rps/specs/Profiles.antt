@@ -1,5 +1,6 @@
 -- What RPS and 1BS telegrams say.
-use Rattle.std.specs.Prelude.{ℕ, Bool, true, List, [], ◌∷◌, length, is_some, not, ◌==◌, if◌then◌else◌, Option, Result, Ok, Err}
+use Rattle.std.specs.Prelude.{ℕ, Bool, true, List, [], ◌∷◌, length, is_some, not, ◌==◌, if◌then◌else◌, Option, Result}
+use Rattle.std.specs.Prelude.{Ok, Err}
 use Rattle.std.specs.Option.{option_map_or}
 use Rattle.bit_fields.specs.Bits.{field}
 use Rattle.erp1_telegrams.specs.declared.eep.Eep.{Eep}

@@ -6,8 +6,8 @@ use Rattle.profiles_rps.specs.declared.reading.What.{What}
 use Rattle.profiles_rps.specs.declared.reading.What.TheVariants as variants
 use Rattle.profiles_rps.specs.declared.reading.Reading.{Reading}
 
--- what a reading says: an exact value in a unit, a word, a number that has no unit, or a number for which the profile has
--- neither a value nor a word. Texts stand as their bytes
+-- what a reading says: an exact value in a unit, a word, a number that has no unit, or a number for which the profile
+-- has neither a value nor a word. Texts stand as their bytes
 pub data Meaning : Type 0 where
   value : Ratio → List ℕ → Meaning
   word : List ℕ → Meaning

@@ -1,6 +1,7 @@
--- The rows of a profile's table (EnOcean Equipment Profiles 2.6, the tables "Offset, Size, Data, ShortCut, .., Valid Range,
--- Scale, Unit"): where a field stands, when it is read, and what its number means.
-use Rattle.std.specs.Prelude.{ℕ, ◌^◌, ℤ, pos, Bool, true, List, [], ◌∷◌, codes, Option, Some, None, ◌==◌, ◌&&◌, nat_lt, if◌then◌else◌}
+-- The rows of a profile's table (EnOcean Equipment Profiles 2.6, the tables "Offset, Size, Data, ShortCut, .., Valid
+-- Range, Scale, Unit"): where a field stands, when it is read, and what its number means.
+use Rattle.std.specs.Prelude.{ℕ, ◌^◌, ℤ, pos, Bool, true, List, [], ◌∷◌, codes, Option, Some, None, ◌==◌, ◌&&◌, nat_lt}
+use Rattle.std.specs.Prelude.{if◌then◌else◌}
 use Rattle.std.specs.List.{find, flat_map}
 use Rattle.exact_values.specs.Ratio.{Ratio, lowest}
 use Rattle.exact_values.specs.Scale.{scaled}
@@ -9,7 +10,8 @@ use Rattle.profiles_rps.specs.Reading.{Meaning, value, word, raw, out_of_range, 
 
 -- what the number in a field means
 pub data Kind : Type 0 where
-  -- a value: the first number stands for the third, in tenths, and the second for the fourth, in a unit; linear between them
+  -- a value: the first number stands for the third, in tenths, and the second for the fourth, in a unit; linear between
+  -- them
   range : ℕ → ℕ → ℤ → ℤ → List ℕ → Kind
   -- the word beside the number
   words : List (ℕ × List ℕ) → Kind

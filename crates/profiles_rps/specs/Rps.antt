@@ -26,7 +26,13 @@ two_rockers =
     record { name = codes "R1"; offset = 0; len = 3; condition = where_nu 1; kind = words rockers_ab }
     ∷ record { name = codes "buttons"; offset = 0; len = 3; condition = where_nu 0; kind = words none_or_three }
     ∷ record { name = codes "EB"; offset = 3; len = 1; condition = always; kind = words released_or_pressed }
-    ∷ record { name = codes "R2"; offset = 4; len = 3; condition = both (where_nu 1) (where_field 7 1 1); kind = words rockers_ab }
+    ∷ record {
+      name = codes "R2";
+      offset = 4;
+      len = 3;
+      condition = both (where_nu 1) (where_field 7 1 1);
+      kind = words rockers_ab;
+    }
     ∷ []
 
 -- the rockers A to D
@@ -42,5 +48,11 @@ four_rockers =
     record { name = codes "R1"; offset = 0; len = 3; condition = where_nu 1; kind = words rockers_abcd }
     ∷ record { name = codes "buttons"; offset = 0; len = 3; condition = where_nu 0; kind = number }
     ∷ record { name = codes "EB"; offset = 3; len = 1; condition = always; kind = words released_or_pressed }
-    ∷ record { name = codes "R2"; offset = 4; len = 3; condition = both (where_nu 1) (where_field 7 1 1); kind = words rockers_abcd }
+    ∷ record {
+      name = codes "R2";
+      offset = 4;
+      len = 3;
+      condition = both (where_nu 1) (where_field 7 1 1);
+      kind = words rockers_abcd;
+    }
     ∷ []

@@ -1,5 +1,5 @@
-//! What RPS and 1BS telegrams say by their profiles (EnOcean Equipment Profiles 2.6), and what all crates of profiles share:
-//! readings, refusals, and the rows of profiles.
+//! What RPS and 1BS telegrams say by their profiles (EnOcean Equipment Profiles 2.6), and what all crates of profiles
+//! share: readings, refusals, and the rows of profiles.
 #![tactic(auto)]
 
 mod macros;

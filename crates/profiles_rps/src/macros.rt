@@ -1,9 +1,9 @@
 //! The macros that write what a profile reads. A row of a table is written as
 //! `"NAME" (offset, length) [condition] kind(arguments);`, where the kinds are the functions of the module `rows`.
 
-/// The readings of rows in the bytes of a payload, in the order of the rows: a `Readings`. There are at most eight rows.
-/// A condition is empty, a field as `(7, 1) = 1` or `(8, 3) > 4`, a variable of the caller as `nu = 1`, or such a variable
-/// and a field as `nu = 1 and (7, 1) = 1`. As an example, for `bytes: &[u8; 4]`:
+/// The readings of rows in the bytes of a payload, in the order of the rows: a `Readings`. There are at most eight
+/// rows. A condition is empty, a field as `(7, 1) = 1` or `(8, 3) > 4`, a variable of the caller as `nu = 1`, or such a
+/// variable and a field as `nu = 1 and (7, 1) = 1`. As an example, for `bytes: &[u8; 4]`:
 ///
 /// ```text
 /// read_rows! { bytes, 4;

@@ -54,8 +54,8 @@ fn readings_by(eep: Eep, status: u8, bytes: &[u8; 1]) -> Option<Readings>
     }
 }
 
-/// Whether telegrams of a profile are read: whether the profile stands in `table` of `specs/Profiles.antt`. `read` answers
-/// `NotSupported` exactly where it does not.
+/// Whether telegrams of a profile are read: whether the profile stands in `table` of `specs/Profiles.antt`. `read`
+/// answers `NotSupported` exactly where it does not.
 pub fn supports(eep: Eep) -> bool
     ensures { result ≡ supported eep }
 {
@@ -83,10 +83,10 @@ fn readings_of(eep: Eep, telegram: &Telegram) -> Result<Readings, Unreadable>
     readings_by(eep, telegram.status(), &bytes).ok_or(Unreadable::NotSupported)
 }
 
-/// Reads a telegram by a profile: `readings` is what it says, in the order of the profile's rows (EnOcean Equipment Profiles
-/// 2.6). On a refusal `readings` stays as it was. The refusals come in this order: `NotSupported` where the profile is not
-/// read, `WrongKind` where the telegram's RORG is not the profile's, `WrongLength` where the payload has not one byte, and
-/// `OtherMessage` where the telegram is a 1BS teach-in.
+/// Reads a telegram by a profile: `readings` is what it says, in the order of the profile's rows (EnOcean Equipment
+/// Profiles 2.6). On a refusal `readings` stays as it was. The refusals come in this order: `NotSupported` where the
+/// profile is not read, `WrongKind` where the telegram's RORG is not the profile's, `WrongLength` where the payload has
+/// not one byte, and `OtherMessage` where the telegram is a 1BS teach-in.
 pub fn read(eep: Eep, telegram: &Telegram, readings: &mut Readings) -> Result<(), Unreadable>
     ensures exact { told result readings.new.items ≡ readings_of eep telegram.now }
     ensures err { OnErr result (readings.new ≡ readings.old) }

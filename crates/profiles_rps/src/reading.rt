@@ -16,8 +16,8 @@ pub enum What {
     OutOfRange(u32),
 }
 
-/// What is read under one name of a profile. In contracts it is `entry_of` it, of `specs/Reading.antt`. The default has no
-/// name and is the number 0.
+/// What is read under one name of a profile. In contracts it is `entry_of` it, of `specs/Reading.antt`. The default has
+/// no name and is the number 0.
 #[derive(Clone, Copy, Debug, PartialEq, Eq)]
 pub struct Reading {
     /// The short name of the field in the profile.

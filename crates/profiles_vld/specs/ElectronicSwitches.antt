@@ -1,5 +1,5 @@
--- The rows of the messages of D2-01 that are read (EnOcean Equipment Profiles 2.6, "D2-01", the commands 4 and 7: Electronic
--- Switches and Dimmers with Local Control). Own choice: all types of D2-01 are read by these rows.
+-- The rows of the messages of D2-01 that are read (EnOcean Equipment Profiles 2.6, "D2-01", the commands 4 and 7:
+-- Electronic Switches and Dimmers with Local Control). Own choice: all types of D2-01 are read by these rows.
 use Rattle.std.specs.Prelude.{ℕ, List, [], ◌∷◌, codes}
 use Rattle.profiles_rps.specs.Rows.{Row, words, percent_or, over, number, reserved, always, where_field, where_above}
 
@@ -7,8 +7,8 @@ use Rattle.profiles_rps.specs.Rows.{Row, words, percent_or, over, number, reserv
 abbrev pub error_levels : List (ℕ × List ℕ)
 error_levels = (0, codes "ok") ∷ (1, codes "warning") ∷ (2, codes "failure") ∷ (3, codes "not_supported") ∷ []
 
--- Actuator Status Response (CMD 4): power failure, power failure detection, over current switch off, error level, channel,
--- local control, output value
+-- Actuator Status Response (CMD 4): power failure, power failure detection, over current switch off, error level,
+-- channel, local control, output value
 abbrev pub status_response : List Row
 status_response =
     record { name = codes "PF"; offset = 0; len = 1; condition = always; kind = number }
@@ -22,10 +22,11 @@ status_response =
 
 -- the measured value where the unit UN is this number, in the unit that the number stands for
 abbrev pub measured_in : ℕ → List ℕ → Row
-measured_in un unit = record { name = codes "MV"; offset = 16; len = 32; condition = where_field 8 3 un; kind = over 1 unit }
+measured_in un unit =
+    record { name = codes "MV"; offset = 16; len = 32; condition = where_field 8 3 un; kind = over 1 unit }
 
--- Actuator Measurement Response (CMD 7): channel, unit, measured value. The units above 4 are reserved: there the measured
--- value is a number without a unit (own choice)
+-- Actuator Measurement Response (CMD 7): channel, unit, measured value. The units above 4 are reserved: there the
+-- measured value is a number without a unit (own choice)
 abbrev pub measurement_response : List Row
 measurement_response =
     record { name = codes "IO"; offset = 11; len = 5; condition = always; kind = number }

@@ -1,5 +1,6 @@
 -- What VLD telegrams say.
-use Rattle.std.specs.Prelude.{ℕ, Bool, List, is_some, not, ◌==◌, ◌&&◌, nat_le, length, if◌then◌else◌, Option, Some, None, Result, Ok, Err}
+use Rattle.std.specs.Prelude.{ℕ, Bool, List, is_some, not, ◌==◌, ◌&&◌, nat_le, length, if◌then◌else◌, Option, Some}
+use Rattle.std.specs.Prelude.{None, Result, Ok, Err}
 use Rattle.std.specs.Option.{option_map_or}
 use Rattle.bit_fields.specs.Bits.{field}
 use Rattle.erp1_telegrams.specs.declared.eep.Eep.{Eep}
@@ -12,16 +13,16 @@ use Rattle.profiles_vld.specs.Payload.{of_length}
 use Rattle.profiles_vld.specs.ElectronicSwitches.{status_response, measurement_response}
 use Rattle.profiles_vld.specs.BlindsControl.{position_and_angle}
 
--- what a payload says by D2-01, where the field CMD stands in the first byte (EnOcean Equipment Profiles 2.6, "D2-01"). Own
--- choice: another command is refused before another length
+-- what a payload says by D2-01, where the field CMD stands in the first byte (EnOcean Equipment Profiles 2.6, "D2-01").
+-- Own choice: another command is refused before another length
 abbrev pub electronic_switches_say : List ℕ → Result (List Entry) Unreadable
 electronic_switches_say payload =
     if field payload 4 4 == 4 then of_length 3 payload status_response
     else if field payload 4 4 == 7 then of_length 6 payload measurement_response
     else Err refusals.OtherMessage
 
--- what a payload says by D2-05-00, where the field CMD of a reply stands in the fourth byte (EnOcean Equipment Profiles 2.6,
--- "D2-05-00"). Own choice: another length is refused before another command
+-- what a payload says by D2-05-00, where the field CMD of a reply stands in the fourth byte (EnOcean Equipment Profiles
+-- 2.6, "D2-05-00"). Own choice: another length is refused before another command
 abbrev pub blinds_control_says : List ℕ → Result (List Entry) Unreadable
 blinds_control_says payload =
     if not (length payload == 4) then Err refusals.WrongLength

@@ -11,8 +11,8 @@ ghost use Rattle.profiles_vld.specs.Profiles.{electronic_switches_say};
 use bit_fields::get;
 use profiles_rps::{Readings, Unreadable, read_rows};
 
-/// What a payload says, or the first refusal: `OtherMessage` where its command is neither 4 nor 7, and `WrongLength` where
-/// it has not the length of its command's message.
+/// What a payload says, or the first refusal: `OtherMessage` where its command is neither 4 nor 7, and `WrongLength`
+/// where it has not the length of its command's message.
 pub(crate) fn readings_of(payload: &[u8]) -> Result<Readings, Unreadable>
     ensures { result_map_both (λ readings. entries readings.items) (λ refusal. refusal) result
         ≡ electronic_switches_say payload.now }

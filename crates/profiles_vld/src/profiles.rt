@@ -43,11 +43,12 @@ fn readings_of(eep: Eep, telegram: &Telegram) -> Result<Readings, Unreadable>
     answer
 }
 
-/// Reads a telegram by a profile: `readings` is what it says, in the order of the profile's rows (EnOcean Equipment Profiles
-/// 2.6). On a refusal `readings` stays as it was. The refusals come in this order: `NotSupported` where the profile is not
-/// read and `WrongKind` where the telegram's RORG is not the profile's. Then, for D2-01, `OtherMessage` where the command is
-/// neither 4 nor 7, and `WrongLength` where the payload has not three bytes at the command 4, or six at the command 7; for
-/// D2-05-00, `WrongLength` where the payload has not four bytes, and `OtherMessage` where the command is not 4.
+/// Reads a telegram by a profile: `readings` is what it says, in the order of the profile's rows (EnOcean Equipment
+/// Profiles 2.6). On a refusal `readings` stays as it was. The refusals come in this order: `NotSupported` where the
+/// profile is not read and `WrongKind` where the telegram's RORG is not the profile's. Then, for D2-01, `OtherMessage`
+/// where the command is neither 4 nor 7, and `WrongLength` where the payload has not three bytes at the command 4, or
+/// six at the command 7; for D2-05-00, `WrongLength` where the payload has not four bytes, and `OtherMessage` where the
+/// command is not 4.
 pub fn read(eep: Eep, telegram: &Telegram, readings: &mut Readings) -> Result<(), Unreadable>
     ensures exact { told result readings.new.items ≡ readings_of eep telegram.now }
     ensures err { OnErr result (readings.new ≡ readings.old) }

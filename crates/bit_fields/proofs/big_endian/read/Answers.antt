@@ -13,6 +13,7 @@ loop-byte-preserved c =
     let bytes = c.args.bytes.now in
     let i = c.loop-byte.byte-index in
     let within : i < length bytes = omega arith in
-    let so_far : number (bits (take i bytes)) < 2 ^ 32 = number-bits-few (take i bytes) 4 (omega (arith, length-take-le i bytes (omega arith))) in
+    let so_far : number (bits (take i bytes)) < 2 ^ 32 =
+    number-bits-few (take i bytes) 4 (omega (arith, length-take-le i bytes (omega arith))) in
     let small : get_or bytes i 0 < 256 = omega (arith, c.type_inv.bytes i) in
     grind (arith, common_steps, number_bits_more bytes i within small)

@@ -20,7 +20,14 @@ loop-i-preserved c =
     let b = wide / 2 ^ below % 2 ^ 8 in
     let e : 8 * (n - i) ≡ below + 8 = omega arith in
     let e' : 8 * (n - (i + 1)) ≡ below = omega arith in
-    let high : wide / 2 ^ (8 * (n - i)) ≡ wide / 2 ^ below / 2 ^ 8 = ap (λ k. wide / 2 ^ k) e ∙ sym (shr-shr wide below 8) in
-    let step : number (bits (take i c.loop-i.bytes)) * 256 + b ≡ wide / 2 ^ below = ap (λ k. k * 256 + b) (c.loop-i.invariant ∙ high) ∙ shr_split (wide / 2 ^ below) 8 in
+    let high : wide / 2 ^ (8 * (n - i)) ≡ wide / 2 ^ below / 2 ^ 8 =
+    ap (λ k. wide / 2 ^ k) e ∙ sym (shr-shr wide below 8) in
+    let step : number (bits (take i c.loop-i.bytes)) * 256 + b ≡ wide / 2 ^ below =
+    ap (λ k. k * 256 + b) (c.loop-i.invariant ∙ high) ∙ shr_split (wide / 2 ^ below) 8 in
     let small : b < 256 = mod_below (wide / 2 ^ below) 256 (lit< tt) in
-    rw (and_mask (wide / 2 ^ below) 8, take_more_set c.loop-i.bytes i b (omega arith), number-bits-push (take i c.loop-i.bytes) b small, e') step
+    rw (
+      and_mask (wide / 2 ^ below) 8,
+      take_more_set c.loop-i.bytes i b (omega arith),
+      number-bits-push (take i c.loop-i.bytes) b small,
+      e',
+    ) step

@@ -1,4 +1,5 @@
-use Rattle.std.proofs.Common.{◌≡◌, ◌+◌, ◌-◌, ◌*◌, ◌^◌, ◌<◌, take, drop, length, arith, ap, ◌∙◌, length-drop, length-take-le}
+use Rattle.std.proofs.Common.{◌≡◌, ◌+◌, ◌-◌, ◌*◌, ◌^◌, ◌<◌, take, drop, length, arith, ap, ◌∙◌, length-drop}
+use Rattle.std.proofs.Common.{length-take-le}
 use Rattle.bit_fields.specs.Bits.{bits, number}
 use Rattle.bit_fields.proofs.Bytes.{number-bits-below}
 use Rattle.bit_fields.proofs.Middle.{number-with_middle, shifted_and_masked, number-with_middle-below}
@@ -10,7 +11,8 @@ write-requires-clause-fits c =
     let span = c.span_of-first.result in
     let len = c.args.len in
     let part = take (span.end - span.first) (drop span.first c.args.bytes.now) in
-    let rest : length (drop span.first c.args.bytes.now) ≡ length c.args.bytes.now - span.first = length-drop span.first c.args.bytes.now in
+    let rest : length (drop span.first c.args.bytes.now) ≡ length c.args.bytes.now - span.first =
+    length-drop span.first c.args.bytes.now in
     let l : length part ≡ span.end - span.first = length-take-le _ _ (omega arith) in
     let wide = c.read-wide.result in
     let value = c.from.result in
@@ -30,9 +32,11 @@ returns c =
     let wide = c.read-wide.result in
     let value = c.from.result in
     let fits : value < 2 ^ len = rw c.from.ensures c.requires.fits in
-    let new : number (bits c.write.new.bytes) ≡ number-with_middle (number (bits (take count (drop span.first bytes)))) span.below len c.args.value =
+    let new : number (bits c.write.new.bytes)
+    ≡ number-with_middle (number (bits (take count (drop span.first bytes)))) span.below len c.args.value =
     c.write.ensures.value ∙ (shifted_and_masked wide span.below len value c.read-wide.type_inv (omega arith) fits
     ∙ (ap (λ n. number-with_middle n span.below len value) c.read-wide.ensures
-    ∙ ap (λ n. number-with_middle (number (bits (take count (drop span.first bytes)))) span.below len n) c.from.ensures)) in
+    ∙ ap (λ n. number-with_middle (number (bits (take count (drop span.first bytes)))) span.below len n)
+    c.from.ensures)) in
     WithField-by_part bytes c.write.new.bytes c.args.offset len c.args.value span.first count span.below
     (omega arith) (omega arith) (omega arith) c.requires.fits c.write.ensures.len new

@@ -7,7 +7,8 @@ use Rattle.esp3_frames.proofs.check.after_zeros.Goals.{then-bits-eq1, else-bits-
 
 pub loop-bit-init : goal.loop-bit-init
 loop-bit-init c =
-    xor_zero_l _ ∙ ap (bit_sum 8 c.args.check) c.one_after_zeros-term.ensures ∙ sym (zeros_by_bits c.args.check c.args.count (omega arith))
+    xor_zero_l _ ∙ ap (bit_sum 8 c.args.check) c.one_after_zeros-term.ensures
+    ∙ sym (zeros_by_bits c.args.check c.args.count (omega arith))
 
 pub loop-bit-preserved : goal.loop-bit-preserved
 loop-bit-preserved c =
@@ -17,8 +18,10 @@ loop-bit-preserved c =
     let t : ℕ = c.loop-bit.term in
     let here : 8 - c.loop-bit._bit ≡ suc n = omega (arith, c.loop-bit-test.true) in
     let sum : c.if-bits-eq1.sum ≡ bit_xor s (cond (eqb (r % 2) 1) t 0) = elim c.if-bits-eq1.branch [
-      | then-bits-eq1 w ↦ w.sum-is ∙ ap (bit_xor s) (sym (cond-true (eqb (r % 2) 1) t 0 (eq-eqb (r % 2) 1 w.if-bits-eq1.true)))
-      | else-bits-eq1 w ↦ w.sum-is ∙ sym (xor_zero_r s) ∙ ap (bit_xor s) (sym (cond-false (eqb (r % 2) 1) t 0 (ne_eqb (r % 2) 1 w.if-bits-eq1.false)))
+      | then-bits-eq1 w ↦ w.sum-is
+          ∙ ap (bit_xor s) (sym (cond-true (eqb (r % 2) 1) t 0 (eq-eqb (r % 2) 1 w.if-bits-eq1.true)))
+      | else-bits-eq1 w ↦ w.sum-is ∙ sym (xor_zero_r s)
+          ∙ ap (bit_xor s) (sym (cond-false (eqb (r % 2) 1) t 0 (ne_eqb (r % 2) 1 w.if-bits-eq1.false)))
     ] in
     ap (λ m. bit_xor m (bit_sum n (r / 2) c.times_x-term.result)) sum
     ∙ ap (λ m. bit_xor (bit_xor s (cond (eqb (r % 2) 1) t 0)) (bit_sum n (r / 2) m)) c.times_x-term.ensures

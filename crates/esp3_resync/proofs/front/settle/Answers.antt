@@ -15,10 +15,13 @@ pub skip_to_sync-requires : goal.skip_to_sync-requires
 skip_to_sync-requires c = (frames-never c.loop-found.window (never (goal.at.skip_to_sync-requires c).In-Refused)).0
 
 pub loop-found-smaller : goal.loop-found-smaller
-loop-found-smaller c = (frames_at_sync c.loop-found.window c.skip_to_sync.new.self (never (goal.at.loop-found-smaller c).In-Refused) c.skip_to_sync.ensures).1
+loop-found-smaller c =
+    (frames_at_sync c.loop-found.window c.skip_to_sync.new.self
+    (never (goal.at.loop-found-smaller c).In-Refused) c.skip_to_sync.ensures).1
 
 pub loop-found-preserved : goal.loop-found-preserved
 loop-found-preserved c = record {
-  same = (frames_at_sync c.loop-found.window c.skip_to_sync.new.self (never (goal.at.loop-found-preserved c).In-Refused) c.skip_to_sync.ensures).0 ∙ c.loop-found.invariant.same;
+  same = (frames_at_sync c.loop-found.window c.skip_to_sync.new.self
+      (never (goal.at.loop-found-preserved c).In-Refused) c.skip_to_sync.ensures).0 ∙ c.loop-found.invariant.same;
   found = c.front-found-in-Refused.ensures;
 }

@@ -7,4 +7,6 @@ pub skip_to_sync-requires : goal.skip_to_sync-requires
 skip_to_sync-requires c = (frames-never c.args.window.now c.requires).0
 
 pub returns-clause-frames : goal.returns-clause-frames
-returns-clause-frames c = c.settle.ensures.frames ∙ (frames_at_sync c.args.window.now c.skip_to_sync.new.self c.requires c.skip_to_sync.ensures).0
+returns-clause-frames c =
+    c.settle.ensures.frames
+    ∙ (frames_at_sync c.args.window.now c.skip_to_sync.new.self c.requires c.skip_to_sync.ensures).0

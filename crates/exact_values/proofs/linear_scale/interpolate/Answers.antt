@@ -9,7 +9,15 @@ use Rattle.exact_values.proofs.Line.{StandsFor-distances}
 use Rattle.exact_values.proofs.linear_scale.interpolate.Goals as goal
 
 pub overflow_add-base : goal.overflow_add-base
-overflow_add-base c = omega (arith, ints, c.times-base.ensures.above, c.times-base.ensures.below, c.times-more.ensures.above, c.times-more.ensures.below)
+overflow_add-base c =
+    omega (
+      arith,
+      ints,
+      c.times-base.ensures.above,
+      c.times-base.ensures.below,
+      c.times-more.ensures.above,
+      c.times-more.ensures.below,
+    )
 
 width : (c : goal.After-reduced) → c.abs_diff-width.result ≡ distance c.args.raw_lo c.args.raw_hi
 width c = omega arith
@@ -20,26 +28,49 @@ above c = omega arith
 low : (c : goal.After-reduced) → to_z w64 (of_z w64 c.from-3.result) ≡ c.args.tenths_lo
 low c = omega (arith, ints)
 
-rise : (c : goal.After-reduced) → to_z w64 (of_z w64 (to_z w64 (of_z w64 c.from.result) -ℤ to_z w64 (of_z w64 c.from-2.result))) ≡ c.args.tenths_hi -ℤ c.args.tenths_lo
+rise : (c : goal.After-reduced)
+    → to_z w64 (of_z w64 (to_z w64 (of_z w64 c.from.result) -ℤ to_z w64 (of_z w64 c.from-2.result)))
+    ≡ c.args.tenths_hi -ℤ c.args.tenths_lo
 rise c = omega (arith, ints)
 
 top : (c : goal.After-reduced) →
     to_z w64 (of_z w64 (to_z w64 (of_z w64 c.times-base.result) +ℤ to_z w64 (of_z w64 c.times-more.result)))
-    ≡ c.args.tenths_lo *ℤ pos (distance c.args.raw_lo c.args.raw_hi) +ℤ (c.args.tenths_hi -ℤ c.args.tenths_lo) *ℤ pos (distance c.args.raw c.args.raw_lo)
+    ≡ c.args.tenths_lo *ℤ pos (distance c.args.raw_lo c.args.raw_hi) +ℤ (c.args.tenths_hi -ℤ c.args.tenths_lo) *ℤ pos
+    (distance c.args.raw c.args.raw_lo)
 top c =
-    let sum : to_z w64 (of_z w64 (to_z w64 (of_z w64 c.times-base.result) +ℤ to_z w64 (of_z w64 c.times-more.result))) ≡ c.times-base.result +ℤ c.times-more.result
-    = omega (arith, ints, c.times-base.ensures.above, c.times-base.ensures.below, c.times-more.ensures.above, c.times-more.ensures.below) in
-    sum ∙ (ap (λ z. z +ℤ c.times-more.result) (c.times-base.ensures.value ∙ (ap (λ z. z *ℤ pos c.abs_diff-width.result) (low c) ∙ ap (λ n. c.args.tenths_lo *ℤ pos n) (width c)))
+    let sum : to_z w64 (of_z w64 (to_z w64 (of_z w64 c.times-base.result) +ℤ to_z w64 (of_z w64 c.times-more.result)))
+    ≡ c.times-base.result +ℤ c.times-more.result
+    = omega (
+      arith,
+      ints,
+      c.times-base.ensures.above,
+      c.times-base.ensures.below,
+      c.times-more.ensures.above,
+      c.times-more.ensures.below,
+    ) in
+    sum ∙ (ap (λ z. z +ℤ c.times-more.result)
+    (c.times-base.ensures.value
+    ∙ (ap (λ z. z *ℤ pos c.abs_diff-width.result) (low c) ∙ ap (λ n. c.args.tenths_lo *ℤ pos n) (width c)))
     ∙ ap (λ z. c.args.tenths_lo *ℤ pos (distance c.args.raw_lo c.args.raw_hi) +ℤ z)
-    (c.times-more.ensures.value ∙ (ap (λ z. z *ℤ pos c.abs_diff-above.result) (rise c) ∙ ap (λ n. (c.args.tenths_hi -ℤ c.args.tenths_lo) *ℤ pos n) (above c))))
+    (c.times-more.ensures.value
+    ∙ (ap (λ z. z *ℤ pos c.abs_diff-above.result) (rise c)
+    ∙ ap (λ n. (c.args.tenths_hi -ℤ c.args.tenths_lo) *ℤ pos n) (above c))))
 
 pub returns-clause-exact : goal.returns-clause-exact
 unfolding interpolated
-returns-clause-exact c = c.reduced.ensures.exact ∙ (ap (λ z. lowest z (10 * c.abs_diff-width.result)) (top c) ∙ ap (λ n. lowest (c.args.tenths_lo *ℤ pos (distance c.args.raw_lo c.args.raw_hi) +ℤ (c.args.tenths_hi -ℤ c.args.tenths_lo) *ℤ pos (distance c.args.raw c.args.raw_lo)) (10 * n)) (width c))
+returns-clause-exact c =
+    c.reduced.ensures.exact
+    ∙ (ap (λ z. lowest z (10 * c.abs_diff-width.result)) (top c)
+    ∙ ap (λ n. lowest (c.args.tenths_lo *ℤ pos (distance c.args.raw_lo c.args.raw_hi) +ℤ
+    (c.args.tenths_hi -ℤ c.args.tenths_lo) *ℤ pos (distance c.args.raw c.args.raw_lo)) (10 * n)) (width c))
 
 pub returns-clause-value : goal.returns-clause-value
 returns-clause-value c =
     let e : pos (10 * distance c.args.raw_lo c.args.raw_hi) *ℤ c.reduced.result.num
-    ≡ pos c.reduced.result.den *ℤ (c.args.tenths_lo *ℤ pos (distance c.args.raw_lo c.args.raw_hi) +ℤ (c.args.tenths_hi -ℤ c.args.tenths_lo) *ℤ pos (distance c.args.raw c.args.raw_lo))
-    = ap (λ n. pos (10 * n) *ℤ c.reduced.result.num) (sym (width c)) ∙ (c.reduced.ensures.value ∙ ap (λ z. pos c.reduced.result.den *ℤ z) (top c)) in
-    StandsFor-distances c.args.raw c.args.raw_lo c.args.raw_hi c.args.tenths_lo c.args.tenths_hi (ratio c.reduced.result) c.requires.between.0 c.requires.between.1 e
+    ≡ pos c.reduced.result.den *ℤ
+    (c.args.tenths_lo *ℤ pos (distance c.args.raw_lo c.args.raw_hi) +ℤ (c.args.tenths_hi -ℤ c.args.tenths_lo) *ℤ pos
+    (distance c.args.raw c.args.raw_lo))
+    = ap (λ n. pos (10 * n) *ℤ c.reduced.result.num) (sym (width c))
+    ∙ (c.reduced.ensures.value ∙ ap (λ z. pos c.reduced.result.den *ℤ z) (top c)) in
+    StandsFor-distances c.args.raw c.args.raw_lo c.args.raw_hi c.args.tenths_lo c.args.tenths_hi
+    (ratio c.reduced.result) c.requires.between.0 c.requires.between.1 e

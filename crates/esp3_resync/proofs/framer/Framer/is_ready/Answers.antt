@@ -25,7 +25,9 @@ returns-in-None-clause-ready c =
     (λ t. absurd cc, λ h. absurd (omega (arith, r, e, h)))
 
 pub returns-in-Some-clause-rest : goal.returns-in-Some-clause-rest
-returns-in-Some-clause-rest c = let P : Frames → Type 0 = λ x. MayBecomePacket x.rest in subst P c.self.view_is (rest_may_become (framing_of c.self.inside.window))
+returns-in-Some-clause-rest c = let P : Frames → Type 0 =
+    λ x. MayBecomePacket x.rest in subst P c.self.view_is (rest_may_become (framing_of c.self.inside.window))
 
 pub returns-in-None-clause-rest : goal.returns-in-None-clause-rest
-returns-in-None-clause-rest c = let P : Frames → Type 0 = λ x. MayBecomePacket x.rest in subst P c.self.view_is (rest_may_become (framing_of c.self.inside.window))
+returns-in-None-clause-rest c = let P : Frames → Type 0 =
+    λ x. MayBecomePacket x.rest in subst P c.self.view_is (rest_may_become (framing_of c.self.inside.window))

@@ -16,13 +16,22 @@ returns-then-is_empty c =
 pub push-requires : goal.push-requires
 push-requires c =
     let w = c.self.inside.window in
-    partial_short w (unready w c.self.invariant.front (ap (λ (x : Frames). length x.ready) c.self.view_is ∙ c.requires)).0
+    partial_short w (unready w c.self.invariant.front
+    (ap (λ (x : Frames). length x.ready) c.self.view_is ∙ c.requires)).0
 
 pub returns-in-Some : goal.returns-in-Some
-returns-in-Some c = frames_of_more c.self.inside.window c.push.new.self c.args.self.now c.args.b c.self.invariant.front c.self.view_is c.requires c.push.ensures
+returns-in-Some c =
+    frames_of_more c.self.inside.window c.push.new.self c.args.self.now c.args.b c.self.invariant.front c.self.view_is
+    c.requires c.push.ensures
 
 pub returns-in-Some-2 : goal.returns-in-Some-2
-returns-in-Some-2 c = c.settle_behind-self-inside.ensures.frames ∙ frames_of_more c.self.inside.window c.push.new.self c.args.self.now c.args.b c.self.invariant.front c.self.view_is c.requires c.push.ensures
+returns-in-Some-2 c =
+    c.settle_behind-self-inside.ensures.frames
+    ∙ frames_of_more c.self.inside.window c.push.new.self c.args.self.now c.args.b c.self.invariant.front c.self.view_is
+    c.requires c.push.ensures
 
 pub returns-in-None : goal.returns-in-None
-returns-in-None c = c.settle-self-inside.ensures.frames ∙ frames_of_more c.self.inside.window c.push.new.self c.args.self.now c.args.b c.self.invariant.front c.self.view_is c.requires c.push.ensures
+returns-in-None c =
+    c.settle-self-inside.ensures.frames
+    ∙ frames_of_more c.self.inside.window c.push.new.self c.args.self.now c.args.b c.self.invariant.front c.self.view_is
+    c.requires c.push.ensures

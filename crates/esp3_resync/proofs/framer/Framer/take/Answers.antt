@@ -1,4 +1,5 @@
-use Rattle.std.proofs.Common.{◌≡◌, ℕ, ◌+◌, List, ◌∷◌, length, take, drop, refl, sym, ap, ◌∙◌, arith, length-take, length-drop}
+use Rattle.std.proofs.Common.{◌≡◌, ℕ, ◌+◌, List, ◌∷◌, length, take, drop, refl, sym, ap, ◌∙◌, arith, length-take}
+use Rattle.std.proofs.Common.{length-drop}
 use Rattle.std.specs.Prelude.{Option, Some, None}
 use Rattle.std.proofs.lemmas.List.{drop-drop}
 use Rattle.esp3_frames.specs.Packet.{Packet}
@@ -30,7 +31,8 @@ returns-then-not-is_whole-clause-ready c =
     (λ t. absurd cc, λ h. absurd (omega (arith, r, e, h)))
 
 -- what is moved out behind a header
-moved : (s : List ℕ) (h : Header) (behind to : List ℕ) (k : ℕ) → behind ≡ drop 6 s → to ≡ take k behind → k ≡ h.data_len + h.opt_len → to ≡ take (h.data_len + h.opt_len) (drop 6 s)
+moved : (s : List ℕ) (h : Header) (behind to : List ℕ) (k : ℕ) → behind ≡ drop 6 s → to ≡ take k behind
+    → k ≡ h.data_len + h.opt_len → to ≡ take (h.data_len + h.opt_len) (drop 6 s)
 moved s h behind to k is items count = items ∙ ap (λ i. take i behind) count ∙ ap (take (h.data_len + h.opt_len)) is
 
 pub move_into-requires : goal.move_into-requires
@@ -54,7 +56,9 @@ invariant_of-out c =
     let s = c.self.inside.window in
     let h = c.in-Some.header in
     let n = whole_parts s h c.if-not-is_whole.ensures.whole in
-    let items = moved s h c.skip.new.self c.move_into.new.to.items c.body_len.result c.skip.ensures c.move_into.ensures.items c.body_len.ensures in
+    let items =
+    moved s h c.skip.new.self c.move_into.new.to.items c.body_len.result c.skip.ensures c.move_into.ensures.items
+    c.body_len.ensures in
     record {
       room = omega (arith, c.out.invariant.room, c.move_into.ensures.capacity);
       lengths = omega (arith, n.0, ap length items, length-take (h.data_len + h.opt_len) (drop 6 s), length-drop 6 s);
@@ -73,7 +77,9 @@ returns-clause-taken c =
     let h = c.in-Some.header in
     let p : Packet = packet_at h s in
     let whole = c.if-not-is_whole.ensures.whole in
-    let items = moved s h c.skip.new.self c.move_into.new.to.items c.body_len.result c.skip.ensures c.move_into.ensures.items c.body_len.ensures in
+    let items =
+    moved s h c.skip.new.self c.move_into.new.to.items c.body_len.result c.skip.ensures c.move_into.ensures.items
+    c.body_len.ensures in
     let k : ℕ = c.body_len.result in
     let n : ℕ = length p.body + length p.opt + 7 in
     let count : 6 + (k + 1) ≡ n = omega (arith, c.body_len.ensures, whole_sum s h whole) in
@@ -81,7 +87,8 @@ returns-clause-taken c =
     c.skip-2.ensures ∙ ap (drop 1) (c.move_into.ensures.rest ∙ ap (drop k) c.skip.ensures)
     ∙ drop-drop 1 k (drop 6 s) ∙ drop-drop (k + 1) 6 s ∙ ap (λ i. drop i s) count
     in
-    let behind : frames_of c.settle-self-inside.new.window ≡ frames_of (drop n s) = c.settle-self-inside.ensures.frames ∙ ap frames_of left in
+    let behind : frames_of c.settle-self-inside.new.window ≡ frames_of (drop n s) =
+    c.settle-self-inside.ensures.frames ∙ ap frames_of left in
     let here = frames-whole s p whole in
     let ready = λ (x : Frames). x.ready in
     let rest = λ (x : Frames). x.rest in (

@@ -16,8 +16,12 @@ invariant_of-self c =
     let count = r.count in
     let room = r.room in
     let short : length b.items < longest_packet = omega (arith, ap length c.self.view_is, c.requires) in
-    let eb : c.try_push_back-fits.new.self ≡ buffer (b.items ++ x ∷ []) b.capacity = on_ok _ (c.try_push_back-fits.ensures.variant.1 (omega arith)) c.try_push_back-fits.ensures.ok in
-    let ed : c.try_push_back-fits_too.new.self ≡ buffer (d.items ++ n ∷ []) d.capacity = on_ok _ (c.try_push_back-fits_too.ensures.variant.1 (omega arith)) c.try_push_back-fits_too.ensures.ok in
-    subst (λ (k : ℕ). Running c.try_push_back-fits.new.self c.try_push_back-fits_too.new.self k) (sym c.check8_next-self-inside.ensures)
+    let eb : c.try_push_back-fits.new.self ≡ buffer (b.items ++ x ∷ []) b.capacity =
+    on_ok _ (c.try_push_back-fits.ensures.variant.1 (omega arith)) c.try_push_back-fits.ensures.ok in
+    let ed : c.try_push_back-fits_too.new.self ≡ buffer (d.items ++ n ∷ []) d.capacity =
+    on_ok _ (c.try_push_back-fits_too.ensures.variant.1 (omega arith)) c.try_push_back-fits_too.ensures.ok in
+    subst (λ (k : ℕ). Running c.try_push_back-fits.new.self c.try_push_back-fits_too.new.self k)
+    (sym c.check8_next-self-inside.ensures)
     (subst (λ (y : Buffer ℕ). Running c.try_push_back-fits.new.self y (check (bit_xor n x ∷ []))) (sym ed)
-    (subst (λ (y : Buffer ℕ). Running y (buffer (d.items ++ n ∷ []) d.capacity) (check (bit_xor n x ∷ []))) (sym eb) (running_push b d n r x (omega arith) short)))
+    (subst (λ (y : Buffer ℕ). Running y (buffer (d.items ++ n ∷ []) d.capacity) (check (bit_xor n x ∷ []))) (sym eb)
+    (running_push b d n r x (omega arith) short)))

@@ -15,7 +15,10 @@ invariant_of-self c =
     let within : k ≤ length b.items = omega (arith, ap length c.self.view_is, c.requires) in
     let kb : length b.items - (c.len.result - k) ≡ k = omega (arith, c.len.ensures.len) in
     let kd : length d.items - (c.len.result - k) ≡ k = omega (arith, c.len.ensures.len) in
-    let eb : c.truncate_front.new.self ≡ buffer (drop k b.items) b.capacity = c.truncate_front.ensures ∙ ap (λ (i : ℕ). buffer (drop i b.items) b.capacity) kb in
-    let ed : c.truncate_front-2.new.self ≡ buffer (drop k d.items) d.capacity = c.truncate_front-2.ensures ∙ ap (λ (i : ℕ). buffer (drop i d.items) d.capacity) kd in
+    let eb : c.truncate_front.new.self ≡ buffer (drop k b.items) b.capacity =
+    c.truncate_front.ensures ∙ ap (λ (i : ℕ). buffer (drop i b.items) b.capacity) kb in
+    let ed : c.truncate_front-2.new.self ≡ buffer (drop k d.items) d.capacity =
+    c.truncate_front-2.ensures ∙ ap (λ (i : ℕ). buffer (drop i d.items) d.capacity) kd in
     subst (λ (y : Buffer ℕ). Running c.truncate_front.new.self y n) (sym ed)
-    (subst (λ (y : Buffer ℕ). Running y (buffer (drop k d.items) d.capacity) n) (sym eb) (running_skip b d n r k within))
+    (subst (λ (y : Buffer ℕ). Running y (buffer (drop k d.items) d.capacity) n) (sym eb)
+    (running_skip b d n r k within))
