@@ -52,7 +52,7 @@ impl From<AllocFailed<Device>> for StoreFault {
     ghost from_gives = { λ _ fault. fault ≡ no_memory };
 
     fn from(_failed: AllocFailed<Device>) -> StoreFault {
-        StoreFault { is_memory: true }
+        StoreFault::from(AllocError)
     }
 }
 
@@ -116,7 +116,7 @@ impl From<AllocError> for OpenFault {
 
     ghost from_gives = { λ _ why. why ≡ Refused no_memory };
 
-    fn from(error: AllocError) -> OpenFault {
-        OpenFault::Refused(StoreFault::from(error))
+    fn from(refused: AllocError) -> OpenFault {
+        OpenFault::Refused(StoreFault::from(refused))
     }
 }
