@@ -1,23 +1,26 @@
 //! A gateway over a database.
-ghost use Rattle.std.specs.Prelude.{◌≡◌, true, IfOk};
+ghost use Rattle.std.specs.Prelude.{◌≡◌, true, IfErr, IfOk};
 ghost use Rattle.sqlite.specs.Held.{state};
 ghost use Rattle.sqlite.specs.State.{HasCleanDisk};
 ghost use Rattle.device_registry.specs.Ready.{IsBetweenTransactions};
 ghost use Rattle.gateway_core.specs.Address;
+ghost use Rattle.gateway_core.specs.Calls.{new_value};
 ghost use Rattle.gateway_main.specs.Replayed.{IsIdle};
-ghost use Rattle.gateway_main.specs.Started.{Starts};
+ghost use Rattle.gateway_main.specs.Started.{RefusesToStart, Starts};
 
 use crate::fault::Fault;
 use device_registry::Registry;
 use gateway_core::{Gateway, StartFault};
 use sqlite::{Alter, Connection};
-use std::alloc::Global;
+use std::alloc::{AllocError, Global};
 
 /// How many looked-up senders the registry remembers: room for every device that can be learned, and some others.
 const REMEMBERED: usize = 1024;
 
-/// A gateway for a radio module with this base ID, over the registry that the database holds. A database that holds
-/// none of the registry's tables gets them. Where it is refused, the connection is dropped.
+/// A gateway for a radio module with this base ID, over the registry that the database holds. It is new: it has counted
+/// nothing, no packet waits, and no byte has come. A database that holds none of the registry's tables gets them.
+///
+/// It is refused as the registry is, or for want of memory, and then the connection is dropped.
 pub fn start<S: Alter + Drop>(
     alloc: Global,
     conn: Connection<S>,
@@ -25,13 +28,28 @@ pub fn start<S: Alter + Drop>(
 ) -> Result<Gateway<S>, Fault>
     requires base { Address.is_base base ≡ true }
     requires idle { IsBetweenTransactions (state S.Store conn) }
+    ensures new { IfOk result (λ gateway. gateway ≡ new_value base gateway.sight.registry) }
     ensures idle { IfOk result IsIdle }
-    ensures starts { IfOk result (λ gateway. HasCleanDisk (state S.Store gateway.sight.registry) → Starts S.Store conn base gateway.sight) }
+    ensures starts { IfOk result (λ gateway. HasCleanDisk (state S.Store gateway.sight.registry) →
+        Starts S.Store conn base gateway.sight) }
+    ensures refused { IfErr result (RefusesToStart S.Store conn) }
 {
     let registry = Registry::open_with(alloc, conn, REMEMBERED)?;
+    Ok(gateway_over(alloc, registry, base)?)
+}
+
+/// A new gateway over this registry, unless there is no memory for it.
+fn gateway_over<S: Alter + Drop>(
+    alloc: Global,
+    registry: Registry<S>,
+    base: u32,
+) -> Result<Gateway<S>, AllocError>
+    requires { Address.is_base base ≡ true }
+    ensures { IfOk result (λ gateway. gateway ≡ new_value base registry) }
+{
     match Gateway::new(alloc, registry, base) {
         Ok(gateway) => Ok(gateway),
-        Err(StartFault::Memory) => Err(Fault::Memory),
+        Err(StartFault::Memory) => Err(AllocError),
         Err(StartFault::BadBase) => unreachable!(),
     }
 }
