@@ -6,6 +6,7 @@ pub mod Replayed
 pub mod Progress
 pub mod Bases
 pub mod Faults
+pub mod Endings
 pub mod CommandLine
 pub mod Started
 pub mod Lived

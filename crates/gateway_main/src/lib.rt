@@ -6,6 +6,9 @@ mod cache_tests;
 pub mod command_line;
 #[cfg(test)]
 mod cut_tests;
+mod ending;
+#[cfg(test)]
+mod ending_tests;
 pub mod fault;
 #[cfg(test)]
 mod gateway_tests;

@@ -1,0 +1,85 @@
+//! How the program ends, and with which status.
+ghost use Rattle.std.specs.Prelude.{◌≡◌};
+ghost use Rattle.std.specs.IoError.{error_kind};
+ghost use Rattle.gateway_main.specs.Endings.{done_of, ending_of_arguments, status_of};
+
+use crate::command_line::Refused;
+use crate::fault::Fault;
+use crate::replaying::{RunFault, Summary};
+use clap::error::ErrorKind;
+use std::io;
+
+/// Why the program ends without a script that was replayed to its end.
+#[derive(Debug, Drop)]
+pub(crate) enum Ending {
+    /// A fault ended it.
+    Failed(Fault),
+    /// An argument is not text.
+    NotText,
+    /// What stands for the base ID is none.
+    BadBase,
+    /// `clap` has something to say: the command line is not taken, or asks for help or for the version.
+    Said(clap::Error),
+}
+
+impl From<Fault> for Ending {
+    ghost use Rattle.gateway_main.specs.declared.ending.Ending.TheVariants.{Failed};
+
+    ghost from_gives = { λ fault ending. ending ≡ Failed fault };
+
+    fn from(fault: Fault) -> Ending {
+        Ending::Failed(fault)
+    }
+}
+
+impl From<Refused> for Ending {
+    ghost use Rattle.gateway_main.specs.Endings.{ending_of_line};
+
+    ghost from_gives = { λ why ending. ending ≡ ending_of_line why };
+
+    fn from(why: Refused) -> Ending {
+        match why {
+            Refused::BadBase => Ending::BadBase,
+            Refused::Words(error) if error.kind() == ErrorKind::OutOfMemory => Ending::Failed(
+                Fault::Memory,
+            ),
+            Refused::Words(error) => Ending::Said(error),
+        }
+    }
+}
+
+/// The ending where the program's arguments cannot be had.
+pub(crate) fn without_arguments(error: &io::Error) -> Ending
+    ensures { result ≡ ending_of_arguments (error_kind error.now) }
+{
+    match error.kind() {
+        io::ErrorKind::OutOfMemory => Ending::Failed(Fault::Memory),
+        _ => Ending::NotText,
+    }
+}
+
+/// What a replay and the close of its database come to: a fault of the replay is told before one of the close.
+pub(crate) fn done(
+    replayed: Result<Summary, RunFault>,
+    closed: Result<(), sqlite::Error>,
+) -> Result<(), Fault>
+    ensures { result ≡ done_of replayed closed }
+{
+    replayed?;
+    Ok(closed?)
+}
+
+/// The status that the program ends with.
+pub(crate) fn status(ended: &Result<(), Ending>) -> u8
+    ensures { result ≡ status_of ended.now }
+{
+    match ended {
+        Ok(()) => 0,
+        Err(Ending::Failed(_)) => 1,
+        Err(Ending::NotText | Ending::BadBase) => 2,
+        Err(Ending::Said(error)) => match error.kind() {
+            ErrorKind::DisplayHelp | ErrorKind::DisplayVersion => 0,
+            _ => 2,
+        },
+    }
+}
