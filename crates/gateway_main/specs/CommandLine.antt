@@ -1,7 +1,8 @@
 -- What the words of the command line say, in the words of `clap`.
-use Rattle.std.specs.Prelude.{◌≡◌, ℕ, List, codes, true, if◌then◌else◌, Option, Some, None, option_and_then}
+use Rattle.std.specs.Prelude.{◌≡◌, ℕ, List, [], codes, true, if◌then◌else◌, Option, Some, None, option_and_then}
 use Rattle.std.specs.Str.{bytes_eq}
-use Rattle.clap.specs.Words.{App, Row, Rule, Text, first_of, kind_of, new_app, new_rule, subcommand_of, with_rule, with_subcommand}
+use Rattle.clap.specs.Words.{App, HasKind, Row, Rule, Text, fault_of, first_of, kind_of, new_app, new_rule}
+use Rattle.clap.specs.Words.{subcommand_of, with_rule, with_subcommand}
 use Rattle.clap.specs.declared.builder.ArgAction.TheVariants.{Set}
 use Rattle.clap.specs.declared.error.ErrorKind.TheVariants.{OutOfMemory}
 use Rattle.gateway_main.specs.Bases.{base_in}
@@ -10,7 +11,12 @@ use Rattle.gateway_main.specs.declared.command_line.Refused.TheVariants.{Words, 
 
 -- `--base ID`, which is required
 abbrev pub base_rule : Rule
-base_rule = record (new_rule (codes "base")) { long = Some (codes "base"); action = Some Set; value_names = 1; required = true }
+base_rule = record (new_rule (codes "base")) {
+  long = Some (codes "base");
+  action = Some Set;
+  value_names = 1;
+  required = true;
+}
 
 -- `--db PATH`
 abbrev pub db_rule : Rule
@@ -19,11 +25,17 @@ db_rule = record (new_rule (codes "db")) { long = Some (codes "db"); action = So
 abbrev pub replay_app : App
 replay_app = with_rule (with_rule (new_app (codes "replay")) base_rule) db_rule
 
+-- a command that tells its version
+abbrev pub with_version : App → App
+with_version app = record app { top = record app.top { has_version = true } }
+
+-- a command that wants a subcommand
+abbrev pub with_subcommand_required : App → App
+with_subcommand_required app = record app { top = record app.top { subcommand_required = true } }
+
 -- `enogate`, with the one subcommand `replay`
 abbrev pub enogate_app : App
-enogate_app =
-    let above = new_app (codes "enogate") in
-    with_subcommand (record above { top = record above.top { subcommand_required = true } }) replay_app.top
+enogate_app = with_subcommand (with_subcommand_required (with_version (new_app (codes "enogate")))) replay_app.top
 
 -- the text that stands for the option of this name, where the subcommand is `replay`
 abbrev pub text_at : Text → Text × List Row → Option Text
@@ -44,3 +56,12 @@ db_of_line words = text_found (codes "db") (subcommand_of enogate_app words)
 abbrev pub IsMemory : Refused → Type 0
 IsMemory BadBase = ⊥
 IsMemory (Words error) = kind_of error ≡ OutOfMemory
+
+-- `clap` takes the line
+abbrev pub IsTaken : List Text → Type 0
+IsTaken words = fault_of enogate_app words ≡ []
+
+-- `clap` refuses the line for a cause that it has of it, or for want of memory; or it takes it, and the base is none
+abbrev pub RefusesLine : List Text → Refused → Type 0
+RefusesLine words (Words error) = HasKind (fault_of enogate_app words) error
+RefusesLine words BadBase = IsTaken words × (base_of_line words ≡ None)

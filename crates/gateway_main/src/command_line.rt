@@ -1,15 +1,20 @@
 //! The words of the command line, read by `clap`.
-ghost use Rattle.std.specs.Prelude.{◌≡◌, ◌⊎◌, IfOk, IfErr, None, Some, codes, false, map, option_and_then, option_map, true};
+ghost use Rattle.std.specs.Prelude.{◌≡◌, ◌⊎◌, IfOk, IfErr, OnOk, Some, codes, false, map, option_and_then, option_map};
+ghost use Rattle.std.specs.Prelude.{true};
 ghost use Rattle.std.specs.String.{string_bytes};
 ghost use Rattle.clap.specs.Words.{app_of, rule_of, subcommand_rows_of, takes};
 ghost use Rattle.gateway_core.specs.Address;
 ghost use Rattle.gateway_main.specs.Bases.{base_in};
-ghost use Rattle.gateway_main.specs.CommandLine.{IsMemory, base_of_line, base_rule, db_of_line, db_rule, enogate_app, text_found};
+ghost use Rattle.gateway_main.specs.CommandLine.{IsMemory, IsTaken, RefusesLine, base_of_line, base_rule, db_of_line};
+ghost use Rattle.gateway_main.specs.CommandLine.{db_rule, enogate_app, text_found};
 
 use clap::{Arg, ArgAction, ArgMatches, Command, Error};
 use gateway_core::is_base;
 use hex::FromHex;
 use std::alloc::{AllocError, Global};
+
+/// What `--version` tells, behind the program's name.
+const VERSION: &str = "0.1.0";
 
 /// What the command line asks for: that a script is replayed.
 #[derive(Clone, Copy, Debug, PartialEq, Eq)]
@@ -23,7 +28,7 @@ pub struct Options<'a> {
 /// Why a command line was not taken.
 #[derive(Debug, Drop)]
 pub enum Refused {
-    /// `clap` refused it, or was asked for help, or found no memory.
+    /// `clap` refused it, or was asked for help or for the version, or found no memory.
     Words(Error),
     /// What stands for the base ID is not eight hexadecimal digits, or no base ID.
     BadBase,
@@ -51,13 +56,15 @@ impl From<AllocError> for Refused {
 
 /// Reads a command line, whose first word is the program's name: `enogate replay --base ID [--db PATH]`, where ID is
 /// eight hexadecimal digits of either case and a base ID. Each other line is refused, and so is one that asks for
-/// help.
+/// help or for the version.
 pub fn read<'a>(alloc: Global, words: &'a [String]) -> Result<Options<'a>, Refused>
+    ensures taken { OnOk result (IsTaken (map string_bytes words.now)) }
     ensures base { IfOk result (λ options. base_of_line (map string_bytes words.now) ≡ Some options.base) }
-    ensures db { IfOk result (λ options. option_map (λ path. path.now) options.db ≡ db_of_line (map string_bytes words.now)) }
+    ensures db { IfOk result (λ options.
+        option_map (λ path. path.now) options.db ≡ db_of_line (map string_bytes words.now)) }
     ensures is_base { IfOk result (λ options. Address.is_base options.base ≡ true) }
-    ensures bad_base { result ≡ Err Refused.BadBase → base_of_line (map string_bytes words.now) ≡ None }
-    ensures taken { takes enogate_app (map string_bytes words.now) ≡ true →
+    ensures refused { IfErr result (RefusesLine (map string_bytes words.now)) }
+    ensures passes { takes enogate_app (map string_bytes words.now) ≡ true →
         IfErr result (λ why. (why ≡ Refused.BadBase) ⊎ IsMemory why) }
 {
     let matches = command(alloc)?.try_get_matches_from(words)?;
@@ -123,6 +130,7 @@ fn command<'a>(alloc: Global) -> Result<Command<'a>, AllocError>
     Command::new(alloc, "enogate")
         .bin_name("enogate")?
         .about("A gateway for EnOcean radio devices")
+        .version(VERSION)
         .subcommand_required(true)
         .subcommand(replay)
 }

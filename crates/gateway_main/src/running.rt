@@ -21,7 +21,7 @@ const TURNS: u64 = 4_000_000_000;
 /// Runs the program on the words that the process was started with.
 ///
 /// Its status is 0 where it did what it was asked; 1 for a fault, which it names in one line on standard error; 2 for a
-/// command line that is not taken. Help that is asked for goes to standard output, with status 0.
+/// command line that is not taken. Help or the version that is asked for goes to standard output, with status 0.
 pub fn program(rt: &HostRuntime) -> ExitCode {
     let ended = work(rt);
     if let Err(ending) = &ended {

@@ -198,6 +198,7 @@ fn command_lines(rt: HostRuntime) -> Result<(), Fail> {
     for (line, kind) in [
         ("enogate replay --help", ErrorKind::DisplayHelp),
         ("enogate --help", ErrorKind::DisplayHelp),
+        ("enogate --version", ErrorKind::DisplayVersion),
         ("enogate replay", ErrorKind::MissingRequiredArgument),
         ("enogate play", ErrorKind::InvalidSubcommand),
         ("enogate", ErrorKind::MissingSubcommand),
@@ -227,6 +228,19 @@ fn help_text(rt: HostRuntime) -> Result<(), Fail> {
             );
         }
         _ => return Err(Fail::from("no help")),
+    }
+    Ok(())
+}
+
+#[test]
+fn version_text(rt: HostRuntime) -> Result<(), Fail> {
+    let words = words_of(&rt, "enogate --version")?;
+    match read(rt.alloc(), words.as_slice()) {
+        Err(Refused::Words(error)) => assert_eq!(rt;
+            error.to_string(rt.alloc())?.as_str(),
+            "enogate 0.1.0\n"
+        ),
+        _ => return Err(Fail::from("no version")),
     }
     Ok(())
 }

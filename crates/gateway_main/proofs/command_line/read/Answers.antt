@@ -1,11 +1,23 @@
-use Rattle.std.proofs.Common.{ap, inr, map, ◌∙◌}
+use Rattle.std.proofs.Common.{rules, ap, inr, map, ◌∙◌}
 use Rattle.std.specs.String.{string_bytes}
 use Rattle.std.proofs.lemmas.Result.{err_from_is_err_and}
 use Rattle.clap.specs.Words.{App, takes}
+use Rattle.gateway_main.proofs.CommandLemmas.{taken_so}
 use Rattle.gateway_main.proofs.command_line.read.Goals as goal
 
-pub returns-in_err-matches-clause-taken : goal.returns-in_err-matches-clause-taken
-returns-in_err-matches-clause-taken c =
+pub returns-in_err-matches-clause-passes : goal.returns-in_err-matches-clause-passes
+returns-in_err-matches-clause-passes c =
     let exit = err_from_is_err_and c.from_residual-in_err-matches.result c.from_residual-in_err-matches.ensures.1 in
     rw (exit.1, exit.2)
-    (λ taken. inr (c.in_err-matches.ensures.passes (ap (λ (app : App). takes app (map string_bytes c.args.words.now)) c.in_ok-command.ensures ∙ taken)))
+    (λ taken. inr (c.in_err-matches.ensures.passes
+    (ap (λ (app : App). takes app (map string_bytes c.args.words.now)) c.in_ok-command.ensures ∙ taken)))
+
+pub returns-in-Some-clause-taken : goal.returns-in-Some-clause-taken
+returns-in-Some-clause-taken c =
+    taken_so (map string_bytes c.args.words.now) c.in_ok-command.field-0 c.in_ok-command.ensures c.in_ok-matches.ensures.kinds
+
+pub returns-clause-refused : goal.returns-clause-refused
+returns-clause-refused c = (
+  taken_so (map string_bytes c.args.words.now) c.in_ok-command.field-0 c.in_ok-command.ensures c.in_ok-matches.ensures.kinds,
+  search rules,
+)
