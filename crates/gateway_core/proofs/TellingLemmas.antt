@@ -1,7 +1,7 @@
 -- A teach line is told only of the device that an item learns or forgets: no other line has its text.
 use Rattle.std.proofs.Common.{◌≡◌, ◌≢◌, ℕ, zero, suc, ◌+◌, ◌/◌, ◌%◌, Bool, true, false, cond, List, [], ◌∷◌, ◌++◌, drop}
 use Rattle.std.proofs.Common.{codes, Option, Some, None}
-use Rattle.std.proofs.Common.{refl, sym, ap, subst, ◌∙◌, arith, append_assoc}
+use Rattle.std.proofs.Common.{refl, sym, ap, subst, ◌∙◌, arith, append_assoc, append-nil}
 use Rattle.std.specs.Prelude.{if◌then◌else◌, ◌==◌, length, nat_lt, slice_index_or, Result, Ok, Err}
 use Rattle.std.specs.Fmt.{digits_onto, digits, digit_glyph}
 use Rattle.std.specs.List.{flat_map}
@@ -72,18 +72,30 @@ behind-maker (Some maker) rest = behind-digits 64 maker [] rest refl
 result_text : Outcome → List ℕ
 result_text outcome = codes "\"result\":\"" ++ (outcome_text outcome ++ codes "\",\"type\":\"teach\"}\n")
 
+-- the members behind the maker, the end of the object and of the line, and what follows the line
+grouped : (maker members end line more : List ℕ)
+    → (((maker ++ members) ++ end) ++ line) ++ more ≡ maker ++ (members ++ (end ++ (line ++ more)))
+grouped maker members end line more = simp append_assoc
+
 teach-maker : (line : TeachLine) → drop 42 (teach_text line) ≡ maker_text line.maker ++ 44 ∷ result_text line.outcome
 unfolding encode_with result_text
-teach-maker line =
-    append_assoc (maker_text line.maker ++ codes ",\"result\":\"") (outcome_text line.outcome)
-    (codes "\",\"type\":\"teach\"}\n")
-    ∙ append_assoc (maker_text line.maker) (codes ",\"result\":\"")
-    (outcome_text line.outcome ++ codes "\",\"type\":\"teach\"}\n")
+teach-maker line = one line.eep line.id line.maker line.outcome
+  where
+    one : (eep : Eep) (id : ℕ) (maker : Option ℕ) (outcome : Outcome)
+        → drop 42 (teach_text (record { eep = eep; id = id; maker = maker; outcome = outcome }))
+        ≡ maker_text maker ++ 44 ∷ result_text outcome
+    one eep id maker Accepted =
+        sym (append-nil _)
+        ∙ grouped (maker_text maker) (codes ",\"result\":\"accepted\",\"type\":\"teach\"") (codes "}") (codes "\n") []
+    one eep id maker Deleted =
+        sym (append-nil _)
+        ∙ grouped (maker_text maker) (codes ",\"result\":\"deleted\",\"type\":\"teach\"") (codes "}") (codes "\n") []
 
 listing-maker : (known : Device) (more : List ℕ)
     → drop 42 (device_text known ++ more) ≡ maker_text known.maker ++ 44 ∷ (codes "\"type\":\"device\"}\n" ++ more)
 unfolding encode_with
-listing-maker known more = append_assoc (maker_text known.maker) (codes ",\"type\":\"device\"}\n") more
+listing-maker known more =
+    grouped (maker_text known.maker) (codes ",\"type\":\"device\"") (codes "}") (codes "\n") more
 
 -- the byte at this place behind the maker
 after_maker : ℕ → List ℕ → ℕ

@@ -29,6 +29,24 @@ id_text id = encode_upper (to_be_bytes w32 id)
 abbrev pub eep_text : Eep → List ℕ
 eep_text eep = byte_text eep.rorg ++ codes "-" ++ byte_text eep.func ++ codes "-" ++ byte_text eep.typ
 
+-- ---- an object
+
+-- a text in quotation marks; it stands there as it is
+abbrev pub in_quotes : List ℕ → List ℕ
+in_quotes text = codes "\"" ++ text ++ codes "\""
+
+-- a member of an object: its name, and the text of its value
+abbrev pub member_text : List ℕ × List ℕ → List ℕ
+member_text member = in_quotes member.0 ++ codes ":" ++ member.1
+
+-- the members in their order, with a comma between each two
+abbrev pub object_text : List (List ℕ × List ℕ) → List ℕ
+object_text members = codes "{" ++ join_by member_text (codes ",") members ++ codes "}"
+
+-- a line with one object
+abbrev pub line_text : List (List ℕ × List ℕ) → List ℕ
+line_text members = object_text members ++ codes "\n"
+
 -- ---- a reading line
 
 -- the signal strength in dBm, 0 minus the byte, or null
@@ -39,13 +57,14 @@ dbm_text (Some byte) = signed_decimal (pos 0 -ℤ pos byte)
 -- a reading as an object: a value in a unit, a word, a number, or a number out of range; `quoted` writes JSON's
 -- shortest escapes
 abbrev pub named_text : List ℕ → Meaning → List ℕ
-named_text name (value ratio unit) =
-    codes "{\"den\":" ++ decimal ratio.den ++ codes ",\"name\":" ++ quoted name
-    ++ codes ",\"num\":" ++ signed_decimal ratio.num ++ codes ",\"unit\":" ++ quoted unit ++ codes "}"
-named_text name (word text) = codes "{\"name\":" ++ quoted name ++ codes ",\"word\":" ++ quoted text ++ codes "}"
-named_text name (raw n) = codes "{\"name\":" ++ quoted name ++ codes ",\"raw\":" ++ decimal n ++ codes "}"
-named_text name (out_of_range n) =
-    codes "{\"name\":" ++ quoted name ++ codes ",\"out_of_range\":" ++ decimal n ++ codes "}"
+named_text name (value ratio unit) = object_text (
+    (codes "den", decimal ratio.den)
+    ∷ (codes "name", quoted name)
+    ∷ (codes "num", signed_decimal ratio.num)
+    ∷ (codes "unit", quoted unit) ∷ [])
+named_text name (word text) = object_text ((codes "name", quoted name) ∷ (codes "word", quoted text) ∷ [])
+named_text name (raw n) = object_text ((codes "name", quoted name) ∷ (codes "raw", decimal n) ∷ [])
+named_text name (out_of_range n) = object_text ((codes "name", quoted name) ∷ (codes "out_of_range", decimal n) ∷ [])
 
 abbrev pub entry_text : Entry → List ℕ
 entry_text entry = named_text entry.name entry.meaning
@@ -62,12 +81,12 @@ pub record ReadingLine : Type 0 where
   pub readings : List Entry
 
 abbrev pub reading_text : ReadingLine → List ℕ
-reading_text line =
-    codes "{\"dbm\":" ++ dbm_text line.dbm
-    ++ codes ",\"eep\":\"" ++ eep_text line.eep
-    ++ codes "\",\"id\":\"" ++ id_text line.id
-    ++ codes "\",\"readings\":" ++ list_text line.readings
-    ++ codes ",\"type\":\"reading\"}\n"
+reading_text line = line_text (
+    (codes "dbm", dbm_text line.dbm)
+    ∷ (codes "eep", in_quotes (eep_text line.eep))
+    ∷ (codes "id", in_quotes (id_text line.id))
+    ∷ (codes "readings", list_text line.readings)
+    ∷ (codes "type", in_quotes (codes "reading")) ∷ [])
 
 -- ---- a teach line
 
@@ -89,24 +108,24 @@ pub record TeachLine : Type 0 where
   pub outcome : Outcome
 
 abbrev pub teach_text : TeachLine → List ℕ
-teach_text line =
-    codes "{\"eep\":\"" ++ eep_text line.eep
-    ++ codes "\",\"id\":\"" ++ id_text line.id
-    ++ codes "\",\"maker\":" ++ maker_text line.maker
-    ++ codes ",\"result\":\"" ++ outcome_text line.outcome
-    ++ codes "\",\"type\":\"teach\"}\n"
+teach_text line = line_text (
+    (codes "eep", in_quotes (eep_text line.eep))
+    ∷ (codes "id", in_quotes (id_text line.id))
+    ∷ (codes "maker", maker_text line.maker)
+    ∷ (codes "result", in_quotes (outcome_text line.outcome))
+    ∷ (codes "type", in_quotes (codes "teach")) ∷ [])
 
 -- ---- the lines of a listing
 
 abbrev pub device_text : Device → List ℕ
-device_text known =
-    codes "{\"eep\":\"" ++ eep_text known.eep
-    ++ codes "\",\"id\":\"" ++ id_text known.id
-    ++ codes "\",\"maker\":" ++ maker_text known.maker
-    ++ codes ",\"type\":\"device\"}\n"
+device_text known = line_text (
+    (codes "eep", in_quotes (eep_text known.eep))
+    ∷ (codes "id", in_quotes (id_text known.id))
+    ∷ (codes "maker", maker_text known.maker)
+    ∷ (codes "type", in_quotes (codes "device")) ∷ [])
 
 abbrev pub count_text : ℕ → List ℕ
-count_text count = codes "{\"count\":" ++ decimal count ++ codes ",\"type\":\"list\"}\n"
+count_text count = line_text ((codes "count", decimal count) ∷ (codes "type", in_quotes (codes "list")) ∷ [])
 
 -- a line for each device, and behind them a line that counts them
 abbrev pub listing_text : List Device → List ℕ
@@ -116,13 +135,14 @@ listing_text known = flat_map device_text known ++ count_text (length known)
 
 -- the mode is always closed: the gateway does not learn by telegrams yet
 abbrev pub status_text : Counts → List ℕ
-status_text counts =
-    codes "{\"ignored\":" ++ decimal counts.ignored
-    ++ codes ",\"mode\":\"closed\",\"readings\":" ++ decimal counts.readings
-    ++ codes ",\"refused\":" ++ decimal counts.refused
-    ++ codes ",\"responses\":" ++ decimal counts.responses
-    ++ codes ",\"teach\":" ++ decimal counts.teach
-    ++ codes ",\"type\":\"status\"}\n"
+status_text counts = line_text (
+    (codes "ignored", decimal counts.ignored)
+    ∷ (codes "mode", in_quotes (codes "closed"))
+    ∷ (codes "readings", decimal counts.readings)
+    ∷ (codes "refused", decimal counts.refused)
+    ∷ (codes "responses", decimal counts.responses)
+    ∷ (codes "teach", decimal counts.teach)
+    ∷ (codes "type", in_quotes (codes "status")) ∷ [])
 
 -- ---- a response line
 
@@ -137,11 +157,11 @@ name_text (Some name) = quoted name
 
 -- the bytes as upper-case hexadecimal digits
 abbrev pub response_text : Response → List ℕ
-response_text response =
-    codes "{\"code\":" ++ decimal response.code
-    ++ codes ",\"data\":" ++ quoted (encode_upper response.bytes)
-    ++ codes ",\"name\":" ++ name_text (slice_get code_names response.code)
-    ++ codes ",\"type\":\"response\"}\n"
+response_text response = line_text (
+    (codes "code", decimal response.code)
+    ∷ (codes "data", quoted (encode_upper response.bytes))
+    ∷ (codes "name", name_text (slice_get code_names response.code))
+    ∷ (codes "type", in_quotes (codes "response")) ∷ [])
 
 -- ---- an error line
 
@@ -157,4 +177,5 @@ name_of Memory = codes "memory"
 name_of Store = codes "store"
 
 abbrev pub error_text : ErrorName → List ℕ
-error_text error = codes "{\"error\":\"" ++ name_of error ++ codes "\",\"type\":\"error\"}\n"
+error_text error =
+    line_text ((codes "error", in_quotes (name_of error)) ∷ (codes "type", in_quotes (codes "error")) ∷ [])
