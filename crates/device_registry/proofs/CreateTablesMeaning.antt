@@ -1,5 +1,6 @@
 -- What the texts that create the tables mean, where the names are free.
-use Rattle.std.proofs.Common.{◌≡◌, ℕ, not, ◌&&◌, ◌==◌, List, [], length, slice_range, is_some, true, false, Option, None, Some, Ok, refl, ap, ◌∙◌}
+use Rattle.std.proofs.Common.{◌≡◌, ℕ, not, ◌&&◌, ◌==◌, List, [], length, slice_range, is_some, true}
+use Rattle.std.proofs.Common.{false, Option, None, Some, Ok, refl, ap, ◌∙◌}
 use Rattle.std.proofs.lemmas.Bool.{or_parts}
 use Rattle.sqlite.specs.Schema.{Schema}
 use Rattle.sqlite.specs.Table.{Table}

@@ -1,5 +1,6 @@
 -- What the CHECKs of the device table say of a row that passes them.
-use Rattle.std.proofs.Common.{◌≡◌, ◌≤ℤ◌, ℕ, ℤ, pos, negsuc, Bool, true, false, not, ◌&&◌, Some, refl, sym, ap, ◌∙◌, arith}
+use Rattle.std.proofs.Common.{◌≡◌, ◌≤ℤ◌, ℕ, ℤ, pos, negsuc, Bool, true, false, not, ◌&&◌}
+use Rattle.std.proofs.Common.{Some, refl, sym, ap, ◌∙◌, arith}
 use Rattle.std.specs.Ordering.{is_le, is_ge}
 use Rattle.std.proofs.lemmas.Int.{ints}
 use Rattle.sqlite.specs.Collation.TheVariants.{Binary}
@@ -17,9 +18,12 @@ use Rattle.device_registry.proofs.TestSteps.{both}
 
 -- the test of a CHECK that a number lies between two
 between : ℤ → ℤ → ℤ → Bool
-between low high n = not (is_false (binary And (binary (Compare Ge Binary) (Int n) (Int low)) (binary (Compare Le Binary) (Int n) (Int high))))
+between low high n =
+    not (is_false (binary And (binary (Compare Ge Binary) (Int n) (Int low))
+    (binary (Compare Le Binary) (Int n) (Int high))))
 
-truths : (a b : Bool) → not (is_false (from_truth (and3 (truth (from_truth (Some a))) (truth (from_truth (Some b)))))) ≡ (a && b)
+truths : (a b : Bool) → not (is_false (from_truth (and3 (truth (from_truth (Some a))) (truth (from_truth (Some b))))))
+    ≡ (a && b)
 truths true true = refl
 truths true false = refl
 truths false true = refl
@@ -34,7 +38,8 @@ at_most a b h = let e = ap is_le (sym (value_cmp-Int a b)) ∙ h in grind (arith
 lies_between : (low high n : ℤ) → between low high n ≡ true → (low ≤ℤ n) × (n ≤ℤ high)
 unfolding between binary
 lies_between low high n h =
-    let two = both _ _ (sym (truths (is_ge (value_cmp (Int n) (Int low))) (is_le (value_cmp (Int n) (Int high)))) ∙ h) in
+    let two =
+    both _ _ (sym (truths (is_ge (value_cmp (Int n) (Int low))) (is_le (value_cmp (Int n) (Int high)))) ∙ h) in
     (at_least n low two.0, at_most n high two.1)
 
 -- a row that is put in passes them, so it is that of a device

@@ -1,5 +1,6 @@
 -- What a database holds is one thing, and how it changes where rows are written.
-use Rattle.std.proofs.Common.{ℤ, ◌≡◌, ℕ, ◌≤◌, ◌+◌, ◌-◌, Bool, true, false, cond, nat_le, refl, List, [], ◌∷◌, length, Some, Option, slice_get, sym, ap, subst, ◌∙◌, arith}
+use Rattle.std.proofs.Common.{ℤ, ◌≡◌, ℕ, ◌≤◌, ◌+◌, ◌-◌, Bool, true, false, cond, nat_le, refl, List, [], ◌∷◌}
+use Rattle.std.proofs.Common.{length, Some, Option, slice_get, sym, ap, subst, ◌∙◌, arith}
 use Rattle.std.proofs.lemmas.Bool.Decides.{nat_tests}
 use Rattle.std.proofs.lemmas.Cmp.{nat_cmp_total}
 use Rattle.std.specs.List.{AllByRecursion}
@@ -14,7 +15,8 @@ use Rattle.sqlite_rules.specs.Edit.{without_all}
 use Rattle.sqlite_catalog.proofs.ReadLemmas.{lists_once}
 use Rattle.device_registry.specs.Tables.{device_name, device_table, meta_table}
 use Rattle.device_registry.specs.Devices.{Devices, Learned, is_full, most_devices}
-use Rattle.device_registry.specs.Stored.{RowidsDiffer, IsDevice, IsVersion, IsRegistry, Registers, Holds, Stands, devices_in, stored}
+use Rattle.device_registry.specs.Stored.{RowidsDiffer, IsDevice, IsVersion, IsRegistry, Registers}
+use Rattle.device_registry.specs.Stored.{Holds, Stands, devices_in, stored}
 use Rattle.device_registry.specs.Opening.{FewAreHeld}
 use Rattle.device_registry.proofs.RowsAsMap.{IsShort, devices_replaced, put_are_devices, all_without_are_devices}
 use Rattle.device_registry.proofs.DistinctRows.{len_is, apart_put}
@@ -31,21 +33,28 @@ same_place e = cc
 same_table : {a b : Table} → ◌≡◌ {A = Option Table} (Some a) (Some b) → a ≡ b
 same_table e = cc
 
-tree_once : (schema : Schema) (d e at to : ℕ) → Stands schema device_name (device_table d) at → Stands schema device_name (device_table e) to → d ≡ e
+tree_once : (schema : Schema) (d e at to : ℕ) → Stands schema device_name (device_table d) at
+    → Stands schema device_name (device_table e) to → d ≡ e
 tree_once schema d e at to one other =
     let place : at ≡ to = same_place (sym one.named ∙ other.named) in
     ap (λ (t : Table). t.tree) (same_table (sym one.there ∙ ap (slice_get schema.tables) place ∙ other.there))
 
 pub registers_once : (db : Database) (a b : Devices) → Registers db a → Registers db b → a ≡ b
 registers_once db a b one other =
-    let tree = tree_once db.schema one.registry.tables.devices other.registry.tables.devices one.registry.tables.devices_at other.registry.tables.devices_at one.registry.tables.devices_stand other.registry.tables.devices_stand in
+    let tree =
+    tree_once db.schema one.registry.tables.devices other.registry.tables.devices
+    one.registry.tables.devices_at other.registry.tables.devices_at one.registry.tables.devices_stand
+    other.registry.tables.devices_stand in
     sym one.is ∙ ap (λ t. devices_in (db.trees t)) tree ∙ other.is
 
 -- the trees of a sound database tell its schema, and so its devices
 pub held_once : (trees : Trees) (a b : Devices) → Holds trees a → Holds trees b → a ≡ b
 held_once trees a b one other =
     let trees_are : one.db.trees ≡ other.db.trees = one.same ∙ sym other.same in
-    let schema : one.db.schema ≡ other.db.schema = lists_once (other.db.trees catalog_tree) one.db.schema other.db.schema (subst (λ (t : Trees). Rattle.sqlite_catalog.specs.Listing.Lists (t catalog_tree) one.db.schema) trees_are one.sound.lists) other.sound.lists in
+    let schema : one.db.schema ≡ other.db.schema =
+    lists_once (other.db.trees catalog_tree) one.db.schema other.db.schema
+    (subst (λ (t : Trees). Rattle.sqlite_catalog.specs.Listing.Lists (t catalog_tree) one.db.schema) trees_are
+    one.sound.lists) other.sound.lists in
     let db : one.db ≡ other.db = λ i. record { schema = schema i; trees = trees_are i } in
     registers_once other.db a b (subst (λ db. Registers db a) db one.registers) other.registers
 
@@ -53,8 +62,11 @@ held_once trees a b one other =
 
 module _ (before : Database) (registry : IsRegistry before) where
   -- the tables stand as they did
-  pub registers_after : (after : Database) (devices : Devices) → after.schema ≡ before.schema → (row : Row) → after.trees registry.tables.meta ≡ row ∷ [] → IsVersion row
-      → AllByRecursion IsDevice (after.trees registry.tables.devices) → RowidsDiffer (after.trees registry.tables.devices) → length (after.trees registry.tables.devices) ≤ most_devices → devices_in (after.trees registry.tables.devices) ≡ devices
+  pub registers_after : (after : Database) (devices : Devices) → after.schema ≡ before.schema → (row : Row)
+      → after.trees registry.tables.meta ≡ row ∷ [] → IsVersion row
+      → AllByRecursion IsDevice (after.trees registry.tables.devices)
+      → RowidsDiffer (after.trees registry.tables.devices) → length (after.trees registry.tables.devices) ≤ most_devices
+      → devices_in (after.trees registry.tables.devices) ≡ devices
       → Registers after devices
   registers_after after devices schema row one version rows once few is =
       let then : Database = record { schema = before.schema; trees = after.trees } in
@@ -67,7 +79,8 @@ module _ (before : Database) (registry : IsRegistry before) where
         is = is;
       })
 
-one_more : (b : Bool) (n with_it without : ℕ) → with_it ≡ cond b n (n + 1) → without ≡ cond b (n - 1) n → nat_le 1000 without ≡ false → n ≤ 1000 → with_it ≤ 1000
+one_more : (b : Bool) (n with_it without : ℕ) → with_it ≡ cond b n (n + 1) → without ≡ cond b (n - 1) n
+    → nat_le 1000 without ≡ false → n ≤ 1000 → with_it ≤ 1000
 one_more true n with_it without more less room few = omega arith
 one_more false n with_it without more less room few = grind (arith, nat_tests)
 
@@ -80,7 +93,9 @@ all_without_once rows [] h = h
 all_without_once rows (id ∷ ids) h = all_without_once (without_rowid id rows) ids (without_once id rows h)
 
 pub few_devices : (db : Database) (devices : Devices) → Registers db devices → len devices ≤ 1000
-few_devices db devices had = let r = had.registry in subst (λ m. len m ≤ 1000) had.is (subst (λ n. n ≤ 1000) (sym (len_is (db.trees r.tables.devices) r.whole.rows r.whole.once)) r.whole.few)
+few_devices db devices had =
+    let r = had.registry in subst (λ m. len m ≤ 1000) had.is
+    (subst (λ n. n ≤ 1000) (sym (len_is (db.trees r.tables.devices) r.whole.rows r.whole.once)) r.whole.few)
 
 pub few_are_held : FewAreHeld
 few_are_held trees devices holds = few_devices holds.db devices holds.registers
@@ -89,28 +104,50 @@ pub fewer : (devices : Devices) (id : ℕ) → len (remove devices id) ≤ len d
 fewer devices id = not_more (contains_key devices id) (len devices) _ (len-remove nat_cmp_total devices id)
 
 module _ (before after : Database) (devices : Devices) (had : Registers before devices) where
-  pub put_registers : (id : ℕ) (it : Learned) → IsShort it.eep → is_full devices id ≡ false → after.schema ≡ before.schema → IsPut before.schema had.registry.tables.devices id it before.trees after.trees → Registers after (insert devices id it)
+  pub put_registers : (id : ℕ) (it : Learned) → IsShort it.eep → is_full devices id ≡ false
+      → after.schema ≡ before.schema → IsPut before.schema had.registry.tables.devices id it before.trees after.trees
+      → Registers after (insert devices id it)
   put_registers id it short room schema put =
       let r = had.registry in
-      let all = subst (AllByRecursion IsDevice) (sym put.rows) (put_are_devices _ (stored id it) put.device (all_without_are_devices (before.trees r.tables.devices) put.gone r.whole.rows)) in
-      let once = subst RowidsDiffer (sym put.rows) (apart_put (stored id it) _ put.fresh (all_without_once (before.trees r.tables.devices) put.gone r.whole.once)) in
+      let all =
+      subst (AllByRecursion IsDevice) (sym put.rows) (put_are_devices _ (stored id it) put.device
+      (all_without_are_devices (before.trees r.tables.devices) put.gone r.whole.rows)) in
+      let once =
+      subst RowidsDiffer (sym put.rows) (apart_put (stored id it) _ put.fresh
+      (all_without_once (before.trees r.tables.devices) put.gone r.whole.once)) in
       let is : devices_in (after.trees r.tables.devices) ≡ insert devices id it =
-      ap devices_in put.rows ∙ devices_replaced (before.trees r.tables.devices) put.gone id it short r.whole.rows put.same ∙ ap (λ m. insert m id it) had.is in
-      let size : length (after.trees r.tables.devices) ≡ len (insert devices id it) = sym (len_is (after.trees r.tables.devices) all once) ∙ ap len is in
-      let few : len (insert devices id it) ≤ 1000 = one_more (contains_key devices id) (len devices) _ _ (len-insert nat_cmp_total devices id it) (len-remove nat_cmp_total devices id) room (few_devices before devices had) in
-      registers_after before r after (insert devices id it) schema r.whole.row (put.others r.tables.meta_at (meta_table r.tables.meta) r.tables.meta_stands.there r.tables.apart ∙ r.whole.one) r.whole.version all once (subst (λ n. n ≤ 1000) (sym size) few) is
+      ap devices_in put.rows ∙ devices_replaced (before.trees r.tables.devices) put.gone id it short r.whole.rows
+      put.same ∙ ap (λ m. insert m id it) had.is in
+      let size : length (after.trees r.tables.devices) ≡ len (insert devices id it) =
+      sym (len_is (after.trees r.tables.devices) all once) ∙ ap len is in
+      let few : len (insert devices id it) ≤ 1000 =
+      one_more (contains_key devices id) (len devices) _ _ (len-insert nat_cmp_total devices id it)
+      (len-remove nat_cmp_total devices id) room (few_devices before devices had) in
+      registers_after before r after (insert devices id it) schema r.whole.row
+      (put.others r.tables.meta_at (meta_table r.tables.meta) r.tables.meta_stands.there r.tables.apart ∙ r.whole.one)
+      r.whole.version all once (subst (λ n. n ≤ 1000) (sym size) few) is
 
-  pub forgotten_registers : (id : ℕ) → after.schema ≡ before.schema → IsForgotten id (before.trees had.registry.tables.devices) (after.trees had.registry.tables.devices) → SparesOthers before.schema had.registry.tables.devices before.trees after.trees
+  pub forgotten_registers : (id : ℕ) → after.schema ≡ before.schema
+      → IsForgotten id (before.trees had.registry.tables.devices) (after.trees had.registry.tables.devices)
+      → SparesOthers before.schema had.registry.tables.devices before.trees after.trees
       → Registers after (remove devices id)
   forgotten_registers id schema gone others =
       let r = had.registry in
-      let is : devices_in (after.trees r.tables.devices) ≡ remove devices id = gone.map_is ∙ ap (λ m. remove m id) had.is in
-      let size : length (after.trees r.tables.devices) ≡ len (remove devices id) = sym (len_is (after.trees r.tables.devices) gone.rows gone.once) ∙ ap len is in
+      let is : devices_in (after.trees r.tables.devices) ≡ remove devices id =
+      gone.map_is ∙ ap (λ m. remove m id) had.is in
+      let size : length (after.trees r.tables.devices) ≡ len (remove devices id) =
+      sym (len_is (after.trees r.tables.devices) gone.rows gone.once) ∙ ap len is in
       let few : len (remove devices id) ≤ 1000 = omega (arith, fewer devices id, few_devices before devices had) in
-      registers_after before r after (remove devices id) schema r.whole.row (others r.tables.meta_at (meta_table r.tables.meta) r.tables.meta_stands.there r.tables.apart ∙ r.whole.one) r.whole.version gone.rows gone.once (subst (λ n. n ≤ 1000) (sym size) few) is
+      registers_after before r after (remove devices id) schema r.whole.row
+      (others r.tables.meta_at (meta_table r.tables.meta) r.tables.meta_stands.there r.tables.apart ∙ r.whole.one)
+      r.whole.version gone.rows gone.once (subst (λ n. n ≤ 1000) (sym size) few) is
 
-  pub renewed_registers : after.schema ≡ before.schema → after.trees had.registry.tables.meta ≡ version_row ∷ [] → SparesOthers before.schema had.registry.tables.meta before.trees after.trees → Registers after devices
+  pub renewed_registers : after.schema ≡ before.schema → after.trees had.registry.tables.meta ≡ version_row ∷ []
+      → SparesOthers before.schema had.registry.tables.meta before.trees after.trees → Registers after devices
   renewed_registers schema version others =
       let r = had.registry in
-      let same : after.trees r.tables.devices ≡ before.trees r.tables.devices = others r.tables.devices_at (device_table r.tables.devices) r.tables.devices_stand.there (λ e. r.tables.apart (sym e)) in
-      registers_after before r after devices schema version_row version (record { key = refl; version = refl }) (subst (AllByRecursion IsDevice) (sym same) r.whole.rows) (subst RowidsDiffer (sym same) r.whole.once) (subst (λ rows. length rows ≤ most_devices) (sym same) r.whole.few) (ap devices_in same ∙ had.is)
+      let same : after.trees r.tables.devices ≡ before.trees r.tables.devices = others r.tables.devices_at
+      (device_table r.tables.devices) r.tables.devices_stand.there (λ e. r.tables.apart (sym e)) in
+      registers_after before r after devices schema version_row version (record { key = refl; version = refl })
+      (subst (AllByRecursion IsDevice) (sym same) r.whole.rows) (subst RowidsDiffer (sym same) r.whole.once)
+      (subst (λ rows. length rows ≤ most_devices) (sym same) r.whole.few) (ap devices_in same ∙ had.is)

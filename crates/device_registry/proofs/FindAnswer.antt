@@ -1,5 +1,6 @@
 -- What the query that looks a sender up shows.
-use Rattle.std.proofs.Common.{arith, cond, nat_cmp, ◌≡◌, inl, inr, ℕ, List, [], ◌∷◌, map, Some, None, Option, refl, sym, ap, subst, ◌∙◌, codes}
+use Rattle.std.proofs.Common.{arith, cond, nat_cmp, ◌≡◌, inl, inr, ℕ, List, [], ◌∷◌, map, Some, None}
+use Rattle.std.proofs.Common.{Option, refl, sym, ap, subst, ◌∙◌, codes}
 use Rattle.std.specs.FinMap.{get, remove, get-from_entries, get-remove, same_map, nat_cmp-IsAntisymmetric}
 use Rattle.std.specs.Ordering.{eq_by_cmp}
 use Rattle.std.proofs.lemmas.Bool.{cases_Bool}
@@ -24,34 +25,51 @@ use Rattle.device_registry.proofs.RowsAsMap.{seen}
 use Rattle.device_registry.proofs.SenderTests.{asked, hits, found, no_rows, overlay_is}
 use Rattle.device_registry.proofs.StatementSteps.{query_ready}
 
-answered : (id : ℕ) (devices : Devices) (table rows : List Row) (o : Option Learned) → devices_in table ≡ devices → seen id table ≡ o → AreFound o rows → AreFound (get devices id) rows
-answered id devices table rows o is seen_is h = subst (λ m. AreFound (get m id) rows) is (subst (λ o. AreFound o rows) (sym (get-from_entries nat_cmp_total (map entry_of table) id ∙ seen_is)) h)
+answered : (id : ℕ) (devices : Devices) (table rows : List Row) (o : Option Learned) → devices_in table ≡ devices
+    → seen id table ≡ o → AreFound o rows → AreFound (get devices id) rows
+answered id devices table rows o is seen_is h = subst (λ m. AreFound (get m id) rows) is
+    (subst (λ o. AreFound o rows) (sym (get-from_entries nat_cmp_total (map entry_of table) id ∙ seen_is)) h)
 
-pub finds : (old new : State) (id : ℕ) (rows : List Row) (devices : Devices) → Registers old.now devices → Shown find_text (asked id) old new rows → AreFound (get devices id) rows
+pub finds : (old new : State) (id : ℕ) (rows : List Row) (devices : Devices) → Registers old.now devices
+    → Shown find_text (asked id) old new rows → AreFound (get devices id) rows
 finds old new id rows devices had h =
     let r = had.registry in
     let q = find_query r.tables.devices in
     let table = old.now.trees r.tables.devices in
     let it = find_means old.now.schema r.tables.devices_at r.tables.devices r.tables.devices_stand in
-    let read = reads_as find_text (asked id) old new old.now.schema refl (Select (program_of q) (codes "eep" ∷ codes "maker" ∷ [])) it.is it.plain it.unlisted rows h in
+    let read = reads_as find_text (asked id) old new old.now.schema refl
+    (Select (program_of q) (codes "eep" ∷ codes "maker" ∷ [])) it.is it.plain it.unlisted rows h in
     let a : IsAnswer q (overlay old.now.trees []) (asked id) rows = read.answer Null in
-    let kept : a.kept ≡ map (output q) (hits id table) = a.distinct ∙ ap (map (output q)) (a.grouped ∙ ap (hits id) (overlay_is old.now.trees r.tables.devices)) in
+    let kept : a.kept ≡ map (output q) (hits id table) =
+    a.distinct ∙ ap (map (output q)) (a.grouped ∙ ap (hits id) (overlay_is old.now.trees r.tables.devices)) in
     elim (found id table r.whole.rows r.whole.once) [
       | inl none ↦
-          let ordered = no_rows a.ordered (subst (λ k. IsPermutation k a.ordered) (kept ∙ ap (map (output q)) none.1) a.same) in
-          answered id devices table rows None had.is none.0 (a.shown ∙ ap (λ xs. page q (asked id) (map (λ (p : Output). p.1) xs)) ordered)
+          let ordered =
+          no_rows a.ordered (subst (λ k. IsPermutation k a.ordered) (kept ∙ ap (map (output q)) none.1) a.same) in
+          answered id devices table rows None had.is none.0 (a.shown
+          ∙ ap (λ xs. page q (asked id) (map (λ (p : Output). p.1) xs)) ordered)
       | inr some ↦
           let o : Output = ([], column some.0 2 ∷ column some.0 3 ∷ []) in
-          let ordered = one_permutation o a.ordered (subst (λ k. IsPermutation k a.ordered) (kept ∙ ap (map (output q)) some.2) a.same) in
-          let shown : rows ≡ (column some.0 2 ∷ column some.0 3 ∷ []) ∷ [] = a.shown ∙ ap (λ xs. page q (asked id) (map (λ (p : Output). p.1) xs)) ordered in
-          answered id devices table rows (Some (entry_of some.0).1) had.is some.1 (column some.0 2 ∷ column some.0 3 ∷ [], shown, refl, refl)
+          let ordered =
+          one_permutation o a.ordered
+          (subst (λ k. IsPermutation k a.ordered) (kept ∙ ap (map (output q)) some.2) a.same) in
+          let shown : rows ≡ (column some.0 2 ∷ column some.0 3 ∷ []) ∷ [] =
+          a.shown ∙ ap (λ xs. page q (asked id) (map (λ (p : Output). p.1) xs)) ordered in
+          answered id devices table rows (Some (entry_of some.0).1) had.is some.1
+          (column some.0 2 ∷ column some.0 3 ∷ [], shown, refl, refl)
     ]
 
 pub find_plain : (s : State) → IsReady s → IsPlain (understood s.now.schema find_text)
-find_plain s ready = let r = ready.shows.registers.registry in (find_means s.now.schema r.tables.devices_at r.tables.devices r.tables.devices_stand).plain
+find_plain s ready =
+    let r = ready.shows.registers.registry in
+    (find_means s.now.schema r.tables.devices_at r.tables.devices r.tables.devices_stand).plain
 
-pub looked_up : (old new : State) (id : ℕ) (rows : List Row) → IsReady old → Shown find_text (asked id) old new rows → IsReady new × ((devices : Devices) → Shows old devices → AreFound (get devices id) rows)
-looked_up old new id rows ready h = (query_ready find_text (asked id) old new rows (find_plain old ready) ready h, λ devices shows. finds old new id rows devices shows.registers h)
+pub looked_up : (old new : State) (id : ℕ) (rows : List Row) → IsReady old → Shown find_text (asked id) old new rows
+    → IsReady new × ((devices : Devices) → Shows old devices → AreFound (get devices id) rows)
+looked_up old new id rows ready h = (
+  query_ready find_text (asked id) old new rows (find_plain old ready) ready h,
+  λ devices shows. finds old new id rows devices shows.registers h,
+)
 
 -- ---- a sender of which nothing is known
 
@@ -60,10 +78,13 @@ none_known None rows h none = refl
 none_known (Some it) rows h none = absurd (let e = sym h.1 ∙ none in cc)
 
 -- what is not there is not taken out
-pub unknown_is_removed : (devices : Devices) (id : ℕ) (rows : List Row) → AreFound (get devices id) rows → rows ≡ [] → remove devices id ≡ devices
-unknown_is_removed devices id rows h none = same_map nat_cmp_total nat_cmp-IsAntisymmetric _ _ (λ q. get-remove nat_cmp_total devices id q ∙ unseen devices id q (none_known _ rows h none))
+pub unknown_is_removed : (devices : Devices) (id : ℕ) (rows : List Row) → AreFound (get devices id) rows → rows ≡ []
+    → remove devices id ≡ devices
+unknown_is_removed devices id rows h none = same_map nat_cmp_total nat_cmp-IsAntisymmetric _ _
+    (λ q. get-remove nat_cmp_total devices id q ∙ unseen devices id q (none_known _ rows h none))
   where
-    unseen : (devices : Devices) (id q : ℕ) → get devices id ≡ None → cond (eq_by_cmp nat_cmp q id) None (get devices q) ≡ get devices q
+    unseen : (devices : Devices) (id q : ℕ) → get devices id ≡ None
+        → cond (eq_by_cmp nat_cmp q id) None (get devices q) ≡ get devices q
     unseen devices id q none = elim (cases_Bool (eq_by_cmp nat_cmp q id)) [
       | inl tie ↦ let e : q ≡ id = grind (arith, nat_tests) in rw tie (rw e (sym none))
       | inr apart ↦ rw apart

@@ -1,5 +1,6 @@
 -- What the statement that learns a device makes of the database.
-use Rattle.std.proofs.Common.{◌≡◌, ◌≢◌, inl, inr, ℕ, ℤ, pos, Bool, true, false, not, List, [], ◌∷◌, Some, None, Option, Ok, refl, sym, ap, subst, ◌∙◌, ◌&&◌, ◌||◌, slice_get}
+use Rattle.std.proofs.Common.{◌≡◌, ◌≢◌, inl, inr, ℕ, ℤ, pos, Bool, true, false, not, List, [], ◌∷◌, Some, None}
+use Rattle.std.proofs.Common.{Option, Ok, refl, sym, ap, subst, ◌∙◌, ◌&&◌, ◌||◌, slice_get}
 use Rattle.std.specs.List.{AllByRecursion}
 use Rattle.sqlite.specs.declared.types.Value.TheVariants.{Int}
 use Rattle.sqlite.specs.Order.{Row, column}
@@ -55,7 +56,8 @@ held [] r all h = absurd h
 held (row ∷ rows) r all (inl e) = subst IsDevice (sym e) all.0
 held (row ∷ rows) r all (inr h) = held rows r all.1 h
 
-gone_ids : (id : ℕ) (found : List Row) → ((x : Row) → Has found x → id_in (rowid x) ≡ pos id) → AllByRecursion (λ i. i ≡ pos id) (ids_of found)
+gone_ids : (id : ℕ) (found : List Row) → ((x : Row) → Has found x → id_in (rowid x) ≡ pos id)
+    → AllByRecursion (λ i. i ≡ pos id) (ids_of found)
 gone_ids id [] h = tt
 gone_ids id (x ∷ more) h = (h x (inl refl), gone_ids id more (λ y there. h y (inr there)))
 
@@ -67,18 +69,23 @@ alone : (b : Bool) → ((b && true) || false) ≡ b
 alone true = refl
 alone false = refl
 
-same_id : (indexes : List Index) (table : Table) (id : ℕ) (it : Learned) (r : Row) → IsDevice r → AllByRecursion (λ index. index.table ≢ table.tree) indexes
+same_id : (indexes : List Index) (table : Table) (id : ℕ) (it : Learned) (r : Row) → IsDevice r
+    → AllByRecursion (λ index. index.table ≢ table.tree) indexes
     → conflicts None indexes table (stored id it) r ≡ true → id_in (column r 0) ≡ pos id
 unfolding first_key
 same_id indexes table id it r is none h =
-    let e : equal Binary (column r 0) (Int (pos id)) ≡ true = sym (ap (λ b. (equal Binary (column r 0) (Int (pos id)) && true) || b) (no_shares indexes table (stored id it) r none) ∙ alone (equal Binary (column r 0) (Int (pos id)))) ∙ h in
+    let e : equal Binary (column r 0) (Int (pos id)) ≡ true =
+    sym (ap (λ b. (equal Binary (column r 0) (Int (pos id)) && true) || b)
+    (no_shares indexes table (stored id it) r none) ∙ alone (equal Binary (column r 0) (Int (pos id)))) ∙ h in
     ap id_in is.id_is ∙ ap pos (equal_ids is.id id (subst (λ v. equal Binary v (Int (pos id)) ≡ true) is.id_is e))
 
-module _ (schema : Schema) (limit : Option ℕ) (keys : Keys) (params : Row) (d id : ℕ) (it : Learned) (stands : StandsAlone schema d) where
+module _ (schema : Schema) (limit : Option ℕ) (keys : Keys) (params : Row) (d id : ℕ) (it : Learned)
+    (stands : StandsAlone schema d) where
   abbrev task : Task
   task = record { limit = limit; keys = keys; schema = schema; table = device_table d; params = params }
 
-  puts : (db : Trees) (w : Written) → Puts task (stored id it) db (Ok w) → (w.trees d ≡ put_row (stored id it) (db d)) × SparesOthers schema d db w.trees × IsFree (stored id it) (db d)
+  puts : (db : Trees) (w : Written) → Puts task (stored id it) db (Ok w)
+      → (w.trees d ≡ put_row (stored id it) (db d)) × SparesOthers schema d db w.trees × IsFree (stored id it) (db d)
   puts db w h =
       let done = went h in
       let trees : w.trees ≡ done.0 = ap (λ (it : Written). it.trees) (same_value done.2) in
@@ -86,38 +93,62 @@ module _ (schema : Schema) (limit : Option ℕ) (keys : Keys) (params : Row) (d 
       let step = one_step schema keys db done.0 edit (stands.free keys [] edit.news) done.1 in (
         ap (λ (t : Trees). t d) trees ∙ step.rows ∙ ap (λ r. put_row r (db d)) (cast_stored d id it),
         λ i t there other. ap (λ (s : Trees). s t.tree) trees ∙ spares schema keys db done.0 edit step i t there other,
-        untaken (stored id it) (db d) (none_taken (is_taken (db d) (stored id it)) (ap (λ r. not (is_taken (db d) r) && true) (sym (cast_stored d id it)) ∙ step.fresh)),
+        untaken (stored id it) (db d) (none_taken (is_taken (db d) (stored id it))
+            (ap (λ r. not (is_taken (db d) r) && true) (sym (cast_stored d id it)) ∙ step.fresh)),
       )
 
   clears : (db : Trees) (found : List Row) (w : Written) → Clears task Replace (stored id it) db found (Ok w)
-      → (w.trees d ≡ put_row (stored id it) (without_all (db d) (ids_of found))) × SparesOthers schema d db w.trees × IsFree (stored id it) (without_all (db d) (ids_of found))
+      → (w.trees d ≡ put_row (stored id it) (without_all (db d) (ids_of found))) × SparesOthers schema d db w.trees
+      × IsFree (stored id it) (without_all (db d) (ids_of found))
   clears db [] w h = puts db w h
   clears db (x ∷ more) w h =
       let done = went h in
       let edit = edit_of db (device_table d) (ids_of (x ∷ more)) Given 0 [] in
       let step = one_step schema keys db done.0 edit (stands.free keys (taken_by db edit) []) done.1 in
-      let put = puts done.0 w done.2 in
-      (put.0 ∙ ap (put_row (stored id it)) step.rows, λ i t there other. put.1 i t there other ∙ spares schema keys db done.0 edit step i t there other, subst (IsFree (stored id it)) step.rows put.2)
+      let put = puts done.0 w done.2 in (
+        put.0 ∙ ap (put_row (stored id it)) step.rows,
+        λ i t there other. put.1 i t there other
+            ∙ spares schema keys db done.0 edit step i t there other,
+        subst (IsFree (stored id it)) step.rows put.2,
+      )
 
-  conflicting : (db : Trees) (found : List Row) → AllByRecursion IsDevice (db d) → AreConflicts None schema.indexes (device_table d) (db d) (stored id it) found → AllByRecursion (λ i. i ≡ pos id) (ids_of found)
-  conflicting db found all h = gone_ids id found (λ x in_found. let one = h.sound x in_found in rw one.3 (same_id schema.indexes (device_table d) id it one.0 (held (db d) one.0 all one.1) stands.unindexed one.2))
+  conflicting : (db : Trees) (found : List Row) → AllByRecursion IsDevice (db d)
+      → AreConflicts None schema.indexes (device_table d) (db d) (stored id it) found
+      → AllByRecursion (λ i. i ≡ pos id) (ids_of found)
+  conflicting db found all h = gone_ids id found (λ x in_found.
+      let one = h.sound x in_found in
+      rw one.3 (same_id schema.indexes (device_table d) id it one.0
+      (held (db d) one.0 all one.1) stands.unindexed one.2))
 
-  tries : (db : Trees) (w : Written) → AllByRecursion IsDevice (db d) → Tries task Replace [] (stored id it) db (Ok w) → IsPut schema d id it db w.trees
+  tries : (db : Trees) (w : Written) → AllByRecursion IsDevice (db d) → Tries task Replace [] (stored id it) db (Ok w)
+      → IsPut schema d id it db w.trees
   tries db w all (inl h) = absurd (let e = h.1 in cc)
   tries db w all (inr (Some why, judged, h)) = absurd (let e = h in cc)
   tries db w all (inr (None, judged, h)) =
       let found = h.0 in
       let step = clears db found w h.2 in
-      record { device = checked d id it judged.3; gone = ids_of found; same = conflicting db found all h.1; fresh = step.2; rows = step.0; others = step.1 }
+      record {
+        device = checked d id it judged.3;
+        gone = ids_of found;
+        same = conflicting db found all h.1;
+        fresh = step.2;
+        rows = step.0;
+        others = step.1;
+      }
 
-pub learns : (schema : Schema) (at d : ℕ) (limit : Option ℕ) (mode : Mode) (id : ℕ) (it : Learned) (db : Trees) (text : List ℕ) (tally : Tally) (after : Database)
+pub learns : (schema : Schema) (at d : ℕ) (limit : Option ℕ) (mode : Mode) (id : ℕ) (it : Learned) (db : Trees)
+    (text : List ℕ) (tally : Tally) (after : Database)
     → slice_get schema.tables at ≡ Some (device_table d) → StandsAlone schema d → AllByRecursion IsDevice (db d)
-    → Does limit mode (learn_params id it) (record { schema = schema; trees = db }) text None (InsertOr at Replace (Values learn_terms 4) []) (Ok (tally, after))
+    → Does limit mode (learn_params id it) (record { schema = schema; trees = db }) text None
+    (InsertOr at Replace (Values learn_terms 4) []) (Ok (tally, after))
     → (after.schema ≡ schema) × IsPut schema d id it db after.trees
 learns schema at d limit mode id it db text tally after there stands all does =
     let command = InsertOr at Replace (Values learn_terms 4) [] in
-    let here = λ (table : Table). let t : Task = record { limit = limit; keys = mode.keys; schema = schema; table = table; params = learn_params id it } in t in
-    let h : OnRows (here (device_table d)) mode None command db (Ok (tally, after)) = subst (λ o. AtPlace (λ table. OnRows (here table) mode None command db) o (Ok (tally, after))) there does in
+    let here = λ (table : Table).
+    let t : Task =
+    record { limit = limit; keys = mode.keys; schema = schema; table = table; params = learn_params id it } in t in
+    let h : OnRows (here (device_table d)) mode None command db (Ok (tally, after)) =
+    subst (λ o. AtPlace (λ table. OnRows (here table) mode None command db) o (Ok (tally, after))) there does in
     let done = went h in
     let given = went done.1 in
     let counted = went given.2 in
@@ -126,10 +157,16 @@ learns schema at d limit mode id it db text tally after there stands all does =
     let concluded = went done.2 in
     let shown = went concluded.2 in
     let top = count_of counted.0 in
-    let now : after ≡ record { schema = schema; trees = done.0.trees } = ap (λ (p : Tally × Database). p.1) (same_value shown.2) in
-    let each = went (subst (λ rows. TriesEach (here (device_table d)) Replace [] rows top (nothing db) (Ok tried.0)) given.1.1 tried.1) in
-    let new_is : with_rowid (rowids_for (device_table d) top) (db d) (cast_row (device_table d) (stored id it)) ≡ stored id it = ap (with_rowid Chosen (db d)) (cast_stored d id it) in
-    let put = tries schema limit mode.keys (learn_params id it) d id it stands db each.0 all (subst (λ new. Tries (here (device_table d)) Replace [] new db (Ok each.0)) new_is each.1) in
+    let now : after ≡ record { schema = schema; trees = done.0.trees } =
+    ap (λ (p : Tally × Database). p.1) (same_value shown.2) in
+    let each =
+    went (subst (λ rows. TriesEach (here (device_table d)) Replace [] rows top (nothing db) (Ok tried.0)) given.1.1
+    tried.1) in
+    let new_is : with_rowid (rowids_for (device_table d) top) (db d) (cast_row (device_table d) (stored id it))
+    ≡ stored id it = ap (with_rowid Chosen (db d)) (cast_stored d id it) in
+    let put = tries schema limit mode.keys (learn_params id it) d id it stands db each.0 all
+    (subst (λ new. Tries (here (device_table d)) Replace [] new db (Ok each.0)) new_is each.1) in
     let trees : after.trees ≡ each.0.trees =
-    ap (λ (d : Database). d.trees) now ∙ ap (λ (w : Written). w.trees) (same_value ended.2) ∙ same_value ended.1 ∙ ap (λ (p : Written × ℤ). p.0.trees) (same_value each.2) in
+    ap (λ (d : Database). d.trees) now ∙ ap (λ (w : Written). w.trees) (same_value ended.2) ∙ same_value ended.1
+    ∙ ap (λ (p : Written × ℤ). p.0.trees) (same_value each.2) in
     (ap (λ (db : Database). db.schema) now, subst (IsPut schema d id it db) (sym trees) put)

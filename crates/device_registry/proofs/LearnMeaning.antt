@@ -15,7 +15,8 @@ use Rattle.device_registry.proofs.WriteMeaning.{insert_means}
 use Rattle.device_registry.specs.Tables.{learn_text, device_name, device_table}
 use Rattle.device_registry.specs.Stored.{Stands}
 
-learn_read : IsRead learn_text (written.Insert conflict.Replace device_name (codes "id" ∷ codes "eep" ∷ codes "maker" ∷ [])
+learn_read : IsRead learn_text
+    (written.Insert conflict.Replace device_name (codes "id" ∷ codes "eep" ∷ codes "maker" ∷ [])
     (Values ((Parameter 1 ∷ Parameter 2 ∷ Parameter 3 ∷ []) ∷ [])) [] [])
 unfolding everything
 learn_read = record { parsed = _; read = refl; is = refl; timeless = refl }

@@ -39,11 +39,13 @@ pub outs_are : (d : ℕ) (rows : List Row) → map (output (all_query d)) (envs 
 outs_are d [] = refl
 outs_are d (row ∷ rows) = ap (λ os. out row ∷ os) (outs_are d rows)
 
-below : (d : ℕ) (row : Row) (rows : List Row) → AllByRecursion (λ b. value_cmp (rowid row) (rowid b) ≡ Less) rows → AllByRecursion (λ o. output_cmp (all_query d) (out row) o ≡ Less) (map out rows)
+below : (d : ℕ) (row : Row) (rows : List Row) → AllByRecursion (λ b. value_cmp (rowid row) (rowid b) ≡ Less) rows
+    → AllByRecursion (λ o. output_cmp (all_query d) (out row) o ≡ Less) (map out rows)
 below d row [] low = tt
 below d row (r ∷ rows) low = (ap (λ o. ordering_then o Equal) low.0, below d row rows low.1)
 
-rises : (d : ℕ) (rows : List Row) → IsTable rows → IsAscending (λ a b. output_cmp (all_query d) a b ≡ Less) (map out rows)
+rises : (d : ℕ) (rows : List Row) → IsTable rows → IsAscending (λ a b. output_cmp (all_query d) a b ≡ Less)
+    (map out rows)
 rises d [] once = tt
 rises d (row ∷ rows) once = (below d row rows once.0, rises d rows once.1)
 
@@ -56,23 +58,36 @@ listed_are [] = refl
 listed_are (row ∷ rows) = ap (λ ds. listed (shown row) ∷ ds) (listed_are rows)
 
 -- the query shows the rows by rising sender
-pub shows_ranked : (d : ℕ) (db : Trees) (rows : List Row) → AllByRecursion IsDevice (db d) → RowidsDiffer (db d) → IsAnswer (all_query d) (overlay db []) [] rows → rows ≡ map shown (ranked (db d))
+pub shows_ranked : (d : ℕ) (db : Trees) (rows : List Row) → AllByRecursion IsDevice (db d) → RowidsDiffer (db d)
+    → IsAnswer (all_query d) (overlay db []) [] rows → rows ≡ map shown (ranked (db d))
 shows_ranked d db rows all apart a =
     let q = all_query d in
     let table = db d in
     let up = ranked table in
-    let kept : a.kept ≡ map out table = a.distinct ∙ ap (map (output q)) (a.grouped ∙ ap envs (overlay_is db d)) ∙ outs_are d table in
-    let same : IsPermutation (map out up) a.ordered = IsPermutation-trans _ _ _ (IsPermutation-map out up table (IsPermutation-sym table up (ranked_permutes table all apart))) (subst (λ k. IsPermutation k a.ordered) kept a.same) in
-    let ordered : a.ordered ≡ map out up = sorted_unique (output_cmp q) (output_cmp_total q) (map out up) a.ordered (rises d up (ranked_rises table)) same a.sorted in
+    let kept : a.kept ≡ map out table =
+    a.distinct ∙ ap (map (output q)) (a.grouped ∙ ap envs (overlay_is db d)) ∙ outs_are d table in
+    let same : IsPermutation (map out up) a.ordered =
+    IsPermutation-trans _ _ _
+    (IsPermutation-map out up table (IsPermutation-sym table up (ranked_permutes table all apart)))
+    (subst (λ k. IsPermutation k a.ordered) kept a.same) in
+    let ordered : a.ordered ≡ map out up = sorted_unique (output_cmp q) (output_cmp_total q) (map out up) a.ordered
+    (rises d up (ranked_rises table)) same a.sorted in
     a.shown ∙ ap (map (λ (o : Output). o.1)) ordered ∙ shown_are up
 
-pub lists : (old new : State) (rows : List Row) (devices : Devices) → Registers old.now devices → Shown all_text [] old new rows → map listed rows ≡ all_of devices
+pub lists : (old new : State) (rows : List Row) (devices : Devices) → Registers old.now devices
+    → Shown all_text [] old new rows → map listed rows ≡ all_of devices
 lists old new rows devices had h =
     let r = had.registry in
     let table = old.now.trees r.tables.devices in
     let it = all_means old.now.schema r.tables.devices_at r.tables.devices r.tables.devices_stand in
-    let read = reads_as all_text [] old new old.now.schema refl (Select (program_of (all_query r.tables.devices)) (codes "id" ∷ codes "eep" ∷ codes "maker" ∷ [])) it.is it.plain it.unlisted rows h in
-    ap (map listed) (shows_ranked r.tables.devices old.now.trees rows r.whole.rows r.whole.once (read.answer Null)) ∙ listed_are (ranked table) ∙ ap (map (λ entry. device entry.0 entry.1)) (sym (entries_ranked table r.whole.rows) ∙ ap entries had.is)
+    let read =
+    reads_as all_text [] old new old.now.schema refl (Select (program_of (all_query r.tables.devices))
+    (codes "id" ∷ codes "eep" ∷ codes "maker" ∷ [])) it.is it.plain it.unlisted rows h in
+    ap (map listed) (shows_ranked r.tables.devices old.now.trees rows r.whole.rows r.whole.once (read.answer Null))
+    ∙ listed_are (ranked table) ∙ ap (map (λ entry. device entry.0 entry.1))
+    (sym (entries_ranked table r.whole.rows) ∙ ap entries had.is)
 
 pub all_plain : (s : State) → IsReady s → IsPlain (understood s.now.schema all_text)
-all_plain s ready = let r = ready.shows.registers.registry in (all_means s.now.schema r.tables.devices_at r.tables.devices r.tables.devices_stand).plain
+all_plain s ready =
+    let r = ready.shows.registers.registry in
+    (all_means s.now.schema r.tables.devices_at r.tables.devices r.tables.devices_stand).plain

@@ -12,7 +12,8 @@ use Rattle.sqlite_ast.specs.declared.Expr.TheViews.{out-roll-Core, out-roll-Sele
 use Rattle.sqlite_ast.specs.declared.Select.{Select}
 use Rattle.sqlite_resolve.specs.Body.{bounds, bound, table_in, body}
 use Rattle.sqlite_resolve.specs.Lowering.{take_slot}
-use Rattle.sqlite_resolve.specs.Program.{Building, Shown, query, query_to, level, with, whole, alone, single, viewing, sources, source}
+use Rattle.sqlite_resolve.specs.Program.{Building, Shown, query, query_to, level, with, whole, alone}
+use Rattle.sqlite_resolve.specs.Program.{single, viewing, sources, source}
 use Rattle.sqlite_resolve.specs.Select.{named, paging, constant_or, parts}
 use Rattle.sqlite_resolve.specs.Compile.{compiled, planned, meaning, timed, returning, command, read}
 use Rattle.sqlite_tied.specs.Compute.{everything}

@@ -1,5 +1,6 @@
 -- From the statements that make the two tables to a registry of no devices.
-use Rattle.std.proofs.Common.{◌≡◌, ℕ, List, [], ◌∷◌, length, ◌≤◌, ◌<◌, ◌≢◌, ◌++◌, false, None, Option, Ok, Err, OnOk, Result, arith, IsTrue, MatchBool, refl, sym, ap, subst, ◌∙◌}
+use Rattle.std.proofs.Common.{◌≡◌, ℕ, List, [], ◌∷◌, length, ◌≤◌, ◌<◌, ◌≢◌, ◌++◌, false, None, Option, Ok, Err, OnOk}
+use Rattle.std.proofs.Common.{Result, arith, IsTrue, MatchBool, refl, sym, ap, subst, ◌∙◌}
 use Rattle.std.specs.List.{AllByRecursion}
 use Rattle.std.specs.FinMap.{empty}
 use Rattle.sqlite.specs.Schema.{Schema}
@@ -17,8 +18,10 @@ use Rattle.sqlite.specs.Rows.{Gives}
 use Rattle.sqlite.specs.Listing.{understood}
 use Rattle.sqlite.specs.State.{State, ExecutesInside, Shows as IsShowing, KeepsCounts, mode_of}
 use Rattle.sqlite.proofs.Callers.{runs_as, statement_of}
-use Rattle.device_registry.specs.Tables.{meta_text, device_text, version_text, meta_name, device_name, meta_table, device_table}
-use Rattle.device_registry.specs.Stored.{HasTables, KeepsTree, SparesName, RowidsDiffer, IsDevice, Registers, Holds, devices_in}
+use Rattle.device_registry.specs.Tables.{meta_text, device_text, version_text, meta_name}
+use Rattle.device_registry.specs.Tables.{device_name, meta_table, device_table}
+use Rattle.device_registry.specs.Stored.{HasTables, KeepsTree, SparesName, RowidsDiffer, IsDevice}
+use Rattle.device_registry.specs.Stored.{Registers, Holds, devices_in}
 use Rattle.device_registry.specs.Ready.{Shows}
 use Rattle.device_registry.specs.Devices.{most_devices}
 use Rattle.device_registry.specs.Opening.{IsClear}
@@ -26,21 +29,27 @@ use Rattle.device_registry.proofs.TableTexts.{meta_is, device_is}
 use Rattle.device_registry.proofs.RowWrites.{went, same_value}
 use Rattle.device_registry.proofs.CreateTablesMeaning.{meta_makes, device_makes}
 use Rattle.device_registry.proofs.VersionMeaning.{number_means, version_terms}
-use Rattle.device_registry.proofs.TablesAdded.{with_meta, with_both, made_tables, half_free, still_counted, lows, owners_below}
+use Rattle.device_registry.proofs.TablesAdded.{with_meta, with_both, made_tables, half_free}
+use Rattle.device_registry.proofs.TablesAdded.{still_counted, lows, owners_below}
 use Rattle.device_registry.proofs.TablesAlone.{StandsAlone, sets_off_nothing}
 use Rattle.sqlite_trees.proofs.ListLemmas.{all_weaker}
 use Rattle.device_registry.proofs.RenewEffect.{version_row}
 use Rattle.device_registry.proofs.VersionWrites.{numbers}
 
 -- a table is made, empty, and the tables that were there keep their rows
-creates : (limit : Option ℕ) (mode : Mode) (old after : Database) (text : List ℕ) (tally : Tally) (table : Table) → table_defined_by text ≡ Ok table → lacks_sequence (created old.schema table) ≡ false
+creates : (limit : Option ℕ) (mode : Mode) (old after : Database) (text : List ℕ) (tally : Tally) (table : Table)
+    → table_defined_by text ≡ Ok table → lacks_sequence (created old.schema table) ≡ false
     → Does limit mode [] old text None CreateTable (Ok (tally, after))
-    → (after.schema ≡ created old.schema table) × (after.trees (next_tree old.schema) ≡ []) × KeepsRows old.schema.tables old.trees after.trees
+    → (after.schema ≡ created old.schema table) × (after.trees (next_tree old.schema) ≡ [])
+    × KeepsRows old.schema.tables old.trees after.trees
 creates limit mode old after text tally table defined none h =
     let made = went h in
     let both = went made.1 in
-    let is : both.0.schema ≡ created old.schema table = both.1.is ∙ ap (created old.schema) (same_value (sym both.1.defined ∙ defined)) in
-    let same : made.0 ≡ both.0 = same_value (subst (λ b. MatchBool b (MakesTable sequence_text both.0 (Ok made.0)) (Gives both.0 (Ok made.0))) (ap lacks_sequence is ∙ none) both.2) in
+    let is : both.0.schema ≡ created old.schema table =
+    both.1.is ∙ ap (created old.schema) (same_value (sym both.1.defined ∙ defined)) in
+    let same : made.0 ≡ both.0 =
+    same_value (subst (λ b. MatchBool b (MakesTable sequence_text both.0 (Ok made.0)) (Gives both.0 (Ok made.0)))
+    (ap lacks_sequence is ∙ none) both.2) in
     let now : after ≡ both.0 = ap (λ (p : Tally × Database). p.1) (same_value made.2) ∙ same in (
       ap (λ (d : Database). d.schema) now ∙ is,
       ap (λ (d : Database). d.trees (next_tree old.schema)) now ∙ both.1.empty,
@@ -59,13 +68,15 @@ all_last P (y ∷ xs) x all = all_last P xs x all.1
 
 meta_alone : (schema : Schema) (t : HasTables schema) → StandsAlone schema t.meta
 meta_alone schema t = record {
-  free = λ keys olds news. sets_off_nothing schema keys t.meta meta_name (all_weaker _ (KeepsTree meta_name t.meta) (λ t both. both.0) schema.tables t.alone) olds news
+  free = λ keys olds news. sets_off_nothing schema keys t.meta meta_name
+      (all_weaker _ (KeepsTree meta_name t.meta) (λ t both. both.0) schema.tables t.alone) olds news
       (all_weaker _ (SparesName meta_name) (λ t both. both.0) schema.tables t.spared);
   unindexed = all_weaker _ (λ index. index.table ≢ t.meta) (λ index both. both.0) schema.indexes t.unindexed;
 }
 
 -- the two tables hold the version row and nothing else
-registers : (db : Database) (t : HasTables db.schema) → db.trees t.meta ≡ version_row ∷ [] → db.trees t.devices ≡ [] → Registers db empty
+registers : (db : Database) (t : HasTables db.schema) → db.trees t.meta ≡ version_row ∷ [] → db.trees t.devices ≡ []
+    → Registers db empty
 registers db t one none = record {
   registry = record {
     tables = t;
@@ -82,7 +93,8 @@ registers db t one none = record {
 }
 
 -- the tables are made
-module _ (a b c : State) (i j : ℕ) (clear : IsClear a.now.schema) (sound : IsDatabase a.now) (first : ExecutesInside 0 meta_text [] a b (Ok i)) (second : ExecutesInside 0 device_text [] b c (Ok j)) where
+module _ (a b c : State) (i j : ℕ) (clear : IsClear a.now.schema) (sound : IsDatabase a.now)
+    (first : ExecutesInside 0 meta_text [] a b (Ok i)) (second : ExecutesInside 0 device_text [] b c (Ok j)) where
   half_counted : lacks_sequence (with_meta a.now.schema) ≡ false
   half_counted = still_counted a.now.schema (meta_table 0) refl clear.counted
 
@@ -91,44 +103,72 @@ module _ (a b c : State) (i j : ℕ) (clear : IsClear a.now.schema) (sound : IsD
       let makes = meta_makes a.now.schema clear.free_meta in
       let one = runs_as meta_text [] a b a.now.schema refl CreateTable makes.means.is makes.means.plain i first.0 in
       let made = creates a.step_limit (mode_of a) a.now b.now meta_text one.tally (meta_table 0) meta_is half_counted
-      (subst (λ t. Does a.step_limit (mode_of a) [] a.now t None CreateTable (Ok (one.tally, b.now))) makes.alone one.changed) in
+      (subst (λ t. Does a.step_limit (mode_of a) [] a.now t None CreateTable (Ok (one.tally, b.now))) makes.alone
+      one.changed) in
       (made.0, made.1, one.sound)
 
-  whole : (c.now.schema ≡ with_both a.now.schema) × (c.now.trees (next_tree (with_meta a.now.schema)) ≡ []) × (c.now.trees (next_tree a.now.schema) ≡ []) × IsDatabase c.now
+  whole : (c.now.schema ≡ with_both a.now.schema) × (c.now.trees (next_tree (with_meta a.now.schema)) ≡ [])
+      × (c.now.trees (next_tree a.now.schema) ≡ []) × IsDatabase c.now
   whole =
       let before = half in
-      let makes = device_makes b.now.schema (subst (λ s. is_used s device_name ≡ false) (sym before.0) (half_free a.now.schema clear)) in
+      let makes =
+      device_makes b.now.schema
+      (subst (λ s. is_used s device_name ≡ false) (sym before.0) (half_free a.now.schema clear)) in
       let two = runs_as device_text [] b c b.now.schema refl CreateTable makes.means.is makes.means.plain j second.0 in
       let made = creates b.step_limit (mode_of b) b.now c.now device_text two.tally (device_table 0) device_is
-      (still_counted b.now.schema (device_table 0) refl (subst (λ s. lacks_sequence s ≡ false) (sym before.0) half_counted))
-      (subst (λ t. Does b.step_limit (mode_of b) [] b.now t None CreateTable (Ok (two.tally, c.now))) makes.alone two.changed) in
-      let kept = all_last (λ t. c.now.trees t.tree ≡ b.now.trees t.tree) a.now.schema.tables (meta_table (next_tree a.now.schema)) (subst (λ (s : Schema). KeepsRows s.tables b.now.trees c.now.trees) before.0 made.2) in
-      (made.0 ∙ ap (λ s. created s (device_table 0)) before.0, subst (λ s. c.now.trees (next_tree s) ≡ []) before.0 made.1, kept ∙ before.1, two.sound)
+      (still_counted b.now.schema (device_table 0) refl
+      (subst (λ s. lacks_sequence s ≡ false) (sym before.0) half_counted))
+      (subst (λ t. Does b.step_limit (mode_of b) [] b.now t None CreateTable (Ok (two.tally, c.now))) makes.alone
+      two.changed) in
+      let kept =
+      all_last (λ t. c.now.trees t.tree ≡ b.now.trees t.tree) a.now.schema.tables (meta_table (next_tree a.now.schema))
+      (subst (λ (s : Schema). KeepsRows s.tables b.now.trees c.now.trees) before.0 made.2) in (
+        made.0 ∙ ap (λ s. created s (device_table 0)) before.0,
+        subst (λ s. c.now.trees (next_tree s) ≡ []) before.0 made.1,
+        kept ∙ before.1,
+        two.sound,
+      )
 
   stand : StandIn c.now.schema (next_tree a.now.schema) (next_tree (with_meta a.now.schema))
   stand =
       let before = half in
       let after = whole in
-      let low = all_last (λ t. t.tree < 65536) a.now.schema.tables (meta_table (next_tree a.now.schema)) (subst (λ (s : Schema). AllByRecursion (λ t. t.tree < 65536) s.tables) before.0 (lows b.now.schema b.now.trees before.2)) in
-      let lower = all_last (λ t. t.tree < 65536) (with_meta a.now.schema).tables (device_table (next_tree (with_meta a.now.schema)))
-      (subst (λ (s : Schema). AllByRecursion (λ t. t.tree < 65536) s.tables) after.0 (lows c.now.schema c.now.trees after.3)) in
+      let low =
+      all_last (λ t. t.tree < 65536) a.now.schema.tables (meta_table (next_tree a.now.schema))
+      (subst (λ (s : Schema). AllByRecursion (λ t. t.tree < 65536) s.tables) before.0
+      (lows b.now.schema b.now.trees before.2)) in
+      let lower = all_last (λ t. t.tree < 65536) (with_meta a.now.schema).tables
+      (device_table (next_tree (with_meta a.now.schema)))
+      (subst (λ (s : Schema). AllByRecursion (λ t. t.tree < 65536) s.tables) after.0
+      (lows c.now.schema c.now.trees after.3)) in
       let t = made_tables a.now.schema clear low lower (owners_below a.now.schema a.now.trees sound) in
-      subst (λ s. StandIn s (next_tree a.now.schema) (next_tree (with_meta a.now.schema))) (sym after.0) (record { tables = t.0; meta_is = t.1; devices_is = t.2 })
+      subst (λ s. StandIn s (next_tree a.now.schema) (next_tree (with_meta a.now.schema))) (sym after.0)
+      (record { tables = t.0; meta_is = t.1; devices_is = t.2 })
 
 -- and the version row is written
-pub makes : (a b c d : State) (i j k : ℕ) → IsClear a.now.schema → IsDatabase a.now → ExecutesInside 0 meta_text [] a b (Ok i) → ExecutesInside 0 device_text [] b c (Ok j) → ExecutesInside 0 version_text [] c d (Ok k)
+pub makes : (a b c d : State) (i j k : ℕ) → IsClear a.now.schema → IsDatabase a.now
+    → ExecutesInside 0 meta_text [] a b (Ok i) → ExecutesInside 0 device_text [] b c (Ok j)
+    → ExecutesInside 0 version_text [] c d (Ok k)
     → Registers d.now empty × IsDatabase d.now
 makes a b c d i j k clear sound first second third =
     let after = whole a b c i j clear sound first second in
     let it = stand a b c i j clear sound first second in
     let t = it.tables in
     let means = number_means c.now.schema t.meta_at t.meta t.meta_stands in
-    let three = runs_as version_text [] c d c.now.schema refl (Insert t.meta_at (Values version_terms 3)) means.is means.plain k third.0 in
+    let three = runs_as version_text [] c d c.now.schema refl
+    (Insert t.meta_at (Values version_terms 3)) means.is means.plain k third.0 in
     let none : c.now.trees t.meta ≡ [] = ap c.now.trees it.meta_is ∙ after.2 in
-    let put = numbers c.now.schema t.meta_at t.meta c.step_limit (mode_of c) c.now.trees (statement_of version_text (understood c.now.schema version_text)) three.tally d.now t.meta_stands.there (meta_alone c.now.schema t) none three.changed in
-    let kept : d.now.trees t.devices ≡ [] = put.2 t.devices_at (device_table t.devices) t.devices_stand.there (λ e. t.apart (sym e)) ∙ ap c.now.trees it.devices_is ∙ after.1 in
-    let now = subst (λ s. StandIn s t.meta t.devices) (sym put.0) (record { tables = t; meta_is = refl; devices_is = refl }) in
-    (registers d.now now.tables (ap d.now.trees now.meta_is ∙ put.1) (ap d.now.trees now.devices_is ∙ kept), three.sound)
+    let put =
+    numbers c.now.schema t.meta_at t.meta c.step_limit (mode_of c) c.now.trees
+    (statement_of version_text (understood c.now.schema version_text)) three.tally d.now t.meta_stands.there
+    (meta_alone c.now.schema t) none three.changed in
+    let kept : d.now.trees t.devices ≡ [] = put.2 t.devices_at (device_table t.devices) t.devices_stand.there
+    (λ e. t.apart (sym e)) ∙ ap c.now.trees it.devices_is ∙ after.1 in
+    let now = subst (λ s. StandIn s t.meta t.devices) (sym put.0)
+    (record { tables = t; meta_is = refl; devices_is = refl }) in (
+      registers d.now now.tables (ap d.now.trees now.meta_is ∙ put.1) (ap d.now.trees now.devices_is ∙ kept),
+      three.sound,
+    )
 
 committed : (d e : State) → Registers d.now empty × IsDatabase d.now → IsShowing d e d.now d.now false → Shows e empty
 committed d e made ends = record {
@@ -139,9 +179,12 @@ committed d e made ends = record {
   registers = subst (λ db. Registers db empty) (sym ends.now_is) made.0;
 }
 
-pub made_if : {V : Type 0} (r : Result V Error) (d e : State) → Registers d.now empty × IsDatabase d.now → OnOk r (IsTrue d.in_transaction × IsShowing d e d.now d.now false × KeepsCounts d e × (e.marks ≡ [])) → OnOk r (Shows e empty)
+pub made_if : {V : Type 0} (r : Result V Error) (d e : State) → Registers d.now empty × IsDatabase d.now
+    → OnOk r (IsTrue d.in_transaction × IsShowing d e d.now d.now false × KeepsCounts d e × (e.marks ≡ []))
+    → OnOk r (Shows e empty)
 made_if (Ok v) d e made ends = committed d e made ends.1
 made_if (Err x) d e made ends = tt
 
-pub left_by : (d : State) (trees : Trees) → Registers d.now empty × IsDatabase d.now → trees ≡ d.now.trees → Holds trees empty
+pub left_by : (d : State) (trees : Trees) → Registers d.now empty × IsDatabase d.now → trees ≡ d.now.trees
+    → Holds trees empty
 left_by d trees made is = record { db = d.now; same = sym is; sound = made.1; registers = made.0 }

@@ -1,5 +1,6 @@
 -- From the clauses of the calls of an open to the registry.
-use Rattle.std.proofs.Common.{◌≡◌, ◌≢◌, ◌⊎◌, inl, inr, ℕ, Bool, Some, None, Option, Ok, Err, Result, IfOk, IfErr, OnOk, refl, sym, ap, subst, ◌∙◌, arith, IsTrue}
+use Rattle.std.proofs.Common.{◌≡◌, ◌≢◌, ◌⊎◌, inl, inr, ℕ, Bool, Some, None, Option, Ok, Err, Result, IfOk}
+use Rattle.std.proofs.Common.{IfErr, OnOk, refl, sym, ap, subst, ◌∙◌, arith, IsTrue}
 use Rattle.sqlite.specs.declared.error.Error.{Error}
 use Rattle.sqlite.specs.Effect.{Database, IsDatabase}
 use Rattle.sqlite.specs.State.{State, IsUnchanged}
@@ -19,7 +20,8 @@ use Rattle.device_registry.specs.Stored.{HasTables, IsWhole, IsRegistry, Holds, 
 use Rattle.sqlite_rules.specs.Lists.{Has}
 use Rattle.device_registry.specs.Holding.{AreRegistries, Finds, Opens}
 use Rattle.device_registry.specs.Ready.{Shows, IsReady, KeepsRows}
-use Rattle.device_registry.specs.Opening.{IsAtRest, IsPrepared, KeepsFound, IsOther, RefusesToOpen, FoundAgain, HandedOn}
+use Rattle.device_registry.specs.Opening.{IsAtRest, IsPrepared, KeepsFound, IsOther}
+use Rattle.device_registry.specs.Opening.{RefusesToOpen, FoundAgain, HandedOn}
 use Rattle.device_registry.specs.Places.{is_clear}
 use Rattle.sqlite_catalog.specs.Listing.{IsSound}
 use Rattle.sqlite_schema.specs.Names.{table_named}
@@ -31,16 +33,21 @@ use Rattle.device_registry.proofs.DevicesHeld.{held_once}
 
 -- what was asked of the state between, which is as it was
 pub taken_if : (r : Result Bool Error) (old mid new : State) → IsUnchanged old mid → HasTables old.now.schema
-    → IfOk r (λ yes. IsUnchanged mid new × (IsTrue yes → (t : HasTables mid.now.schema) → IsWhole mid.now.trees t.meta t.devices)) → IfOk r (λ yes. IsUnchanged old new × (IsTrue yes → IsRegistry old.now))
+    → IfOk r (λ yes. IsUnchanged mid new × (IsTrue yes → (t : HasTables mid.now.schema)
+    → IsWhole mid.now.trees t.meta t.devices)) → IfOk r (λ yes. IsUnchanged old new × (IsTrue yes → IsRegistry old.now))
 taken_if (Ok is_so) old mid new same tables h = (
   unchanged_then old mid new same h.0,
   λ is.
-      subst IsRegistry same.0.now_is (let t : HasTables mid.now.schema = subst (λ (db : Database). HasTables db.schema) (sym same.0.now_is) tables in record { tables = t; whole = h.1 is t }),
+      subst IsRegistry same.0.now_is (let t : HasTables mid.now.schema = subst (λ (db : Database). HasTables db.schema)
+      (sym same.0.now_is) tables in record { tables = t; whole = h.1 is t }),
 )
 taken_if (Err e) old mid new same tables h = tt
 
-pub not_whole : (old mid : State) → IsUnchanged old mid → ((t : HasTables mid.now.schema) → ¬ IsWhole mid.now.trees t.meta t.devices) → (t : HasTables old.now.schema) → ¬ IsWhole old.now.trees t.meta t.devices
-not_whole old mid same none = subst (λ (db : Database). (t : HasTables db.schema) → ¬ IsWhole db.trees t.meta t.devices) same.0.now_is none
+pub not_whole : (old mid : State) → IsUnchanged old mid
+    → ((t : HasTables mid.now.schema) → ¬ IsWhole mid.now.trees t.meta t.devices) → (t : HasTables old.now.schema)
+    → ¬ IsWhole old.now.trees t.meta t.devices
+not_whole old mid same none =
+    subst (λ (db : Database). (t : HasTables db.schema) → ¬ IsWhole db.trees t.meta t.devices) same.0.now_is none
 
 -- ---- a database in which the two tables can be made
 
@@ -55,12 +62,19 @@ bare s rest clear =
       no_devices = (unused s.now.schema device_name it.free_devices).0;
     }
 
-pub begun : (old new : State) → IsAtRest old → IsTrue (is_clear old.now.schema) → Shows new empty → (devices : Devices) × IsPrepared old new devices
+pub begun : (old new : State) → IsAtRest old → IsTrue (is_clear old.now.schema) → Shows new empty
+    → (devices : Devices) × IsPrepared old new devices
 begun old new rest clear shows = (empty, record { found = inr (bare old rest clear, refl); shows = shows })
 
-pub begun_stop : (old new : State) → (HasCleanDisk old → IsAtRest old) → IsTrue (is_clear old.now.schema) → Survives old new (λ trees. Holds trees empty) → Survives old new (KeepsFound old.now.trees)
+pub begun_stop : (old new : State) → (HasCleanDisk old → IsAtRest old) → IsTrue (is_clear old.now.schema)
+    → Survives old new (λ trees. Holds trees empty) → Survives old new (KeepsFound old.now.trees)
 begun_stop old new rest clear h = survives_weaker old new (λ trees. Holds trees empty) (KeepsFound old.now.trees)
-    (λ clean trees holds. record { devices = empty; finds = inr (bare old (rest (omega (arith, clean, h.clean))) clear, refl); holds = holds }) h
+    (λ clean trees holds. record {
+      devices = empty;
+      finds =
+          inr (bare old (rest (omega (arith, clean, h.clean))) clear, refl);
+      holds = holds;
+    }) h
 
 -- ---- a registry
 
@@ -81,22 +95,38 @@ held : (s : State) (devices : Devices) → Shows s devices → Holds s.now.trees
 held s devices shows = record { db = s.now; same = refl; sound = shows.sound; registers = shows.registers }
 
 pub ready : (old mid : State) → IsAtRest old → IsUnchanged old mid → IsRegistry old.now → IsReady mid
-ready old mid rest same it = let was = shown old rest it in record { devices = was.0; shows = (unchanged old mid same same.0.is_open).1 was.0 was.1 }
-
-pub taken : (old mid new : State) → IsAtRest old → IsUnchanged old mid → IsRegistry old.now → ((devices : Devices) → Shows mid devices → Shows new devices) → (devices : Devices) × IsPrepared old new devices
-taken old mid new rest same it renewed =
+ready old mid rest same it =
     let was = shown old rest it in
-    (was.0, record { found = inl (held old was.0 was.1); shows = renewed was.0 ((unchanged old mid same same.0.is_open).1 was.0 was.1) })
+    record { devices = was.0; shows = (unchanged old mid same same.0.is_open).1 was.0 was.1 }
 
-pub taken_stop : (old mid new : State) → (HasCleanDisk old → IsAtRest old) → (HasCleanDisk mid → IsUnchanged old mid × IsRegistry old.now) → Survives old mid (λ _. ⊥)
-    → Survives mid new (λ trees. (devices : Devices) → Shows mid devices → Holds trees devices) → Survives old new (KeepsFound old.now.trees)
+pub taken : (old mid new : State) → IsAtRest old → IsUnchanged old mid → IsRegistry old.now
+    → ((devices : Devices) → Shows mid devices → Shows new devices) → (devices : Devices) × IsPrepared old new devices
+taken old mid new rest same it renewed =
+    let was = shown old rest it in (
+      was.0,
+      record {
+        found = inl (held old was.0 was.1);
+        shows =
+            renewed was.0 ((unchanged old mid same same.0.is_open).1 was.0 was.1);
+      },
+    )
+
+pub taken_stop : (old mid new : State) → (HasCleanDisk old → IsAtRest old)
+    → (HasCleanDisk mid → IsUnchanged old mid × IsRegistry old.now) → Survives old mid (λ _. ⊥)
+    → Survives mid new (λ trees. (devices : Devices) → Shows mid devices → Holds trees devices)
+    → Survives old new (KeepsFound old.now.trees)
 taken_stop old mid new rest took first second =
-    survives_then old mid new (λ _. ⊥) (λ trees. (devices : Devices) → Shows mid devices → Holds trees devices) (KeepsFound old.now.trees) (λ clean trees no. absurd no)
+    survives_then old mid new (λ _. ⊥) (λ trees. (devices : Devices) → Shows mid devices → Holds trees devices)
+    (KeepsFound old.now.trees) (λ clean trees no. absurd no)
     (λ clean trees leaves.
     let between : HasCleanDisk mid = omega (arith, clean, second.clean) in
     let it = took between in
     let was = shown old (rest (omega (arith, between, first.clean))) it.1 in
-    record { devices = was.0; finds = inl (held old was.0 was.1); holds = leaves was.0 ((unchanged old mid it.0 it.0.0.is_open).1 was.0 was.1) })
+    record {
+      devices = was.0;
+      finds = inl (held old was.0 was.1);
+      holds = leaves was.0 ((unchanged old mid it.0 it.0.0.is_open).1 was.0 was.1);
+    })
     first second
 
 -- ---- what is opened
@@ -105,11 +135,14 @@ taken_stop old mid new rest took first second =
 abbrev pub LeavesLast : State → Type 0
 LeavesLast s = (trees : Trees) → s.may_leave trees → trees ≡ s.committed.trees
 
-left : (s : State) (devices : Devices) → Shows s devices → LeavesLast s → (trees : Trees) → s.may_leave trees → Holds trees devices
-left s devices shows leaves trees may = subst (λ t. Holds t devices) (ap (λ (db : Database). db.trees) shows.settled ∙ sym (leaves trees may)) (held s devices shows)
+left : (s : State) (devices : Devices) → Shows s devices → LeavesLast s → (trees : Trees) → s.may_leave trees
+    → Holds trees devices
+left s devices shows leaves trees may = subst (λ t. Holds t devices)
+    (ap (λ (db : Database). db.trees) shows.settled ∙ sym (leaves trees may)) (held s devices shows)
 
 pub registries : (s : State) (devices : Devices) → Shows s devices → LeavesLast s → AreRegistries s.may_leave
-registries s devices shows leaves trees may = record { devices = devices; holds = left s devices shows leaves trees may }
+registries s devices shows leaves trees may =
+    record { devices = devices; holds = left s devices shows leaves trees may }
 
 -- what the connection showed when it was asked, it shows still
 pub rests : (old mid : State) → IsUnchanged old mid → IsAtRest old → IsAtRest mid
@@ -123,7 +156,8 @@ rests old mid same rest = record {
 last : (old mid : State) → IsUnchanged old mid → IsAtRest old → mid.now.trees ≡ old.committed.trees
 last old mid same rest = ap (λ (db : Database). db.trees) (same.0.now_is ∙ rest.settled)
 
-pub opened : (old mid new : State) (devices : Devices) → IsUnchanged old mid → IsAtRest old → IsPrepared mid new devices → LeavesLast new → Opens old new devices
+pub opened : (old mid new : State) (devices : Devices) → IsUnchanged old mid → IsAtRest old → IsPrepared mid new devices
+    → LeavesLast new → Opens old new devices
 opened old mid new devices same rest it leaves = record {
   was_open = same.0.was_open;
   found = subst (λ trees. Finds trees devices) (last old mid same rest) it.found;
@@ -131,7 +165,8 @@ opened old mid new devices same rest it leaves = record {
   stop = λ other may. held_once may.0 other devices may.2 (left new devices it.shows leaves may.0 may.1);
 }
 
-pub another : (old mid : State) → IsUnchanged old mid → IsAtRest old → IsOther mid.now.trees → IsOther old.committed.trees
+pub another : (old mid : State) → IsUnchanged old mid → IsAtRest old → IsOther mid.now.trees
+    → IsOther old.committed.trees
 another old mid same rest other = subst IsOther (last old mid same rest) other
 
 -- while it is open, a stop leaves the last commit
@@ -139,21 +174,26 @@ abbrev pub Settles : State → Type 0
 Settles s = (trees : Trees) → IsTrue s.is_open → s.may_leave trees → trees ≡ s.committed.trees
 
 module _ {T : Type 0} (old mid new : State) (law : Settles new) where
-  pub opens_if : (r : Result T OpenFault) → IsUnchanged old mid × IsAtRest old → OnOk r ((devices : Devices) × IsPrepared mid new devices) → OnOk r ((devices : Devices) × Opens old new devices)
+  pub opens_if : (r : Result T OpenFault) → IsUnchanged old mid × IsAtRest old
+      → OnOk r ((devices : Devices) × IsPrepared mid new devices) → OnOk r ((devices : Devices) × Opens old new devices)
   opens_if (Ok v) was it = (it.0, opened old mid new it.0 was.0 was.1 it.1 (λ trees. law trees it.1.shows.is_open))
   opens_if (Err e) was it = tt
 
-  pub registries_if : (r : Result T OpenFault) → OnOk r ((devices : Devices) × IsPrepared mid new devices) → OnOk r (AreRegistries new.may_leave)
+  pub registries_if : (r : Result T OpenFault) → OnOk r ((devices : Devices) × IsPrepared mid new devices)
+      → OnOk r (AreRegistries new.may_leave)
   registries_if (Ok v) it = registries new it.0 it.1.shows (λ trees. law trees it.1.shows.is_open)
   registries_if (Err e) it = tt
 
-pub ready_if : {T : Type 0} (mid new : State) (r : Result T OpenFault) → OnOk r ((devices : Devices) × IsPrepared mid new devices) → OnOk r (IsReady new)
+pub ready_if : {T : Type 0} (mid new : State) (r : Result T OpenFault)
+    → OnOk r ((devices : Devices) × IsPrepared mid new devices) → OnOk r (IsReady new)
 ready_if mid new (Ok v) it = record { devices = it.0; shows = it.1.shows }
 ready_if mid new (Err e) it = tt
 
 -- what a stop leaves after a refusal
-pub leaves : (old mid new : State) → (HasCleanDisk mid → IsUnchanged old mid × IsAtRest old) → Survives old mid (λ _. ⊥) → Survives mid new (KeepsFound mid.now.trees) → HasCleanDisk new
-    → (trees : Trees) → new.may_leave trees → old.may_leave trees ⊎ (IsTrue old.is_open × KeepsFound old.committed.trees trees)
+pub leaves : (old mid new : State) → (HasCleanDisk mid → IsUnchanged old mid × IsAtRest old) → Survives old mid (λ _. ⊥)
+    → Survives mid new (KeepsFound mid.now.trees) → HasCleanDisk new
+    → (trees : Trees) → new.may_leave trees → old.may_leave trees
+    ⊎ (IsTrue old.is_open × KeepsFound old.committed.trees trees)
 leaves old mid new was first second clean trees may =
     let between : HasCleanDisk mid = omega (arith, clean, second.clean) in
     let it = was between in
@@ -162,7 +202,8 @@ leaves old mid new was first second clean trees may =
       | inr kept ↦ inr (it.0.0.was_open, subst (λ found. KeepsFound found trees) (last old mid it.0 it.1) kept)
     ]
 
-pub nothing : (old new : State) → Survives old new (λ _. ⊥) → HasCleanDisk new → (trees : Trees) → new.may_leave trees → old.may_leave trees ⊎ (IsTrue old.is_open × KeepsFound old.committed.trees trees)
+pub nothing : (old new : State) → Survives old new (λ _. ⊥) → HasCleanDisk new → (trees : Trees) → new.may_leave trees
+    → old.may_leave trees ⊎ (IsTrue old.is_open × KeepsFound old.committed.trees trees)
 nothing old new h clean trees may = elim (h.crash clean trees may) [ inl before ↦ inl before | inr none ↦ absurd none ]
 
 -- the store did not answer, and nothing was asked of it
@@ -174,7 +215,8 @@ not_asked s fault = record {
 }
 
 -- the connection is shut, or does not answer
-pub refused_first : (old new : State) (fault : OpenFault) → fault ≢ NotARegistry → Survives old new (λ _. ⊥) → RefusesToOpen old new fault
+pub refused_first : (old new : State) (fault : OpenFault) → fault ≢ NotARegistry → Survives old new (λ _. ⊥)
+    → RefusesToOpen old new fault
 refused_first old new fault other survives = record {
   clean = λ clean. let early : HasCleanDisk old = omega (arith, clean, survives.clean) in early;
   other = λ clean is. absurd (other is);
@@ -182,8 +224,12 @@ refused_first old new fault other survives = record {
 }
 
 -- and what the registry says of a database is what is said of the connection that it was asked of
-pub refused_then : {T : Type 0} (r : Result T OpenFault) (old mid new : State) → (HasCleanDisk mid → IsUnchanged old mid × IsAtRest old) → Survives old mid (λ _. ⊥) → Survives mid new (KeepsFound mid.now.trees)
-    → (HasCleanDisk new → r ≡ Err NotARegistry → IsOther mid.now.trees) → (HasCleanDisk new → r ≡ Err NotARegistry → IsUnchanged mid new × ((trees : Trees) → new.may_leave trees → mid.may_leave trees))
+pub refused_then : {T : Type 0} (r : Result T OpenFault) (old mid new : State)
+    → (HasCleanDisk mid → IsUnchanged old mid × IsAtRest old) → Survives old mid (λ _. ⊥)
+    → Survives mid new (KeepsFound mid.now.trees)
+    → (HasCleanDisk new → r ≡ Err NotARegistry → IsOther mid.now.trees)
+    → (HasCleanDisk new → r
+    ≡ Err NotARegistry → IsUnchanged mid new × ((trees : Trees) → new.may_leave trees → mid.may_leave trees))
     → IfErr r (RefusesToOpen old new)
 refused_then (Ok v) old mid new was first second other same = tt
 refused_then (Err fault) old mid new was first second other same = record {
@@ -194,7 +240,8 @@ refused_then (Err fault) old mid new was first second other same = record {
       let left = same clean (ap Err is) in (
         another old mid it.0 it.1 (other clean (ap Err is)),
         unchanged_then old mid new it.0 left.0,
-        λ trees may. elim (first.crash between trees (left.1 trees may)) [ inl before ↦ before | inr none ↦ absurd none ],
+        λ trees may. elim (first.crash between trees (left.1 trees may))
+            [ inl before ↦ before | inr none ↦ absurd none ],
       );
   stop = λ clean. leaves old mid new was first second clean;
 }
@@ -207,11 +254,15 @@ no_place o at some none = let e = sym some ∙ none in cc
 -- a database that is a registry has the two tables
 pub not_bare : (trees : Trees) (devices : Devices) → Holds trees devices → IsBare trees → ⊥
 not_bare trees devices holds bare =
-    let same : holds.db.schema ≡ bare.db.schema = same_schema trees holds.db.schema bare.db.schema (subst (IsSound holds.db.schema) holds.same holds.sound) (subst (IsSound bare.db.schema) bare.same bare.sound) in
+    let same : holds.db.schema ≡ bare.db.schema =
+    same_schema trees holds.db.schema bare.db.schema (subst (IsSound holds.db.schema) holds.same holds.sound)
+    (subst (IsSound bare.db.schema) bare.same bare.sound) in
     let registry = holds.registers.registry in
-    no_place (table_named holds.db.schema meta_name) registry.tables.meta_at registry.tables.meta_stands.named (ap (λ s. table_named s meta_name) same ∙ bare.no_meta)
+    no_place (table_named holds.db.schema meta_name) registry.tables.meta_at registry.tables.meta_stands.named
+    (ap (λ s. table_named s meta_name) same ∙ bare.no_meta)
 
-pub clear_rows : (old new : State) → IsAtRest old → IsTrue (is_clear old.now.schema) → IsHeld old.now.trees → KeepsRows old new
+pub clear_rows : (old new : State) → IsAtRest old → IsTrue (is_clear old.now.schema) → IsHeld old.now.trees
+    → KeepsRows old new
 clear_rows old new rest clear held = absurd (not_bare old.now.trees held.devices held.holds (bare old rest clear))
 
 -- what was asked between changed nothing
@@ -220,11 +271,14 @@ same_rows old mid new same kept =
     let db : mid.now ≡ old.now = same.0.now_is in
     record {
       schema = kept.schema ∙ ap (λ (d : Database). d.schema) db;
-      rows = λ t has. kept.rows t (subst (λ (d : Database). Has d.schema.tables t) (sym db) has) ∙ ap (λ (d : Database). d.trees t.tree) db;
+      rows = λ t has. kept.rows t (subst (λ (d : Database). Has d.schema.tables t) (sym db) has)
+          ∙ ap (λ (d : Database). d.trees t.tree) db;
     }
 
-pub rows_on : {T : Type 0} (r : Result T OpenFault) (old mid new : State) → IsUnchanged old mid → IsAtRest old → OnOk r (IsHeld mid.now.trees → KeepsRows mid new) → OnOk r (IsHeld old.committed.trees → KeepsRows old new)
-rows_on (Ok v) old mid new same rest kept = λ held. same_rows old mid new same (kept (subst IsHeld (sym (last old mid same rest)) held))
+pub rows_on : {T : Type 0} (r : Result T OpenFault) (old mid new : State) → IsUnchanged old mid → IsAtRest old
+    → OnOk r (IsHeld mid.now.trees → KeepsRows mid new) → OnOk r (IsHeld old.committed.trees → KeepsRows old new)
+rows_on (Ok v) old mid new same rest kept =
+    λ held. same_rows old mid new same (kept (subst IsHeld (sym (last old mid same rest)) held))
 rows_on (Err e) old mid new same rest kept = tt
 
 pub found_again : FoundAgain

@@ -1,12 +1,12 @@
 -- What a connection shows after a refusal.
-use Rattle.std.proofs.Common.{◌≡◌, ◌⊎◌, inl, inr, ℕ, List, false, true, Ok, Err, Result, IsTrue, IfErr, OnErr, sym, ap, subst, ◌∙◌, append-nil}
-use Rattle.std.proofs.lemmas.Bool.{cases_Bool}
+use Rattle.std.proofs.Common.{◌≡◌, ◌⊎◌, inl, inr, ℕ, List, false, true, Ok, Err, Result, IsTrue}
+use Rattle.std.proofs.Common.{IfErr, OnErr, sym, ap, subst, ◌∙◌, append-nil}
 use Rattle.sqlite.specs.Order.{Row}
 use Rattle.sqlite.specs.declared.error.Error.{Error}
-use Rattle.sqlite.specs.Clock.{timed}
 use Rattle.sqlite.specs.Listing.{understood}
 use Rattle.sqlite.specs.Effect.{IsDatabase}
-use Rattle.sqlite.specs.State.{State, Executes, ExecutesIn, ExecutesInside, IsNotRun, IsUnchanged, IsRolledBack, KeepsCommit, shows_rows, FailsToQuery, FailsToShow}
+use Rattle.sqlite.specs.State.{State, Executes, ExecutesInside, IsNotRun, IsUnchanged}
+use Rattle.sqlite.specs.State.{IsRolledBack, KeepsCommit, FailsToQuery}
 use Rattle.sqlite.specs.Steps.{FailsToCommit}
 use Rattle.sqlite.proofs.Callers.{IsPlain}
 use Rattle.device_registry.specs.Opening.{IsAtRest, Remains}
@@ -17,9 +17,15 @@ pub unchanged_remains : (old new : State) → IsUnchanged old new → Remains ol
 unchanged_remains old new same is_open rest = (rests old new same rest, same.0.now_is)
 
 -- it goes back to what was committed, which is what it showed
-back_at : (old new : State) → IsTrue new.is_open → new.in_transaction ≡ false → new.now ≡ old.now → new.committed ≡ old.committed → IsAtRest old → IsAtRest new × (new.now ≡ old.now)
+back_at : (old new : State) → IsTrue new.is_open → new.in_transaction ≡ false → new.now ≡ old.now
+    → new.committed ≡ old.committed → IsAtRest old → IsAtRest new × (new.now ≡ old.now)
 back_at old new is_open idle same last rest = (
-  record { is_open = is_open; idle = idle; settled = same ∙ rest.settled ∙ sym last; sound = subst IsDatabase (sym same) rest.sound },
+  record {
+    is_open = is_open;
+    idle = idle;
+    settled = same ∙ rest.settled ∙ sym last;
+    sound = subst IsDatabase (sym same) rest.sound;
+  },
   same,
 )
 
@@ -38,7 +44,8 @@ spared_open old new (inr back) is_open = back.was_open is_open
 
 -- what was asked before changed nothing
 pub remains_after : (old mid new : State) → IsUnchanged old mid → Remains mid new → Remains old new
-remains_after old mid new same remains is_open rest = let it = remains is_open (rests old mid same rest) in (it.0, it.1 ∙ same.0.now_is)
+remains_after old mid new same remains is_open rest =
+    let it = remains is_open (rests old mid same rest) in (it.0, it.1 ∙ same.0.now_is)
 
 -- ---- in an answer
 
@@ -53,15 +60,18 @@ not_run_kept sql params old new e rest h is_open =
     let is_spared = not_run sql params old new e h in
     spared_remains old new is_spared is_open (rest (spared_open old new is_spared is_open))
 
-pub kept_if : {T E : Type 0} (r : Result T E) (old mid new : State) → IsUnchanged old mid → IsAtRest old → OnErr r (Remains mid new) → OnErr r (IsTrue new.is_open → IsAtRest new × (new.now ≡ old.now))
+pub kept_if : {T E : Type 0} (r : Result T E) (old mid new : State) → IsUnchanged old mid → IsAtRest old
+    → OnErr r (Remains mid new) → OnErr r (IsTrue new.is_open → IsAtRest new × (new.now ≡ old.now))
 kept_if (Ok v) old mid new same rest h = tt
 kept_if (Err e) old mid new same rest h = λ is_open. remains_after old mid new same h is_open rest
 
-pub executed_if : (sql : List ℕ) (params : Row) (old new : State) (r : Result ℕ Error) → Executes sql params old new r → OnErr r (Remains old new)
+pub executed_if : (sql : List ℕ) (params : Row) (old new : State) (r : Result ℕ Error) → Executes sql params old new r
+    → OnErr r (Remains old new)
 executed_if sql params old new (Ok n) h = tt
 executed_if sql params old new (Err e) h = spared_remains old new (not_executed sql params old new e h)
 
-pub queried_if : {V : Type 0} (sql : List ℕ) (params : Row) (old new : State) (r : Result V Error) → IsPlain (understood old.now.schema sql) → IfErr r (FailsToQuery sql params old new) → OnErr r (Remains old new)
+pub queried_if : {V : Type 0} (sql : List ℕ) (params : Row) (old new : State) (r : Result V Error)
+    → IsPlain (understood old.now.schema sql) → IfErr r (FailsToQuery sql params old new) → OnErr r (Remains old new)
 queried_if sql params old new (Ok v) plain h = tt
 queried_if sql params old new (Err e) plain h = spared_remains old new (not_shown sql params old new plain e h)
 
@@ -77,24 +87,29 @@ then_commit old mid new first second = record {
   committed = λ is_open. second.committed is_open ∙ first.committed (second.was_open is_open);
 }
 
-pub inside_commit : (sql : List ℕ) (old new : State) (e : Error) → ExecutesInside 0 sql Rattle.std.proofs.Common.[] old new (Err e) → KeepsCommit old new
+pub inside_commit : (sql : List ℕ) (old new : State) (e : Error)
+    → ExecutesInside 0 sql Rattle.std.proofs.Common.[] old new (Err e) → KeepsCommit old new
 inside_commit sql old new e (inl h) = spared_commit old new h.1
 inside_commit sql old new e (inr h) = spared_commit old new (inl h.2)
 
-pub made_commit : (sql : List ℕ) (old new : State) (n : ℕ) → ExecutesInside 0 sql Rattle.std.proofs.Common.[] old new (Ok n) → KeepsCommit old new
+pub made_commit : (sql : List ℕ) (old new : State) (n : ℕ) → ExecutesInside 0 sql Rattle.std.proofs.Common.[] old new
+    (Ok n) → KeepsCommit old new
 made_commit sql old new n h = record { was_open = λ _. h.1.was_open; committed = λ _. h.1.committed_is }
 
 -- the transaction is ended, from a start at rest
-pub ended_remains : (old start last new : State) → start.committed ≡ old.committed → KeepsCommit start last → IsRolledBack last new → Remains old new
+pub ended_remains : (old start last new : State) → start.committed ≡ old.committed → KeepsCommit start last
+    → IsRolledBack last new → Remains old new
 ended_remains old start last new begun kept back is_open rest =
     let both = back.undone is_open in
     let same : last.committed ≡ old.committed = kept.committed (back.was_open is_open) ∙ begun in
     back_at old new is_open back.autocommit (both.0 ∙ same ∙ sym rest.settled) (both.1 ∙ same) rest
 
-pub uncommitted : (old start last new : State) (e : Error) → start.committed ≡ old.committed → KeepsCommit start last → IsTrue last.in_transaction → FailsToCommit last new e → Remains old new
+pub uncommitted : (old start last new : State) (e : Error) → start.committed ≡ old.committed → KeepsCommit start last
+    → IsTrue last.in_transaction → FailsToCommit last new e → Remains old new
 uncommitted old start last new e begun kept inside (inl failed) = ended_remains old start last new begun kept failed.3
 uncommitted old start last new e begun kept inside (inr late) = absurd (let e = sym inside ∙ late.1 in cc)
 
-pub commit_if : {V : Type 0} (r : Result V Error) (old start last new : State) → start.committed ≡ old.committed → KeepsCommit start last → IsTrue last.in_transaction → IfErr r (FailsToCommit last new) → OnErr r (Remains old new)
+pub commit_if : {V : Type 0} (r : Result V Error) (old start last new : State) → start.committed ≡ old.committed
+    → KeepsCommit start last → IsTrue last.in_transaction → IfErr r (FailsToCommit last new) → OnErr r (Remains old new)
 commit_if (Ok v) old start last new begun kept inside h = tt
 commit_if (Err e) old start last new begun kept inside h = uncommitted old start last new e begun kept inside h

@@ -4,7 +4,8 @@ use Rattle.std.specs.Prelude.{Vec}
 use Rattle.std.specs.declared.alloc.Global.{Global}
 use Rattle.std.specs.FinMap.{empty}
 use Rattle.sqlite.specs.Order.{Row}
-use Rattle.std.proofs.Common.{◌≡◌, true, false, inl, inr, ℕ, Bool, Option, Result, Ok, Err, IsTrue, IfOk, OnOk, MatchResult, List, map, refl, sym, ap, subst, ◌∙◌}
+use Rattle.std.proofs.Common.{◌≡◌, true, false, inl, inr, ℕ, Bool, Option, Result, Ok, Err, IsTrue, IfOk, OnOk}
+use Rattle.std.proofs.Common.{MatchResult, List, map, refl, sym, ap, subst, ◌∙◌}
 use Rattle.sqlite_trees.specs.Tree.{Trees}
 use Rattle.sqlite.specs.Effect.{Database}
 use Rattle.sqlite.specs.State.{State, HasCleanDisk}
@@ -13,7 +14,8 @@ use Rattle.device_registry.specs.declared.fault.LearnFault.TheVariants.{Full, Re
 use Rattle.device_registry.specs.declared.fault.StoreFault.{StoreFault}
 use Rattle.device_registry.specs.declared.receipt.Receipt.{Receipt}
 use Rattle.device_registry.specs.Devices.{Devices, Change, changed, learned, forgotten, device_of, all_of, is_full}
-use Rattle.device_registry.specs.Holding.{HasDevices, HoldsSome, AreRegistries, Keeps, Commits, Pends, LooksUp, Learns, Forgets, ListsAll, HandsOn}
+use Rattle.device_registry.specs.Holding.{HasDevices, HoldsSome, AreRegistries, Keeps, Commits, Pends}
+use Rattle.device_registry.specs.Holding.{LooksUp, Learns, Forgets, ListsAll, HandsOn}
 use Rattle.device_registry.specs.Ready.{Shows, IsReady, StaysReady, GoesOn, Stays, Turns, listed}
 use Rattle.device_registry.proofs.DevicesHeld.{held_once, registers_once}
 use Rattle.device_registry.proofs.StatementSteps.{ready_on}
@@ -25,49 +27,65 @@ IsWell s = (HasCleanDisk s → AreRegistries s.may_leave) × StaysReady s
 shows_them : (s : State) (devices : Devices) → HasCleanDisk s → IsReady s → HasDevices s devices → Shows s devices
 shows_them s devices clean ready has =
     let it = ready.shows in
-    record { is_open = it.is_open; idle = it.idle; settled = it.settled; sound = it.sound; registers = has clean it.is_open }
+    record {
+      is_open = it.is_open;
+      idle = it.idle;
+      settled = it.settled;
+      sound = it.sound;
+      registers = has clean it.is_open;
+    }
 
 -- ---- nothing was written
 
 module _ (old new : State) (stays : Stays old new) (well : IsWell old) where
   pub keeps : HasCleanDisk new → (devices : Devices) → HasDevices old devices → Keeps old new devices
   keeps clean devices has = record {
-    now = λ _ is_open. let on = stays.goes_on clean is_open in let early = stays.clean clean in (on.1 devices (shows_them old devices early (well.1 early on.0) has)).registers;
+    now = λ _ is_open. let on = stays.goes_on clean is_open in let early = stays.clean clean in
+        (on.1 devices (shows_them old devices early (well.1 early on.0) has)).registers;
     stop = λ left (trees, may, holds). (trees, stays.stop clean trees may, holds);
   }
 
   -- the devices that the call was asked of
   pub had : HasCleanDisk new → IsReady new → (devices : Devices) → HasDevices old devices → Shows old devices
-  had clean now devices has = let early = stays.clean clean in shows_them old devices early (well.1 early (stays.goes_on clean now.shows.is_open).0) has
+  had clean now devices has =
+      let early = stays.clean clean in
+      shows_them old devices early (well.1 early (stays.goes_on clean now.shows.is_open).0) has
 
   -- what it shows afterwards it showed before
   pub shown_before : HasCleanDisk new → (devices : Devices) → Shows new devices → Shows old devices
   shown_before clean devices shows =
       let on = stays.goes_on clean shows.is_open in
       let was = well.1 (stays.clean clean) on.0 in
-      let same : was.devices ≡ devices = registers_once new.now was.devices devices (on.1 was.devices was.shows).registers shows.registers in
+      let same : was.devices ≡ devices =
+      registers_once new.now was.devices devices (on.1 was.devices was.shows).registers shows.registers in
       subst (Shows old) same was.shows
 
   pub keeps_well : IsWell new
   keeps_well = (
     λ clean trees may. well.0 (stays.clean clean) trees (stays.stop clean trees may),
-    λ clean is_open. let on = stays.goes_on clean in ready_on old new on is_open (well.1 (stays.clean clean) (on is_open).0),
+    λ clean is_open. let on = stays.goes_on clean in
+        ready_on old new on is_open (well.1 (stays.clean clean) (on is_open).0),
   )
 
-pub kept_pends : (old new : State) (change : Change) (devices : Devices) → Keeps old new devices → Pends old new change devices
+pub kept_pends : (old new : State) (change : Change) (devices : Devices) → Keeps old new devices
+    → Pends old new change devices
 kept_pends old new change devices keeps = record { now = keeps.now; stop = λ left may. inl (keeps.stop left may) }
 
 -- the call was asked of a ready registry, which is ready
-pub ready_both : (old new : State) → Stays old new → IsWell old → HasCleanDisk new → IsReady new → IsReady old × IsReady new
-ready_both old new stays well clean ready = (record { devices = ready.devices; shows = shown_before old new stays well clean ready.devices ready.shows }, ready)
+pub ready_both : (old new : State) → Stays old new → IsWell old → HasCleanDisk new → IsReady new
+    → IsReady old × IsReady new
+ready_both old new stays well clean ready =
+    (record { devices = ready.devices; shows = shown_before old new stays well clean ready.devices ready.shows }, ready)
 
-pub ready_if : {T E : Type 0} (r : Result T E) (old new : State) → Stays old new → IsWell old → HasCleanDisk new → IsReady new → OnOk r (IsReady old × IsReady new)
+pub ready_if : {T E : Type 0} (r : Result T E) (old new : State) → Stays old new → IsWell old → HasCleanDisk new
+    → IsReady new → OnOk r (IsReady old × IsReady new)
 ready_if (Ok v) old new stays well clean ready = ready_both old new stays well clean ready
 ready_if (Err e) old new stays well clean ready = tt
 
 -- ---- a change was tried
 
-module _ {T E : Type 0} (old mid new : State) (change : Change) (result : Result T E) (stays : Stays old mid) (well : IsWell old) (turns : Turns mid new change result) where
+module _ {T E : Type 0} (old mid new : State) (change : Change) (result : Result T E) (stays : Stays old mid)
+    (well : IsWell old) (turns : Turns mid new change result) where
   tried_registries : HasCleanDisk new → AreRegistries new.may_leave
   tried_registries clean trees may = elim (turns.stop clean trees may) [
     | inl before ↦ (keeps_well old mid stays well).0 (turns.clean clean) trees before
@@ -78,46 +96,70 @@ module _ {T E : Type 0} (old mid new : State) (change : Change) (result : Result
 
   -- and refused
   pub refused_well : (HasCleanDisk new → GoesOn mid new) → IsWell new
-  refused_well goes_on = (tried_registries, λ clean is_open. let on = goes_on clean in ready_on mid new on is_open ((keeps_well old mid stays well).1 (turns.clean clean) (on is_open).0))
+  refused_well goes_on = (
+    tried_registries,
+    λ clean is_open.
+        let on = goes_on clean in
+        ready_on mid new on is_open ((keeps_well old mid stays well).1 (turns.clean clean) (on is_open).0),
+  )
 
-  pub pends : GoesOn mid new → HasCleanDisk new → (devices : Devices) → HasDevices old devices → Pends old new change devices
+  pub pends : GoesOn mid new → HasCleanDisk new → (devices : Devices) → HasDevices old devices
+      → Pends old new change devices
   pends goes_on clean devices has =
       let middle = turns.clean clean in
       let kept = keeps old mid stays well middle devices has in
-      let shows = λ (is_open : IsTrue mid.is_open). shows_them mid devices middle ((keeps_well old mid stays well).1 middle is_open) kept.now in
+      let shows = λ (is_open : IsTrue mid.is_open). shows_them mid devices middle
+      ((keeps_well old mid stays well).1 middle is_open) kept.now in
       record {
         now = λ _ is_open. let on = goes_on is_open in (on.1 devices (shows on.0)).registers;
         stop = λ left (trees, may, holds). elim (turns.stop clean trees may) [
           | inl before ↦ inl (trees, stays.stop middle trees before, holds)
-          | inr written ↦ inr (held_once trees left (changed devices change) holds (written.1 devices (shows written.0)))
+          | inr written ↦
+              inr (held_once trees left (changed devices change) holds (written.1 devices (shows written.0)))
         ];
       }
 
-  pub ready_made : ((devices : Devices) → Shows mid devices → Shows new (changed devices change)) → HasCleanDisk new → IsReady mid → IsReady old × IsReady new
-  ready_made made clean was = ((ready_both old mid stays well (turns.clean clean) was).0, record { devices = changed was.devices change; shows = made was.devices was.shows })
+  pub ready_made : ((devices : Devices) → Shows mid devices → Shows new (changed devices change)) → HasCleanDisk new
+      → IsReady mid → IsReady old × IsReady new
+  ready_made made clean was = (
+    (ready_both old mid stays well (turns.clean clean) was).0,
+    record { devices = changed was.devices change; shows = made was.devices was.shows },
+  )
 
   -- or made
-  made_shows : ((devices : Devices) → Shows mid devices → Shows new (changed devices change)) → HasCleanDisk new → IsReady mid → (devices : Devices) → HasDevices old devices → Shows new (changed devices change)
+  made_shows : ((devices : Devices) → Shows mid devices → Shows new (changed devices change)) → HasCleanDisk new
+      → IsReady mid → (devices : Devices) → HasDevices old devices → Shows new (changed devices change)
   made_shows made clean was devices has =
-      let middle = turns.clean clean in made devices (shows_them mid devices middle was (keeps old mid stays well middle devices has).now)
+      let middle = turns.clean clean in
+      made devices (shows_them mid devices middle was (keeps old mid stays well middle devices has).now)
 
-  pub made_well : (HasCleanDisk new → (devices : Devices) → Shows mid devices → Shows new (changed devices change)) → (HasCleanDisk mid → IsReady mid) → IsWell new
-  made_well made was = (tried_registries, λ clean _. let it = was (turns.clean clean) in record { devices = changed it.devices change; shows = made clean it.devices it.shows })
+  pub made_well : (HasCleanDisk new → (devices : Devices) → Shows mid devices → Shows new (changed devices change))
+      → (HasCleanDisk mid → IsReady mid) → IsWell new
+  made_well made was = (
+    tried_registries,
+    λ clean _. let it = was (turns.clean clean) in
+        record { devices = changed it.devices change; shows = made clean it.devices it.shows },
+  )
 
-  pub commits : ((devices : Devices) → Shows mid devices → Shows new (changed devices change)) → HasCleanDisk new → IsReady mid
-      → ((trees : Trees) → IsTrue new.is_open → new.may_leave trees → trees ≡ new.committed.trees) → (devices : Devices) → HasDevices old devices → Commits new change devices
+  pub commits : ((devices : Devices) → Shows mid devices → Shows new (changed devices change)) → HasCleanDisk new
+      → IsReady mid
+      → ((trees : Trees) → IsTrue new.is_open → new.may_leave trees → trees ≡ new.committed.trees) → (devices : Devices)
+      → HasDevices old devices → Commits new change devices
   commits made clean was last devices has =
       let shows = made_shows made clean was devices has in
       record {
         now = λ _ _. shows.registers;
         stop = λ left (trees, may, holds).
-            let same : new.now.trees ≡ trees = sym (last trees shows.is_open may ∙ ap (λ (db : Database). db.trees) (sym shows.settled)) in
-            held_once trees left (changed devices change) holds (record { db = new.now; same = same; sound = shows.sound; registers = shows.registers });
+            let same : new.now.trees ≡ trees =
+            sym (last trees shows.is_open may ∙ ap (λ (db : Database). db.trees) (sym shows.settled)) in
+            held_once trees left (changed devices change) holds
+            (record { db = new.now; same = same; sound = shows.sound; registers = shows.registers });
       }
 
 -- ---- the arms of an answer
 
-on_both : {T E : Type 0} (P : T → Type 0) (Q : Type 0) (r : Result T E) → IfOk r P → Q → MatchResult r (λ x. P x × Q) (λ _. Q)
+on_both : {T E : Type 0} (P : T → Type 0) (Q : Type 0) (r : Result T E) → IfOk r P → Q
+    → MatchResult r (λ x. P x × Q) (λ _. Q)
 on_both P Q (Ok x) p q = (p, q)
 on_both P Q (Err e) p q = q
 
@@ -125,25 +167,33 @@ pub if_err : {T E : Type 0} (P : T → Type 0) (r : Result T E) → IsErr r → 
 if_err P (Ok x) is = absurd (cc)
 if_err P (Err e) is = tt
 
-pub told_all : {E : Type 0} (r : Result (Vec Device Global) E) (rows shown : List Row) (devices : Devices) → IfOk r (λ all. all.items ≡ map listed rows) → rows ≡ shown → map listed shown ≡ all_of devices → IfOk r (λ all. all.items ≡ all_of devices)
+pub told_all : {E : Type 0} (r : Result (Vec Device Global) E) (rows shown : List Row) (devices : Devices)
+    → IfOk r (λ all. all.items ≡ map listed rows) → rows ≡ shown → map listed shown ≡ all_of devices
+    → IfOk r (λ all. all.items ≡ all_of devices)
 told_all (Ok all) rows shown devices read same told = read ∙ ap (map listed) same ∙ told
 told_all (Err e) rows shown devices read same told = tt
 
 -- ---- what the calls promise
 
 module _ (old new : State) (stays : Stays old new) (well : IsWell old) where
-  pub looks_up : (id : ℕ) (r : Result (Option Device) StoreFault) → (HasCleanDisk new → (devices : Devices) → HasDevices old devices → IfOk r (λ found. found ≡ device_of devices id)) → LooksUp old new id r
+  pub looks_up : (id : ℕ) (r : Result (Option Device) StoreFault)
+      → (HasCleanDisk new → (devices : Devices) → HasDevices old devices
+      → IfOk r (λ found. found ≡ device_of devices id)) → LooksUp old new id r
   looks_up id r told = record {
     clean = stays.clean;
     registries = (keeps_well old new stays well).0;
-    devices = λ clean devices has. on_both (λ found. found ≡ device_of devices id) (Keeps old new devices) r (told clean devices has) (keeps old new stays well clean devices has);
+    devices = λ clean devices has. on_both (λ found. found ≡ device_of devices id) (Keeps old new devices) r
+        (told clean devices has) (keeps old new stays well clean devices has);
   }
 
-  pub lists_all : (r : Result (Vec Device Global) StoreFault) → (HasCleanDisk new → (devices : Devices) → HasDevices old devices → IfOk r (λ all. all.items ≡ all_of devices)) → ListsAll old new r
+  pub lists_all : (r : Result (Vec Device Global) StoreFault)
+      → (HasCleanDisk new → (devices : Devices) → HasDevices old devices → IfOk r (λ all. all.items ≡ all_of devices))
+      → ListsAll old new r
   lists_all r told = record {
     clean = stays.clean;
     registries = (keeps_well old new stays well).0;
-    devices = λ clean devices has. on_both (λ all. all.items ≡ all_of devices) (Keeps old new devices) r (told clean devices has) (keeps old new stays well clean devices has);
+    devices = λ clean devices has. on_both (λ all. all.items ≡ all_of devices) (Keeps old new devices) r
+        (told clean devices has) (keeps old new stays well clean devices has);
   }
 
   -- the store did not answer before the write
@@ -155,7 +205,8 @@ module _ (old new : State) (stays : Stays old new) (well : IsWell old) where
     devices = λ clean devices has. kept_pends old new (learned it) devices (keeps old new stays well clean devices has);
   }
 
-  pub is_full_then : (it : Device) → (HasCleanDisk new → (devices : Devices) → HasDevices old devices → IsTrue (is_full devices it.id)) → Learns old new it (Err Full)
+  pub is_full_then : (it : Device) → (HasCleanDisk new → (devices : Devices) → HasDevices old devices
+      → IsTrue (is_full devices it.id)) → Learns old new it (Err Full)
   is_full_then it full = record {
     clean = stays.clean;
     registries = (keeps_well old new stays well).0;
@@ -169,12 +220,14 @@ module _ (old new : State) (stays : Stays old new) (well : IsWell old) where
     clean = stays.clean;
     registries = (keeps_well old new stays well).0;
     receipt = tt;
-    devices = λ clean devices has. kept_pends old new (forgotten id) devices (keeps old new stays well clean devices has);
+    devices =
+        λ clean devices has. kept_pends old new (forgotten id) devices (keeps old new stays well clean devices has);
   }
 
 module _ {T E : Type 0} (old mid new : State) (result : Result T E) (stays : Stays old mid) (well : IsWell old) where
   -- or at the write
-  pub learn_refused : (it : Device) (fault : StoreFault) → Turns mid new (learned it) result → (HasCleanDisk new → GoesOn mid new) → Learns old new it (Err (Refused fault))
+  pub learn_refused : (it : Device) (fault : StoreFault) → Turns mid new (learned it) result
+      → (HasCleanDisk new → GoesOn mid new) → Learns old new it (Err (Refused fault))
   learn_refused it fault turns goes_on = record {
     clean = λ clean. stays.clean (turns.clean clean);
     registries = (refused_well old mid new (learned it) result stays well turns goes_on).0;
@@ -182,7 +235,8 @@ module _ {T E : Type 0} (old mid new : State) (result : Result T E) (stays : Sta
     devices = λ clean. pends old mid new (learned it) result stays well turns (goes_on clean) clean;
   }
 
-  pub forget_refused : (id : ℕ) (r : Result Receipt StoreFault) → IsErr r → Turns mid new (forgotten id) result → (HasCleanDisk new → GoesOn mid new) → Forgets old new id r
+  pub forget_refused : (id : ℕ) (r : Result Receipt StoreFault) → IsErr r → Turns mid new (forgotten id) result
+      → (HasCleanDisk new → GoesOn mid new) → Forgets old new id r
   forget_refused id (Ok receipt) is turns goes_on = absurd (cc)
   forget_refused id (Err fault) is turns goes_on = record {
     clean = λ clean. stays.clean (turns.clean clean);
@@ -193,23 +247,35 @@ module _ {T E : Type 0} (old mid new : State) (result : Result T E) (stays : Sta
 
 -- or the change is made
 module _ {T E : Type 0} (old mid new : State) (result : Result T E) (stays : Stays old mid) (well : IsWell old) where
-  pub learn_made : (it : Device) → Turns mid new (learned it) result → (HasCleanDisk new → (devices : Devices) → Shows mid devices → Shows new (changed devices (learned it))) → (HasCleanDisk mid → IsReady mid)
-      → ((trees : Trees) → IsTrue new.is_open → new.may_leave trees → trees ≡ new.committed.trees) → (HasCleanDisk mid → (devices : Devices) → HasDevices old devices → is_full devices it.id ≡ false)
+  pub learn_made : (it : Device) → Turns mid new (learned it) result
+      → (HasCleanDisk new → (devices : Devices) → Shows mid devices → Shows new (changed devices (learned it)))
+      → (HasCleanDisk mid → IsReady mid)
+      → ((trees : Trees) → IsTrue new.is_open → new.may_leave trees → trees ≡ new.committed.trees)
+      → (HasCleanDisk mid → (devices : Devices) → HasDevices old devices → is_full devices it.id ≡ false)
       → Learns old new it (Ok (record { id = it.id; is_learned = true }))
   learn_made it turns made was last room = record {
     clean = λ clean. stays.clean (turns.clean clean);
     registries = (made_well old mid new (learned it) result stays well turns made was).0;
     receipt = (refl, refl);
-    devices = λ clean devices has. (room (turns.clean clean) devices has, commits old mid new (learned it) result stays well turns (made clean) clean (was (turns.clean clean)) last devices has);
+    devices =
+        λ clean devices has. (
+          room (turns.clean clean) devices has,
+          commits old mid new (learned it) result stays well turns (made clean) clean
+              (was (turns.clean clean)) last devices has,
+        );
   }
 
-  pub forget_made : (id : ℕ) → Turns mid new (forgotten id) result → (HasCleanDisk new → (devices : Devices) → Shows mid devices → Shows new (changed devices (forgotten id))) → (HasCleanDisk mid → IsReady mid)
-      → ((trees : Trees) → IsTrue new.is_open → new.may_leave trees → trees ≡ new.committed.trees) → Forgets old new id (Ok (record { id = id; is_learned = false }))
+  pub forget_made : (id : ℕ) → Turns mid new (forgotten id) result
+      → (HasCleanDisk new → (devices : Devices) → Shows mid devices → Shows new (changed devices (forgotten id)))
+      → (HasCleanDisk mid → IsReady mid)
+      → ((trees : Trees) → IsTrue new.is_open → new.may_leave trees → trees ≡ new.committed.trees)
+      → Forgets old new id (Ok (record { id = id; is_learned = false }))
   forget_made id turns made was last = record {
     clean = λ clean. stays.clean (turns.clean clean);
     registries = (made_well old mid new (forgotten id) result stays well turns made was).0;
     receipt = (refl, refl);
-    devices = λ clean devices has. commits old mid new (forgotten id) result stays well turns (made clean) clean (was (turns.clean clean)) last devices has;
+    devices = λ clean devices has. commits old mid new (forgotten id) result stays well turns (made clean) clean
+        (was (turns.clean clean)) last devices has;
   }
 
 -- the connection is handed on
@@ -218,13 +284,19 @@ hands_on s well = record {
   idle = λ clean is_open. (well.1 clean is_open).shows.idle;
   committed = λ clean is_open devices has.
       let it = shows_them s devices clean (well.1 clean is_open) has in
-      record { db = s.now; same = ap (λ (db : Database). db.trees) it.settled; sound = it.sound; registers = it.registers };
+      record {
+        db = s.now;
+        same = ap (λ (db : Database). db.trees) it.settled;
+        sound = it.sound;
+        registers = it.registers;
+      };
 }
 
 -- ---- whatever registry there is
 
 -- where the connection is shut, any devices do
-some_by : (s : State) (is_open : Bool) → s.is_open ≡ is_open → HasCleanDisk s → StaysReady s → (devices : Devices) × HasDevices s devices
+some_by : (s : State) (is_open : Bool) → s.is_open ≡ is_open → HasCleanDisk s → StaysReady s
+    → (devices : Devices) × HasDevices s devices
 some_by s true is clean ready = let it = ready clean is in (it.devices, λ _ _. it.shows.registers)
 some_by s false is clean ready = (empty, λ _ is_open. absurd (let e = sym is ∙ is_open in cc))
 

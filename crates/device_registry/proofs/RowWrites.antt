@@ -1,5 +1,6 @@
 -- What holds of every statement that writes rows.
-use Rattle.std.proofs.Common.{◌≡◌, ◌≢◌, ◌⊎◌, inl, inr, ℕ, ℤ, Bool, true, false, not, cond, List, Some, Ok, Err, Result, refl, slice_get}
+use Rattle.std.proofs.Common.{◌≡◌, ◌≢◌, ◌⊎◌, inl, inr, ℕ, ℤ, Bool, true, false, not, cond, List}
+use Rattle.std.proofs.Common.{Some, Ok, Err, Result, refl, slice_get}
 use Rattle.sqlite.specs.declared.types.Value.{Value}
 use Rattle.sqlite.specs.declared.types.Value.TheVariants.{Null, Int}
 use Rattle.sqlite.specs.Order.{Row}
@@ -17,10 +18,13 @@ use Rattle.device_registry.proofs.TablesAlone.{at_place}
 
 -- the other tables' rows are as they were
 abbrev pub SparesOthers : Schema → ℕ → Trees → Trees → Type 0
-SparesOthers schema tree before after = (i : ℕ) (t : Table) → slice_get schema.tables i ≡ Some t → t.tree ≢ tree → after t.tree ≡ before t.tree
+SparesOthers schema tree before after = (i : ℕ) (t : Table) → slice_get schema.tables i ≡ Some t → t.tree ≢ tree
+    → after t.tree ≡ before t.tree
 
-pub spares : (schema : Schema) (keys : Keys) (db next : Trees) (edit : Edit) → Applies schema keys db edit next → SparesOthers schema edit.table.tree db next
-spares schema keys db next edit step i t there other = at_place (λ t. t.tree ≢ edit.table.tree → next t.tree ≡ db t.tree) schema.tables i t step.tables there other
+pub spares : (schema : Schema) (keys : Keys) (db next : Trees) (edit : Edit) → Applies schema keys db edit next
+    → SparesOthers schema edit.table.tree db next
+spares schema keys db next edit step i t there other =
+    at_place (λ t. t.tree ≢ edit.table.tree → next t.tree ≡ db t.tree) schema.tables i t step.tables there other
 
 either : (b : Bool) (x : Value) → cond b x x ≡ x
 either true x = refl

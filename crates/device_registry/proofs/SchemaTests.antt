@@ -1,5 +1,7 @@
 -- What the tests of a schema tell.
-use Rattle.std.proofs.Common.{inl, inr, suc, ◌≡◌, ◌≢◌, ℕ, ◌+◌, ◌==◌, List, [], ◌∷◌, Bool, true, false, not, ◌&&◌, ◌||◌, Some, None, Option, if◌then◌else◌, subst, refl, sym, ap, ◌∙◌, arith, IsTrue, is_some, is_none, slice_get, option_map, option_and_then, codes}
+use Rattle.std.proofs.Common.{inl, inr, suc, ◌≡◌, ◌≢◌, ℕ, ◌+◌, ◌==◌, List, [], ◌∷◌, Bool, true, false, not, ◌&&◌, ◌||◌}
+use Rattle.std.proofs.Common.{Some, None, Option, if◌then◌else◌, subst, refl, sym, ap, ◌∙◌, arith, IsTrue, is_some}
+use Rattle.std.proofs.Common.{is_none, slice_get, option_map, option_and_then, codes}
 use Rattle.std.proofs.lemmas.Bool.Decides.{nat_tests}
 use Rattle.std.proofs.lemmas.Bool.{cases_Bool, not-true}
 use Rattle.std.specs.List.{AllByRecursion, list_any, list_all, position_from}
@@ -11,34 +13,55 @@ use Rattle.sqlite_trees.proofs.ListLemmas.{all_weaker, all_both}
 use Rattle.device_registry.specs.Tables.{meta_name, device_name}
 use Rattle.device_registry.specs.Stored.{AreSpared, SparesName, KeepsTree, HasTables}
 use Rattle.device_registry.specs.Opening.{IsClear}
-use Rattle.device_registry.specs.Places.{refers, is_referred, is_indexed, lacks_counts, is_clear, is_lone, is_left_alone, if_left_alone, tree_named, trees_in}
+use Rattle.device_registry.specs.Places.{refers, is_referred, is_indexed, lacks_counts, is_clear, is_lone}
+use Rattle.device_registry.specs.Places.{is_left_alone, if_left_alone, tree_named, trees_in}
 use Rattle.device_registry.proofs.TestSteps.{both}
 
-pub none_any : {X : Type 0} (test : X → Bool) (xs : List X) → list_any test xs ≡ false → AllByRecursion (λ x. test x ≡ false) xs
+pub none_any : {X : Type 0} (test : X → Bool) (xs : List X) → list_any test xs ≡ false
+    → AllByRecursion (λ x. test x ≡ false) xs
 none_any test [] h = tt
 none_any test (x ∷ xs) h = elim (cases_Bool (test x)) [
   | inl here ↦ absurd (let e = rw here at h in cc)
   | inr passed ↦ (passed, none_any test xs (rw passed at h))
 ]
 
-pub any_none : {X : Type 0} (test : X → Bool) (xs : List X) → AllByRecursion (λ x. test x ≡ false) xs → list_any test xs ≡ false
+pub any_none : {X : Type 0} (test : X → Bool) (xs : List X) → AllByRecursion (λ x. test x ≡ false) xs
+    → list_any test xs ≡ false
 any_none test [] all = refl
 any_none test (x ∷ xs) all = rw all.0 (any_none test xs all.1)
 
-spares : (schema : Schema) (name : List ℕ) → is_referred schema name ≡ false → AllByRecursion (SparesName name) schema.tables
-spares schema name h = all_weaker (λ t. refers name t ≡ false) (SparesName name) (λ t none. none_any (λ reference. same_name reference.parent name) t.references none) schema.tables (none_any (refers name) schema.tables h)
+spares : (schema : Schema) (name : List ℕ) → is_referred schema name ≡ false
+    → AllByRecursion (SparesName name) schema.tables
+spares schema name h =
+    all_weaker (λ t. refers name t ≡ false) (SparesName name)
+    (λ t none. none_any (λ reference. same_name reference.parent name) t.references none) schema.tables
+    (none_any (refers name) schema.tables h)
 
-unreferred : (schema : Schema) (name : List ℕ) → AllByRecursion (SparesName name) schema.tables → is_referred schema name ≡ false
-unreferred schema name all = any_none (refers name) schema.tables (all_weaker (SparesName name) (λ t. refers name t ≡ false) (λ t none. any_none (λ reference. same_name reference.parent name) t.references none) schema.tables all)
+unreferred : (schema : Schema) (name : List ℕ) → AllByRecursion (SparesName name) schema.tables
+    → is_referred schema name ≡ false
+unreferred schema name all =
+    any_none (refers name) schema.tables (all_weaker (SparesName name) (λ t. refers name t ≡ false)
+    (λ t none. any_none (λ reference. same_name reference.parent name) t.references none) schema.tables all)
 
-spared : (schema : Schema) → is_referred schema meta_name ≡ false → is_referred schema device_name ≡ false → AreSpared schema
-spared schema meta devices = all_both (SparesName meta_name) (SparesName device_name) (λ table. SparesName meta_name table × SparesName device_name table) (λ t a b. (a, b)) schema.tables (spares schema meta_name meta) (spares schema device_name devices)
+spared : (schema : Schema) → is_referred schema meta_name ≡ false → is_referred schema device_name ≡ false
+    → AreSpared schema
+spared schema meta devices =
+    all_both (SparesName meta_name) (SparesName device_name)
+    (λ table. SparesName meta_name table × SparesName device_name table) (λ t a b. (a, b)) schema.tables
+    (spares schema meta_name meta) (spares schema device_name devices)
 
-unindexed : (schema : Schema) (tree : ℕ) → is_indexed schema tree ≡ false → AllByRecursion (λ index. index.table ≢ tree) schema.indexes
-unindexed schema tree h = all_weaker (λ index. (index.table == tree) ≡ false) (λ index. index.table ≢ tree) (λ index other. grind (arith, nat_tests, other)) schema.indexes (none_any (λ index. index.table == tree) schema.indexes h)
+unindexed : (schema : Schema) (tree : ℕ) → is_indexed schema tree ≡ false
+    → AllByRecursion (λ index. index.table ≢ tree) schema.indexes
+unindexed schema tree h =
+    all_weaker (λ index. (index.table == tree) ≡ false) (λ index. index.table ≢ tree)
+    (λ index other. grind (arith, nat_tests, other)) schema.indexes
+    (none_any (λ index. index.table == tree) schema.indexes h)
 
-not_indexed : (schema : Schema) (tree : ℕ) → AllByRecursion (λ index. index.table ≢ tree) schema.indexes → is_indexed schema tree ≡ false
-not_indexed schema tree all = any_none (λ index. index.table == tree) schema.indexes (all_weaker (λ index. index.table ≢ tree) (λ index. (index.table == tree) ≡ false) (λ index other. grind (arith, nat_tests, other)) schema.indexes all)
+not_indexed : (schema : Schema) (tree : ℕ) → AllByRecursion (λ index. index.table ≢ tree) schema.indexes
+    → is_indexed schema tree ≡ false
+not_indexed schema tree all =
+    any_none (λ index. index.table == tree) schema.indexes (all_weaker (λ index. index.table ≢ tree)
+    (λ index. (index.table == tree) ≡ false) (λ index other. grind (arith, nat_tests, other)) schema.indexes all)
 
 -- what is found at a place is there, and passes
 record IsFoundAt {X : Type 0} (test : X → Bool) (i at : ℕ) (xs : List X) : Type 0 where
@@ -48,15 +71,19 @@ record IsFoundAt {X : Type 0} (test : X → Bool) (i at : ℕ) (xs : List X) : T
   there : slice_get xs k ≡ Some it
   passes : test it ≡ true
 
-placed : {X : Type 0} (test : X → Bool) (i at : ℕ) (xs : List X) → position_from test i xs ≡ Some at → IsFoundAt test i at xs
+placed : {X : Type 0} (test : X → Bool) (i at : ℕ) (xs : List X) → position_from test i xs ≡ Some at
+    → IsFoundAt test i at xs
 placed test i at [] h = absurd (let e = h in cc)
 placed test i at (x ∷ xs) h = elim (cases_Bool (test x)) [
-  | inl here ↦ let e : i ≡ at = (let f = rw here at h in cc) in record { k = 0; at_is = omega (arith, e); it = x; there = refl; passes = here }
-  | inr passed ↦ let it = placed test (i + 1) at xs (rw passed at h) in record { k = suc it.k; at_is = omega (arith, it.at_is); it = it.it; there = it.there; passes = it.passes }
+  | inl here ↦ let e : i ≡ at = (let f = rw here at h in cc) in
+      record { k = 0; at_is = omega (arith, e); it = x; there = refl; passes = here }
+  | inr passed ↦ let it = placed test (i + 1) at xs (rw passed at h) in
+      record { k = suc it.k; at_is = omega (arith, it.at_is); it = it.it; there = it.there; passes = it.passes }
 ]
 
 -- the table that a name finds has it
-pub has_name : (schema : Schema) (name : List ℕ) (at : ℕ) (table : Table) → table_named schema name ≡ Some at → slice_get schema.tables at ≡ Some table → same_name table.name name ≡ true
+pub has_name : (schema : Schema) (name : List ℕ) (at : ℕ) (table : Table) → table_named schema name ≡ Some at
+    → slice_get schema.tables at ≡ Some table → same_name table.name name ≡ true
 has_name schema name at table named is =
     let it = placed (λ t. same_name t.name name) 0 at schema.tables named in
     let same : at ≡ it.k = omega (arith, it.at_is) in
@@ -64,7 +91,8 @@ has_name schema name at table named is =
     let e : it.it ≡ table = cc in
     ap (λ (t : Table). same_name t.name name) (sym e) ∙ it.passes
 
-there : (schema : Schema) (name : List ℕ) (o : Option ℕ) → table_named schema name ≡ o → is_some (option_and_then (slice_get schema.tables) o) ≡ is_some o
+there : (schema : Schema) (name : List ℕ) (o : Option ℕ) → table_named schema name ≡ o
+    → is_some (option_and_then (slice_get schema.tables) o) ≡ is_some o
 there schema name None named = refl
 there schema name (Some at) named =
     let it = placed (λ t. same_name t.name name) 0 at schema.tables named in
@@ -78,7 +106,8 @@ none_is (Some x) = refl
 -- the kit's word is the same as ours
 counted : (schema : Schema) → lacks_sequence schema ≡ lacks_counts schema
 counted schema =
-    ap (λ b. list_any (λ t. t.is_counted) schema.tables && not b) (there schema (codes "sqlite_sequence") (table_named schema (codes "sqlite_sequence")) refl)
+    ap (λ b. list_any (λ t. t.is_counted) schema.tables && not b)
+    (there schema (codes "sqlite_sequence") (table_named schema (codes "sqlite_sequence")) refl)
     ∙ ap (λ b. list_any (λ t. t.is_counted) schema.tables && b) (none_is (table_named schema (codes "sqlite_sequence")))
 
 pub cleared : (schema : Schema) → IsTrue (is_clear schema) → IsClear schema
@@ -97,19 +126,23 @@ cleared schema h =
 pub is_cleared : (schema : Schema) → IsClear schema → IsTrue (is_clear schema)
 is_cleared schema it =
     let meta = unreferred schema meta_name (all_weaker _ (SparesName meta_name) (λ x h. h.0) schema.tables it.spared) in
-    let devices = unreferred schema device_name (all_weaker _ (SparesName device_name) (λ x h. h.1) schema.tables it.spared) in
+    let devices =
+    unreferred schema device_name (all_weaker _ (SparesName device_name) (λ x h. h.1) schema.tables it.spared) in
     rw (it.free_meta, it.free_devices, meta, devices, sym (counted schema) ∙ it.counted) refl
 
 pub record IsLeftAlone (schema : Schema) (meta devices : ℕ) : Type 0 where
   pub spared : AreSpared schema
   pub unindexed : AllByRecursion (λ index. (index.table ≢ meta) × (index.table ≢ devices)) schema.indexes
-  pub alone : AllByRecursion (λ table. KeepsTree meta_name meta table × KeepsTree device_name devices table) schema.tables
+  pub alone : AllByRecursion (λ table. KeepsTree meta_name meta table × KeepsTree device_name devices table)
+      schema.tables
 
-all_true : {X : Type 0} (test : X → Bool) (xs : List X) → list_all test xs ≡ true → AllByRecursion (λ x. test x ≡ true) xs
+all_true : {X : Type 0} (test : X → Bool) (xs : List X) → list_all test xs ≡ true
+    → AllByRecursion (λ x. test x ≡ true) xs
 all_true test [] h = tt
 all_true test (x ∷ xs) h = let parts = both (test x) (list_all test xs) h in (parts.0, all_true test xs parts.1)
 
-true_all : {X : Type 0} (test : X → Bool) (xs : List X) → AllByRecursion (λ x. test x ≡ true) xs → list_all test xs ≡ true
+true_all : {X : Type 0} (test : X → Bool) (xs : List X) → AllByRecursion (λ x. test x ≡ true) xs
+    → list_all test xs ≡ true
 true_all test [] all = refl
 true_all test (x ∷ xs) all = rw all.0 (true_all test xs all.1)
 
@@ -119,17 +152,24 @@ same_tree a b e = grind (arith, nat_tests)
 tree_same : (a b : ℕ) → (a == b) ≡ true → a ≡ b
 tree_same a b e = grind (arith, nat_tests)
 
-lone : (schema : Schema) (name : List ℕ) (tree : ℕ) → is_lone schema name tree ≡ true → AllByRecursion (KeepsTree name tree) schema.tables
-lone schema name tree h = all_weaker (λ t. (not (t.tree == tree) || same_name t.name name) ≡ true) (KeepsTree name tree) (λ t passed is. let e = same_tree t.tree tree is in rw e at passed) schema.tables (all_true (λ t. not (t.tree == tree) || same_name t.name name) schema.tables h)
+lone : (schema : Schema) (name : List ℕ) (tree : ℕ) → is_lone schema name tree ≡ true
+    → AllByRecursion (KeepsTree name tree) schema.tables
+lone schema name tree h =
+    all_weaker (λ t. (not (t.tree == tree) || same_name t.name name) ≡ true) (KeepsTree name tree) (λ t passed is.
+    let e = same_tree t.tree tree is in rw e at passed) schema.tables
+    (all_true (λ t. not (t.tree == tree) || same_name t.name name) schema.tables h)
 
-is_alone : (schema : Schema) (name : List ℕ) (tree : ℕ) → AllByRecursion (KeepsTree name tree) schema.tables → is_lone schema name tree ≡ true
-is_alone schema name tree all = true_all (λ t. not (t.tree == tree) || same_name t.name name) schema.tables (all_weaker (KeepsTree name tree) (λ t. (not (t.tree == tree) || same_name t.name name) ≡ true)
+is_alone : (schema : Schema) (name : List ℕ) (tree : ℕ) → AllByRecursion (KeepsTree name tree) schema.tables
+    → is_lone schema name tree ≡ true
+is_alone schema name tree all = true_all (λ t. not (t.tree == tree) || same_name t.name name) schema.tables
+    (all_weaker (KeepsTree name tree) (λ t. (not (t.tree == tree) || same_name t.name name) ≡ true)
     (λ t keeps. elim (cases_Bool (t.tree == tree)) [
       | inl tie ↦ rw (tie, keeps (tree_same t.tree tree tie)) refl
       | inr apart ↦ rw apart refl
     ]) schema.tables all)
 
-left_alone : (schema : Schema) (meta devices : ℕ) → is_left_alone schema meta devices ≡ true → IsLeftAlone schema meta devices
+left_alone : (schema : Schema) (meta devices : ℕ) → is_left_alone schema meta devices ≡ true
+    → IsLeftAlone schema meta devices
 left_alone schema meta devices h =
     let z = both _ _ h in
     let y = both _ _ z.0 in
@@ -137,10 +177,14 @@ left_alone schema meta devices h =
     let b = both _ _ a.0 in
     let c = both _ _ b.0 in
     record {
-      alone = all_both (KeepsTree meta_name meta) (KeepsTree device_name devices) (λ table. KeepsTree meta_name meta table × KeepsTree device_name devices table) (λ t p q. (p, q)) schema.tables
+      alone =
+          all_both (KeepsTree meta_name meta) (KeepsTree device_name devices)
+          (λ table. KeepsTree meta_name meta table × KeepsTree device_name devices table)
+          (λ t p q. (p, q)) schema.tables
           (lone schema meta_name meta y.1) (lone schema device_name devices z.1);
       spared = spared schema (not-true _ c.0) (not-true _ c.1);
-      unindexed = all_both (λ index. index.table ≢ meta) (λ index. index.table ≢ devices) (λ index. (index.table ≢ meta) × (index.table ≢ devices)) (λ index p q. (p, q)) schema.indexes
+      unindexed = all_both (λ index. index.table ≢ meta) (λ index. index.table ≢ devices)
+          (λ index. (index.table ≢ meta) × (index.table ≢ devices)) (λ index p q. (p, q)) schema.indexes
           (unindexed schema meta (not-true _ b.1)) (unindexed schema devices (not-true _ a.1));
     }
 
@@ -152,11 +196,14 @@ pub record IsNamed (schema : Schema) (name : List ℕ) (tree : ℕ) : Type 0 whe
   pub there : slice_get schema.tables at ≡ Some table
   pub is : table.tree ≡ tree
 
-named_at : (schema : Schema) (name : List ℕ) (tree : ℕ) (o : Option ℕ) → table_named schema name ≡ o → option_map (λ (table : Table). table.tree) (option_and_then (slice_get schema.tables) o) ≡ Some tree → IsNamed schema name tree
+named_at : (schema : Schema) (name : List ℕ) (tree : ℕ) (o : Option ℕ) → table_named schema name ≡ o
+    → option_map (λ (table : Table). table.tree) (option_and_then (slice_get schema.tables) o) ≡ Some tree
+    → IsNamed schema name tree
 named_at schema name tree None named h = absurd (let e = h in cc)
 named_at schema name tree (Some at) named h = got (slice_get schema.tables at) refl h
   where
-    got : (slot : Option Table) → slice_get schema.tables at ≡ slot → option_map (λ (table : Table). table.tree) slot ≡ Some tree → IsNamed schema name tree
+    got : (slot : Option Table) → slice_get schema.tables at ≡ slot
+        → option_map (λ (table : Table). table.tree) slot ≡ Some tree → IsNamed schema name tree
     got None is h = absurd (let e = h in cc)
     got (Some table) is h = record { at = at; table = table; named = named; there = is; is = (let e = h in cc) }
 
@@ -169,7 +216,8 @@ pub record IsPlaced (schema : Schema) (meta devices : ℕ) : Type 0 where
 pub found : (schema : Schema) (meta devices : ℕ) → trees_in schema ≡ Some (meta, devices) → IsPlaced schema meta devices
 found schema meta devices h = first (tree_named schema meta_name) refl h
   where
-    third : (m d : ℕ) → tree_named schema meta_name ≡ Some m → tree_named schema device_name ≡ Some d → if_left_alone schema m d ≡ Some (meta, devices) → IsPlaced schema meta devices
+    third : (m d : ℕ) → tree_named schema meta_name ≡ Some m → tree_named schema device_name ≡ Some d
+        → if_left_alone schema m d ≡ Some (meta, devices) → IsPlaced schema meta devices
     third m d p q h = elim (cases_Bool (is_left_alone schema m d)) [
       | inl alone ↦
           let pair : ◌≡◌ {A = ℕ × ℕ} (m, d) (meta, devices) = (let e = rw alone at h in cc) in
@@ -178,16 +226,21 @@ found schema meta devices h = first (tree_named schema meta_name) refl h
           record {
             meta_is = named_at schema meta_name meta (table_named schema meta_name) refl (p ∙ ap Some x);
             devices_are = named_at schema device_name devices (table_named schema device_name) refl (q ∙ ap Some y);
-            alone = left_alone schema meta devices (subst (λ n. is_left_alone schema n devices ≡ true) x (subst (λ n. is_left_alone schema m n ≡ true) y alone));
+            alone =
+                left_alone schema meta devices (subst (λ n. is_left_alone schema n devices ≡ true) x
+                (subst (λ n. is_left_alone schema m n ≡ true) y alone));
           }
       | inr other ↦ absurd (let e = rw other at h in cc)
     ]
 
-    second : (m : ℕ) (o : Option ℕ) → tree_named schema meta_name ≡ Some m → tree_named schema device_name ≡ o → option_and_then (if_left_alone schema m) o ≡ Some (meta, devices) → IsPlaced schema meta devices
+    second : (m : ℕ) (o : Option ℕ) → tree_named schema meta_name ≡ Some m → tree_named schema device_name ≡ o
+        → option_and_then (if_left_alone schema m) o ≡ Some (meta, devices) → IsPlaced schema meta devices
     second m None p q h = absurd (let e = h in cc)
     second m (Some d) p q h = third m d p q h
 
-    first : (o : Option ℕ) → tree_named schema meta_name ≡ o → option_and_then (λ m. option_and_then (if_left_alone schema m) (tree_named schema device_name)) o ≡ Some (meta, devices) → IsPlaced schema meta devices
+    first : (o : Option ℕ) → tree_named schema meta_name ≡ o
+        → option_and_then (λ m. option_and_then (if_left_alone schema m) (tree_named schema device_name)) o
+        ≡ Some (meta, devices) → IsPlaced schema meta devices
     first None p h = absurd (let e = h in cc)
     first (Some m) p h = second m (tree_named schema device_name) p refl h
 
@@ -198,10 +251,17 @@ placed_tables schema t =
     let devices : tree_named schema device_name ≡ Some t.devices = rw (t.devices_stand.named, t.devices_stand.there) in
     let a = unreferred schema meta_name (all_weaker _ (SparesName meta_name) (λ x h. h.0) schema.tables t.spared) in
     let b = unreferred schema device_name (all_weaker _ (SparesName device_name) (λ x h. h.1) schema.tables t.spared) in
-    let c = not_indexed schema t.meta (all_weaker _ (λ index. index.table ≢ t.meta) (λ x h. h.0) schema.indexes t.unindexed) in
-    let d = not_indexed schema t.devices (all_weaker _ (λ index. index.table ≢ t.devices) (λ x h. h.1) schema.indexes t.unindexed) in
-    let m = is_alone schema meta_name t.meta (all_weaker _ (KeepsTree meta_name t.meta) (λ x h. h.0) schema.tables t.alone) in
-    let n = is_alone schema device_name t.devices (all_weaker _ (KeepsTree device_name t.devices) (λ x h. h.1) schema.tables t.alone) in
+    let c =
+    not_indexed schema t.meta (all_weaker _ (λ index. index.table ≢ t.meta) (λ x h. h.0) schema.indexes t.unindexed) in
+    let d =
+    not_indexed schema t.devices
+    (all_weaker _ (λ index. index.table ≢ t.devices) (λ x h. h.1) schema.indexes t.unindexed) in
+    let m =
+    is_alone schema meta_name t.meta (all_weaker _ (KeepsTree meta_name t.meta) (λ x h. h.0) schema.tables t.alone) in
+    let n =
+    is_alone schema device_name t.devices
+    (all_weaker _ (KeepsTree device_name t.devices) (λ x h. h.1) schema.tables t.alone) in
     let alone : is_left_alone schema t.meta t.devices ≡ true = rw (a, b, c, d, m, n) refl in
     let pair : Bool → Option (ℕ × ℕ) = λ b. if b then Some (t.meta, t.devices) else None in
-    ap (option_and_then (λ m. option_and_then (if_left_alone schema m) (tree_named schema device_name))) meta ∙ ap (option_and_then (if_left_alone schema t.meta)) devices ∙ ap pair alone
+    ap (option_and_then (λ m. option_and_then (if_left_alone schema m) (tree_named schema device_name))) meta
+    ∙ ap (option_and_then (if_left_alone schema t.meta)) devices ∙ ap pair alone

@@ -1,5 +1,6 @@
 -- What a plain SELECT from one table means, wherever the table stands in the schema.
-use Rattle.std.proofs.Common.{◌≡◌, ℕ, pos, negsuc, not, ◌==◌, List, [], ◌∷◌, length, map, true, false, Option, None, Ok, refl, ◌∙◌}
+use Rattle.std.proofs.Common.{◌≡◌, ℕ, pos, negsuc, not, ◌==◌, List, [], ◌∷◌, length, map, true}
+use Rattle.std.proofs.Common.{false, Option, None, Ok, refl, ◌∙◌}
 use Rattle.sqlite.specs.declared.types.Value.TheVariants.{Int}
 use Rattle.sqlite.specs.Term.{Term, lit}
 use Rattle.sqlite.specs.Collation.{Collation}
@@ -23,11 +24,14 @@ use Rattle.sqlite_resolve.specs.declared.scope.Output.{Output}
 use Rattle.sqlite_resolve.specs.declared.select.Clauses.{Clauses}
 use Rattle.sqlite_resolve.specs.declared.body.Body.{Body}
 use Rattle.sqlite_resolve.specs.declared.body.Joined.{Joined}
-use Rattle.sqlite_resolve.specs.Body.{bounds, bound, table_in, body, result, outputs, matching, joins, join, shared, inner_join, tests, within}
+use Rattle.sqlite_resolve.specs.Body.{bounds, bound, table_in, body, result, outputs, matching, joins}
+use Rattle.sqlite_resolve.specs.Body.{join, shared, inner_join, tests, within}
 use Rattle.sqlite_resolve.specs.Expr.{lower}
-use Rattle.sqlite_resolve.specs.Lowering.{Checked, Lowering, and_then, ◌>>=◌, ◌<$>◌, pure, get, fresh, max_budget, take_slot}
+use Rattle.sqlite_resolve.specs.Lowering.{Checked, Lowering, and_then, ◌>>=◌, ◌<$>◌, pure, get}
+use Rattle.sqlite_resolve.specs.Lowering.{fresh, max_budget, take_slot}
 use Rattle.sqlite_resolve.specs.Order.{keys, sorts}
-use Rattle.sqlite_resolve.specs.Program.{Building, Shown, query, query_to, level, with, whole, alone, single, viewing, sources, source}
+use Rattle.sqlite_resolve.specs.Program.{Building, Shown, query, query_to, level, with, whole, alone}
+use Rattle.sqlite_resolve.specs.Program.{single, viewing, sources, source}
 use Rattle.sqlite_resolve.specs.Select.{named, paging, constant_or, outermost, inside, parts, having, assembled}
 use Rattle.sqlite_resolve.specs.Compile.{timed, returning, command, read}
 use Rattle.device_registry.proofs.StatementTexts.{program_of}
@@ -51,7 +55,14 @@ from_of it = roll-Source (record { is_left = false; origin = Named it.name; alia
 abbrev pub core_of : PlainSelect → Core
 core_of it =
     let from = from_of it in
-    roll-Core (record { distinct = false; shown = it.columns; from = from; filter = it.test; group = []; having = None })
+    roll-Core (record {
+      distinct = false;
+      shown = it.columns;
+      from = from;
+      filter = it.test;
+      group = [];
+      having = None;
+    })
 
 abbrev pub select_of : PlainSelect → Select
 select_of it =
@@ -106,7 +117,8 @@ module _ {text : List ℕ} {it : PlainSelect} (is : IsPlainSelect text it) {sche
     (stands : Stands schema it.name table at) where
   -- its part is what its clauses become
   named_is : named schema (core_of it) it.order no_page ≡ asked schema at table it
-  unfolding named parts body bounds bound table_in take_slot result matching joins join shared inner_join tests keys having
+  unfolding named parts body bounds bound table_in take_slot result matching joins join shared inner_join tests keys
+      having
   named_is = rw (out-roll-Core, out-roll-Source, stands.named, out-roll-Source, stands.there)
 
   -- the text means the query that it asks

@@ -1,5 +1,7 @@
 -- What SQL's tests say of the sender of a row.
-use Rattle.std.proofs.Common.{nat_le, ◌^◌, ◌≡◌, ◌≢◌, ◌⊎◌, inl, inr, ◌<◌, ℕ, ℤ, pos, Bool, true, false, cond, List, [], ◌∷◌, ◌++◌, map, length, Some, None, Option, refl, sym, ap, ◌∙◌, arith, is_eq, Less, nat_cmp, int_cmp, ◌&&◌}
+use Rattle.std.proofs.Common.{nat_le, ◌^◌, ◌≡◌, ◌≢◌, ◌⊎◌, inl, inr, ◌<◌, ℕ, ℤ, pos, Bool, true, false, cond}
+use Rattle.std.proofs.Common.{List, [], ◌∷◌, ◌++◌, map, length, Some, None, Option, refl, sym, ap, ◌∙◌, arith}
+use Rattle.std.proofs.Common.{is_eq, Less, nat_cmp, int_cmp, ◌&&◌}
 use Rattle.std.specs.List.{AllByRecursion, list_all, flat_map}
 use Rattle.std.specs.Ordering.{eq_by_cmp}
 use Rattle.std.specs.FinMap.{put, entries, empty, len, len-entries, len-empty, entries-insert}
@@ -34,7 +36,9 @@ unfolding binary
 sql_equal a b = truth_back (is_eq (value_cmp (Int a) (Int b))) ∙ ap is_eq (value_cmp-Int a b)
 
 pub equal_ids : (a b : ℕ) → equal Binary (Int (pos a)) (Int (pos b)) ≡ true → a ≡ b
-equal_ids a b h = let e : is_eq (int_cmp (pos a) (pos b)) ≡ true = sym (sql_equal (pos a) (pos b)) ∙ h in grind (arith, ints, nat_tests)
+equal_ids a b h =
+    let e : is_eq (int_cmp (pos a) (pos b)) ≡ true = sym (sql_equal (pos a) (pos b)) ∙ h in
+    grind (arith, ints, nat_tests)
 
 abbrev pub asked : ℕ → Row
 asked id = Int (pos id) ∷ []
@@ -51,7 +55,8 @@ and_true true = refl
 and_true false = refl
 
 passes_is : (id : ℕ) (row : Row) (it : IsDevice row) → passes id row ≡ is_eq (int_cmp (pos it.id) (pos id))
-passes_is id row it = and_true (equal Binary (column row 0) (Int (pos id))) ∙ ap (λ v. equal Binary v (Int (pos id))) it.id_is ∙ sql_equal (pos it.id) (pos id)
+passes_is id row it = and_true (equal Binary (column row 0) (Int (pos id)))
+    ∙ ap (λ v. equal Binary v (Int (pos id))) it.id_is ∙ sql_equal (pos it.id) (pos id)
 
 passes_same : (id : ℕ) (row : Row) (it : IsDevice row) → it.id ≡ id → passes id row ≡ true
 passes_same id row it e = passes_is id row it ∙ grind (arith, ints, nat_tests)
@@ -60,13 +65,16 @@ passes_other : (id : ℕ) (row : Row) (it : IsDevice row) → it.id ≢ id → p
 passes_other id row it e = passes_is id row it ∙ grind (arith, ints, nat_tests)
 
 pub above : (a b : Row) (x : IsDevice a) (y : IsDevice b) → value_cmp (rowid a) (rowid b) ≡ Less → x.id < y.id
-above a b x y h = let e : int_cmp (pos x.id) (pos y.id) ≡ Less = sym (value_cmp-Int (pos x.id) (pos y.id)) ∙ rw (x.id_is, y.id_is) at h in grind (arith, ints, nat_tests)
+above a b x y h =
+    let e : int_cmp (pos x.id) (pos y.id) ≡ Less =
+    sym (value_cmp-Int (pos x.id) (pos y.id)) ∙ rw (x.id_is, y.id_is) at h in grind (arith, ints, nat_tests)
 
 -- rows whose rowids differ are of two senders
 pub two : (a b : Row) (x : IsDevice a) (y : IsDevice b) → rowid a ≢ rowid b → x.id ≢ y.id
 two a b x y other same = other (x.id_is ∙ ap (λ n. Int (pos n)) same ∙ sym y.id_is)
 
-none_other : (id : ℕ) (row : Row) (x : IsDevice row) (rows : List Row) → x.id ≡ id → AllByRecursion IsDevice rows → AllByRecursion (λ b. rowid row ≢ rowid b) rows → hits id rows ≡ []
+none_other : (id : ℕ) (row : Row) (x : IsDevice row) (rows : List Row) → x.id ≡ id → AllByRecursion IsDevice rows
+    → AllByRecursion (λ b. rowid row ≢ rowid b) rows → hits id rows ≡ []
 none_other id row x [] e all far = refl
 none_other id row x (r ∷ rows) e all far =
     let other = two row r x all.0 far.0 in
@@ -74,16 +82,27 @@ none_other id row x (r ∷ rows) e all far =
 
 -- the one row of the sender, or none
 abbrev pub FindsOne : ℕ → List Row → Type 0
-FindsOne id rows = ((seen id rows ≡ None) × (hits id rows ≡ [])) ⊎ ((r : Row) × (seen id rows ≡ Some (entry_of r).1) × (hits id rows ≡ (asked id ∷ r ∷ []) ∷ []) × (column r 0 ≡ Int (pos id)))
+FindsOne id rows = ((seen id rows ≡ None) × (hits id rows ≡ []))
+    ⊎ ((r : Row) × (seen id rows ≡ Some (entry_of r).1) × (hits id rows ≡ (asked id ∷ r ∷ []) ∷ [])
+    × (column r 0 ≡ Int (pos id)))
 
 pub found : (id : ℕ) (rows : List Row) → AllByRecursion IsDevice rows → RowidsDiffer rows → FindsOne id rows
 found id [] all once = inl (refl, refl)
 found id (row ∷ rows) all once =
     let key = key_is row all.0 in
-    let shown = λ (b : Bool) (is : passes id row ≡ b). ap (λ c. cond c ((asked id ∷ row ∷ []) ∷ []) [] ++ hits id rows) is in
-    let seen_is = λ (b : Bool) (is : eq_by_cmp nat_cmp id (entry_of row).0 ≡ b). ap (λ c. cond c (Some (entry_of row).1) (seen id rows)) is in
+    let shown =
+    λ (b : Bool) (is : passes id row ≡ b). ap (λ c. cond c ((asked id ∷ row ∷ []) ∷ []) [] ++ hits id rows) is in
+    let seen_is = λ (b : Bool) (is : eq_by_cmp nat_cmp id (entry_of row).0 ≡ b).
+    ap (λ c. cond c (Some (entry_of row).1) (seen id rows)) is in
     elim (cases_order all.0.id id) [
-      | inl same ↦ inr (row, seen_is true (rw key (tied_same id all.0.id same)), shown true (passes_same id row all.0 same) ∙ ap (λ h. (asked id ∷ row ∷ []) ∷ h) (none_other id row all.0 rows same all.1 once.0), all.0.id_is ∙ ap (λ n. Int (pos n)) same)
+      | inl same ↦
+          inr (
+            row,
+            seen_is true (rw key (tied_same id all.0.id same)),
+            shown true (passes_same id row all.0 same) ∙ ap (λ h. (asked id ∷ row ∷ []) ∷ h)
+                (none_other id row all.0 rows same all.1 once.0),
+            all.0.id_is ∙ ap (λ n. Int (pos n)) same,
+          )
       | inr apart ↦
           let ne : all.0.id ≢ id = ids_apart all.0.id id apart in
           let s = seen_is false (rw key (tied_other id all.0.id ne)) in
@@ -102,10 +121,12 @@ found id (row ∷ rows) all once =
 less_is : (a b : ℕ) → a < b → nat_cmp a b ≡ Less
 less_is a b h = grind (arith, nat_tests)
 
-put_first : (row : Row) (x : IsDevice row) (rows : List Row) → AllByRecursion IsDevice rows → AllByRecursion (λ b. value_cmp (rowid row) (rowid b) ≡ Less) rows
+put_first : (row : Row) (x : IsDevice row) (rows : List Row) → AllByRecursion IsDevice rows
+    → AllByRecursion (λ b. value_cmp (rowid row) (rowid b) ≡ Less) rows
     → put nat_cmp (entry_of row).0 (entry_of row).1 (map entry_of rows) ≡ entry_of row ∷ map entry_of rows
 put_first row x [] all low = refl
-put_first row x (r ∷ rows) all low = rw (less_is (entry_of row).0 (entry_of r).0 (rw (key_is row x, key_is r all.0) (above row r x all.0 low.0))) refl
+put_first row x (r ∷ rows) all low =
+    rw (less_is (entry_of row).0 (entry_of r).0 (rw (key_is row x, key_is r all.0) (above row r x all.0 low.0))) refl
 
 no_length : {A : Type 0} (xs : List A) → length xs ≡ 0 → xs ≡ []
 no_length [] e = refl
@@ -115,19 +136,24 @@ none_made : entries (empty {X = Learned} {R = nat_cmp}) ≡ []
 none_made = no_length _ (sym (len-entries empty) ∙ len-empty nat_cmp Learned)
 
 -- the entries are those of the rows, in order
-pub entries_are : (rows : List Row) → AllByRecursion IsDevice rows → IsTable rows → entries (devices_in rows) ≡ map entry_of rows
+pub entries_are : (rows : List Row) → AllByRecursion IsDevice rows → IsTable rows
+    → entries (devices_in rows) ≡ map entry_of rows
 entries_are [] all once = none_made
 entries_are (row ∷ rows) all once =
-    entries-insert nat_cmp_total (devices_in rows) (entry_of row).0 (entry_of row).1 ∙ ap (put nat_cmp (entry_of row).0 (entry_of row).1) (entries_are rows all.1 once.1) ∙ put_first row all.0 rows all.1 once.0
+    entries-insert nat_cmp_total (devices_in rows) (entry_of row).0 (entry_of row).1
+    ∙ ap (put nat_cmp (entry_of row).0 (entry_of row).1) (entries_are rows all.1 once.1)
+    ∙ put_first row all.0 rows all.1 once.0
 
 -- there are as many as rows
 pub risen_len : (rows : List Row) → AllByRecursion IsDevice rows → IsTable rows → len (devices_in rows) ≡ length rows
-risen_len rows all once = len-entries (devices_in rows) ∙ ap length (entries_are rows all once) ∙ length-map rows entry_of
+risen_len rows all once =
+    len-entries (devices_in rows) ∙ ap length (entries_are rows all once) ∙ length-map rows entry_of
 
 -- ---- what a query with no WITH reads
 
 pub overlay_is : (db : Trees) (t : ℕ) → overlay db [] t ≡ db t
-overlay_is db t = elim (nat_le (2 ^ 31) t) as (λ b. unwrap_or (cond {A = Option (List Row)} b None None) (db t) ≡ db t) [ true ↦ refl | false ↦ refl ]
+overlay_is db t = elim (nat_le (2 ^ 31) t) as (λ b. unwrap_or (cond {A = Option (List Row)} b None None) (db t) ≡ db t)
+    [ true ↦ refl | false ↦ refl ]
 
 pub no_rows : {X : Type 0} (ys : List X) → IsPermutation [] ys → ys ≡ []
 no_rows [] h = refl

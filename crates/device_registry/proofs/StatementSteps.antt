@@ -1,5 +1,6 @@
 -- From what the store says of a statement to what it does to the registry.
-use Rattle.std.proofs.Common.{◌≡◌, ◌⊎◌, inl, inr, ℕ, List, [], append-nil, OnOk, false, None, Ok, Err, Result, IsTrue, IfOk, IfErr, sym, ap, subst, subst₂, ◌∙◌, arith}
+use Rattle.std.proofs.Common.{◌≡◌, ◌⊎◌, inl, inr, ℕ, List, [], append-nil, OnOk, false, None, Ok, Err, Result}
+use Rattle.std.proofs.Common.{IsTrue, IfOk, IfErr, sym, ap, subst, subst₂, ◌∙◌, arith}
 use Rattle.std.proofs.lemmas.Bool.{cases_Bool}
 use Rattle.sqlite.specs.Order.{Row}
 use Rattle.sqlite_trees.specs.Tree.{Trees}
@@ -8,14 +9,17 @@ use Rattle.sqlite.specs.declared.error.Error.{Error}
 use Rattle.sqlite.specs.Clock.{timed}
 use Rattle.sqlite.specs.Listing.{understood}
 use Rattle.sqlite.specs.Effect.{IsDatabase}
-use Rattle.sqlite.specs.Schema.{Schema}
-use Rattle.sqlite.specs.State.{State, HasCleanDisk, Survives, Executes, ExecutesIn, CommitsBy, MayCommit, IsNotRun, IsUnchanged, IsRolledBack, shows_rows, Shown, ShowsRows, FailsToQuery, FailsToShow, CommitsShowing}
+use Rattle.sqlite.specs.State.{State, HasCleanDisk, Survives, Executes, ExecutesIn, CommitsBy, MayCommit}
+use Rattle.sqlite.specs.State.{IsNotRun, IsUnchanged, IsRolledBack, shows_rows, Shown, ShowsRows}
+use Rattle.sqlite.specs.State.{FailsToQuery, FailsToShow, CommitsShowing}
 use Rattle.sqlite.proofs.Callers.{IsPlain, command_of, statement_of, never_commits}
 use Rattle.device_registry.specs.Stored.{Registers}
 use Rattle.device_registry.specs.Ready.{IsReady, GoesOn, Stays}
 
-module _ (sql : List ℕ) (params : Row) (old : State) (command : Command) (is : command_of (understood old.now.schema sql) ≡ command) (plain : IsPlain (understood old.now.schema sql)) where
-  pub commits_as : (db : Trees) → CommitsBy sql params old db → MayCommit old None command (statement_of sql (understood old.now.schema sql)) params db
+module _ (sql : List ℕ) (params : Row) (old : State) (command : Command)
+    (is : command_of (understood old.now.schema sql) ≡ command) (plain : IsPlain (understood old.now.schema sql)) where
+  pub commits_as : (db : Trees) → CommitsBy sql params old db
+      → MayCommit old None command (statement_of sql (understood old.now.schema sql)) params db
   unfolding CommitsBy
   commits_as db h =
       let known = sym h.1.is in
@@ -62,7 +66,8 @@ pub spared : (old new : State) → IsSpared old new → GoesOn old new
 spared old new (inl same) = unchanged old new same
 spared old new (inr back) = undone old new back
 
-pub not_run : (sql : List ℕ) (params : Row) (old new : State) (e : Error) → IsNotRun old new sql params e → IsSpared old new
+pub not_run : (sql : List ℕ) (params : Row) (old new : State) (e : Error) → IsNotRun old new sql params e
+    → IsSpared old new
 unfolding IsNotRun
 not_run sql params old new e (inl h) = inl h.1
 not_run sql params old new e (inr h) = inr h.3
@@ -105,24 +110,35 @@ stays_then : (old mid new : State) → Stays old mid → Stays mid new → Stays
 stays_then old mid new first second = record {
   clean = λ clean. first.clean (second.clean clean);
   stop = λ clean trees left. first.stop (second.clean clean) trees (second.stop clean trees left);
-  goes_on = λ clean is_open. let late = second.goes_on clean is_open in let early = first.goes_on (second.clean clean) late.0 in (early.0, λ devices shows. late.1 devices (early.1 devices shows));
+  goes_on = λ clean is_open. let late = second.goes_on clean is_open in let early =
+      first.goes_on (second.clean clean) late.0 in (early.0, λ devices shows. late.1 devices (early.1 devices shows));
 }
 
 pub ready_on : (old new : State) → GoesOn old new → IsTrue new.is_open → IsReady old → IsReady new
-ready_on old new goes_on is_open ready = record { devices = ready.devices; shows = (goes_on is_open).1 ready.devices ready.shows }
+ready_on old new goes_on is_open ready =
+    record { devices = ready.devices; shows = (goes_on is_open).1 ready.devices ready.shows }
 
 -- a query that was asked of a ready registry
-query_stays : {V : Type 0} (sql : List ℕ) (params : Row) (old new : State) (items : V → List Row) (r : Result V Error) → (HasCleanDisk old → IsPlain (understood old.now.schema sql))
-    → Survives old new (CommitsShowing sql params old) → (HasCleanDisk new → IfOk r (λ v. Shown sql params old new (items v))) → (HasCleanDisk new → IfErr r (FailsToQuery sql params old new)) → Stays old new
+query_stays : {V : Type 0} (sql : List ℕ) (params : Row) (old new : State) (items : V → List Row) (r : Result V Error)
+    → (HasCleanDisk old → IsPlain (understood old.now.schema sql))
+    → Survives old new (CommitsShowing sql params old)
+    → (HasCleanDisk new → IfOk r (λ v. Shown sql params old new (items v)))
+    → (HasCleanDisk new → IfErr r (FailsToQuery sql params old new)) → Stays old new
 query_stays sql params old new items r plain survives shown failed =
     let early = λ (clean : HasCleanDisk new). let was : HasCleanDisk old = omega (arith, survives.clean) in was in
     record {
       clean = early;
-      stop = λ clean trees left. elim (survives.crash clean trees left) [ inl before ↦ before | inr commits ↦ absurd (never_commits sql params old trees (plain (early clean)) commits) ];
+      stop =
+          λ clean trees left. elim (survives.crash clean trees left) [
+            | inl before ↦ before
+            | inr commits ↦
+                absurd (never_commits sql params old trees (plain (early clean)) commits)
+          ];
       goes_on = λ clean. goes r (plain (early clean)) (shown clean) (failed clean);
     }
   where
-    goes : (r : Result _ Error) → IsPlain (understood old.now.schema sql) → IfOk r (λ v. Shown sql params old new (items v)) → IfErr r (FailsToQuery sql params old new) → GoesOn old new
+    goes : (r : Result _ Error) → IsPlain (understood old.now.schema sql)
+        → IfOk r (λ v. Shown sql params old new (items v)) → IfErr r (FailsToQuery sql params old new) → GoesOn old new
     goes (Ok v) known shown failed = unchanged old new (shown_same sql params old new known (items v) shown)
     goes (Err e) known shown failed = spared old new (not_shown sql params old new known e failed)
 
@@ -142,16 +158,22 @@ compiled_query_stays sql text params old mid new items r first is plain survives
     stays_then old mid new first (query_stays text params mid new items r known survives shown failed)
 
 -- and that answered
-pub query_ready : (sql : List ℕ) (params : Row) (old new : State) (rows : List Row) → IsPlain (understood old.now.schema sql) → IsReady old → Shown sql params old new rows → IsReady new
-query_ready sql params old new rows plain ready h = let same = shown_same sql params old new plain rows h in ready_on old new (unchanged old new same) same.0.is_open ready
+pub query_ready : (sql : List ℕ) (params : Row) (old new : State) (rows : List Row)
+    → IsPlain (understood old.now.schema sql) → IsReady old → Shown sql params old new rows → IsReady new
+query_ready sql params old new rows plain ready h =
+    let same = shown_same sql params old new plain rows h in
+    ready_on old new (unchanged old new same) same.0.is_open ready
 
 -- a text that is compiled, which writes nothing
 module _ {V : Type 0} (P : V → Type 0) (sql : List ℕ) (old new : State) where
-  compiled_goes : (r : Result V Error) → IfOk r (λ v. P v × IsUnchanged old new) → IfErr r (λ e. (params : Row) → IsNotRun old new sql params e) → GoesOn old new
+  compiled_goes : (r : Result V Error) → IfOk r (λ v. P v × IsUnchanged old new)
+      → IfErr r (λ e. (params : Row) → IsNotRun old new sql params e) → GoesOn old new
   compiled_goes (Ok v) ok err = unchanged old new ok.1
   compiled_goes (Err e) ok err = spared old new (not_run sql [] old new e (err []))
 
-  pub compiled_stays : (r : Result V Error) → Survives old new (λ _. ⊥) → (HasCleanDisk new → IfOk r (λ v. P v × IsUnchanged old new)) → (HasCleanDisk new → IfErr r (λ e. (params : Row) → IsNotRun old new sql params e)) → Stays old new
+  pub compiled_stays : (r : Result V Error) → Survives old new (λ _. ⊥)
+      → (HasCleanDisk new → IfOk r (λ v. P v × IsUnchanged old new))
+      → (HasCleanDisk new → IfErr r (λ e. (params : Row) → IsNotRun old new sql params e)) → Stays old new
   compiled_stays r survives ok err = stays_from old new survives (λ clean. compiled_goes r (ok clean) (err clean))
 
   pub compiled_text : (r : Result V Error) → IfOk r (λ v. P v × IsUnchanged old new) → IfOk r P
@@ -159,6 +181,7 @@ module _ {V : Type 0} (P : V → Type 0) (sql : List ℕ) (old new : State) wher
   compiled_text (Err e) ok = tt
 
   -- and it tells that the registry is open
-  pub compiled_ready : (r : Result V Error) → IfOk r (λ v. P v × IsUnchanged old new) → (IsTrue old.is_open → IsReady old) → OnOk r (IsReady new)
+  pub compiled_ready : (r : Result V Error) → IfOk r (λ v. P v × IsUnchanged old new)
+      → (IsTrue old.is_open → IsReady old) → OnOk r (IsReady new)
   compiled_ready (Ok v) ok ready = ready_on old new (unchanged old new ok.1) ok.1.0.is_open (ready ok.1.0.was_open)
   compiled_ready (Err e) ok ready = tt

@@ -57,7 +57,14 @@ find_query d = plain_query d (is_sender ∷ []) (col 1 2 ∷ col 1 3 ∷ [])
 
 abbrev pub others_query : ℕ → Query
 others_query d = record (plain_query d (is_other ∷ []) (col 1 0 ∷ [])) {
-  group = Some (record { keys = []; collations = []; aggregates = record { op = CountRows; distinct = false; collation = Binary; argument = lit Null } ∷ []; having = [] });
+  group =
+      Some (record {
+        keys = [];
+        collations = [];
+        aggregates =
+            record { op = CountRows; distinct = false; collation = Binary; argument = lit Null } ∷ [];
+        having = [];
+      });
 }
 
 abbrev pub forget_query : ℕ → Query
@@ -67,4 +74,5 @@ abbrev pub renew_query : ℕ → Query
 renew_query d = plain_query d [] (col 1 0 ∷ col 1 0 ∷ lit Null ∷ lit (Int (pos 1)) ∷ [])
 
 abbrev pub all_query : ℕ → Query
-all_query d = record (plain_query d [] (col 1 0 ∷ col 1 2 ∷ col 1 3 ∷ [])) { order = (col 1 0, record { collation = Binary; descending = false }) ∷ [] }
+all_query d = record (plain_query d [] (col 1 0 ∷ col 1 2 ∷ col 1 3 ∷ []))
+    { order = (col 1 0, record { collation = Binary; descending = false }) ∷ [] }

@@ -1,5 +1,7 @@
 -- What the transaction that makes the two tables leaves, whatever other tables there are.
-use Rattle.std.proofs.Common.{◌≡◌, ◌≢◌, ◌<◌, inl, inr, ℕ, ◌+◌, ◌^◌, ◌==◌, nat_le, List, [], ◌∷◌, ◌++◌, length, Bool, true, false, not, ◌&&◌, ◌||◌, Some, None, Option, arith, refl, sym, ap, subst, ◌∙◌, append_assoc, append-nil, is_some, codes, slice_get, zero, suc, option_and_then}
+use Rattle.std.proofs.Common.{◌≡◌, ◌≢◌, ◌<◌, inl, inr, ℕ, ◌+◌, ◌^◌, ◌==◌, nat_le, List, [], ◌∷◌, ◌++◌, length, Bool}
+use Rattle.std.proofs.Common.{true, false, not, ◌&&◌, ◌||◌, Some, None, Option, arith, refl, sym, ap, subst, ◌∙◌}
+use Rattle.std.proofs.Common.{append_assoc, append-nil, is_some, codes, slice_get, zero, suc, option_and_then}
 use Rattle.std.proofs.lemmas.Bool.Decides.{nat_tests}
 use Rattle.std.proofs.lemmas.Bool.{cases_Bool}
 use Rattle.std.proofs.lemmas.List.Folds.{list_any-append}
@@ -32,16 +34,22 @@ with_meta schema = created schema (meta_table 0)
 abbrev pub with_both : Schema → Schema
 with_both schema = created (with_meta schema) (device_table 0)
 
-names_free : (schema : Schema) (name : List ℕ) → is_used schema name ≡ false → AllByRecursion (λ t. same_name t.name name ≡ false) schema.tables
-names_free schema name free = all_from _ schema.tables (λ t has. none_placed (λ t. same_name t.name name) schema.tables 0 t (unused schema name free).0 has)
+names_free : (schema : Schema) (name : List ℕ) → is_used schema name ≡ false
+    → AllByRecursion (λ t. same_name t.name name ≡ false) schema.tables
+names_free schema name free =
+    all_from _ schema.tables
+    (λ t has. none_placed (λ t. same_name t.name name) schema.tables 0 t (unused schema name free).0 has)
 
 all_below : (schema : Schema) → AllByRecursion (λ t. t.tree < next_tree schema) schema.tables
 all_below schema = all_from _ schema.tables (λ t has. table_below schema t has)
 
 pub lows : (schema : Schema) (db : Trees) → IsSound schema db → AllByRecursion (λ t. t.tree < 65536) schema.tables
-lows schema db sound = all_from _ schema.tables (λ t has. (zipped_left IsTableRow _ schema.tables t sound.lists.listed.tables has).2.described.low)
+lows schema db sound =
+    all_from _ schema.tables
+    (λ t has. (zipped_left IsTableRow _ schema.tables t sound.lists.listed.tables has).2.described.low)
 
-pub owners_below : (schema : Schema) (db : Trees) → IsSound schema db → AllByRecursion (λ i. i.table < next_tree schema) schema.indexes
+pub owners_below : (schema : Schema) (db : Trees) → IsSound schema db
+    → AllByRecursion (λ i. i.table < next_tree schema) schema.indexes
 owners_below schema db sound = all_from _ schema.indexes (λ i has.
     let row = (zipped_left (IsIndexRow schema.tables) _ schema.indexes i sound.lists.listed.indexes has).2 in
     let low = table_below schema row.table row.listed in
@@ -57,18 +65,21 @@ itself a = grind (arith, nat_tests)
 stored : (a : ℕ) → a < 65536 → nat_le (2 ^ 31) a ≡ false
 stored a h = grind (arith, nat_tests)
 
-none_at : {X : Type 0} (test : X → Bool) (i : ℕ) (xs : List X) → AllByRecursion (λ x. test x ≡ false) xs → position_from test i xs ≡ None
+none_at : {X : Type 0} (test : X → Bool) (i : ℕ) (xs : List X) → AllByRecursion (λ x. test x ≡ false) xs
+    → position_from test i xs ≡ None
 none_at test i [] none = refl
 none_at test i (x ∷ xs) none = rw none.0 (none_at test (i + 1) xs none.1)
 
-placed_before : {X : Type 0} (test : X → Bool) (i : ℕ) (xs ys : List X) (at : ℕ) → position_from test i xs ≡ Some at → position_from test i (xs ++ ys) ≡ Some at
+placed_before : {X : Type 0} (test : X → Bool) (i : ℕ) (xs ys : List X) (at : ℕ) → position_from test i xs ≡ Some at
+    → position_from test i (xs ++ ys) ≡ Some at
 placed_before test i [] ys at h = absurd (let e = h in cc)
 placed_before test i (x ∷ xs) ys at h = elim (cases_Bool (test x)) [
   | inl here ↦ rw here (rw here at h)
   | inr passed ↦ rw passed (placed_before test (i + 1) xs ys at (rw passed at h))
 ]
 
-got_before : {X : Type 0} (xs ys : List X) (at : ℕ) (x : X) → slice_get xs at ≡ Some x → slice_get (xs ++ ys) at ≡ Some x
+got_before : {X : Type 0} (xs ys : List X) (at : ℕ) (x : X) → slice_get xs at ≡ Some x
+    → slice_get (xs ++ ys) at ≡ Some x
 got_before [] ys at x h = absurd (let e = h in cc)
 got_before (y ∷ xs) ys zero x h = h
 got_before (y ∷ xs) ys (suc at) x h = got_before xs ys at x h
@@ -78,44 +89,60 @@ pub half_free : (schema : Schema) → IsClear schema → is_used (with_meta sche
 unfolding same_name
 half_free schema clear =
     let none = unused schema device_name clear.free_devices in
-    let table : table_named (with_meta schema) device_name ≡ None = none_at _ 0 (schema.tables ++ meta_table (next_tree schema) ∷ [])
-    (all-append _ schema.tables (meta_table (next_tree schema) ∷ []) (names_free schema device_name clear.free_devices) (refl, tt)) in
-    let index : index_named (with_meta schema) device_name ≡ None = subst (λ (xs : List Index). position_from (λ i. same_name i.name device_name) 0 xs ≡ None) (sym (append-nil schema.indexes)) none.1 in
-    ap (λ (o : Option ℕ). (is_some o || is_some (index_named (with_meta schema) device_name)) || is_some (view_named schema device_name)) table
-    ∙ ap (λ (o : Option ℕ). is_some o || is_some (view_named schema device_name)) index ∙ ap (λ (o : Option ℕ). is_some o) none.2
+    let table : table_named (with_meta schema) device_name ≡ None =
+    none_at _ 0 (schema.tables ++ meta_table (next_tree schema) ∷ [])
+    (all-append _ schema.tables (meta_table (next_tree schema) ∷ []) (names_free schema device_name clear.free_devices)
+    (refl, tt)) in
+    let index : index_named (with_meta schema) device_name ≡ None =
+    subst (λ (xs : List Index). position_from (λ i. same_name i.name device_name) 0 xs ≡ None)
+    (sym (append-nil schema.indexes)) none.1 in
+    ap (λ (o : Option ℕ). (is_some o || is_some (index_named (with_meta schema) device_name)) || is_some
+    (view_named schema device_name)) table
+    ∙ ap (λ (o : Option ℕ). is_some o || is_some (view_named schema device_name)) index
+    ∙ ap (λ (o : Option ℕ). is_some o) none.2
 
 abbrev counts : Table → Bool
 counts t = t.is_counted
 
-sequence_kept : (schema : Schema) (table : Table) (at : ℕ) (slot : Option Table) → table_named schema (codes "sqlite_sequence") ≡ Some at → slice_get schema.tables at ≡ slot → is_some slot ≡ true
+sequence_kept : (schema : Schema) (table : Table) (at : ℕ) (slot : Option Table)
+    → table_named schema (codes "sqlite_sequence") ≡ Some at → slice_get schema.tables at ≡ slot → is_some slot ≡ true
     → is_some (sequence (created schema table)) ≡ true
 sequence_kept schema table at None named got h = absurd (let e = h in cc)
 sequence_kept schema table at (Some t) named got h =
     let more : List Table = record table { tree = next_tree schema } ∷ [] in
-    ap (λ o. is_some (option_and_then (slice_get (schema.tables ++ more)) o)) (placed_before (λ t. same_name t.name (codes "sqlite_sequence")) 0 schema.tables more at named)
+    ap (λ o. is_some (option_and_then (slice_get (schema.tables ++ more)) o))
+    (placed_before (λ t. same_name t.name (codes "sqlite_sequence")) 0 schema.tables more at named)
     ∙ ap (λ (o : Option Table). is_some o) (got_before schema.tables more at t got)
 
-sequenced : (schema : Schema) (table : Table) (o : Option ℕ) → table_named schema (codes "sqlite_sequence") ≡ o → is_some (option_and_then (slice_get schema.tables) o) ≡ true → is_some (sequence (created schema table)) ≡ true
+sequenced : (schema : Schema) (table : Table) (o : Option ℕ) → table_named schema (codes "sqlite_sequence") ≡ o
+    → is_some (option_and_then (slice_get schema.tables) o) ≡ true → is_some (sequence (created schema table)) ≡ true
 sequenced schema table None named h = absurd (let e = h in cc)
 sequenced schema table (Some at) named h = sequence_kept schema table at (slice_get schema.tables at) named refl h
 
 -- a table that counts no rowids needs no table of the counts
-pub still_counted : (schema : Schema) (table : Table) → table.is_counted ≡ false → lacks_sequence schema ≡ false → lacks_sequence (created schema table) ≡ false
+pub still_counted : (schema : Schema) (table : Table) → table.is_counted ≡ false → lacks_sequence schema ≡ false
+    → lacks_sequence (created schema table) ≡ false
 still_counted schema table plain lacks =
-    let any : list_any counts (schema.tables ++ record table { tree = next_tree schema } ∷ []) ≡ list_any counts schema.tables =
-    list_any-append counts schema.tables (record table { tree = next_tree schema } ∷ []) ∙ ap (λ b. list_any counts schema.tables || (b || false)) plain ∙ or_false (list_any counts schema.tables) in
-    ap (λ b. b && not (is_some (sequence (created schema table)))) any ∙ decided (list_any counts schema.tables) (is_some (sequence schema)) lacks refl
+    let any : list_any counts (schema.tables ++ record table { tree = next_tree schema } ∷ [])
+    ≡ list_any counts schema.tables =
+    list_any-append counts schema.tables (record table { tree = next_tree schema } ∷ [])
+    ∙ ap (λ b. list_any counts schema.tables || (b || false)) plain ∙ or_false (list_any counts schema.tables) in
+    ap (λ b. b && not (is_some (sequence (created schema table)))) any
+    ∙ decided (list_any counts schema.tables) (is_some (sequence schema)) lacks refl
   where
     or_false : (b : Bool) → (b || (false || false)) ≡ b
     or_false true = refl
     or_false false = refl
 
-    decided : (any some : Bool) → (any && not some) ≡ false → is_some (sequence schema) ≡ some → (any && not (is_some (sequence (created schema table)))) ≡ false
+    decided : (any some : Bool) → (any && not some) ≡ false → is_some (sequence schema) ≡ some
+        → (any && not (is_some (sequence (created schema table)))) ≡ false
     decided false some h is = refl
     decided true false h is = absurd (let e = h in cc)
-    decided true true h is = ap (λ b. true && not b) (sequenced schema table (table_named schema (codes "sqlite_sequence")) refl is)
+    decided true true h is =
+        ap (λ b. true && not b) (sequenced schema table (table_named schema (codes "sqlite_sequence")) refl is)
 
-module _ (schema : Schema) (clear : IsClear schema) (low : next_tree schema < 65536) (lower : next_tree (with_meta schema) < 65536)
+module _ (schema : Schema) (clear : IsClear schema) (low : next_tree schema < 65536)
+    (lower : next_tree (with_meta schema) < 65536)
     (owners : AllByRecursion (λ i. i.table < next_tree schema) schema.indexes) where
   abbrev first : ℕ
   first = next_tree schema
@@ -133,14 +160,16 @@ module _ (schema : Schema) (clear : IsClear schema) (low : next_tree schema < 65
   front_below = all_below (with_meta schema)
 
   rises : first < second
-  rises = all_has (λ t. t.tree < second) front (meta_table first) front_below (last_has schema.tables (meta_table first))
+  rises =
+      all_has (λ t. t.tree < second) front (meta_table first) front_below (last_has schema.tables (meta_table first))
     where
       last_has : {X : Type 0} (xs : List X) (x : X) → Has (xs ++ x ∷ []) x
       last_has [] x = inl refl
       last_has (y ∷ xs) x = inr (last_has xs x)
 
   lower_below : AllByRecursion (λ t. t.tree < second) schema.tables
-  lower_below = all_weaker (λ t. t.tree < first) (λ t. t.tree < second) (λ t h. let r = rises in omega (arith, h, r)) schema.tables below
+  lower_below = all_weaker (λ t. t.tree < first) (λ t. t.tree < second) (λ t h.
+      let r = rises in omega (arith, h, r)) schema.tables below
 
   both_tables : HasTables (with_both schema)
   unfolding same_name
@@ -149,13 +178,20 @@ module _ (schema : Schema) (clear : IsClear schema) (low : next_tree schema < 65
     devices = second;
     meta_at = length schema.tables;
     devices_at = length front;
-    meta_stands = stands (with_both schema) schema.tables (device_table second ∷ []) (meta_table first) (append_assoc schema.tables (meta_table first ∷ []) (device_table second ∷ []))
-        (names_free schema meta_name clear.free_meta) refl (all_weaker (λ t. t.tree < first) (λ t. (t.tree == first) ≡ false) (λ t h. other t.tree first h) schema.tables below) (itself first) (stored first low);
+    meta_stands = stands (with_both schema) schema.tables (device_table second ∷ []) (meta_table first)
+        (append_assoc schema.tables (meta_table first ∷ []) (device_table second ∷ []))
+        (names_free schema meta_name clear.free_meta) refl
+        (all_weaker (λ t. t.tree < first) (λ t. (t.tree == first) ≡ false)
+        (λ t h. other t.tree first h) schema.tables below) (itself first) (stored first low);
     devices_stand = stands (with_both schema) front [] (device_table second) refl
-        (all-append _ schema.tables (meta_table first ∷ []) (names_free schema device_name clear.free_devices) (refl, tt)) refl
-        (all_weaker (λ t. t.tree < second) (λ t. (t.tree == second) ≡ false) (λ t h. other t.tree second h) front front_below) (itself second) (stored second lower);
+        (all-append _ schema.tables (meta_table first ∷ []) (names_free schema device_name clear.free_devices)
+        (refl, tt)) refl
+        (all_weaker (λ t. t.tree < second) (λ t. (t.tree == second) ≡ false)
+        (λ t h. other t.tree second h) front front_below) (itself second) (stored second lower);
     apart = let r = rises in omega (arith, r);
-    spared = all-append _ front (device_table second ∷ []) (all-append _ schema.tables (meta_table first ∷ []) clear.spared ((tt, tt), tt)) ((tt, tt), tt);
+    spared =
+        all-append _ front (device_table second ∷ [])
+        (all-append _ schema.tables (meta_table first ∷ []) clear.spared ((tt, tt), tt)) ((tt, tt), tt);
     alone = all-append _ front (device_table second ∷ [])
         (all-append _ schema.tables (meta_table first ∷ [])
         (all_from _ schema.tables (λ t has.
@@ -165,7 +201,8 @@ module _ (schema : Schema) (clear : IsClear schema) (low : next_tree schema < 65
         ((λ _. refl, λ e. absurd (let r = rises in omega (arith, r, e))), tt))
         ((λ e. absurd (let r = rises in omega (arith, r, e)), λ _. refl), tt);
     unindexed = all-append _ (schema.indexes ++ []) [] (all-append _ schema.indexes []
-        (all_weaker (λ i. i.table < first) (λ i. (i.table ≢ first) × (i.table ≢ second)) (λ i h. let r = rises in (omega (arith, h), omega (arith, h, r))) schema.indexes owners) tt) tt;
+        (all_weaker (λ i. i.table < first) (λ i. (i.table ≢ first) × (i.table ≢ second)) (λ i h.
+        let r = rises in (omega (arith, h), omega (arith, h, r))) schema.indexes owners) tt) tt;
   }
 
   pub made_tables : (t : HasTables (with_both schema)) × (t.meta ≡ first) × (t.devices ≡ second)

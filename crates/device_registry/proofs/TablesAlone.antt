@@ -1,5 +1,6 @@
 -- That the registry's tables stand alone: a write of one sets off nothing, and no index is on it.
-use Rattle.std.proofs.Common.{slice_get, zero, suc, ◌≡◌, ◌≢◌, inl, inr, ℕ, Bool, true, false, List, [], ◌∷◌, length, Option, None, Some, option_map, option_and_then, refl, sym, subst, ◌∙◌, ◌==◌, ◌&&◌, arith}
+use Rattle.std.proofs.Common.{slice_get, zero, suc, ◌≡◌, ◌≢◌, inl, inr, ℕ, Bool, true, false, List, [], ◌∷◌, length}
+use Rattle.std.proofs.Common.{Option, None, Some, option_map, option_and_then, refl, sym, subst, ◌∙◌, ◌==◌, ◌&&◌, arith}
 use Rattle.std.proofs.lemmas.Bool.Decides.{nat_tests}
 use Rattle.std.proofs.lemmas.Bool.{cases_Bool}
 use Rattle.std.specs.List.{AllByRecursion, flat_map, filter_map, list_any}
@@ -28,39 +29,53 @@ IsElsewhere tree None = Unit {0}
 IsElsewhere tree (Some key) = (key.0 == tree) ≡ false
 
 in_its_tree : (t : Table) (tree : ℕ) (places : List ℕ) → (t.tree == tree) ≡ false → IsElsewhere tree (key_in t places)
-in_its_tree t tree places other = elim (declared_order t places) as (λ o. IsElsewhere tree (option_map (λ o. let k : ParentKey = (t.tree, places, o) in k) o)) [ None ↦ tt | Some o ↦ other ]
+in_its_tree t tree places other =
+    elim (declared_order t places) as (λ o. IsElsewhere tree
+    (option_map (λ o. let k : ParentKey = (t.tree, places, o) in k) o)) [ None ↦ tt | Some o ↦ other ]
 
-keyed : (t : Table) (tree : ℕ) (places : Option (List ℕ)) → (t.tree == tree) ≡ false → IsElsewhere tree (option_and_then (key_in t) places)
+keyed : (t : Table) (tree : ℕ) (places : Option (List ℕ)) → (t.tree == tree) ≡ false
+    → IsElsewhere tree (option_and_then (key_in t) places)
 keyed t tree None other = tt
 keyed t tree (Some places) other = in_its_tree t tree places other
 
-other_tree : (t : Table) (tree : ℕ) (name parent : List ℕ) → KeepsTree name tree t → same_name t.name parent ≡ true → same_name parent name ≡ false → (t.tree == tree) ≡ false
+other_tree : (t : Table) (tree : ℕ) (name parent : List ℕ) → KeepsTree name tree t → same_name t.name parent ≡ true
+    → same_name parent name ≡ false → (t.tree == tree) ≡ false
 other_tree t tree name parent keeps found spares = elim (cases_Bool (t.tree == tree)) [
-  | inl same ↦ absurd (let own = keeps (grind (arith, nat_tests)) in let clash = same_through t.name parent name found own in cc)
+  | inl same ↦
+      absurd (let own = keeps (grind (arith, nat_tests)) in let clash = same_through t.name parent name found own in cc)
   | inr other ↦ other
 ]
 
-elsewhere : (tables : List Table) (reference : Reference) (tree : ℕ) (name : List ℕ) → AllByRecursion (KeepsTree name tree) tables → same_name reference.parent name ≡ false → IsElsewhere tree (parent_key tables reference)
+elsewhere : (tables : List Table) (reference : Reference) (tree : ℕ) (name : List ℕ)
+    → AllByRecursion (KeepsTree name tree) tables → same_name reference.parent name ≡ false
+    → IsElsewhere tree (parent_key tables reference)
 elsewhere [] reference tree name alone spares = tt
 elsewhere (t ∷ tables) reference tree name alone spares = elim (cases_Bool (same_name t.name reference.parent)) [
-  | inl found ↦ rw found (keyed t tree (key_places t reference.parent_columns) (other_tree t tree name reference.parent alone.0 found spares))
+  | inl found ↦
+      rw found (keyed t tree (key_places t reference.parent_columns)
+      (other_tree t tree name reference.parent alone.0 found spares))
   | inr passed ↦ rw passed (elsewhere tables reference tree name alone.1 spares)
 ]
 
-no_work : (depth tree : ℕ) (moves : List (Row × Row)) (child : Table) (reference : Reference) (deed : Option Deed) (key : Option ParentKey) → IsElsewhere tree key → work_by depth tree moves child reference deed key ≡ None
+no_work : (depth tree : ℕ) (moves : List (Row × Row)) (child : Table) (reference : Reference) (deed : Option Deed)
+    (key : Option ParentKey) → IsElsewhere tree key → work_by depth tree moves child reference deed key ≡ None
 no_work depth tree moves child reference None key other = refl
 no_work depth tree moves child reference (Some deed) None other = refl
 no_work depth tree moves child reference (Some deed) (Some key) other = rw other
 
-module _ (schema : Schema) (keys : Keys) (tree : ℕ) (name : List ℕ) (alone : AllByRecursion (KeepsTree name tree) schema.tables) (olds news : List Row) where
-  none_of : (child : Table) (references : List Reference) → AllByRecursion (λ reference. same_name reference.parent name ≡ false) references
+module _ (schema : Schema) (keys : Keys) (tree : ℕ) (name : List ℕ)
+    (alone : AllByRecursion (KeepsTree name tree) schema.tables) (olds news : List Row) where
+  none_of : (child : Table) (references : List Reference) → AllByRecursion
+      (λ reference. same_name reference.parent name ≡ false) references
       → filter_map (work_for schema keys 0 tree olds news child) references ≡ []
   none_of child [] spares = refl
   none_of child (reference ∷ references) spares =
-      rw (no_work 0 tree (pairs olds news) child reference (deed_for keys (length news == 0) reference) (parent_key schema.tables reference) (elsewhere schema.tables reference tree name alone spares.0))
+      rw (no_work 0 tree (pairs olds news) child reference (deed_for keys (length news == 0) reference)
+      (parent_key schema.tables reference) (elsewhere schema.tables reference tree name alone spares.0))
       (none_of child references spares.1)
 
-  none_in : (tables : List Table) → AllByRecursion (SparesName name) tables → flat_map (λ child. filter_map (work_for schema keys 0 tree olds news child) child.references) tables ≡ []
+  none_in : (tables : List Table) → AllByRecursion (SparesName name) tables
+      → flat_map (λ child. filter_map (work_for schema keys 0 tree olds news child) child.references) tables ≡ []
   none_in [] spares = refl
   none_in (child ∷ tables) spares = rw (none_of child child.references spares.0) (none_in tables spares.1)
 
@@ -68,12 +83,14 @@ module _ (schema : Schema) (keys : Keys) (tree : ℕ) (name : List ℕ) (alone :
   pub sets_off_nothing : AllByRecursion (SparesName name) schema.tables → works schema keys 0 tree olds news ≡ []
   sets_off_nothing spares = none_in schema.tables spares
 
-pub at_place : {X : Type 0} (P : X → Type 0) (xs : List X) (i : ℕ) (x : X) → AllByRecursion P xs → slice_get xs i ≡ Some x → P x
+pub at_place : {X : Type 0} (P : X → Type 0) (xs : List X) (i : ℕ) (x : X) → AllByRecursion P xs
+    → slice_get xs i ≡ Some x → P x
 at_place P [] i x all e = absurd (cc)
 at_place P (y ∷ ys) zero x all e = let same : y ≡ x = cc in subst P same all.0
 at_place P (y ∷ ys) (suc i) x all e = at_place P ys i x all.1 e
 
-all_so : {X : Type 0} (P Q : X → Type 0) (xs : List X) → ((x : X) → P x → Q x) → AllByRecursion P xs → AllByRecursion Q xs
+all_so : {X : Type 0} (P Q : X → Type 0) (xs : List X) → ((x : X) → P x → Q x) → AllByRecursion P xs
+    → AllByRecursion Q xs
 all_so P Q [] so all = tt
 all_so P Q (x ∷ xs) so all = (so x all.0, all_so P Q xs so all.1)
 
@@ -84,23 +101,34 @@ pub record StandsAlone (schema : Schema) (tree : ℕ) : Type 0 where
 
 pub devices_alone : (db : Database) (registry : IsRegistry db) → StandsAlone db.schema registry.tables.devices
 devices_alone db registry = record {
-  free = λ keys olds news. sets_off_nothing db.schema keys registry.tables.devices device_name (all_so _ _ db.schema.tables (λ t both. both.1) registry.tables.alone) olds news (all_so _ _ db.schema.tables (λ t both. both.1) registry.tables.spared);
+  free =
+      λ keys olds news. sets_off_nothing db.schema keys registry.tables.devices device_name
+      (all_so _ _ db.schema.tables (λ t both. both.1) registry.tables.alone) olds news
+      (all_so _ _ db.schema.tables (λ t both. both.1) registry.tables.spared);
   unindexed = all_so _ _ db.schema.indexes (λ index both. both.1) registry.tables.unindexed;
 }
 
 pub meta_alone : (db : Database) (registry : IsRegistry db) → StandsAlone db.schema registry.tables.meta
 meta_alone db registry = record {
-  free = λ keys olds news. sets_off_nothing db.schema keys registry.tables.meta meta_name (all_so _ _ db.schema.tables (λ t both. both.0) registry.tables.alone) olds news (all_so _ _ db.schema.tables (λ t both. both.0) registry.tables.spared);
+  free =
+      λ keys olds news. sets_off_nothing db.schema keys registry.tables.meta meta_name
+      (all_so _ _ db.schema.tables (λ t both. both.0) registry.tables.alone) olds news
+      (all_so _ _ db.schema.tables (λ t both. both.0) registry.tables.spared);
   unindexed = all_so _ _ db.schema.indexes (λ index both. both.0) registry.tables.unindexed;
 }
 
-not_of : (index : Index) (table : Table) (new row : Row) → index.table ≢ table.tree → shares None table new row index ≡ false
-not_of index table new row other = let no_match : (index.table == table.tree) ≡ false = grind (arith, nat_tests) in rw no_match (never index.is_unique _ _)
+not_of : (index : Index) (table : Table) (new row : Row) → index.table ≢ table.tree
+    → shares None table new row index ≡ false
+not_of index table new row other =
+    let no_match : (index.table == table.tree) ≡ false = grind (arith, nat_tests) in
+    rw no_match (never index.is_unique _ _)
   where
     never : (a b c : Bool) → (((a && false) && b) && c) ≡ false
     never true b c = refl
     never false b c = refl
 
-pub no_shares : (indexes : List Index) (table : Table) (new row : Row) → AllByRecursion (λ index. index.table ≢ table.tree) indexes → list_any (shares None table new row) indexes ≡ false
+pub no_shares : (indexes : List Index) (table : Table) (new row : Row)
+    → AllByRecursion (λ index. index.table ≢ table.tree) indexes → list_any (shares None table new row) indexes ≡ false
 no_shares [] table new row none = refl
-no_shares (index ∷ indexes) table new row none = rw (not_of index table new row none.0) (no_shares indexes table new row none.1)
+no_shares (index ∷ indexes) table new row none =
+    rw (not_of index table new row none.0) (no_shares indexes table new row none.1)

@@ -1,5 +1,6 @@
 -- A database that lists the registry's texts in the trees of its two names has the registry's tables.
-use Rattle.std.proofs.Common.{◌≡◌, inl, inr, ℕ, ◌<◌, ◌==◌, ◌^◌, nat_le, List, [], ◌∷◌, ◌++◌, map, Bool, true, false, not, ◌&&◌, ◌||◌, Some, option_map, Ok, refl, sym, ap, subst, ◌∙◌, arith, IsTrue, Less, is_eq}
+use Rattle.std.proofs.Common.{◌≡◌, inl, inr, ℕ, ◌<◌, ◌==◌, ◌^◌, nat_le, List, [], ◌∷◌, ◌++◌, map, Bool, true, false}
+use Rattle.std.proofs.Common.{◌&&◌, ◌||◌, Some, option_map, Ok, refl, sym, ap, subst, ◌∙◌, arith, IsTrue, Less, is_eq}
 use Rattle.std.proofs.lemmas.Bool.Decides.{nat_tests}
 use Rattle.std.proofs.lemmas.Slice.Eq.{bytes_eq-Decides}
 use Rattle.std.proofs.lemmas.List.Sorted.{list_any-IsPermutation}
@@ -36,7 +37,8 @@ use Rattle.sqlite_value.specs.Order.{bytes}
 use Rattle.std.specs.Char.{to_ascii_lowercase}
 use Rattle.std.proofs.lemmas.List.Folds.{list_any-append}
 use Rattle.std.proofs.lemmas.Bool.{cases_Bool, not-true}
-use Rattle.device_registry.specs.Tables.{list_text, meta_name, device_name, meta_text, device_text, meta_table, device_table}
+use Rattle.device_registry.specs.Tables.{list_text, meta_name, device_name, meta_text}
+use Rattle.device_registry.specs.Tables.{device_text, meta_table, device_table}
 use Rattle.device_registry.specs.Stored.{Stands, KeepsTree}
 use Rattle.device_registry.specs.Stored.{HasTables, IsRegistry}
 use Rattle.device_registry.specs.Opening.{IsOwn, IsFree, IsClear, IsAtRest, IsListedAs, AreListed}
@@ -61,78 +63,105 @@ text_is (Blob b) text h = absurd cc
 abbrev line : Row → Row
 line r = column r 2 ∷ column r 1 ∷ column r 5 ∷ []
 
-any_mapped : {X Y : Type 0} (test : Y → Bool) (f : X → Y) (xs : List X) → list_any test (map f xs) ≡ list_any (λ x. test (f x)) xs
+any_mapped : {X Y : Type 0} (test : Y → Bool) (f : X → Y) (xs : List X)
+    → list_any test (map f xs) ≡ list_any (λ x. test (f x)) xs
 any_mapped test f [] = refl
 any_mapped test f (x ∷ xs) = ap (λ b. test (f x) || b) (any_mapped test f xs)
 
 abbrev envs : List Row → List Env
 envs rows = flat_map (λ r. ([] ∷ r ∷ []) ∷ []) rows
 
-any_output : (test : Row → Bool) (rows : List Row) → list_any (λ (o : Output). test o.1) (map (output list_query_is) (envs rows)) ≡ list_any (λ r. test (line r)) rows
+any_output : (test : Row → Bool) (rows : List Row) → list_any (λ (o : Output). test o.1)
+    (map (output list_query_is) (envs rows)) ≡ list_any (λ r. test (line r)) rows
 any_output test [] = refl
 any_output test (r ∷ rows) = ap (λ b. test (line r) || b) (any_output test rows)
 
 -- the listing passes a test where the list of the objects does
-answered : (test : Row → Bool) (db : Trees) (rows : List Row) → IsAnswer list_query_is (overlay db []) [] rows → list_any test rows ≡ list_any (λ r. test (line r)) (db 0)
+answered : (test : Row → Bool) (db : Trees) (rows : List Row) → IsAnswer list_query_is (overlay db []) [] rows
+    → list_any test rows ≡ list_any (λ r. test (line r)) (db 0)
 answered test db rows it =
-    let kept : it.kept ≡ map (output list_query_is) (envs (db 0)) = it.distinct ∙ ap (map (output list_query_is)) it.grouped in
-    ap (list_any test) it.shown ∙ any_mapped test (λ (o : Output). o.1) it.ordered ∙ sym (list_any-IsPermutation (λ (o : Output). test o.1) it.kept it.ordered it.same)
+    let kept : it.kept ≡ map (output list_query_is) (envs (db 0)) =
+    it.distinct ∙ ap (map (output list_query_is)) it.grouped in
+    ap (list_any test) it.shown ∙ any_mapped test (λ (o : Output). o.1) it.ordered
+    ∙ sym (list_any-IsPermutation (λ (o : Output). test o.1) it.kept it.ordered it.same)
     ∙ ap (list_any (λ (o : Output). test o.1)) kept ∙ any_output test (db 0)
 
-here : (trees : Trees) (name text : List ℕ) → list_any (λ r. is_line name text (line r)) (put_all [] (map shown (trees catalog_tree))) ≡ true → IsListedAs trees name text
+here : (trees : Trees) (name text : List ℕ) → list_any (λ r. is_line name text (line r))
+    (put_all [] (map shown (trees catalog_tree))) ≡ true → IsListedAs trees name text
 here trees name text h =
     let hit = some_has (λ r. is_line name text (line r)) _ h in
     elim (put_all_has (map shown (trees catalog_tree)) [] hit.0 hit.1) [
       | inl new ↦
           let object = has_mapped shown (trees catalog_tree) hit.0 new in
           let passes = both _ _ (subst (λ r. is_line name text (line r) ≡ true) object.2 hit.2) in
-          record { row = object.0; listed = object.1; name_is = text_is (column object.0 2) name passes.0; sql = text_is (column object.0 4) text passes.1 }
+          record {
+            row = object.0;
+            listed = object.1;
+            name_is = text_is (column object.0 2) name passes.0;
+            sql = text_is (column object.0 4) text passes.1;
+          }
       | inr none ↦ absurd none
     ]
 
 -- what the listing shows is listed
-told : (old new : State) (rows : List Row) → IsDatabase old.now → Shown list_text [] old new rows → (name text : List ℕ) → list_any (is_line name text) rows ≡ true → IsListedAs old.now.trees name text
+told : (old new : State) (rows : List Row) → IsDatabase old.now → Shown list_text [] old new rows → (name text : List ℕ)
+    → list_any (is_line name text) rows ≡ true → IsListedAs old.now.trees name text
 told old new rows sound shows name text h =
     let show = listing_shows old new rows sound shows in
-    let same = answered (is_line name text) show.0.trees rows (show.2.answer Null) ∙ ap (list_any (λ r. is_line name text (line r))) show.1 in
+    let same = answered (is_line name text) show.0.trees rows (show.2.answer Null)
+    ∙ ap (list_any (λ r. is_line name text (line r))) show.1 in
     here old.now.trees name text (sym same ∙ h)
 
-fresh_rising : (news rows : List Row) → IsTable news → ((x : Row) → Has rows x → AllByRecursion (λ n. value_cmp (rowid x) (rowid n) ≡ Less) news) → are_fresh rows news ≡ true
+fresh_rising : (news rows : List Row) → IsTable news → ((x : Row) → Has rows x
+    → AllByRecursion (λ n. value_cmp (rowid x) (rowid n) ≡ Less) news) → are_fresh rows news ≡ true
 fresh_rising [] rows rising below = refl
 fresh_rising (n ∷ news) rows rising below =
-    let free : is_taken rows n ≡ false = any_none (λ r. is_eq (value_cmp (rowid r) (rowid n))) rows (all_from _ rows (λ x has. ap is_eq (below x has).0)) in
+    let free : is_taken rows n ≡ false = any_none (λ r. is_eq (value_cmp (rowid r) (rowid n))) rows
+    (all_from _ rows (λ x has. ap is_eq (below x has).0)) in
     rw free (fresh_rising news (put_row n rows) rising.1 (λ x has. elim (put_has n rows x has) [
       | inl same ↦ subst (λ r. AllByRecursion (λ m. value_cmp (rowid r) (rowid m) ≡ Less) news) (sym same) rising.0
       | inr was ↦ (below x was).1
     ]))
 
 -- and the listing shows each object
-shows_line : (old new : State) (rows : List Row) → IsDatabase old.now → IsTable (old.now.trees catalog_tree) → Shown list_text [] old new rows → (name text : List ℕ) → IsListedAs old.now.trees name text
+shows_line : (old new : State) (rows : List Row) → IsDatabase old.now → IsTable (old.now.trees catalog_tree)
+    → Shown list_text [] old new rows → (name text : List ℕ) → IsListedAs old.now.trees name text
     → list_any (is_line name text) rows ≡ true
 shows_line old new rows sound rising shows name text it =
     let show = listing_shows old new rows sound shows in
     let objects = old.now.trees catalog_tree in
-    let same = answered (is_line name text) show.0.trees rows (show.2.answer Null) ∙ ap (list_any (λ r. is_line name text (line r))) show.1 in
+    let same = answered (is_line name text) show.0.trees rows (show.2.answer Null)
+    ∙ ap (list_any (λ r. is_line name text (line r))) show.1 in
     let fresh = fresh_rising (map shown objects) [] (ascending-map _ shown objects rising) (λ x has. absurd has) in
     let there = put_all_adds (map shown objects) [] (shown it.row) fresh (mapped_has shown objects it.row it.listed) in
     let passes : is_line name text (line (shown it.row)) ≡ true =
-    ap (λ v. has_text v name && has_text (column it.row 4) text) it.name_is ∙ ap (λ v. has_text (Text name) name && has_text v text) it.sql
+    ap (λ v. has_text v name && has_text (column it.row 4) text) it.name_is
+    ∙ ap (λ v. has_text (Text name) name && has_text v text) it.sql
     ∙ rw ((bytes_eq-Decides name name).1 refl, (bytes_eq-Decides text text).1 refl) refl in
     same ∙ some_from (λ r. is_line name text (line r)) _ (shown it.row) there passes
 
-pub ours_told : (old new : State) (rows : List Row) → IsDatabase old.now → Shown list_text [] old new rows → are_ours rows ≡ true → AreListed old.now.trees
-ours_told old new rows sound shows h = let parts = both _ _ h in (told old new rows sound shows meta_name meta_text parts.0, told old new rows sound shows device_name device_text parts.1)
+pub ours_told : (old new : State) (rows : List Row) → IsDatabase old.now → Shown list_text [] old new rows
+    → are_ours rows ≡ true → AreListed old.now.trees
+ours_told old new rows sound shows h =
+    let parts = both _ _ h in (
+      told old new rows sound shows meta_name meta_text parts.0,
+      told old new rows sound shows device_name device_text parts.1,
+    )
 
-pub ours_shown : (old new : State) (rows : List Row) → IsDatabase old.now → IsTable (old.now.trees catalog_tree) → Shown list_text [] old new rows → AreListed old.now.trees → are_ours rows ≡ true
+pub ours_shown : (old new : State) (rows : List Row) → IsDatabase old.now → IsTable (old.now.trees catalog_tree)
+    → Shown list_text [] old new rows → AreListed old.now.trees → are_ours rows ≡ true
 ours_shown old new rows sound rising shows listed =
-    ap (λ b. b && list_any (is_line device_name device_text) rows) (shows_line old new rows sound rising shows meta_name meta_text listed.0) ∙ shows_line old new rows sound rising shows device_name device_text listed.1
+    ap (λ b. b && list_any (is_line device_name device_text) rows)
+    (shows_line old new rows sound rising shows meta_name meta_text listed.0)
+    ∙ shows_line old new rows sound rising shows device_name device_text listed.1
 
 -- ---- the tables
 
 text_same : (a b : List ℕ) → ◌≡◌ {A = Value} (Text a) (Text b) → a ≡ b
 text_same a b e = cc
 
-defined_as : (row : Row) (t : Table) (text : List ℕ) (made : Table) → IsTableRow row t → column row 4 ≡ Text text → table_defined_by text ≡ Ok made → t ≡ record made { tree = t.tree }
+defined_as : (row : Row) (t : Table) (text : List ℕ) (made : Table) → IsTableRow row t → column row 4 ≡ Text text
+    → table_defined_by text ≡ Ok made → t ≡ record made { tree = t.tree }
 defined_as row t text made it lists is =
     let sql : it.sql ≡ text = text_same _ _ (sym it.sql_is ∙ lists) in
     let both : ◌≡◌ (Ok made) (Ok it.defined.0) = sym is ∙ ap table_defined_by (sym sql) ∙ it.defined.1 in
@@ -156,27 +185,40 @@ either_false : (a b : Bool) → (a || b) ≡ false → (a ≡ false) × (b ≡ f
 either_false true b h = absurd cc
 either_false false b h = (refl, h)
 
-names_apart : (earlier : List Head) (rows : List Row) → are_in_order earlier (map (head_at 1) rows) ≡ true → NewIn earlier rows × IsAscending (λ a b. sound.same_name (name_in a) (name_in b) ≡ false) rows
+names_apart : (earlier : List Head) (rows : List Row) → are_in_order earlier (map (head_at 1) rows) ≡ true
+    → NewIn earlier rows × IsAscending (λ a b. sound.same_name (name_in a) (name_in b) ≡ false) rows
 unfolding NewIn may_follow
 names_apart earlier [] h = (tt, tt)
 names_apart earlier (row ∷ rows) h =
     let parts = both _ _ h in
     let first = not-true _ (both _ _ parts.0).0 in
     let more = names_apart (earlier ++ head_at 1 row ∷ []) rows parts.1 in
-    let split = all_weaker (λ r. list_any (λ (e : Head). sound.same_name (bytes e.1) (name_in r)) (earlier ++ head_at 1 row ∷ []) ≡ false)
-    (λ r. (list_any (λ (e : Head). sound.same_name (bytes e.1) (name_in r)) earlier ≡ false) × (sound.same_name (name_in row) (name_in r) ≡ false))
-    (λ r none. let two = either_false _ _ (sym (list_any-append (λ (e : Head). sound.same_name (bytes e.1) (name_in r)) earlier (head_at 1 row ∷ [])) ∙ none) in (two.0, (either_false _ _ two.1).0)) rows more.0 in (
-      (first, all_weaker _ (λ r. list_any (λ (e : Head). sound.same_name (bytes e.1) (name_in r)) earlier ≡ false) (λ r both. both.0) rows split),
+    let split =
+    all_weaker (λ r. list_any (λ (e : Head). sound.same_name (bytes e.1) (name_in r))
+    (earlier ++ head_at 1 row ∷ []) ≡ false)
+    (λ r. (list_any (λ (e : Head). sound.same_name (bytes e.1) (name_in r)) earlier ≡ false)
+    × (sound.same_name (name_in row) (name_in r) ≡ false))
+    (λ r none. let two = either_false _ _
+    (sym (list_any-append (λ (e : Head). sound.same_name (bytes e.1) (name_in r)) earlier (head_at 1 row ∷ []))
+    ∙ none) in (two.0, (either_false _ _ two.1).0)) rows more.0 in (
+      (
+        first,
+        all_weaker _ (λ r. list_any (λ (e : Head). sound.same_name (bytes e.1) (name_in r)) earlier ≡ false)
+            (λ r both. both.0) rows split,
+      ),
       (all_weaker _ (λ r. sound.same_name (name_in row) (name_in r) ≡ false) (λ r both. both.1) rows split, more.1),
     )
 
-one_row : (rows : List Row) (a b : Row) → IsAscending (λ a b. sound.same_name (name_in a) (name_in b) ≡ false) rows → Has rows a → Has rows b → map to_ascii_lowercase (name_in a) ≡ map to_ascii_lowercase (name_in b) → a ≡ b
+one_row : (rows : List Row) (a b : Row) → IsAscending (λ a b. sound.same_name (name_in a) (name_in b) ≡ false) rows
+    → Has rows a → Has rows b → map to_ascii_lowercase (name_in a) ≡ map to_ascii_lowercase (name_in b) → a ≡ b
 one_row [] a b apart p q same = absurd p
 one_row (r ∷ rows) a b apart (inl p) (inl q) same = p ∙ sym q
 one_row (r ∷ rows) a b apart (inl p) (inr q) same =
-    absurd (not_both _ (sym (names_agree (name_in r) (name_in b)) ∙ (lowered (name_in r) (name_in b)).1 (ap (λ x. map to_ascii_lowercase (name_in x)) (sym p) ∙ same)) (all_has _ rows b apart.0 q))
+    absurd (not_both _ (sym (names_agree (name_in r) (name_in b)) ∙ (lowered (name_in r) (name_in b)).1
+    (ap (λ x. map to_ascii_lowercase (name_in x)) (sym p) ∙ same)) (all_has _ rows b apart.0 q))
 one_row (r ∷ rows) a b apart (inr p) (inl q) same =
-    absurd (not_both _ (sym (names_agree (name_in r) (name_in a)) ∙ (lowered (name_in r) (name_in a)).1 (ap (λ x. map to_ascii_lowercase (name_in x)) (sym q) ∙ sym same)) (all_has _ rows a apart.0 p))
+    absurd (not_both _ (sym (names_agree (name_in r) (name_in a)) ∙ (lowered (name_in r) (name_in a)).1
+    (ap (λ x. map to_ascii_lowercase (name_in x)) (sym q) ∙ sym same)) (all_has _ rows a apart.0 p))
 one_row (r ∷ rows) a b apart (inr p) (inr q) same = one_row rows a b apart.1 p q same
 
 module _ (db : Database) (sound : IsDatabase db) where
@@ -184,7 +226,8 @@ module _ (db : Database) (sound : IsDatabase db) where
   objects = db.trees catalog_tree
 
   -- the table of this name is what the text defines
-  defined : (name : List ℕ) (tree : ℕ) (n : IsNamed db.schema name tree) (text : List ℕ) (made : Table) → IsListedAs db.trees name text → table_defined_by text ≡ Ok made
+  defined : (name : List ℕ) (tree : ℕ) (n : IsNamed db.schema name tree) (text : List ℕ) (made : Table)
+      → IsListedAs db.trees name text → table_defined_by text ≡ Ok made
       → (n.table ≡ record made { tree = tree }) × (tree < 65536)
   defined name tree n text made it is =
       let has = has_got db.schema.tables n.at n.table n.there in
@@ -194,11 +237,16 @@ module _ (db : Database) (sound : IsDatabase db) where
       let own : bytes (column row.0 2) ≡ n.table.name = ap bytes row.2.described.name_is in
       let other : bytes (column it.row 2) ≡ name = ap bytes it.name_is in
       let alike : map to_ascii_lowercase (name_in row.0) ≡ map to_ascii_lowercase (name_in it.row) =
-      ap (map to_ascii_lowercase) own ∙ (lowered n.table.name name).0 (has_name db.schema name n.at n.table n.named n.there) ∙ ap (map to_ascii_lowercase) (sym other) in
-      let same : row.0 ≡ it.row = one_row objects row.0 it.row apart listed it.listed alike in
-      (defined_as row.0 n.table text made row.2 (ap (λ r. column r 4) same ∙ it.sql) is ∙ ap (λ t. record made { tree = t }) n.is, subst (λ t. t < 65536) n.is row.2.described.low)
+      ap (map to_ascii_lowercase) own ∙ (lowered n.table.name name).0
+      (has_name db.schema name n.at n.table n.named n.there) ∙ ap (map to_ascii_lowercase) (sym other) in
+      let same : row.0 ≡ it.row = one_row objects row.0 it.row apart listed it.listed alike in (
+        defined_as row.0 n.table text made row.2 (ap (λ r. column r 4) same ∙ it.sql) is
+            ∙ ap (λ t. record made { tree = t }) n.is,
+        subst (λ t. t < 65536) n.is row.2.described.low,
+      )
 
-find_lone : (tables : List Table) (table : Table) → ((t : Table) → Has tables t → t.tree ≡ table.tree → t ≡ table) → Has tables table → find (λ t. t.tree == table.tree) tables ≡ Some table
+find_lone : (tables : List Table) (table : Table) → ((t : Table) → Has tables t → t.tree ≡ table.tree → t ≡ table)
+    → Has tables table → find (λ t. t.tree == table.tree) tables ≡ Some table
 find_lone [] table lone h = absurd h
 find_lone (t ∷ tables) table lone h = elim (cases_Bool (t.tree == table.tree)) [
   | inl tie ↦ let e : t.tree ≡ table.tree = grind (arith, nat_tests) in rw tie (ap Some (lone t (inl refl) e))
@@ -206,10 +254,13 @@ find_lone (t ∷ tables) table lone h = elim (cases_Bool (t.tree == table.tree))
 ]
   where
     later : (t.tree == table.tree) ≡ false → Has (t ∷ tables) table → Has tables table
-    later apart (inl here) = absurd (let e : t.tree ≡ table.tree = ap (λ (u : Table). u.tree) (sym here) in grind (arith, nat_tests, apart, e))
+    later apart (inl here) =
+        absurd (let e : t.tree ≡ table.tree = ap (λ (u : Table). u.tree) (sym here) in
+        grind (arith, nat_tests, apart, e))
     later apart (inr h) = h
 
-stands_in : (db : Database) (name : List ℕ) (tree : ℕ) (n : IsNamed db.schema name tree) (table : Table) → IsDatabase db → AllByRecursion (KeepsTree name tree) db.schema.tables → n.table ≡ table → table.tree ≡ tree → tree < 65536
+stands_in : (db : Database) (name : List ℕ) (tree : ℕ) (n : IsNamed db.schema name tree) (table : Table) → IsDatabase db
+    → AllByRecursion (KeepsTree name tree) db.schema.tables → n.table ≡ table → table.tree ≡ tree → tree < 65536
     → Stands db.schema name table n.at
 stands_in db name tree n table sound keeps is at low =
     let there = n.there ∙ ap Some is in
@@ -217,7 +268,9 @@ stands_in db name tree n table sound keeps is at low =
     let named = has_name db.schema name n.at table n.named there in
     let lone = λ (t : Table) (h : Has db.schema.tables t) (e : t.tree ≡ table.tree).
     named_once db.schema.tables t table sound.lists.listed.named h has
-    ((lowered t.name table.name).1 ((lowered t.name name).0 (all_has (KeepsTree name tree) db.schema.tables t keeps h (e ∙ at)) ∙ sym ((lowered table.name name).0 named))) in
+    ((lowered t.name table.name).1
+    ((lowered t.name name).0 (all_has (KeepsTree name tree) db.schema.tables t keeps h (e ∙ at))
+    ∙ sym ((lowered table.name name).0 named))) in
     let stored : nat_le (2 ^ 31) table.tree ≡ false = grind (arith, nat_tests, at, low) in
     record {
       named = n.named;
@@ -225,14 +278,18 @@ stands_in db name tree n table sound keeps is at low =
       classes = rw stored (ap (option_map row_classes) (find_lone db.schema.tables table lone has));
     }
 
-tables_told : (db : Database) (meta devices : ℕ) → IsDatabase db → IsPlaced db.schema meta devices → AreListed db.trees → HasTables db.schema
+tables_told : (db : Database) (meta devices : ℕ) → IsDatabase db → IsPlaced db.schema meta devices → AreListed db.trees
+    → HasTables db.schema
 unfolding same_name
 tables_told db meta devices sound placed listed =
     let own = defined db sound meta_name meta placed.meta_is meta_text (meta_table 0) listed.0 meta_is in
-    let other = defined db sound device_name devices placed.devices_are device_text (device_table 0) listed.1 device_is in
+    let other =
+    defined db sound device_name devices placed.devices_are device_text (device_table 0) listed.1 device_is in
     let keeps = placed.alone.alone in
-    let meta_stands = stands_in db meta_name meta placed.meta_is (meta_table meta) sound (all_weaker _ (KeepsTree meta_name meta) (λ t k. k.0) db.schema.tables keeps) own.0 refl own.1 in
-    let devices_stand = stands_in db device_name devices placed.devices_are (device_table devices) sound (all_weaker _ (KeepsTree device_name devices) (λ t k. k.1) db.schema.tables keeps) other.0 refl other.1 in
+    let meta_stands = stands_in db meta_name meta placed.meta_is (meta_table meta) sound
+    (all_weaker _ (KeepsTree meta_name meta) (λ t k. k.0) db.schema.tables keeps) own.0 refl own.1 in
+    let devices_stand = stands_in db device_name devices placed.devices_are (device_table devices) sound
+    (all_weaker _ (KeepsTree device_name devices) (λ t k. k.1) db.schema.tables keeps) other.0 refl other.1 in
     record {
       meta = meta;
       devices = devices;
@@ -240,15 +297,20 @@ tables_told db meta devices sound placed listed =
       devices_at = placed.devices_are.at;
       meta_stands = meta_stands;
       devices_stand = devices_stand;
-      apart = λ e. (let clash = (all_has _ db.schema.tables (device_table devices) keeps (has_got db.schema.tables placed.devices_are.at (device_table devices) devices_stand.there)).0 (sym e) in cc);
+      apart =
+          λ e. (let clash =
+          (all_has _ db.schema.tables (device_table devices) keeps
+          (has_got db.schema.tables placed.devices_are.at (device_table devices) devices_stand.there)).0 (sym e) in cc);
       spared = placed.alone.spared;
       alone = keeps;
       unindexed = placed.alone.unindexed;
     }
 
 -- where the two tables are found and listed, the schema has them
-pub tables_taken : (s : State) (meta devices : ℕ) → IsAtRest s → trees_in s.now.schema ≡ Some (meta, devices) → AreListed s.now.trees → HasTables s.now.schema
-tables_taken s meta devices rest is listed = tables_told s.now meta devices rest.sound (found s.now.schema meta devices is) listed
+pub tables_taken : (s : State) (meta devices : ℕ) → IsAtRest s → trees_in s.now.schema ≡ Some (meta, devices)
+    → AreListed s.now.trees → HasTables s.now.schema
+tables_taken s meta devices rest is listed =
+    tables_told s.now meta devices rest.sound (found s.now.schema meta devices is) listed
 
 -- the trees of a sound database tell its schema
 pub same_schema : (db : Trees) (s t : Schema) → IsSound s db → IsSound t db → s ≡ t
@@ -257,12 +319,14 @@ same_schema db s t a b = lists_once (db catalog_tree) s t a.lists b.lists
 -- so a registry as this program leaves it is found so
 pub own_found : (s : State) → IsAtRest s → IsOwn s.now.trees → IsRegistry s.now
 own_found s rest own =
-    let schema : own.db.schema ≡ s.now.schema = same_schema s.now.trees own.db.schema s.now.schema (subst (IsSound own.db.schema) own.same own.sound) rest.sound in
+    let schema : own.db.schema ≡ s.now.schema = same_schema s.now.trees own.db.schema s.now.schema
+    (subst (IsSound own.db.schema) own.same own.sound) rest.sound in
     let db : own.db ≡ s.now = λ i. record { schema = schema i; trees = own.same i } in
     subst IsRegistry db own.registry
 
 -- and a database in which the two tables can be made
 pub free_found : (s : State) → IsAtRest s → IsFree s.now.trees → IsTrue (is_clear s.now.schema)
 free_found s rest free =
-    let same : free.db.schema ≡ s.now.schema = same_schema s.now.trees free.db.schema s.now.schema (subst (IsSound free.db.schema) free.same free.sound) rest.sound in
+    let same : free.db.schema ≡ s.now.schema = same_schema s.now.trees free.db.schema s.now.schema
+    (subst (IsSound free.db.schema) free.same free.sound) rest.sound in
     is_cleared s.now.schema (subst IsClear same free.clear)

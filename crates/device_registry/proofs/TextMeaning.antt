@@ -1,5 +1,6 @@
 -- What it is for a text to mean a command.
-use Rattle.std.proofs.Common.{◌≡◌, ℕ, ◌&&◌, List, [], ◌∷◌, true, false, None, Some, Ok, refl, ap, ◌∙◌, option_map, option_and_then}
+use Rattle.std.proofs.Common.{◌≡◌, ℕ, ◌&&◌, List, [], ◌∷◌, true, false, None, Some, Ok, refl}
+use Rattle.std.proofs.Common.{ap, ◌∙◌, option_map, option_and_then}
 use Rattle.sqlite.specs.Schema.{Schema}
 use Rattle.sqlite.specs.Table.{Table}
 use Rattle.sqlite.specs.Query.{Query, inner, end}
@@ -53,14 +54,16 @@ draft_of table q = record (simple (Inner table.tree ∷ []) q.filter q.project) 
 -- the query reads this table alone, and its terms have types there
 pub record IsTyped (table : Table) (q : Query) : Type 0 where
   pub from : q.from ≡ inner table.tree end
-  pub accepted : (accepts_after [] q (Some (row_classes table ∷ [])) && (is_count [] q.limit && is_count [] q.offset)) ≡ true
+  pub accepted : (accepts_after [] q (Some (row_classes table ∷ [])) && (is_count [] q.limit && is_count [] q.offset))
+      ≡ true
 
 module _ {schema : Schema} {name : List ℕ} {table : Table} {at : ℕ} (stands : Stands schema name table at) where
   accepted_over : (q : Query) → IsTyped table q → accepts_over schema [] q [] ≡ true
   accepted_over q typed =
       let counts = is_count [] q.limit && is_count [] q.offset in
       ap (λ from. accepts_after [] q (filled schema [] [] from []) && counts) typed.from
-      ∙ ap (λ row. accepts_after [] q (option_and_then (filled schema [] [] end) (option_map (λ r. r ∷ []) row)) && counts) stands.classes
+      ∙ ap (λ row. accepts_after [] q (option_and_then (filled schema [] [] end) (option_map (λ r. r ∷ []) row)) &&
+      counts) stands.classes
       ∙ typed.accepted
 
   -- so it is a program, where the table stands

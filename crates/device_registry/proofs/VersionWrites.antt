@@ -1,5 +1,6 @@
 -- The version row, as it is written once, and as it is written again.
-use Rattle.std.proofs.Common.{◌≢◌, drop, ◌&&◌, ◌==◌, Bool, true, false, suc, arith, ◌≡◌, inl, inr, ℕ, List, [], ◌∷◌, Some, None, Option, Ok, Err, Result, OnOk, refl, sym, ap, subst, ◌∙◌, slice_get}
+use Rattle.std.proofs.Common.{◌≢◌, drop, ◌&&◌, ◌==◌, Bool, true, false, suc, arith, ◌≡◌, inl, inr, ℕ, List, [], ◌∷◌}
+use Rattle.std.proofs.Common.{Some, None, Option, Ok, Err, Result, OnOk, refl, sym, ap, subst, ◌∙◌, slice_get}
 use Rattle.sqlite.specs.Schema.{Schema}
 use Rattle.sqlite.specs.Table.{Table}
 use Rattle.sqlite.specs.Command.TheVariants.{Insert, Update}
@@ -35,14 +36,18 @@ use Rattle.device_registry.proofs.DevicesHeld.{renewed_registers}
 use Rattle.device_registry.proofs.StatementSteps.{commits_as}
 
 -- the version row is put into its table, and no other table changes
-pub numbers : (schema : Schema) (at m : ℕ) (limit : Option ℕ) (mode : Mode) (db : Trees) (text : List ℕ) (tally : Tally) (after : Database)
+pub numbers : (schema : Schema) (at m : ℕ) (limit : Option ℕ) (mode : Mode) (db : Trees) (text : List ℕ) (tally : Tally)
+    (after : Database)
     → slice_get schema.tables at ≡ Some (meta_table m) → StandsAlone schema m → db m ≡ []
-    → Does limit mode [] (record { schema = schema; trees = db }) text None (Insert at (Values version_terms 3)) (Ok (tally, after))
+    → Does limit mode [] (record { schema = schema; trees = db }) text None (Insert at (Values version_terms 3))
+    (Ok (tally, after))
     → (after.schema ≡ schema) × (after.trees m ≡ version_row ∷ []) × SparesOthers schema m db after.trees
 numbers schema at m limit mode db text tally after there stands none does =
     let command = Insert at (Values version_terms 3) in
-    let here = λ (table : Table). let t : Task = record { limit = limit; keys = mode.keys; schema = schema; table = table; params = [] } in t in
-    let h : OnRows (here (meta_table m)) mode None command db (Ok (tally, after)) = subst (λ o. AtPlace (λ table. OnRows (here table) mode None command db) o (Ok (tally, after))) there does in
+    let here = λ (table : Table).
+    let t : Task = record { limit = limit; keys = mode.keys; schema = schema; table = table; params = [] } in t in
+    let h : OnRows (here (meta_table m)) mode None command db (Ok (tally, after)) =
+    subst (λ o. AtPlace (λ table. OnRows (here table) mode None command db) o (Ok (tally, after))) there does in
     let done = went h in
     let given = went done.1 in
     let counted = went given.2 in
@@ -50,33 +55,46 @@ numbers schema at m limit mode db text tally after there stands none does =
     let ended = went edits.2 in
     let concluded = went done.2 in
     let shown = went concluded.2 in
-    let now : after ≡ record { schema = schema; trees = done.0.trees } = ap (λ (p : Tally × Database). p.1) (same_value shown.2) in
-    let trees : after.trees ≡ edits.0 = ap (λ (db : Database). db.trees) now ∙ ap (λ (w : Written). w.trees) (same_value ended.2) ∙ same_value ended.1 in
+    let now : after ≡ record { schema = schema; trees = done.0.trees } =
+    ap (λ (p : Tally × Database). p.1) (same_value shown.2) in
+    let trees : after.trees ≡ edits.0 = ap (λ (db : Database). db.trees) now
+    ∙ ap (λ (w : Written). w.trees) (same_value ended.2) ∙ same_value ended.1 in
     let rowids = rowids_for (meta_table m) (count_of counted.0) in
     let edit = edit_of db (meta_table m) [] rowids 0 given.0 in
     let step = one_step schema mode.keys db edits.0 edit (stands.free mode.keys (taken_by db edit) edit.news) edits.1 in
     let rows : after.trees m ≡ version_row ∷ [] =
-    ap (λ (s : Trees). s m) trees ∙ step.rows ∙ ap (λ rs. edited db (edit_of db (meta_table m) [] rowids 0 rs)) given.1.1 ∙ rw none (ap (λ r. with_rowid rowids [] r ∷ []) (cast_version m)) in
-    (ap (λ (db : Database). db.schema) now, rows, λ i t is other. ap (λ (s : Trees). s t.tree) trees ∙ spares schema mode.keys db edits.0 edit step i t is other)
+    ap (λ (s : Trees). s m) trees ∙ step.rows ∙ ap (λ rs. edited db (edit_of db (meta_table m) [] rowids 0 rs))
+    given.1.1 ∙ rw none (ap (λ r. with_rowid rowids [] r ∷ []) (cast_version m)) in (
+      ap (λ (db : Database). db.schema) now,
+      rows,
+      λ i t is other. ap (λ (s : Trees). s t.tree) trees
+          ∙ spares schema mode.keys db edits.0 edit step i t is other,
+    )
 
-renew_does : (s : State) (after : Database) (text : List ℕ) (tally : Tally) (devices : Devices) (had : Registers s.now devices)
-    → Does s.step_limit (mode_of s) [] s.now text None (Update had.registry.tables.meta_at (program_of (renew_query had.registry.tables.meta))) (Ok (tally, after)) → Registers after devices
+renew_does : (s : State) (after : Database) (text : List ℕ) (tally : Tally) (devices : Devices)
+    (had : Registers s.now devices)
+    → Does s.step_limit (mode_of s) [] s.now text None (Update had.registry.tables.meta_at
+    (program_of (renew_query had.registry.tables.meta))) (Ok (tally, after)) → Registers after devices
 renew_does s after text tally devices had h =
     let r = had.registry in
-    let kept = renews s.now.schema r.tables.meta_at r.tables.meta s.step_limit (mode_of s) s.now.trees text tally after r.whole.row r.tables.meta_stands.there (meta_alone s.now r) r.whole.one r.whole.version h in
+    let kept = renews s.now.schema r.tables.meta_at r.tables.meta s.step_limit (mode_of s) s.now.trees text tally after
+    r.whole.row r.tables.meta_stands.there (meta_alone s.now r) r.whole.one r.whole.version h in
     renewed_registers s.now after devices had kept.0 kept.1 kept.2
 
-renewed : (old new : State) (count : ℕ) (devices : Devices) → Shows old devices → Executes renew_text [] old new (Ok count) → Shows new devices
+renewed : (old new : State) (count : ℕ) (devices : Devices) → Shows old devices
+    → Executes renew_text [] old new (Ok count) → Shows new devices
 renewed old new count devices shows h =
     let r = shows.registers.registry in
     let it = renew_means old.now.schema r.tables.meta_at r.tables.meta r.tables.meta_stands in
-    let w = runs_as renew_text [] old new old.now.schema refl (Update r.tables.meta_at (program_of (renew_query r.tables.meta))) it.is it.plain count h in
+    let w = runs_as renew_text [] old new old.now.schema refl
+    (Update r.tables.meta_at (program_of (renew_query r.tables.meta))) it.is it.plain count h in
     record {
       is_open = w.shown.is_open;
       idle = w.shown.mode ∙ shows.idle;
       settled = sym (rw shows.idle at w.shown.committed_is);
       sound = w.sound;
-      registers = renew_does old new.now (statement_of renew_text (understood old.now.schema renew_text)) w.tally devices shows.registers w.changed;
+      registers = renew_does old new.now (statement_of renew_text (understood old.now.schema renew_text)) w.tally
+          devices shows.registers w.changed;
     }
 
 has_at : {X : Type 0} (xs : List X) (x : X) → Has xs x → (i : ℕ) × (slice_get xs i ≡ Some x)
@@ -95,16 +113,26 @@ first true b h = refl
 first false b h = h
 
 -- the version row is written as it stands, so no table has other rows
-renewed_rows : (old new : State) (count : ℕ) (devices : Devices) → Shows old devices → Executes renew_text [] old new (Ok count) → KeepsRows old new
+renewed_rows : (old new : State) (count : ℕ) (devices : Devices) → Shows old devices
+    → Executes renew_text [] old new (Ok count) → KeepsRows old new
 renewed_rows old new count devices shows h =
     let r = shows.registers.registry in
     let it = renew_means old.now.schema r.tables.meta_at r.tables.meta r.tables.meta_stands in
-    let w = runs_as renew_text [] old new old.now.schema refl (Update r.tables.meta_at (program_of (renew_query r.tables.meta))) it.is it.plain count h in
-    let kept = renews old.now.schema r.tables.meta_at r.tables.meta old.step_limit (mode_of old) old.now.trees (statement_of renew_text (understood old.now.schema renew_text)) w.tally new.now r.whole.row r.tables.meta_stands.there (meta_alone old.now r) r.whole.one r.whole.version w.changed in
+    let w = runs_as renew_text [] old new old.now.schema refl
+    (Update r.tables.meta_at (program_of (renew_query r.tables.meta))) it.is it.plain count h in
+    let kept =
+    renews old.now.schema r.tables.meta_at r.tables.meta old.step_limit (mode_of old) old.now.trees
+    (statement_of renew_text (understood old.now.schema renew_text)) w.tally new.now r.whole.row
+    r.tables.meta_stands.there (meta_alone old.now r) r.whole.one r.whole.version w.changed in
     let has = has_got old.now.schema.tables r.tables.meta_at (meta_table r.tables.meta) r.tables.meta_stands.there in
     let typed = all_has _ old.now.schema.tables (meta_table r.tables.meta) (shows.sound.obeys.rules Datatype) has in
-    let row_typed = subst (AllByRecursion (λ row. passes Datatype old.now.schema old.now.trees (meta_table r.tables.meta) row ≡ true)) r.whole.one typed in
-    let same : r.whole.row ≡ version_row = version_is r.tables.meta r.whole.row r.whole.version (first (are_typed (meta_table r.tables.meta).key 0 (meta_table r.tables.meta).columns (drop 1 r.whole.row)) (has_computed (meta_table r.tables.meta) r.whole.row) row_typed.0) in
+    let row_typed =
+    subst (AllByRecursion (λ row. passes Datatype old.now.schema old.now.trees (meta_table r.tables.meta) row ≡ true))
+    r.whole.one typed in
+    let same : r.whole.row ≡ version_row =
+    version_is r.tables.meta r.whole.row r.whole.version
+    (first (are_typed (meta_table r.tables.meta).key 0 (meta_table r.tables.meta).columns (drop 1 r.whole.row))
+    (has_computed (meta_table r.tables.meta) r.whole.row) row_typed.0) in
     record {
       schema = kept.0;
       rows = λ t h.
@@ -117,22 +145,36 @@ renewed_rows old new count devices shows h =
           ];
     }
 
-pub rows_if : (old new : State) (r : Result ℕ Error) → Executes renew_text [] old new r → OnOk r (IsReady old → KeepsRows old new)
+pub rows_if : (old new : State) (r : Result ℕ Error) → Executes renew_text [] old new r
+    → OnOk r (IsReady old → KeepsRows old new)
 rows_if old new (Ok count) h = λ ready. renewed_rows old new count ready.devices ready.shows h
 rows_if old new (Err e) h = tt
 
-pub renewed_if : (old new : State) (r : Result ℕ Error) → Executes renew_text [] old new r → OnOk r ((devices : Devices) → Shows old devices → Shows new devices)
+pub renewed_if : (old new : State) (r : Result ℕ Error) → Executes renew_text [] old new r
+    → OnOk r ((devices : Devices) → Shows old devices → Shows new devices)
 renewed_if old new (Ok count) h = λ devices shows. renewed old new count devices shows h
 renewed_if old new (Err e) h = tt
 
-renew_leaves : (s : State) (devices : Devices) (trees : Trees) → Shows s devices → CommitsBy renew_text [] s trees → Holds trees devices
+renew_leaves : (s : State) (devices : Devices) (trees : Trees) → Shows s devices → CommitsBy renew_text [] s trees
+    → Holds trees devices
 renew_leaves s devices trees shows h =
     let r = shows.registers.registry in
     let it = renew_means s.now.schema r.tables.meta_at r.tables.meta r.tables.meta_stands in
-    elim (commits_as renew_text [] s (Update r.tables.meta_at (program_of (renew_query r.tables.meta))) it.is it.plain trees h) [
+    elim (commits_as renew_text [] s (Update r.tables.meta_at (program_of (renew_query r.tables.meta))) it.is it.plain
+    trees h) [
       | inl named ↦ elim named.0 [ inl commit ↦ absurd (cc) | inr release ↦ absurd (let e = release.2 in cc) ]
-      | inr may ↦ record { db = may.2; same = sym may.5; sound = may.4; registers = renew_does s may.2 (statement_of renew_text (understood s.now.schema renew_text)) may.1 devices shows.registers may.3 }
+      | inr may ↦
+          record {
+            db = may.2;
+            same = sym may.5;
+            sound = may.4;
+            registers = renew_does s may.2 (statement_of renew_text (understood s.now.schema renew_text)) may.1 devices
+                shows.registers may.3;
+          }
     ]
 
-pub renew_stop : (old new : State) → Survives old new (CommitsBy renew_text [] old) → Survives old new (λ trees. (devices : Devices) → Shows old devices → Holds trees devices)
-renew_stop old new h = survives_weaker old new (CommitsBy renew_text [] old) (λ trees. (devices : Devices) → Shows old devices → Holds trees devices) (λ clean trees commits devices shows. renew_leaves old devices trees shows commits) h
+pub renew_stop : (old new : State) → Survives old new (CommitsBy renew_text [] old)
+    → Survives old new (λ trees. (devices : Devices) → Shows old devices → Holds trees devices)
+renew_stop old new h =
+    survives_weaker old new (CommitsBy renew_text [] old) (λ trees. (devices : Devices) → Shows old devices
+    → Holds trees devices) (λ clean trees commits devices shows. renew_leaves old devices trees shows commits) h

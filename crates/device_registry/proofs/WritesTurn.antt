@@ -1,5 +1,6 @@
 -- From what the store says of the three statements that write to how they turn the registry.
-use Rattle.std.proofs.Common.{◌≡◌, ◌≢◌, inl, inr, ℕ, List, [], Some, None, Ok, Err, Result, arith, OnOk, OnErr, refl, sym, subst, ◌∙◌, false}
+use Rattle.std.proofs.Common.{◌≡◌, ◌≢◌, inl, inr, ℕ, List, [], Some, None, Ok, Err, Result, arith}
+use Rattle.std.proofs.Common.{OnOk, OnErr, refl, sym, subst, ◌∙◌, false}
 use Rattle.std.specs.FinMap.{insert, remove}
 use Rattle.sqlite.specs.Order.{Row}
 use Rattle.sqlite_trees.specs.Tree.{Trees}
@@ -34,15 +35,23 @@ use Rattle.device_registry.proofs.StatementSteps.{commits_as, spared, not_execut
 module _ (sql : List ℕ) (params : Row) (change : Change) (HasRoom : Devices → Type 0)
     (command : (db : Database) → IsRegistry db → Command)
     (means : (db : Database) (registry : IsRegistry db) → Means db.schema sql (command db registry))
-    (writes : (old new : State) (registry : IsRegistry old.now) (text : List ℕ) (count : ℕ) → Runs old new None (command old.now registry) text params count → Writes old new None (command old.now registry) text params count)
-    (ends : (db : Database) (registry : IsRegistry db) → (command db registry ≢ Commit) × ((name : List ℕ) → command db registry ≢ Release name))
-    (does : (s : State) (after : Database) (text : List ℕ) (tally : Tally) (devices : Devices) (had : Registers s.now devices) → HasRoom devices
-    → Does s.step_limit (mode_of s) params s.now text None (command s.now had.registry) (Ok (tally, after)) → Registers after (changed devices change)) where
-  made : (old new : State) (count : ℕ) (devices : Devices) → HasRoom devices → Shows old devices → Executes sql params old new (Ok count) → Shows new (changed devices change)
+    (writes : (old new : State) (registry : IsRegistry old.now) (text : List ℕ) (count : ℕ)
+    → Runs old new None (command old.now registry) text params count
+    → Writes old new None (command old.now registry) text params count)
+    (ends : (db : Database) (registry : IsRegistry db) → (command db registry ≢ Commit)
+    × ((name : List ℕ) → command db registry ≢ Release name))
+    (does : (s : State) (after : Database) (text : List ℕ) (tally : Tally) (devices : Devices)
+    (had : Registers s.now devices) → HasRoom devices
+    → Does s.step_limit (mode_of s) params s.now text None (command s.now had.registry) (Ok (tally, after))
+    → Registers after (changed devices change)) where
+  made : (old new : State) (count : ℕ) (devices : Devices) → HasRoom devices → Shows old devices
+      → Executes sql params old new (Ok count) → Shows new (changed devices change)
   made old new count devices room shows h =
       let registry = shows.registers.registry in
       let it = means old.now registry in
-      let w = writes old new registry _ count (runs_as sql params old new old.now.schema refl (command old.now registry) it.is it.plain count h) in
+      let w =
+      writes old new registry _ count
+      (runs_as sql params old new old.now.schema refl (command old.now registry) it.is it.plain count h) in
       record {
         is_open = w.shown.is_open;
         idle = w.shown.mode ∙ shows.idle;
@@ -51,30 +60,50 @@ module _ (sql : List ℕ) (params : Row) (change : Change) (HasRoom : Devices �
         registers = does old new.now _ w.tally devices shows.registers room w.changed;
       }
 
-  left : (s : State) (devices : Devices) (trees : Trees) → HasRoom devices → Shows s devices → CommitsBy sql params s trees → Holds trees (changed devices change)
+  left : (s : State) (devices : Devices) (trees : Trees) → HasRoom devices → Shows s devices
+      → CommitsBy sql params s trees → Holds trees (changed devices change)
   left s devices trees room shows h =
       let registry = shows.registers.registry in
       let it = means s.now registry in
       elim (commits_as sql params s (command s.now registry) it.is it.plain trees h) [
-        | inl named ↦ elim named.0 [ inl commit ↦ absurd ((ends s.now registry).0 commit) | inr release ↦ absurd ((ends s.now registry).1 release.0 release.2) ]
-        | inr may ↦ record { db = may.2; same = sym may.5; sound = may.4; registers = does s may.2 _ may.1 devices shows.registers room may.3 }
+        | inl named ↦
+            elim named.0 [
+              | inl commit ↦ absurd ((ends s.now registry).0 commit)
+              | inr release ↦
+                  absurd ((ends s.now registry).1 release.0 release.2)
+            ]
+        | inr may ↦
+            record {
+              db = may.2;
+              same = sym may.5;
+              sound = may.4;
+              registers = does s may.2 _ may.1 devices shows.registers room may.3;
+            }
       ]
 
-  pub turned : (old new : State) (r : Result ℕ Error) → (HasCleanDisk old → IsReady old) → (HasCleanDisk old → (devices : Devices) → Shows old devices → HasRoom devices)
-      → Survives old new (CommitsBy sql params old) → (HasCleanDisk new → Executes sql params old new r) → Turns old new change r
+  pub turned : (old new : State) (r : Result ℕ Error) → (HasCleanDisk old → IsReady old)
+      → (HasCleanDisk old → (devices : Devices) → Shows old devices → HasRoom devices)
+      → Survives old new (CommitsBy sql params old) → (HasCleanDisk new → Executes sql params old new r)
+      → Turns old new change r
   turned old new r ready room survives runs =
       let early = λ (clean : HasCleanDisk new). let was : HasCleanDisk old = omega (arith, survives.clean) in was in
       record {
         clean = early;
         stop = λ clean trees may. elim (survives.crash clean trees may) [
           | inl before ↦ inl before
-          | inr commits ↦ inr ((ready (early clean)).shows.is_open, λ devices shows. left old devices trees (room (early clean) devices shows) shows commits)
+          | inr commits ↦
+              inr (
+                (ready (early clean)).shows.is_open,
+                λ devices shows.
+                    left old devices trees (room (early clean) devices shows) shows commits,
+              )
         ];
         made = λ clean. ok_of r (early clean) (runs clean);
         refused = λ clean. err_of r (runs clean);
       }
     where
-      ok_of : (r : Result ℕ Error) → HasCleanDisk old → Executes sql params old new r → OnOk r ((devices : Devices) → Shows old devices → Shows new (changed devices change))
+      ok_of : (r : Result ℕ Error) → HasCleanDisk old → Executes sql params old new r
+          → OnOk r ((devices : Devices) → Shows old devices → Shows new (changed devices change))
       ok_of (Ok count) clean h = λ devices shows. made old new count devices (room clean devices shows) shows h
       ok_of (Err e) clean h = tt
 
@@ -82,49 +111,73 @@ module _ (sql : List ℕ) (params : Row) (change : Change) (HasRoom : Devices �
       err_of (Ok count) h = tt
       err_of (Err e) h = spared old new (not_executed sql params old new e h)
 
-learn_does : (id : ℕ) (it : Learned) → IsShort it.eep → (s : State) (after : Database) (text : List ℕ) (tally : Tally) (devices : Devices) (had : Registers s.now devices) → is_full devices id ≡ false
-    → Does s.step_limit (mode_of s) (learn_params id it) s.now text None (InsertOr had.registry.tables.devices_at Replace (Values learn_terms 4) []) (Ok (tally, after)) → Registers after (insert devices id it)
+learn_does : (id : ℕ) (it : Learned) → IsShort it.eep → (s : State) (after : Database) (text : List ℕ) (tally : Tally)
+    (devices : Devices) (had : Registers s.now devices) → is_full devices id ≡ false
+    → Does s.step_limit (mode_of s) (learn_params id it) s.now text None
+    (InsertOr had.registry.tables.devices_at Replace (Values learn_terms 4) []) (Ok (tally, after))
+    → Registers after (insert devices id it)
 learn_does id it short s after text tally devices had room h =
     let r = had.registry in
-    let put = learns s.now.schema r.tables.devices_at r.tables.devices s.step_limit (mode_of s) id it s.now.trees text tally after r.tables.devices_stand.there (devices_alone s.now r) r.whole.rows h in
+    let put = learns s.now.schema r.tables.devices_at r.tables.devices s.step_limit (mode_of s) id it s.now.trees text
+    tally after r.tables.devices_stand.there (devices_alone s.now r) r.whole.rows h in
     put_registers s.now after devices had id it short room put.0 put.1
 
-pub learn_turns : (id : ℕ) (it : Learned) → IsShort it.eep → (old new : State) (r : Result ℕ Error) → (HasCleanDisk old → IsReady old) → (HasCleanDisk old → (devices : Devices) → Shows old devices → is_full devices id ≡ false)
-    → Survives old new (CommitsBy learn_text (learn_params id it) old) → (HasCleanDisk new → Executes learn_text (learn_params id it) old new r) → Turns old new (record { sender = id; entry = Some it }) r
-learn_turns id it short = turned learn_text (learn_params id it) (record { sender = id; entry = Some it }) (λ devices. is_full devices id ≡ false)
+pub learn_turns : (id : ℕ) (it : Learned) → IsShort it.eep → (old new : State) (r : Result ℕ Error)
+    → (HasCleanDisk old → IsReady old)
+    → (HasCleanDisk old → (devices : Devices) → Shows old devices → is_full devices id ≡ false)
+    → Survives old new (CommitsBy learn_text (learn_params id it) old)
+    → (HasCleanDisk new → Executes learn_text (learn_params id it) old new r)
+    → Turns old new (record { sender = id; entry = Some it }) r
+learn_turns id it short = turned learn_text (learn_params id it) (record { sender = id; entry = Some it })
+    (λ devices. is_full devices id ≡ false)
     (λ db registry. InsertOr registry.tables.devices_at Replace (Values learn_terms 4) [])
-    (λ db registry. learn_means db.schema registry.tables.devices_at registry.tables.devices registry.tables.devices_stand)
+    (λ db registry. learn_means db.schema registry.tables.devices_at registry.tables.devices
+    registry.tables.devices_stand)
     (λ old new registry text count h. h)
     (λ db registry. (λ e. cc, λ name e. cc))
     (learn_does id it short)
 
-forget_does : (id : ℕ) (s : State) (after : Database) (text : List ℕ) (tally : Tally) (devices : Devices) (had : Registers s.now devices) → Unit {0}
-    → Does s.step_limit (mode_of s) (asked id) s.now text None (Delete had.registry.tables.devices_at (program_of (forget_query had.registry.tables.devices))) (Ok (tally, after)) → Registers after (remove devices id)
+forget_does : (id : ℕ) (s : State) (after : Database) (text : List ℕ) (tally : Tally) (devices : Devices)
+    (had : Registers s.now devices) → Unit {0}
+    → Does s.step_limit (mode_of s) (asked id) s.now text None
+    (Delete had.registry.tables.devices_at (program_of (forget_query had.registry.tables.devices))) (Ok (tally, after))
+    → Registers after (remove devices id)
 forget_does id s after text tally devices had room h =
     let r = had.registry in
-    let gone = forgets s.now.schema r.tables.devices_at r.tables.devices s.step_limit (mode_of s) id s.now.trees text tally after r.tables.devices_stand.there (devices_alone s.now r) r.whole.rows r.whole.once h in
+    let gone = forgets s.now.schema r.tables.devices_at r.tables.devices s.step_limit (mode_of s) id s.now.trees text
+    tally after r.tables.devices_stand.there (devices_alone s.now r) r.whole.rows r.whole.once h in
     forgotten_registers s.now after devices had id gone.0 gone.1 gone.2
 
 pub forget_turns : (id : ℕ) (old new : State) (r : Result ℕ Error) → (HasCleanDisk old → IsReady old)
-    → Survives old new (CommitsBy forget_text (asked id) old) → (HasCleanDisk new → Executes forget_text (asked id) old new r) → Turns old new (record { sender = id; entry = None }) r
-forget_turns id old new r ready = turned forget_text (asked id) (record { sender = id; entry = None }) (λ devices. Unit {0})
+    → Survives old new (CommitsBy forget_text (asked id) old)
+    → (HasCleanDisk new → Executes forget_text (asked id) old new r)
+    → Turns old new (record { sender = id; entry = None }) r
+forget_turns id old new r ready =
+    turned forget_text (asked id) (record { sender = id; entry = None }) (λ devices. Unit {0})
     (λ db registry. Delete registry.tables.devices_at (program_of (forget_query registry.tables.devices)))
-    (λ db registry. forget_means db.schema registry.tables.devices_at registry.tables.devices registry.tables.devices_stand)
+    (λ db registry. forget_means db.schema registry.tables.devices_at registry.tables.devices
+    registry.tables.devices_stand)
     (λ old new registry text count h. h)
     (λ db registry. (λ e. cc, λ name e. cc))
     (forget_does id)
     old new r ready (λ clean devices shows. tt)
 
-renew_does : (change : Change) (s : State) (after : Database) (text : List ℕ) (tally : Tally) (devices : Devices) (had : Registers s.now devices) → changed devices change ≡ devices
-    → Does s.step_limit (mode_of s) [] s.now text None (Update had.registry.tables.meta_at (program_of (renew_query had.registry.tables.meta))) (Ok (tally, after)) → Registers after (changed devices change)
+renew_does : (change : Change) (s : State) (after : Database) (text : List ℕ) (tally : Tally) (devices : Devices)
+    (had : Registers s.now devices) → changed devices change ≡ devices
+    → Does s.step_limit (mode_of s) [] s.now text None
+    (Update had.registry.tables.meta_at (program_of (renew_query had.registry.tables.meta))) (Ok (tally, after))
+    → Registers after (changed devices change)
 renew_does change s after text tally devices had same h =
     let r = had.registry in
-    let kept = renews s.now.schema r.tables.meta_at r.tables.meta s.step_limit (mode_of s) s.now.trees text tally after r.whole.row r.tables.meta_stands.there (meta_alone s.now r) r.whole.one r.whole.version h in
+    let kept = renews s.now.schema r.tables.meta_at r.tables.meta s.step_limit (mode_of s) s.now.trees text tally after
+    r.whole.row r.tables.meta_stands.there (meta_alone s.now r) r.whole.one r.whole.version h in
     subst (Registers after) (sym same) (renewed_registers s.now after devices had kept.0 kept.1 kept.2)
 
 -- a change that leaves the devices as they are is made by writing the version row
-pub renew_turns : (change : Change) (old new : State) (r : Result ℕ Error) → (HasCleanDisk old → IsReady old) → (HasCleanDisk old → (devices : Devices) → Shows old devices → changed devices change ≡ devices)
-    → Survives old new (CommitsBy renew_text [] old) → (HasCleanDisk new → Executes renew_text [] old new r) → Turns old new change r
+pub renew_turns : (change : Change) (old new : State) (r : Result ℕ Error) → (HasCleanDisk old → IsReady old)
+    → (HasCleanDisk old → (devices : Devices) → Shows old devices → changed devices change ≡ devices)
+    → Survives old new (CommitsBy renew_text [] old) → (HasCleanDisk new → Executes renew_text [] old new r)
+    → Turns old new change r
 renew_turns change = turned renew_text [] change (λ devices. changed devices change ≡ devices)
     (λ db registry. Update registry.tables.meta_at (program_of (renew_query registry.tables.meta)))
     (λ db registry. renew_means db.schema registry.tables.meta_at registry.tables.meta registry.tables.meta_stands)

@@ -40,7 +40,8 @@ pub record Commits (new : State) (change : Change) (devices : Devices) : Type 0 
 
 -- a stop may leave what it could leave before, or the devices with the change, and nothing else
 abbrev pub MayLeave : State → State → Change → Devices → Type 0
-MayLeave old new change devices = (left : Devices) → MayFind new left → MayFind old left ⊎ (left ≡ changed devices change)
+MayLeave old new change devices = (left : Devices) → MayFind new left
+    → MayFind old left ⊎ (left ≡ changed devices change)
 
 -- the write is refused: the devices are as they were, but a stop may leave them with the change
 pub record Pends (old new : State) (change : Change) (devices : Devices) : Type 0 where
@@ -49,7 +50,8 @@ pub record Pends (old new : State) (change : Change) (devices : Devices) : Type 
 
 -- what the registry holds is what is committed
 abbrev pub IsCommitted : State → Type 0
-IsCommitted s = HasCleanDisk s → IsTrue s.is_open → (devices : Devices) → HasDevices s devices → Holds s.committed.trees devices
+IsCommitted s = HasCleanDisk s → IsTrue s.is_open → (devices : Devices) → HasDevices s devices
+    → Holds s.committed.trees devices
 
 -- a database with these trees is a registry of these devices, or has neither table yet, which is to hold none
 abbrev pub Finds : Trees → Devices → Type 0
@@ -74,7 +76,8 @@ pub record LooksUp (old new : State) (id : ℕ) (result : Result (Option Device)
   pub clean : HasCleanDisk new → HasCleanDisk old
   pub registries : HasCleanDisk new → AreRegistries new.may_leave
   pub devices : HasCleanDisk new → (devices : Devices) → HasDevices old devices
-      → MatchResult result (λ found. (found ≡ device_of devices id) × Keeps old new devices) (λ _. Keeps old new devices)
+      → MatchResult result (λ found. (found ≡ device_of devices id) × Keeps old new devices)
+      (λ _. Keeps old new devices)
 
 -- a device is learned, in place of what was known of its sender
 pub record Learns (old new : State) (it : Device) (result : Result Receipt LearnFault) : Type 0 where
@@ -82,7 +85,8 @@ pub record Learns (old new : State) (it : Device) (result : Result Receipt Learn
   pub registries : HasCleanDisk new → AreRegistries new.may_leave
   pub receipt : IfOk result (λ receipt. (receipt.id ≡ it.id) × IsTrue receipt.is_learned)
   pub devices : HasCleanDisk new → (devices : Devices) → HasDevices old devices
-      → MatchResult result (λ _. (is_full devices it.id ≡ false) × Commits new (learned it) devices) (RefusesToLearn old new it devices)
+      → MatchResult result (λ _. (is_full devices it.id ≡ false) × Commits new (learned it) devices)
+      (RefusesToLearn old new it devices)
 
 -- a sender is forgotten, also one of which nothing is known
 pub record Forgets (old new : State) (id : ℕ) (result : Result Receipt StoreFault) : Type 0 where

@@ -64,8 +64,8 @@ pub record IsOwn (trees : Trees) : Type 0 where
   -- the objects have rowids that rise
   pub rising : IsTable (trees catalog_tree)
 
--- The two tables can be made: nothing has their names, no foreign key refers to them, and no table counts its rowids without
--- SQLite's table of the counts, which our CREATE would add.
+-- The two tables can be made: nothing has their names, no foreign key refers to them, and no table counts its rowids
+-- without SQLite's table of the counts, which our CREATE would add.
 pub record IsClear (schema : Schema) : Type 0 where
   pub free_meta : is_used schema meta_name ≡ false
   pub free_devices : is_used schema device_name ≡ false
@@ -83,8 +83,8 @@ pub record IsFree (trees : Trees) : Type 0 where
 abbrev pub IsOther : Trees → Type 0
 IsOther trees = (¬ IsOwn trees) × (¬ IsFree trees)
 
--- A database is refused. One that is no registry is as it was, and after another fault a stop leaves what it could leave before,
--- or a registry of the devices that were committed.
+-- A database is refused. One that is no registry is as it was, and after another fault a stop leaves what it could
+-- leave before, or a registry of the devices that were committed.
 pub record RefusesToOpen (old new : State) (fault : OpenFault) : Type 0 where
   pub clean : HasCleanDisk new → HasCleanDisk old
   pub other : HasCleanDisk new → fault ≡ NotARegistry → IsOther old.committed.trees × IsUnchanged old new
@@ -104,5 +104,6 @@ FoundAgain = (trees : Trees) (left found : Devices) → Holds trees left → Fin
 
 -- what is closed and handed on is what the next open finds
 abbrev pub HandedOn : {S : Type 0} → Ghosts S → Type 0
-HandedOn {S} g = (closed opened : Held S) (devices found : Devices) → HasCleanDisk (state g closed) → IsCommitted (state g closed)
+HandedOn {S} g = (closed opened : Held S) (devices found : Devices) → HasCleanDisk (state g closed)
+    → IsCommitted (state g closed)
     → HasDevices (state g closed) devices → Opens (state g closed) (state g opened) found → found ≡ devices

@@ -47,8 +47,10 @@ pub record Stays (old new : State) : Type 0 where
 -- the change is made and committed, or it is refused, and then a stop may leave it all the same
 pub record Turns {T E : Type 0} (old new : State) (change : Change) (result : Result T E) : Type 0 where
   pub clean : HasCleanDisk new → HasCleanDisk old
-  pub stop : HasCleanDisk new → (trees : Trees) → new.may_leave trees → old.may_leave trees ⊎ (IsTrue old.is_open × ((devices : Devices) → Shows old devices → Holds trees (changed devices change)))
-  pub made : HasCleanDisk new → OnOk result ((devices : Devices) → Shows old devices → Shows new (changed devices change))
+  pub stop : HasCleanDisk new → (trees : Trees) → new.may_leave trees → old.may_leave trees
+      ⊎ (IsTrue old.is_open × ((devices : Devices) → Shows old devices → Holds trees (changed devices change)))
+  pub made : HasCleanDisk new
+      → OnOk result ((devices : Devices) → Shows old devices → Shows new (changed devices change))
   pub refused : HasCleanDisk new → OnErr result (GoesOn old new)
 
 -- each table has the rows that it had
@@ -61,8 +63,10 @@ pub record KeepsRows (old new : State) : Type 0 where
 -- the rows of a sender: its profile and its maker
 abbrev pub AreFound : Option Learned → List Row → Type 0
 AreFound None rows = rows ≡ []
-AreFound (Some it) rows = (row : Row) × (rows ≡ row ∷ []) × (eep_of (natural (column row 0)) ≡ it.eep) × (maker_in (column row 1) ≡ it.maker)
+AreFound (Some it) rows =
+    (row : Row) × (rows ≡ row ∷ []) × (eep_of (natural (column row 0)) ≡ it.eep) × (maker_in (column row 1) ≡ it.maker)
 
 -- a row of the list of all devices: the sender, its profile and its maker
 abbrev pub listed : Row → Device
-listed row = device (natural (column row 0)) (record { eep = eep_of (natural (column row 1)); maker = maker_in (column row 2) })
+listed row =
+    device (natural (column row 0)) (record { eep = eep_of (natural (column row 1)); maker = maker_in (column row 2) })

@@ -1,5 +1,6 @@
 -- The devices that a database holds.
-use Rattle.std.specs.Prelude.{◌≡◌, ◌≢◌, ◌≤◌, ◌≤ℤ◌, ◌*◌, ◌+◌, ◌/◌, ◌%◌, ℕ, ℤ, pos, negsuc, true, false, List, [], ◌∷◌, map, length, slice_get, Option, Some, None}
+use Rattle.std.specs.Prelude.{◌≡◌, ◌≢◌, ◌≤◌, ◌≤ℤ◌, ◌*◌, ◌+◌, ◌/◌, ◌%◌, ℕ, ℤ, pos, negsuc, true, false, List}
+use Rattle.std.specs.Prelude.{[], ◌∷◌, map, length, slice_get, Option, Some, None}
 use Rattle.std.specs.List.{AllByRecursion}
 use Rattle.std.specs.FinMap.{from_entries}
 use Rattle.erp1_telegrams.specs.declared.eep.Eep.{Eep}
@@ -47,7 +48,8 @@ maker_in (Blob b) = None
 
 -- a row of the device table has its rowid, which is the sender, and then the columns
 abbrev pub entry_of : Row → ℕ × Learned
-entry_of row = (natural (column row 0), record { eep = eep_of (natural (column row 2)); maker = maker_in (column row 3) })
+entry_of row =
+    (natural (column row 0), record { eep = eep_of (natural (column row 2)); maker = maker_in (column row 3) })
 
 abbrev pub devices_in : List Row → Devices
 devices_in rows = from_entries (map entry_of rows)
@@ -97,8 +99,8 @@ AreSpared schema = AllByRecursion (λ table. SparesName meta_name table × Spare
 abbrev pub KeepsTree : List ℕ → ℕ → Table → Type 0
 KeepsTree name tree table = table.tree ≡ tree → same_name table.name name ≡ true
 
--- The schema has the two tables of a registry, and what stands beside them leaves them alone: no foreign key refers to them,
--- no other table lies in their trees, and they have no index.
+-- The schema has the two tables of a registry, and what stands beside them leaves them alone: no foreign key refers to
+-- them, no other table lies in their trees, and they have no index.
 pub record HasTables (schema : Schema) : Type 0 where
   -- the numbers of their trees, and their places in the schema
   pub meta : ℕ
@@ -109,7 +111,8 @@ pub record HasTables (schema : Schema) : Type 0 where
   pub devices_stand : Stands schema device_name (device_table devices) devices_at
   pub apart : meta ≢ devices
   pub spared : AreSpared schema
-  pub alone : AllByRecursion (λ table. KeepsTree meta_name meta table × KeepsTree device_name devices table) schema.tables
+  pub alone : AllByRecursion (λ table. KeepsTree meta_name meta table × KeepsTree device_name devices table)
+      schema.tables
   pub unindexed : AllByRecursion (λ index. (index.table ≢ meta) × (index.table ≢ devices)) schema.indexes
 
 -- in the trees of the two tables, the version is 1, and there are devices, none twice and at most 1,000

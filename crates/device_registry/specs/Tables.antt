@@ -19,13 +19,16 @@ abbrev pub meta_text : List ℕ
 meta_text = codes "CREATE TABLE enogate_meta (k INTEGER PRIMARY KEY CHECK (k = 1), version INTEGER NOT NULL) STRICT"
 
 abbrev pub device_text : List ℕ
-device_text = codes "CREATE TABLE enogate_device (id INTEGER PRIMARY KEY CHECK (id >= 0 AND id <= 4294967294), eep INTEGER NOT NULL CHECK (eep >= 0 AND eep <= 16777215), maker INTEGER NOT NULL CHECK (maker >= -1 AND maker <= 2047)) STRICT"
+device_text =
+    codes "CREATE TABLE enogate_device (id INTEGER PRIMARY KEY CHECK (id >= 0 AND id <= 4294967294), eep INTEGER NOT NULL CHECK (eep >= 0 AND eep <= 16777215), maker INTEGER NOT NULL CHECK (maker >= -1 AND maker <= 2047)) STRICT"
 
 abbrev pub key_column : List ℕ → Column
-key_column name = record { name = name; kind = Integer; is_strict = true; not_null = false; default = Null; collation = Binary }
+key_column name =
+    record { name = name; kind = Integer; is_strict = true; not_null = false; default = Null; collation = Binary }
 
 abbrev pub number_column : List ℕ → Column
-number_column name = record { name = name; kind = Integer; is_strict = true; not_null = true; default = Null; collation = Binary }
+number_column name =
+    record { name = name; kind = Integer; is_strict = true; not_null = true; default = Null; collation = Binary }
 
 abbrev pub keyed_table : List ℕ → ℕ → List Column → List Term → Table
 keyed_table name tree columns checks = record {
@@ -45,15 +48,19 @@ keyed_table name tree columns checks = record {
 
 -- the value at a place of the row lies between the two
 abbrev pub between : ℕ → Term → Term → Term
-between place low high = op2 And (op2 (Compare Ge Binary) (col 1 place) low) (op2 (Compare Le Binary) (col 1 place) high)
+between place low high =
+    op2 And (op2 (Compare Ge Binary) (col 1 place) low) (op2 (Compare Le Binary) (col 1 place) high)
 
 abbrev pub meta_table : ℕ → Table
 meta_table tree = keyed_table meta_name tree (key_column (codes "k") ∷ number_column (codes "version") ∷ [])
     (op2 (Compare Eq Binary) (col 1 0) (lit (Int (pos 1))) ∷ [])
 
 abbrev pub device_table : ℕ → Table
-device_table tree = keyed_table device_name tree (key_column (codes "id") ∷ number_column (codes "eep") ∷ number_column (codes "maker") ∷ [])
-    (between 0 (lit (Int (pos 0))) (lit (Int (pos 4294967294))) ∷ between 2 (lit (Int (pos 0))) (lit (Int (pos 16777215))) ∷ between 3 (lit (Int (negsuc 0))) (lit (Int (pos 2047))) ∷ [])
+device_table tree =
+    keyed_table device_name tree
+    (key_column (codes "id") ∷ number_column (codes "eep") ∷ number_column (codes "maker") ∷ [])
+    (between 0 (lit (Int (pos 0))) (lit (Int (pos 4294967294))) ∷ between 2 (lit (Int (pos 0)))
+    (lit (Int (pos 16777215))) ∷ between 3 (lit (Int (negsuc 0))) (lit (Int (pos 2047))) ∷ [])
 
 abbrev pub learn_text : List ℕ
 learn_text = codes "INSERT OR REPLACE INTO enogate_device (id, eep, maker) VALUES (?1, ?2, ?3)"

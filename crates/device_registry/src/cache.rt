@@ -35,7 +35,8 @@ pub fn cached(cache: &mut Cache, id: u32) -> Option<Option<Device>>
 /// Remembers a sender in place of the one of longest ago, unless there is no memory for it: then the cache is as it
 /// was.
 pub fn remember(cache: &mut Cache, id: u32, known: Option<Device>)
-    ensures put { (cache.new ≡ cache.old) ⊎ (cache.new ≡ lru_cache (put_entries nat_eq cache.old id known) cache.old.cap) }
+    ensures put { (cache.new ≡ cache.old)
+        ⊎ (cache.new ≡ lru_cache (put_entries nat_eq cache.old id known) cache.old.cap) }
     ensures kept { (entry : _) → Contains cache.new.entries entry →
         Contains cache.old.entries entry ⊎ (entry ≡ (id, known)) }
 {

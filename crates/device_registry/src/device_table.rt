@@ -33,7 +33,8 @@ impl<S: Alter> Model for DeviceTable<S> {
 
     ghost view = { λ table. table.conn };
 
-    ghost invariant = { λ table. (HasCleanDisk (state S.Store table.conn) → AreRegistries (state S.Store table.conn).may_leave)
+    ghost invariant = { λ table. (HasCleanDisk (state S.Store table.conn) →
+        AreRegistries (state S.Store table.conn).may_leave)
         × StaysReady (state S.Store table.conn) };
 }
 

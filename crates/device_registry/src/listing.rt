@@ -3,7 +3,8 @@ ghost use Rattle.std.specs.Prelude.{◌≡◌, [], ◌∷◌, pos, negsuc, false
 ghost use Rattle.std.specs.List.{list_any};
 ghost use Rattle.sqlite.specs.Order.{column};
 ghost use Rattle.sqlite.specs.declared.types.Value.TheVariants.{Int};
-ghost use Rattle.device_registry.specs.Listing.{has_text, is_line, are_ours, is_within, is_above, shows_device, devices_rise, ShowsVersion};
+ghost use Rattle.device_registry.specs.Listing.{has_text, is_line, are_ours};
+ghost use Rattle.device_registry.specs.Listing.{is_within, is_above, shows_device, devices_rise, ShowsVersion};
 
 use crate::tables::{CREATE_DEVICE, CREATE_META, DEVICE, META};
 use sqlite::Row;

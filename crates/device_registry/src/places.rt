@@ -3,7 +3,8 @@ ghost use Rattle.std.specs.Prelude.{◌≡◌};
 ghost use Rattle.std.specs.List.{list_any};
 ghost use Rattle.sqlite.specs.Table.{Table};
 ghost use Rattle.sqlite_catalog.specs.Change.{is_used};
-ghost use Rattle.device_registry.specs.Places.{refers, is_referred, is_indexed, lacks_counts, is_clear, is_lone, is_left_alone, tree_named, trees_in};
+ghost use Rattle.device_registry.specs.Places.{refers, is_referred, is_indexed, lacks_counts, is_clear};
+ghost use Rattle.device_registry.specs.Places.{is_lone, is_left_alone, tree_named, trees_in};
 
 use crate::tables::{DEVICE, META};
 use sqlite_schema::names::same_name;

@@ -32,7 +32,8 @@ impl<S: Alter> Model for Registry<S> {
 
     ghost view = { λ registry. registry.table };
 
-    ghost invariant = { λ registry. (HasCleanDisk (state S.Store registry.table) → AreRegistries (state S.Store registry.table).may_leave)
+    ghost invariant = { λ registry. (HasCleanDisk (state S.Store registry.table) →
+        AreRegistries (state S.Store registry.table).may_leave)
         × CacheAgrees (state S.Store registry.table) registry.cache.entries };
 }
 

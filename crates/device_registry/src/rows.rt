@@ -41,7 +41,10 @@ fn maker_at(row: &Row, at: usize) -> Result<Option<u16>, Error>
 /// A device, whose profile and maker stand from a place of the row on.
 fn device_at(id: u32, row: &Row, at: usize) -> Result<Device, StoreFault>
     requires { at ≤ 1 }
-    ensures { IfOk result (λ it. it ≡ device id (record { eep = eep_of (natural (column row.now at)); maker = maker_in (column row.now (at + 1)) })) }
+    ensures { IfOk result (λ it. it ≡ device id (record {
+      eep = eep_of (natural (column row.now at));
+      maker = maker_in (column row.now (at + 1));
+    })) }
 {
     let eep: u32 = row.get(at)?;
     Ok(Device {

@@ -12,4 +12,6 @@ pub const CREATE_META: &str =
 
 /// The text that makes the table of the devices.
 pub const CREATE_DEVICE: &str =
-    "CREATE TABLE enogate_device (id INTEGER PRIMARY KEY CHECK (id >= 0 AND id <= 4294967294), eep INTEGER NOT NULL CHECK (eep >= 0 AND eep <= 16777215), maker INTEGER NOT NULL CHECK (maker >= -1 AND maker <= 2047)) STRICT";
+    "CREATE TABLE enogate_device (id INTEGER PRIMARY KEY CHECK (id >= 0 AND id <= 4294967294), \
+     eep INTEGER NOT NULL CHECK (eep >= 0 AND eep <= 16777215), \
+     maker INTEGER NOT NULL CHECK (maker >= -1 AND maker <= 2047)) STRICT";

@@ -10,4 +10,5 @@ returns-clause-known c =
     looked_up c.args.id c.args.cache.now.entries c.in_ok-known.field-0.now found
 
 pub returns-clause-kept : goal.returns-clause-kept
-returns-clause-kept c entry has = Contains-promoted (eqb c.args.id) c.args.cache.now.entries entry (rw c.promote.ensures.entries at has)
+returns-clause-kept c entry has =
+    Contains-promoted (eqb c.args.id) c.args.cache.now.entries entry (rw c.promote.ensures.entries at has)

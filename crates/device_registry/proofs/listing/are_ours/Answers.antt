@@ -7,5 +7,7 @@ use Rattle.device_registry.proofs.listing.are_ours.Goals as goal
 pub returns-then-lists : goal.returns-then-lists
 returns-then-lists c =
     let rows = c.args.rows.now in
-    let first : list_any (is_line meta_name meta_text) rows ≡ true = ap (λ t. list_any (is_line meta_name t) rows) (sym c.as_bytes.ensures.value) ∙ sym c.lists.ensures ∙ c.if-lists.true in
-    c.lists-then-lists.ensures ∙ ap (λ t. list_any (is_line device_name t) rows) c.as_bytes-then-lists.ensures.value ∙ ap (λ b. b && list_any (is_line device_name device_text) rows) (sym first)
+    let first : list_any (is_line meta_name meta_text) rows ≡ true = ap (λ t. list_any (is_line meta_name t) rows)
+    (sym c.as_bytes.ensures.value) ∙ sym c.lists.ensures ∙ c.if-lists.true in
+    c.lists-then-lists.ensures ∙ ap (λ t. list_any (is_line device_name t) rows) c.as_bytes-then-lists.ensures.value
+    ∙ ap (λ b. b && list_any (is_line device_name device_text) rows) (sym first)

@@ -12,5 +12,13 @@ returns-in_err-_statement-clause-kept g c clean =
     let early : HasCleanDisk old = omega (arith, clean, c.prepare.ensures.survives.clean) in
     let auto : IsTrue c.is_autocommit.result = search rules in
     let at_rest = λ (is_open : IsTrue old.is_open).
-    let it : IsAtRest old = record { is_open = is_open; idle = c.requires.idle early is_open; settled = c.is_autocommit.ensures.settled auto is_open; sound = (c.schema-schema.ensures.live is_open).0 } in it in
-    err_told c.from_residual.result (not_run_kept (codes "SELECT 1") [] old new _ at_rest (c.in_err-_statement.ensures.err clean []))
+    let it : IsAtRest old =
+    record {
+      is_open = is_open;
+      idle = c.requires.idle early is_open;
+      settled =
+          c.is_autocommit.ensures.settled auto is_open;
+      sound = (c.schema-schema.ensures.live is_open).0;
+    } in it in
+    err_told c.from_residual.result
+    (not_run_kept (codes "SELECT 1") [] old new _ at_rest (c.in_err-_statement.ensures.err clean []))

@@ -50,8 +50,10 @@ returns-in_err-renew-clause-stop g c =
     let old = state g.S.Store c.args.conn.now in
     let mid = state g.S.Store c.is_registry.new.conn in
     let yes : IsTrue c.in_ok-is_registry.field-0 = search rules in
-    let took : HasCleanDisk mid → IsUnchanged old mid × IsRegistry old.now = λ clean. let it = c.in_ok-is_registry.ensures.ours clean in (it.0, it.1 yes) in
-    taken_stop old mid (state g.S.Store c.renew.new.conn) c.requires.rest took c.is_registry.ensures.stop c.renew.ensures.stop
+    let took : HasCleanDisk mid → IsUnchanged old mid × IsRegistry old.now = λ clean.
+    let it = c.in_ok-is_registry.ensures.ours clean in (it.0, it.1 yes) in
+    taken_stop old mid (state g.S.Store c.renew.new.conn) c.requires.rest took c.is_registry.ensures.stop
+    c.renew.ensures.stop
 
 pub returns-clause-prepared : goal.returns-clause-prepared
 returns-clause-prepared g c clean =
@@ -61,15 +63,18 @@ returns-clause-prepared g c clean =
     let early : HasCleanDisk old = omega (arith, between, c.is_registry.ensures.stop.clean) in
     let yes : IsTrue c.in_ok-is_registry.field-0 = search rules in
     let it = c.in_ok-is_registry.ensures.ours between in
-    taken old mid (state g.S.Store c.renew.new.conn) (c.requires.rest early) it.0 (it.1 yes) (c.in_ok-renew.ensures.renewed clean)
+    taken old mid (state g.S.Store c.renew.new.conn) (c.requires.rest early) it.0 (it.1 yes)
+    (c.in_ok-renew.ensures.renewed clean)
 
 pub returns-clause-stop : goal.returns-clause-stop
 returns-clause-stop g c =
     let old = state g.S.Store c.args.conn.now in
     let mid = state g.S.Store c.is_registry.new.conn in
     let yes : IsTrue c.in_ok-is_registry.field-0 = search rules in
-    let took : HasCleanDisk mid → IsUnchanged old mid × IsRegistry old.now = λ clean. let it = c.in_ok-is_registry.ensures.ours clean in (it.0, it.1 yes) in
-    taken_stop old mid (state g.S.Store c.renew.new.conn) c.requires.rest took c.is_registry.ensures.stop c.renew.ensures.stop
+    let took : HasCleanDisk mid → IsUnchanged old mid × IsRegistry old.now = λ clean.
+    let it = c.in_ok-is_registry.ensures.ours clean in (it.0, it.1 yes) in
+    taken_stop old mid (state g.S.Store c.renew.new.conn) c.requires.rest took c.is_registry.ensures.stop
+    c.renew.ensures.stop
 
 pub returns-then-is_clear-clause-rows : goal.returns-then-is_clear-clause-rows
 returns-then-is_clear-clause-rows g c clean =
@@ -86,4 +91,5 @@ returns-clause-rows g c clean held =
     let early : HasCleanDisk old = omega (arith, between, c.is_registry.ensures.stop.clean) in
     let yes : IsTrue c.in_ok-is_registry.field-0 = search rules in
     let it = c.in_ok-is_registry.ensures.ours between in
-    same_rows old mid (state g.S.Store c.renew.new.conn) it.0 (c.in_ok-renew.ensures.rows clean (ready old mid (c.requires.rest early) it.0 (it.1 yes)))
+    same_rows old mid (state g.S.Store c.renew.new.conn) it.0
+    (c.in_ok-renew.ensures.rows clean (ready old mid (c.requires.rest early) it.0 (it.1 yes)))

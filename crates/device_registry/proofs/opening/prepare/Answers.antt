@@ -10,7 +10,8 @@ returns-clause-registries g c clean =
     let old = state g.S.Store c.args.conn.now in
     let mid = state g.S.Store c.check_idle.new.conn in
     let new = state g.S.Store c.make_or_take.new.conn in
-    registries_if old mid new (λ trees is_open. g.met.S.Store.settled c.make_or_take.new.conn.store trees is_open) c.make_or_take.result (c.make_or_take.ensures.prepared clean)
+    registries_if old mid new (λ trees is_open. g.met.S.Store.settled c.make_or_take.new.conn.store trees is_open)
+    c.make_or_take.result (c.make_or_take.ensures.prepared clean)
 
 pub returns-clause-opens : goal.returns-clause-opens
 returns-clause-opens g c clean =
@@ -18,10 +19,12 @@ returns-clause-opens g c clean =
     let mid = state g.S.Store c.check_idle.new.conn in
     let new = state g.S.Store c.make_or_take.new.conn in
     let early : HasCleanDisk mid = omega (arith, clean, c.make_or_take.ensures.stop.clean) in
-    opens_if old mid new (λ trees is_open. g.met.S.Store.settled c.make_or_take.new.conn.store trees is_open) c.make_or_take.result (c.in_ok-check_idle.ensures.same early) (c.make_or_take.ensures.prepared clean)
+    opens_if old mid new (λ trees is_open. g.met.S.Store.settled c.make_or_take.new.conn.store trees is_open)
+    c.make_or_take.result (c.in_ok-check_idle.ensures.same early) (c.make_or_take.ensures.prepared clean)
 
 pub returns-clause-ready : goal.returns-clause-ready
-returns-clause-ready g c clean = ready_if (state g.S.Store c.check_idle.new.conn) (state g.S.Store c.make_or_take.new.conn) c.make_or_take.result (c.make_or_take.ensures.prepared clean)
+returns-clause-ready g c clean = ready_if (state g.S.Store c.check_idle.new.conn)
+    (state g.S.Store c.make_or_take.new.conn) c.make_or_take.result (c.make_or_take.ensures.prepared clean)
 
 pub returns-clause-rows : goal.returns-clause-rows
 returns-clause-rows g c clean =
@@ -29,14 +32,18 @@ returns-clause-rows g c clean =
     let mid = state g.S.Store c.check_idle.new.conn in
     let early : HasCleanDisk mid = omega (arith, clean, c.make_or_take.ensures.stop.clean) in
     let was = c.in_ok-check_idle.ensures.same early in
-    rows_on c.make_or_take.result old mid (state g.S.Store c.make_or_take.new.conn) was.0 was.1 (c.make_or_take.ensures.rows clean)
+    rows_on c.make_or_take.result old mid (state g.S.Store c.make_or_take.new.conn) was.0 was.1
+    (c.make_or_take.ensures.rows clean)
 
 pub returns-in_err-check_idle-clause-refused : goal.returns-in_err-check_idle-clause-refused
 returns-in_err-check_idle-clause-refused g c =
     let why = err_from_is_err_and c.from_residual.result c.from_residual.ensures.1 in
-    rw why.1 (refused_first (state g.S.Store c.args.conn.now) (state g.S.Store c.check_idle.new.conn) why.0 (λ is. let e = sym why.2 ∙ is in cc) c.check_idle.ensures.stop)
+    rw why.1 (refused_first (state g.S.Store c.args.conn.now) (state g.S.Store c.check_idle.new.conn) why.0 (λ is.
+    let e = sym why.2 ∙ is in cc) c.check_idle.ensures.stop)
 
 pub returns-clause-refused : goal.returns-clause-refused
 returns-clause-refused g c =
-    refused_then c.make_or_take.result (state g.S.Store c.args.conn.now) (state g.S.Store c.check_idle.new.conn) (state g.S.Store c.make_or_take.new.conn)
-    c.in_ok-check_idle.ensures.same c.check_idle.ensures.stop c.make_or_take.ensures.stop c.make_or_take.ensures.refused c.make_or_take.ensures.unchanged
+    refused_then c.make_or_take.result (state g.S.Store c.args.conn.now) (state g.S.Store c.check_idle.new.conn)
+    (state g.S.Store c.make_or_take.new.conn)
+    c.in_ok-check_idle.ensures.same c.check_idle.ensures.stop c.make_or_take.ensures.stop c.make_or_take.ensures.refused
+    c.make_or_take.ensures.unchanged

@@ -7,4 +7,5 @@ use Rattle.device_registry.proofs.statements.delete_or_renew.Goals as goal
 pub returns-then-is_empty : goal.returns-then-is_empty
 returns-then-is_empty g c =
     let none : c.args.rows.now ≡ [] = grind (arith, common_steps, c.is_empty.ensures, c.if-is_empty.true) in
-    c.renew.ensures.turns (forgotten c.args.id) (λ clean devices shows. unknown_is_removed devices c.args.id c.args.rows.now (c.requires.found clean devices shows) none)
+    c.renew.ensures.turns (forgotten c.args.id) (λ clean devices shows.
+    unknown_is_removed devices c.args.id c.args.rows.now (c.requires.found clean devices shows) none)

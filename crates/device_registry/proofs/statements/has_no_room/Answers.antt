@@ -9,20 +9,26 @@ use Rattle.device_registry.proofs.statements.has_no_room.Goals as goal
 
 pub returns-in_err-rows-clause-stays : goal.returns-in_err-rows-clause-stays
 returns-in_err-rows-clause-stays g c =
-    others_stay c.args.id c.in_ok-others.others.text (state g.S.Store c.args.conn.now) (state g.S.Store c.compiled.new.conn)
-    (state g.S.Store c.rows_of.new.conn) (λ v. v.items) c.rows_of.result c.compiled.ensures.stays c.in_ok-others.ensures.text
+    others_stay c.args.id c.in_ok-others.others.text (state g.S.Store c.args.conn.now)
+    (state g.S.Store c.compiled.new.conn)
+    (state g.S.Store c.rows_of.new.conn) (λ v. v.items) c.rows_of.result c.compiled.ensures.stays
+    c.in_ok-others.ensures.text
     c.in_ok-others.ensures.ready c.rows_of.ensures.survives c.rows_of.ensures.shown c.rows_of.ensures.failed
 
 pub returns-in_err-number-clause-stays : goal.returns-in_err-number-clause-stays
 returns-in_err-number-clause-stays g c =
-    others_stay c.args.id c.in_ok-others.others.text (state g.S.Store c.args.conn.now) (state g.S.Store c.compiled.new.conn)
-    (state g.S.Store c.rows_of.new.conn) (λ v. v.items) c.rows_of.result c.compiled.ensures.stays c.in_ok-others.ensures.text
+    others_stay c.args.id c.in_ok-others.others.text (state g.S.Store c.args.conn.now)
+    (state g.S.Store c.compiled.new.conn)
+    (state g.S.Store c.rows_of.new.conn) (λ v. v.items) c.rows_of.result c.compiled.ensures.stays
+    c.in_ok-others.ensures.text
     c.in_ok-others.ensures.ready c.rows_of.ensures.survives c.rows_of.ensures.shown c.rows_of.ensures.failed
 
 pub returns-clause-stays : goal.returns-clause-stays
 returns-clause-stays g c =
-    others_stay c.args.id c.in_ok-others.others.text (state g.S.Store c.args.conn.now) (state g.S.Store c.compiled.new.conn)
-    (state g.S.Store c.rows_of.new.conn) (λ v. v.items) c.rows_of.result c.compiled.ensures.stays c.in_ok-others.ensures.text
+    others_stay c.args.id c.in_ok-others.others.text (state g.S.Store c.args.conn.now)
+    (state g.S.Store c.compiled.new.conn)
+    (state g.S.Store c.rows_of.new.conn) (λ v. v.items) c.rows_of.result c.compiled.ensures.stays
+    c.in_ok-others.ensures.text
     c.in_ok-others.ensures.ready c.rows_of.ensures.survives c.rows_of.ensures.shown c.rows_of.ensures.failed
 
 pub returns-clause-full : goal.returns-clause-full
@@ -39,5 +45,6 @@ returns-clause-full g c clean =
       query_ready others_text (asked c.args.id) mid new rows (others_plain mid ready) ready shown,
       λ devices shows.
           let showed = (c.compiled.ensures.stays.goes_on early ready.shows.is_open).1 devices shows in
-          told_full mid new c.args.id rows c.in_ok-number.field-0 told.0 told.1 devices showed shown (search rules) told.3,
+          told_full mid new c.args.id rows c.in_ok-number.field-0 told.0 told.1 devices showed shown
+          (search rules) told.3,
     )

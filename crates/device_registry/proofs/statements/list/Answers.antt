@@ -24,8 +24,12 @@ returns-clause-all g c clean =
     let text = c.in_ok-all.all.text in
     let early : HasCleanDisk mid = omega (arith, clean, c.query_all.ensures.survives.clean) in
     let ready = c.in_ok-all.ensures.ready early in
-    ok_then (λ v. Shown text [] mid new v.items) (λ v. IsReady new × ((devices : Devices) → Shows old devices → map listed v.items ≡ all_of devices)) c.query_all.result
+    ok_then (λ v. Shown text [] mid new v.items) (λ v. IsReady new
+    × ((devices : Devices) → Shows old devices → map listed v.items ≡ all_of devices)) c.query_all.result
     (λ v shown.
-    let all = subst (λ t. Shown t [] mid new v.items) (c.in_ok-all.ensures.text early) shown in
-    (query_ready all_text [] mid new v.items (all_plain mid ready) ready all, λ devices shows. lists mid new v.items devices ((c.compiled.ensures.stays.goes_on early ready.shows.is_open).1 devices shows).registers all))
+    let all = subst (λ t. Shown t [] mid new v.items) (c.in_ok-all.ensures.text early) shown in (
+      query_ready all_text [] mid new v.items (all_plain mid ready) ready all,
+      λ devices shows. lists mid new v.items devices
+          ((c.compiled.ensures.stays.goes_on early ready.shows.is_open).1 devices shows).registers all,
+    ))
     (c.query_all.ensures.ok clean)

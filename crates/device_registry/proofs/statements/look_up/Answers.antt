@@ -31,6 +31,9 @@ returns-clause-found g c clean =
     (λ v. IsReady new × ((devices : Devices) → Shows old devices → AreFound (get devices id) v.items)) c.rows_of.result
     (λ v shown.
     let all = subst (λ t. Shown t (asked id) mid new v.items) (c.in_ok-find.ensures.text early) shown in
-    let found = looked_up mid new id v.items ready all in
-    (found.0, λ devices shows. found.1 devices ((c.compiled.ensures.stays.goes_on early ready.shows.is_open).1 devices shows)))
+    let found = looked_up mid new id v.items ready all in (
+      found.0,
+      λ devices shows.
+          found.1 devices ((c.compiled.ensures.stays.goes_on early ready.shows.is_open).1 devices shows),
+    ))
     (c.rows_of.ensures.shown clean)

@@ -6,4 +6,5 @@ returns-clause-survives g c =
     let a : SFits w64 c.args.id = search rules in
     let b : SFits w64 c.args.eep = search rules in
     let m : SFits w64 c.args.maker = search rules in
-    simp to_z-of_z at (rw (c.params-to_sql.ensures, c.params-to_sql-2.ensures, c.params-to_sql-3.ensures) at c.execute.ensures.survives)
+    simp to_z-of_z at (rw (c.params-to_sql.ensures, c.params-to_sql-2.ensures, c.params-to_sql-3.ensures)
+    at c.execute.ensures.survives)

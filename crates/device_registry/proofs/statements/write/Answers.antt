@@ -18,6 +18,12 @@ returns g c =
     let a : SFits w64 c.from.result = search rules in
     let b : SFits w64 c.number_of.result = search rules in
     let m : SFits w64 c.number_of_maker.result = search rules in
-    let survived : Survives old new (CommitsBy learn_text (learn_params c.args.device.id it) old) = rw (c.from.ensures, c.number_of.ensures, c.number_of_maker.ensures) at (simp to_z-of_z at c.run_learn.ensures.survives) in
-    let ran = λ (clean : HasCleanDisk new). let done : Executes learn_text (learn_params c.args.device.id it) old new c.run_learn.result = rw (c.from.ensures, c.number_of.ensures, c.number_of_maker.ensures) at (simp to_z-of_z at (c.run_learn.ensures.runs clean)) in done in
-    learn_turns c.args.device.id it (record { rorg = rorg; func = func; typ = typ }) old new c.run_learn.result c.requires.ready c.requires.room survived ran
+    let survived : Survives old new (CommitsBy learn_text (learn_params c.args.device.id it) old) =
+    rw (c.from.ensures, c.number_of.ensures, c.number_of_maker.ensures) at
+    (simp to_z-of_z at c.run_learn.ensures.survives) in
+    let ran = λ (clean : HasCleanDisk new).
+    let done : Executes learn_text (learn_params c.args.device.id it) old new c.run_learn.result =
+    rw (c.from.ensures, c.number_of.ensures, c.number_of_maker.ensures) at
+    (simp to_z-of_z at (c.run_learn.ensures.runs clean)) in done in
+    learn_turns c.args.device.id it (record { rorg = rorg; func = func; typ = typ }) old new c.run_learn.result
+    c.requires.ready c.requires.room survived ran

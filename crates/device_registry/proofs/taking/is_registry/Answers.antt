@@ -13,7 +13,8 @@ pub returns-in_default-clause-other : goal.returns-in_default-clause-other
 returns-in_default-clause-other g c clean none own =
     let old = state g.S.Store c.args.conn.now in
     let it = own_found old (c.requires clean) own in
-    let is : trees_in old.now.schema ≡ Some (it.tables.meta, it.tables.devices) = placed_tables old.now.schema it.tables in
+    let is : trees_in old.now.schema ≡ Some (it.tables.meta, it.tables.devices) =
+    placed_tables old.now.schema it.tables in
     absurd (search rules)
 
 pub returns-then-not-branch-clause-other : goal.returns-then-not-branch-clause-other
@@ -22,7 +23,8 @@ returns-then-not-branch-clause-other g c clean none own =
     let early : HasCleanDisk old = omega (arith, clean, c.lists_ours.ensures.stop.clean) in
     let rest = c.requires early in
     let it = own_found old rest own in
-    let is : trees_in old.now.schema ≡ Some (it.tables.meta, it.tables.devices) = placed_tables old.now.schema it.tables in
+    let is : trees_in old.now.schema ≡ Some (it.tables.meta, it.tables.devices) =
+    placed_tables old.now.schema it.tables in
     absurd (search rules)
 
 pub is_whole-requires : goal.is_whole-requires
@@ -32,7 +34,8 @@ is_whole-requires g c clean =
     let got = c.in_ok-lists_ours.ensures.ours clean in
     let yes : IsTrue c.in_ok-lists_ours.field-0 = search rules in
     let is : trees_in old.now.schema ≡ Some (c.in-Some._meta, c.in-Some._devices) = search rules in
-    subst (λ (db : Database). HasTables db.schema) (sym got.0.0.now_is) (tables_taken old c.in-Some._meta c.in-Some._devices (c.requires early) is (got.1 yes))
+    subst (λ (db : Database). HasTables db.schema) (sym got.0.0.now_is)
+    (tables_taken old c.in-Some._meta c.in-Some._devices (c.requires early) is (got.1 yes))
 
 pub returns-clause-ours : goal.returns-clause-ours
 returns-clause-ours g c clean =
@@ -43,7 +46,9 @@ returns-clause-ours g c clean =
     let got = c.in_ok-lists_ours.ensures.ours between in
     let yes : IsTrue c.in_ok-lists_ours.field-0 = search rules in
     let is : trees_in old.now.schema ≡ Some (c.in-Some._meta, c.in-Some._devices) = search rules in
-    taken_if c.is_whole.result old mid (state g.S.Store c.is_whole.new.conn) got.0 (tables_taken old c.in-Some._meta c.in-Some._devices (c.requires early) is (got.1 yes)) (c.is_whole.ensures.whole clean)
+    taken_if c.is_whole.result old mid (state g.S.Store c.is_whole.new.conn) got.0
+    (tables_taken old c.in-Some._meta c.in-Some._devices (c.requires early) is (got.1 yes))
+    (c.is_whole.ensures.whole clean)
 
 pub returns-clause-other : goal.returns-clause-other
 returns-clause-other g c clean none own =

@@ -1,4 +1,5 @@
-use Rattle.std.proofs.Common.{rules, arith, length, ◌≤◌, ◌≡◌, ◌∷◌, [], IsTrue, true, false, ◌∙◌, ◌<◌, ℕ, pos, negsuc, ap, sym, subst}
+use Rattle.std.proofs.Common.{rules, arith, length, ◌≤◌, ◌≡◌, ◌∷◌, [], IsTrue, true, false, ◌∙◌}
+use Rattle.std.proofs.Common.{◌<◌, ℕ, pos, negsuc, ap, sym, subst}
 use Rattle.sqlite.specs.declared.types.Value.TheVariants.{Int}
 use Rattle.sqlite.specs.State.{HasCleanDisk}
 use Rattle.sqlite.specs.Given.{IsPlain}
@@ -25,13 +26,15 @@ rows_of-requires-2 g c clean =
     let early : HasCleanDisk old = omega (arith, clean, c.rows_of.ensures.stop.clean) in
     let t = c.requires early in
     let same = ap (λ (d : Database). d.schema) (c.in_ok-versions.ensures.shown clean).1.0.now_is in
-    subst (λ s. IsPlain (understood s all_text)) (sym same) (all_means old.now.schema t.devices_at t.devices t.devices_stand).plain
+    subst (λ s. IsPlain (understood s all_text)) (sym same)
+    (all_means old.now.schema t.devices_at t.devices t.devices_stand).plain
 
 pub returns-then-not-is_version-clause-other : goal.returns-then-not-is_version-clause-other
 returns-then-not-is_version-clause-other g c clean none t it =
     let old = state g.S.Store c.args.conn.now in
     let mid = state g.S.Store c.rows_of.new.conn in
-    let told : c.in_ok-versions.versions.items ≡ (Int (pos 1) ∷ Int (pos 1) ∷ []) ∷ [] = version_told old mid c.in_ok-versions.versions.items t it (c.in_ok-versions.ensures.shown clean).0 in
+    let told : c.in_ok-versions.versions.items ≡ (Int (pos 1) ∷ Int (pos 1) ∷ []) ∷ [] =
+    version_told old mid c.in_ok-versions.versions.items t it (c.in_ok-versions.ensures.shown clean).0 in
     let is_one : IsTrue c.is_version.result = c.is_version.ensures.complete (search (rules, told)) in
     absurd (let e = c.if-not-is_version.true in cc)
 
@@ -48,7 +51,8 @@ returns-clause-whole g c clean =
           let version : ShowsVersion c.in_ok-versions.versions.items = search rules in
           let few : length c.in_ok-devices.devices.items ≤ most_devices = search rules in
           let up : devices_rise (negsuc 0) c.in_ok-devices.devices.items ≡ true = search rules in
-          whole old mid new c.in_ok-versions.versions.items c.in_ok-devices.devices.items t version first.0 first.1 second.0 few up,
+          whole old mid new c.in_ok-versions.versions.items c.in_ok-devices.devices.items t version first.0 first.1
+          second.0 few up,
     )
 
 told_count : (n m : ℕ) → n ≡ m → m ≤ most_devices → most_devices < n → ⊥
@@ -60,7 +64,8 @@ returns-then-len-gt-MOST_DEVICES-clause-other g c clean none t it =
     let mid = state g.S.Store c.rows_of.new.conn in
     let new = state g.S.Store c.rows_of-2.new.conn in
     let between : HasCleanDisk mid = omega (arith, clean, c.rows_of-2.ensures.stop.clean) in
-    let count = devices_told old mid new c.in_ok-devices.devices.items t (c.in_ok-versions.ensures.shown between).1 (c.in_ok-devices.ensures.shown clean).0 in
+    let count = devices_told old mid new c.in_ok-devices.devices.items t (c.in_ok-versions.ensures.shown between).1
+    (c.in_ok-devices.ensures.shown clean).0 in
     let many : most_devices < length c.in_ok-devices.devices.items = search rules in
     absurd (told_count _ _ count it.few many)
 
@@ -70,6 +75,7 @@ returns-clause-other g c clean none t it =
     let mid = state g.S.Store c.rows_of.new.conn in
     let new = state g.S.Store c.rows_of-2.new.conn in
     let between : HasCleanDisk mid = omega (arith, clean, c.rows_of-2.ensures.stop.clean) in
-    let up = rise_told old mid new c.in_ok-devices.devices.items t it (c.in_ok-versions.ensures.shown between).1 (c.in_ok-devices.ensures.shown clean).0 in
+    let up = rise_told old mid new c.in_ok-devices.devices.items t it (c.in_ok-versions.ensures.shown between).1
+    (c.in_ok-devices.ensures.shown clean).0 in
     let not_up : devices_rise (negsuc 0) c.in_ok-devices.devices.items ≡ false = search (rules, none) in
     absurd (let e = sym up ∙ not_up in cc)

@@ -26,6 +26,7 @@ returns-clause-other g c clean rising none listed =
     let early : HasCleanDisk old = omega (arith, clean, c.rows_of.ensures.stop.clean) in
     let show = c.in_ok-rows.ensures.shown clean in
     let are : are_ours c.in_ok-rows.rows.items ≡ true =
-    ours_shown old (state g.S.Store c.rows_of.new.conn) c.in_ok-rows.rows.items (c.requires early) rising show.0 listed in
+    ours_shown old (state g.S.Store c.rows_of.new.conn) c.in_ok-rows.rows.items
+    (c.requires early) rising show.0 listed in
     let yes : c.are_ours.result ≡ true = search rules in
     absurd (let e = none in cc)

@@ -5,7 +5,8 @@ use Rattle.device_registry.proofs.registry.Registry.all.Goals as goal
 pub invariant_of-self : goal.invariant_of-self
 invariant_of-self g c = (
   c.all.ensures.lists.registries,
-  listed_recalled (state g.S.Store c.self.inside.table) (state g.S.Store c.all.new.self) c.self.inside.cache.entries c.all.ensures.lists.clean c.in-Ok.ensures.ready
+  listed_recalled (state g.S.Store c.self.inside.table) (state g.S.Store c.all.new.self) c.self.inside.cache.entries
+      c.all.ensures.lists.clean c.in-Ok.ensures.ready
       (λ clean devices has. (c.in-Ok.ensures.lists.devices clean devices has).1) c.self.invariant.1,
 )
 

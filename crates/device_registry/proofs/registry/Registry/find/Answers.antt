@@ -5,7 +5,11 @@ use Rattle.device_registry.proofs.registry.Registry.find.Goals as goal
 -- ---- the sender is remembered
 
 pub invariant_of-self : goal.invariant_of-self
-invariant_of-self g c = (c.self.invariant.0, fewer_recalled (state g.S.Store c.self.inside.table) c.self.inside.cache.entries c.cached.new.cache.entries c.self.invariant.1 c.cached.ensures.kept)
+invariant_of-self g c = (
+  c.self.invariant.0,
+  fewer_recalled (state g.S.Store c.self.inside.table) c.self.inside.cache.entries
+      c.cached.new.cache.entries c.self.invariant.1 c.cached.ensures.kept,
+)
 
 pub returns-in-Some : goal.returns-in-Some
 returns-in-Some g c =
@@ -13,7 +17,12 @@ returns-in-Some g c =
     rw (← c.self.view_is) (record {
       clean = λ clean. clean;
       registries = c.self.invariant.0;
-      devices = λ clean devices has. (recalled now c.args.id c.in-Some.known clean (c.self.invariant.1 (c.args.id, c.in-Some.known) c.in-Some.ensures.known clean) devices has, unmoved now devices has);
+      devices =
+          λ clean devices has. (
+            recalled now c.args.id c.in-Some.known clean
+                (c.self.invariant.1 (c.args.id, c.in-Some.known) c.in-Some.ensures.known clean) devices has,
+            unmoved now devices has,
+          );
     })
 
 -- ---- it is looked up
@@ -22,8 +31,11 @@ pub invariant_of-self-in-Ok : goal.invariant_of-self-in-Ok
 invariant_of-self-in-Ok g c =
     let old = state g.S.Store c.self.inside.table in (
       c.find.ensures.looks_up.registries,
-      found_recalled old (state g.S.Store c.find.new.self) c.args.id c.in-Ok.known c.cached.new.cache.entries c.remember.new.cache.entries c.find.ensures.looks_up.clean c.in-Ok.ensures.ready c.in-Ok.ensures.looks_up.devices
-          (fewer_recalled old c.self.inside.cache.entries c.cached.new.cache.entries c.self.invariant.1 c.cached.ensures.kept) c.remember.ensures.kept,
+      found_recalled old (state g.S.Store c.find.new.self) c.args.id c.in-Ok.known c.cached.new.cache.entries
+          c.remember.new.cache.entries c.find.ensures.looks_up.clean c.in-Ok.ensures.ready
+          c.in-Ok.ensures.looks_up.devices
+          (fewer_recalled old c.self.inside.cache.entries c.cached.new.cache.entries c.self.invariant.1
+          c.cached.ensures.kept) c.remember.ensures.kept,
     )
 
 pub returns-in-Ok : goal.returns-in-Ok

@@ -7,8 +7,10 @@ use Rattle.device_registry.proofs.registry.Registry.forget.Goals as goal
 pub invariant_of-self : goal.invariant_of-self
 invariant_of-self g c = (
   c.forget.ensures.forgets.registries,
-  changed_recalled (state g.S.Store c.self.inside.table) (state g.S.Store c.forget.new.self) (forgotten c.args.id) None c.self.inside.cache.entries c.forget_entry.new.cache.entries c.remember.new.cache.entries
-      c.forget.ensures.forgets.clean c.in-Ok.ensures.ready c.in-Ok.ensures.forgets.devices refl c.self.invariant.1 c.forget_entry.ensures.kept c.remember.ensures.kept,
+  changed_recalled (state g.S.Store c.self.inside.table) (state g.S.Store c.forget.new.self) (forgotten c.args.id) None
+      c.self.inside.cache.entries c.forget_entry.new.cache.entries c.remember.new.cache.entries
+      c.forget.ensures.forgets.clean c.in-Ok.ensures.ready c.in-Ok.ensures.forgets.devices refl c.self.invariant.1
+      c.forget_entry.ensures.kept c.remember.ensures.kept,
 )
 
 pub returns-in-Ok : goal.returns-in-Ok

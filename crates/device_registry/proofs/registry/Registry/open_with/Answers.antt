@@ -16,7 +16,11 @@ pub returns-in_err-prepare-clause-refused : goal.returns-in_err-prepare-clause-r
 returns-in_err-prepare-clause-refused g c =
     let why = err_from_is_err_and c.from_residual-in_err-prepare.result c.from_residual-in_err-prepare.ensures.1 in
     let last = c.prepare.new.conn in
-    rw why.1 (λ is. (last, subst (RefusesToOpen (state g.S.Store c.args.conn) (state g.S.Store last)) (sym why.2) c.in_err-prepare.ensures.refused))
+    rw why.1 (λ is. (
+      last,
+      subst (RefusesToOpen (state g.S.Store c.args.conn) (state g.S.Store last))
+          (sym why.2) c.in_err-prepare.ensures.refused,
+    ))
 
 pub invariant_of-result-2 : goal.invariant_of-result-2
 invariant_of-result-2 g c = (
