@@ -1,5 +1,6 @@
 -- All lines of more than 200 bytes are treated alike.
-use Rattle.std.proofs.Common.{◌≡◌, ℕ, ◌+◌, ◌-◌, ◌<◌, ◌≤◌, List, [], ◌∷◌, ◌++◌, length, take, drop, refl, ap, sym, subst, ◌∙◌, arith, true, false, inl, inr, map, Option}
+use Rattle.std.proofs.Common.{◌≡◌, ℕ, ◌+◌, ◌-◌, ◌<◌, ◌≤◌, List, [], ◌∷◌, ◌++◌, length, take, drop, refl, ap, sym, subst}
+use Rattle.std.proofs.Common.{◌∙◌, arith, true, false, inl, inr, map, Option}
 use Rattle.std.specs.Prelude.{Result, ◌==◌, ◌&&◌, if◌then◌else◌, nat_eq, codes, slice_index}
 use Rattle.std.specs.List.{starts_with}
 use Rattle.std.specs.Str.Lines.{strip_carriage_return}
@@ -28,28 +29,39 @@ record OneItem (line : List ℕ) (item : Item) (packets : List Packet) : Type 0 
   pub same : item ≡ Ordered line
   pub none : map Received packets ≡ []
 
-one_item : (line : List ℕ) (item : Item) (packets : List Packet) → (Ordered line ∷ []) ≡ item ∷ map Received packets → OneItem line item packets
+one_item : (line : List ℕ) (item : Item) (packets : List Packet) → (Ordered line ∷ []) ≡ item ∷ map Received packets
+    → OneItem line item packets
 one_item line item packets e = record { same = cc; none = cc }
 
 two_items : (line : List ℕ) (item other : Item) (items : List Item) → (Ordered line ∷ []) ≡ item ∷ other ∷ items → ⊥
 two_items line item other items e = cc
 
 event_of-long : (line : List ℕ) → 200 < length line → event_of line ≡ Line line
-event_of-long line h = ap (λ b. if b && starts_with nat_eq line (codes "S ") then spelled line (decode_of (drop 2 line)) else Line line) (lt-leb (length line) 200 h)
+event_of-long line h =
+    ap (λ b. if b && starts_with nat_eq line (codes "S ") then spelled line (decode_of (drop 2 line)) else Line line)
+    (lt-leb (length line) 200 h)
 
 length-strip : (line : List ℕ) → length line ≤ length (strip_carriage_return line) + 1
-length-strip line = elim (slice_index line (length line - 1) == 13) as (λ b. length line ≤ length (if b then take (length line - 1) line else line) + 1) [
-  | true ↦ omega (arith, length-take (length line - 1) line)
-  | false ↦ omega arith
-]
+length-strip line =
+    elim (slice_index line (length line - 1) == 13) as
+    (λ b. length line ≤ length (if b then take (length line - 1) line else line) + 1) [
+      | true ↦ omega (arith, length-take (length line - 1) line)
+      | false ↦ omega arith
+    ]
 
 module _ {S : Type 0} (g : Ghosts S) where
-  takes_long : (old new : Value S) (short long : List ℕ) (held now : Option (List ℕ)) (count total : ℕ) → 200 < length short → 200 < length long → Takes g old new (Line short) held now count total → Takes g old new (Line long) held now count total
+  takes_long : (old new : Value S) (short long : List ℕ) (held now : Option (List ℕ)) (count total : ℕ)
+      → 200 < length short → 200 < length long → Takes g old new (Line short) held now count total
+      → Takes g old new (Line long) held now count total
   takes_long old new short long held now count total a b takes =
       let done = takes.replayed.answered in
       record {
         replayed = record {
-          answered = record { answers = done.answers; handled = handles_alike g old.sight new.sight short long done.answers a b done.handled; text = done.text };
+          answered = record {
+            answers = done.answers;
+            handled = handles_alike g old.sight new.sight short long done.answers a b done.handled;
+            text = done.text;
+          };
           rest = takes.replayed.rest;
           idle = takes.replayed.idle;
         };
@@ -61,15 +73,21 @@ module _ {S : Type 0} (g : Ghosts S) where
     pub none : map Received new.ready ≡ []
     pub answered : AnswersPart g old.sight new.sight (Ordered line ∷ []) held now
 
-  at_order : (old new : Value S) (line : List ℕ) (items : List Item) (held now : Option (List ℕ)) → (Ordered line ∷ []) ≡ items ++ map Received new.ready → AnswersPart g old.sight new.sight items held now → BreaksAtOrder old new line held now
+  at_order : (old new : Value S) (line : List ℕ) (items : List Item) (held now : Option (List ℕ))
+      → (Ordered line ∷ []) ≡ items ++ map Received new.ready → AnswersPart g old.sight new.sight items held now
+      → BreaksAtOrder old new line held now
   at_order old new line [] held now e part = absurd (no_packets line new.ready e)
   at_order old new line (item ∷ []) held now e part =
       let one = one_item line item new.ready e in
-      record { none = one.none; answered = let P : Item → Type 0 = λ i. AnswersPart g old.sight new.sight (i ∷ []) held now in subst P one.same part }
-  at_order old new line (item ∷ other ∷ items) held now e part = absurd (two_items line item other (items ++ map Received new.ready) e)
+      let P : Item → Type 0 = λ i. AnswersPart g old.sight new.sight (i ∷ []) held now in
+      record { none = one.none; answered = subst P one.same part }
+  at_order old new line (item ∷ other ∷ items) held now e part =
+      absurd (two_items line item other (items ++ map Received new.ready) e)
 
-  breaks_long : (old new : Value S) (short long : List ℕ) (held now : Option (List ℕ)) (begun : Event) (items : List Item) → 200 < length short → 200 < length long
-      → IsBegun (Line short) begun → items_of old.rest (begun ∷ []) ≡ items ++ map Received new.ready → new.rest ≡ rest_of (old.rest ++ bytes_in (begun ∷ [])) → AnswersPart g old.sight new.sight items held now
+  breaks_long : (old new : Value S) (short long : List ℕ) (held now : Option (List ℕ)) (begun : Event)
+      (items : List Item) → 200 < length short → 200 < length long
+      → IsBegun (Line short) begun → items_of old.rest (begun ∷ []) ≡ items ++ map Received new.ready
+      → new.rest ≡ rest_of (old.rest ++ bytes_in (begun ∷ [])) → AnswersPart g old.sight new.sight items held now
       → BreaksOff g old new [] (Line long) held now
   breaks_long old new short long held now (Piece bytes) items a b begins stand rest part = absurd begins
   breaks_long old new short long held now (Line line) items a b begins stand rest part =
@@ -84,7 +102,9 @@ module _ {S : Type 0} (g : Ghosts S) where
         answered = record {
           answers = done.answers;
           last = done.last;
-          handled = handles_alike g old.sight new.sight line long (done.answers ++ done.last ∷ []) (rw begins a) b done.handled;
+          handled =
+              handles_alike g old.sight new.sight line long (done.answers ++ done.last ∷ []) (rw begins a) b
+              done.handled;
           part = done.part;
           missing = done.missing;
           whole = done.whole;
@@ -93,28 +113,41 @@ module _ {S : Type 0} (g : Ghosts S) where
         };
       }
 
-  alike_long : {A E : Type 0} (r : Result A E) (old new : Value S) (short long : List ℕ) (held now : Option (List ℕ)) (count total : ℕ) → 200 < length short → 200 < length long
-      → TakesOrBreaks g r old new (event_of short) held now count total → TakesOrBreaks g r old new (event_of long) held now count total
+  alike_long : {A E : Type 0} (r : Result A E) (old new : Value S) (short long : List ℕ) (held now : Option (List ℕ))
+      (count total : ℕ) → 200 < length short → 200 < length long
+      → TakesOrBreaks g r old new (event_of short) held now count total
+      → TakesOrBreaks g r old new (event_of long) held now count total
   alike_long r old new short long held now count total a b given =
       let P : Event → Type 0 = λ e. TakesOrBreaks g r old new e held now count total in
       subst P (sym (event_of-long long b))
       (MatchResult-weaker r (subst P (event_of-long short a) given)
       (λ _ takes. takes_long old new short long held now count total a b takes)
-      (λ _ broken. breaks_long old new short long held now broken.begun broken.items a b broken.begins broken.stand broken.rest broken.answered))
+      (λ _ broken. breaks_long old new short long held now broken.begun broken.items a b broken.begins broken.stand
+      broken.rest broken.answered))
 
   -- what is kept of a line that LF ends stands for the line
-  pub alike : {A E : Type 0} (r : Result A E) (old new : Value S) (kept line : List ℕ) (held now : Option (List ℕ)) (count total : ℕ) → kept ≡ take 202 line
-      → TakesOrBreaks g r old new (event_of (strip_carriage_return kept)) held now count total → TakesOrBreaks g r old new (event_of (strip_carriage_return line)) held now count total
+  pub alike : {A E : Type 0} (r : Result A E) (old new : Value S) (kept line : List ℕ) (held now : Option (List ℕ))
+      (count total : ℕ) → kept ≡ take 202 line
+      → TakesOrBreaks g r old new (event_of (strip_carriage_return kept)) held now count total
+      → TakesOrBreaks g r old new (event_of (strip_carriage_return line)) held now count total
   alike r old new kept line held now count total e given = elim (cases_lt 202 (length line)) [
     | inl far ↦ alike_long r old new (strip_carriage_return kept) (strip_carriage_return line) held now count total
-        (omega (arith, far, length-strip kept, ap length e, length-take 202 line)) (omega (arith, far, length-strip line)) given
-    | inr near ↦ let P : List ℕ → Type 0 = λ l. TakesOrBreaks g r old new (event_of (strip_carriage_return l)) held now count total in subst P (e ∙ take_all 202 line near) given
+        (omega (arith, far, length-strip kept, ap length e, length-take 202 line))
+        (omega (arith, far, length-strip line)) given
+    | inr near ↦ let P : List ℕ → Type 0 =
+        λ l. TakesOrBreaks g r old new (event_of (strip_carriage_return l)) held now count total in
+        subst P (e ∙ take_all 202 line near) given
   ]
 
   -- and so does what is kept of a line that the end of the input ends
-  pub alike_last : {A E : Type 0} (r : Result A E) (old new : Value S) (kept line : List ℕ) (held now : Option (List ℕ)) (count total : ℕ) → kept ≡ take 202 line
-      → TakesOrBreaks g r old new (event_of kept) held now count total → TakesOrBreaks g r old new (event_of line) held now count total
+  pub alike_last : {A E : Type 0} (r : Result A E) (old new : Value S) (kept line : List ℕ) (held now : Option (List ℕ))
+      (count total : ℕ) → kept ≡ take 202 line
+      → TakesOrBreaks g r old new (event_of kept) held now count total
+      → TakesOrBreaks g r old new (event_of line) held now count total
   alike_last r old new kept line held now count total e given = elim (cases_lt 202 (length line)) [
-    | inl far ↦ alike_long r old new kept line held now count total (omega (arith, far, ap length e, length-take 202 line)) (omega (arith, far)) given
-    | inr near ↦ let P : List ℕ → Type 0 = λ l. TakesOrBreaks g r old new (event_of l) held now count total in subst P (e ∙ take_all 202 line near) given
+    | inl far ↦
+        alike_long r old new kept line held now count total (omega (arith, far, ap length e, length-take 202 line))
+        (omega (arith, far)) given
+    | inr near ↦ let P : List ℕ → Type 0 = λ l. TakesOrBreaks g r old new (event_of l) held now count total in
+        subst P (e ∙ take_all 202 line near) given
   ]

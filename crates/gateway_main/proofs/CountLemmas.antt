@@ -9,7 +9,8 @@ pub went_on : (old mid new : Counts) → WentWell old mid → WentWell mid new �
 went_on old mid new first second = (second.0 ∙ first.0, second.1 ∙ first.1)
 
 -- a call that answers some bytes went well
-pub went_well : (E : Type 0) (old mid new : Counts) (n : ℕ) → WentWell old mid → new ≡ counted {E = E} mid (Ok n) → (n ≡ 0 → ⊥) → WentWell old new
+pub went_well : (E : Type 0) (old mid new : Counts) (n : ℕ) → WentWell old mid → new ≡ counted {E = E} mid (Ok n)
+    → (n ≡ 0 → ⊥) → WentWell old new
 went_well E old mid new n before e some =
     let none : (n == 0) ≡ false = ne_eqb n 0 some in (
       ap (λ c. c.failed) e ∙ before.0,
@@ -22,5 +23,6 @@ made_none old fits = omega arith
 pub made_more : (old mid new : Counts) (n : ℕ) → Made old mid n → new.calls ≡ one_more mid.calls → Made old new (n + 1)
 made_more old mid new n before e fits = let h = before fits in omega (arith, h, e)
 
-pub made_within : (old mid new : Counts) (n turns : ℕ) → n < turns → Made old mid n → new.calls ≡ one_more mid.calls → (m : ℕ) × (m ≤ turns) × Made old new m
+pub made_within : (old mid new : Counts) (n turns : ℕ) → n < turns → Made old mid n → new.calls ≡ one_more mid.calls
+    → (m : ℕ) × (m ≤ turns) × Made old new m
 made_within old mid new n turns below before e = (n + 1, omega arith, made_more old mid new n before e)

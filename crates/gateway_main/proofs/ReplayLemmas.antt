@@ -18,16 +18,21 @@ module _ {S : Type 0} (g : Ghosts S) where
     idle = idle;
   }
 
-  pub replays-append : (old mid new : Value S) (events more : List Event) (held holds now : Option (List ℕ)) → Replays g old mid events held holds → Replays g mid new more holds now → Replays g old new (events ++ more) held now
+  pub replays-append : (old mid new : Value S) (events more : List Event) (held holds now : Option (List ℕ))
+      → Replays g old mid events held holds → Replays g mid new more holds now
+      → Replays g old new (events ++ more) held now
   replays-append old mid new events more held holds now first second = record {
     answered = rw (items_behind old.rest mid.rest events more first.rest)
-        (answers-append g old.sight mid.sight new.sight (items_of old.rest events) (items_of mid.rest more) held holds now first.answered second.answered);
+        (answers-append g old.sight mid.sight new.sight (items_of old.rest events) (items_of mid.rest more) held holds
+        now first.answered second.answered);
     rest = second.rest ∙ rest_behind old.rest mid.rest events more first.rest;
     idle = second.idle;
   }
 
   -- a write fails behind some events
-  pub replays-break : (old mid new : Value S) (events : List Event) (event : Event) (held holds now : Option (List ℕ)) → Replays g old mid events held holds → BreaksOff g mid new [] event holds now → BreaksOff g old new events event held now
+  pub replays-break : (old mid new : Value S) (events : List Event) (event : Event) (held holds now : Option (List ℕ))
+      → Replays g old mid events held holds → BreaksOff g mid new [] event holds now
+      → BreaksOff g old new events event held now
   replays-break old mid new events event held holds now first second =
       let last = second.begun ∷ [] in
       record {
@@ -38,5 +43,7 @@ module _ {S : Type 0} (g : Ghosts S) where
             ∙ ap (λ (is : List Item). items_of old.rest events ++ is) second.stand
             ∙ sym (append_assoc (items_of old.rest events) second.items (map Received new.ready));
         rest = second.rest ∙ rest_behind old.rest mid.rest events last first.rest;
-        answered = answers-part g old.sight mid.sight new.sight (items_of old.rest events) second.items held holds now first.answered second.answered;
+        answered =
+            answers-part g old.sight mid.sight new.sight (items_of old.rest events) second.items held holds now
+            first.answered second.answered;
       }

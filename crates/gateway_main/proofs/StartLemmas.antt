@@ -16,10 +16,13 @@ use Rattle.gateway_main.specs.Faults.{fault_of_open}
 use Rattle.gateway_main.specs.Started.{RefusesToStart, Starts}
 use Rattle.gateway_main.specs.declared.fault.Fault.TheVariants.{Store, Memory}
 
-pub idle_at_first : {S : Type 0} (base : ℕ) (registry : Held S) (new : Value S) → new ≡ new_value base registry → IsIdle new
-idle_at_first {S} base registry new is = let P : Value S → Type 0 = λ v. IsIdle v in subst P (sym is) (record { ready = refl; rest = empty_may_become })
+pub idle_at_first : {S : Type 0} (base : ℕ) (registry : Held S) (new : Value S) → new ≡ new_value base registry
+    → IsIdle new
+idle_at_first {S} base registry new is = let P : Value S → Type 0 = λ v. IsIdle v in
+    subst P (sym is) (record { ready = refl; rest = empty_may_become })
 
-pub starts : {S : Type 0} (g : Ghosts S) (database registry : Held S) (base : ℕ) (new : Value S) → new ≡ new_value base registry
+pub starts : {S : Type 0} (g : Ghosts S) (database registry : Held S) (base : ℕ) (new : Value S)
+    → new ≡ new_value base registry
     → (HasCleanDisk (state g registry) → AreRegistries (state g registry).may_leave)
     → (HasCleanDisk (state g registry) → (devices : Devices) × Opens (state g database) (state g registry) devices)
     → HasCleanDisk (state g new.sight.registry) → Starts g database base new.sight

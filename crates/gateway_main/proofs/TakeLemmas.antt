@@ -1,5 +1,6 @@
 -- How packets, pieces and orders are taken.
-use Rattle.std.proofs.Common.{◌≡◌, ℕ, ◌^◌, ◌<◌, List, [], ◌∷◌, ◌++◌, length, refl, ap, sym, subst, ◌∙◌, append_assoc, append-nil, arith, length-append, map, Option, Some}
+use Rattle.std.proofs.Common.{◌≡◌, ℕ, ◌^◌, ◌<◌, List, [], ◌∷◌, ◌++◌, length, refl, ap, sym, subst, ◌∙◌, append_assoc}
+use Rattle.std.proofs.Common.{append-nil, arith, length-append, map, Option, Some}
 use Rattle.std.specs.Io.KnownBytes.{Appends}
 use Rattle.std.proofs.lemmas.List.{map-append, length-map}
 use Rattle.esp3_frames.specs.Packet.{Packet}
@@ -22,15 +23,20 @@ use Rattle.gateway_main.proofs.ReplayLemmas.{replays_nothing, replays-append}
 use Rattle.sqlite_trees.specs.declared.store.Store.{Ghosts}
 
 -- one packet more leaves the queue
-ready_after : (old mid new : List Packet) (packets : List Packet) (packet : Packet) → old ≡ packets ++ mid → mid ≡ packet ∷ new → old ≡ (packets ++ packet ∷ []) ++ new
-ready_after old mid new packets packet e f = e ∙ ap (λ (ps : List Packet). packets ++ ps) f ∙ sym (append_assoc packets (packet ∷ []) new)
+ready_after : (old mid new : List Packet) (packets : List Packet) (packet : Packet) → old ≡ packets ++ mid
+    → mid ≡ packet ∷ new → old ≡ (packets ++ packet ∷ []) ++ new
+ready_after old mid new packets packet e f =
+    e ∙ ap (λ (ps : List Packet). packets ++ ps) f ∙ sym (append_assoc packets (packet ∷ []) new)
 
 -- two pieces stand for the same as one
 items-joined : (s a b : List ℕ) → items_of s (Piece (a ++ b) ∷ []) ≡ items_of s (Piece a ∷ Piece b ∷ [])
-items-joined s a b = cuts_do_not_matter s (Piece (a ++ b) ∷ []) (Piece a ∷ Piece b ∷ []) refl (ap (λ (w : List ℕ). w ∷ []) (append_assoc a b []))
+items-joined s a b =
+    cuts_do_not_matter s (Piece (a ++ b) ∷ []) (Piece a ∷ Piece b ∷ []) refl
+    (ap (λ (w : List ℕ). w ∷ []) (append_assoc a b []))
 
 -- what a piece brings behind a rest
-items_of-piece : (rest bytes : List ℕ) → MayBecomePacket rest → items_of rest (Piece bytes ∷ []) ≡ map Received (packets_in (rest ++ bytes))
+items_of-piece : (rest bytes : List ℕ) → MayBecomePacket rest
+    → items_of rest (Piece bytes ∷ []) ≡ map Received (packets_in (rest ++ bytes))
 items_of-piece rest bytes live =
     append-nil (map Received _) ∙ ap (λ (ps : List Packet). map Received ps)
     (brought-rest rest bytes ∙ ap (λ r. packets_in (r ++ bytes)) (sym (frames_of-may_become rest live).1))
@@ -38,42 +44,56 @@ items_of-piece rest bytes live =
 module _ {S : Type 0} (g : Ghosts S) where
   -- ---- the packets that wait
 
-  pub drains_nothing : (old : Value S) (held : Option (List ℕ)) (count : ℕ) → count < 2 ^ 64 → Drains g old old held held count count
-  drains_nothing old held count fits = record { packets = []; ready = refl; rest = refl; answered = answers_nothing g old.sight held; counted = omega arith }
+  pub drains_nothing : (old : Value S) (held : Option (List ℕ)) (count : ℕ) → count < 2 ^ 64
+      → Drains g old old held held count count
+  drains_nothing old held count fits =
+      let none = answers_nothing g old.sight held in
+      record { packets = []; ready = refl; rest = refl; answered = none; counted = omega arith }
 
   pub drains_one : (old mid new : Value S) (answer : Answer) (held holds now : Option (List ℕ)) (count some total : ℕ)
-      → Drains g old mid held holds count some → Moves g mid (Next (Some answer)) new → Appends holds now (text_of answer) → total ≡ count_with some 1 → Drains g old new held now count total
-  drains_one old mid new answer held holds now count some total before (packet, first, rest, handled) text counted = record {
-    packets = before.packets ++ packet ∷ [];
-    ready = ready_after old.ready mid.ready new.ready before.packets packet before.ready first;
-    rest = rest ∙ before.rest;
-    answered = rw (map-append Received before.packets (packet ∷ []))
-        (answers-append g old.sight mid.sight new.sight (map Received before.packets) (Received packet ∷ []) held holds now before.answered
-        (answers_one g mid.sight new.sight (Received packet) answer holds now handled text));
-    counted = rw (length-append before.packets (packet ∷ [])) (count_on count some total (length before.packets) 1 before.counted counted);
-  }
+      → Drains g old mid held holds count some → Moves g mid (Next (Some answer)) new
+      → Appends holds now (text_of answer) → total ≡ count_with some 1 → Drains g old new held now count total
+  drains_one old mid new answer held holds now count some total before (packet, first, rest, handled) text counted =
+      record {
+        packets = before.packets ++ packet ∷ [];
+        ready = ready_after old.ready mid.ready new.ready before.packets packet before.ready first;
+        rest = rest ∙ before.rest;
+        answered = rw (map-append Received before.packets (packet ∷ []))
+            (answers-append g old.sight mid.sight new.sight (map Received before.packets) (Received packet ∷ [])
+            held holds now before.answered
+            (answers_one g mid.sight new.sight (Received packet) answer holds now handled text));
+        counted =
+            rw (length-append before.packets (packet ∷ []))
+            (count_on count some total (length before.packets) 1 before.counted counted);
+      }
 
   pub drains_part : (old mid new : Value S) (answer : Answer) (held holds now : Option (List ℕ)) (count some : ℕ)
-      → Drains g old mid held holds count some → Moves g mid (Next (Some answer)) new → AppendsPart holds now (text_of answer) → DrainsPart g old new held now
+      → Drains g old mid held holds count some → Moves g mid (Next (Some answer)) new
+      → AppendsPart holds now (text_of answer) → DrainsPart g old new held now
   drains_part old mid new answer held holds now count some before (packet, first, rest, handled) part = record {
     packets = before.packets ++ packet ∷ [];
     ready = ready_after old.ready mid.ready new.ready before.packets packet before.ready first;
     rest = rest ∙ before.rest;
     answered = rw (map-append Received before.packets (packet ∷ []))
-        (answers-part g old.sight mid.sight new.sight (map Received before.packets) (Received packet ∷ []) held holds now before.answered
+        (answers-part g old.sight mid.sight new.sight (map Received before.packets) (Received packet ∷ [])
+        held holds now before.answered
         (part_one g mid.sight new.sight (Received packet) answer holds now handled part));
   }
 
   -- ---- a piece
 
   -- a byte, and the packets that it makes ready
-  items_of-byte : (old mid : Value S) (byte : ℕ) → IsIdle old → Moves g old (Byte byte) mid → items_of old.rest (Piece (byte ∷ []) ∷ []) ≡ map Received mid.ready
-  items_of-byte old mid byte idle (none, state, ready, rest) = items_of-piece old.rest (byte ∷ []) idle.rest ∙ ap (λ (ps : List Packet). map Received ps) (sym ready)
+  items_of-byte : (old mid : Value S) (byte : ℕ) → IsIdle old → Moves g old (Byte byte) mid
+      → items_of old.rest (Piece (byte ∷ []) ∷ []) ≡ map Received mid.ready
+  items_of-byte old mid byte idle (none, state, ready, rest) =
+      items_of-piece old.rest (byte ∷ []) idle.rest ∙ ap (λ (ps : List Packet). map Received ps) (sym ready)
 
-  pub takes_nothing : (old : Value S) (held : Option (List ℕ)) (count : ℕ) → IsIdle old → count < 2 ^ 64 → Takes g old old (Piece []) held held count count
+  pub takes_nothing : (old : Value S) (held : Option (List ℕ)) (count : ℕ) → IsIdle old → count < 2 ^ 64
+      → Takes g old old (Piece []) held held count count
   takes_nothing old held count idle fits =
       let none : items_of old.rest (Piece [] ∷ []) ≡ [] =
-      items_of-piece old.rest [] idle.rest ∙ ap (λ r. map Received (packets_in r)) (append-nil old.rest) ∙ ap (λ (ps : List Packet). map Received ps) (sym (frames_of-may_become old.rest idle.rest).0) in
+      items_of-piece old.rest [] idle.rest ∙ ap (λ r. map Received (packets_in r)) (append-nil old.rest)
+      ∙ ap (λ (ps : List Packet). map Received ps) (sym (frames_of-may_become old.rest idle.rest).0) in
       let replayed = replays_nothing g old held idle in
       record {
         replayed = record { answered = rw none replayed.answered; rest = replayed.rest; idle = idle };
@@ -81,22 +101,27 @@ module _ {S : Type 0} (g : Ghosts S) where
       }
 
   -- one byte more of a piece, and the packets that it brings
-  pub takes_more : (old now mid new : Value S) (bytes : List ℕ) (byte : ℕ) (held holds after : Option (List ℕ)) (count some total : ℕ)
-      → Takes g old now (Piece bytes) held holds count some → Moves g now (Byte byte) mid → new.ready ≡ [] → Drains g mid new holds after some total
+  pub takes_more : (old now mid new : Value S) (bytes : List ℕ) (byte : ℕ) (held holds after : Option (List ℕ))
+      (count some total : ℕ)
+      → Takes g old now (Piece bytes) held holds count some → Moves g now (Byte byte) mid → new.ready ≡ []
+      → Drains g mid new holds after some total
       → Takes g old new (Piece (bytes ++ byte ∷ [])) held after count total
   takes_more old now mid new bytes byte held holds after count some total before moved none drained =
-      let all : mid.ready ≡ drained.packets = drained.ready ∙ ap (λ (ps : List Packet). drained.packets ++ ps) none ∙ append-nil drained.packets in
+      let all : mid.ready ≡ drained.packets =
+      drained.ready ∙ ap (λ (ps : List Packet). drained.packets ++ ps) none ∙ append-nil drained.packets in
       let is : items_of now.rest (Piece (byte ∷ []) ∷ []) ≡ map Received drained.packets =
       items_of-byte now mid byte before.replayed.idle moved ∙ ap (λ (ps : List Packet). map Received ps) all in
       let rest : new.rest ≡ rest_of (now.rest ++ byte ∷ []) = drained.rest ∙ moved.3 in
       let answered : Answers g now.sight new.sight (items_of now.rest (Piece (byte ∷ []) ∷ [])) holds after =
-      rw is (let P : Sight S → Type 0 = λ s. Answers g s new.sight (map Received drained.packets) holds after in subst P moved.1 drained.answered) in
+      rw is (let P : Sight S → Type 0 = λ s. Answers g s new.sight (map Received drained.packets) holds after in subst
+      P moved.1 drained.answered) in
       let next : Replays g now new (Piece (byte ∷ []) ∷ []) holds after = record {
         answered = answered;
         rest = rest;
         idle = record { ready = none; rest = rw rest (rest_goes_on (now.rest ++ byte ∷ [])) };
       } in
-      let joined = replays-append g old now new (Piece bytes ∷ []) (Piece (byte ∷ []) ∷ []) held holds after before.replayed next in
+      let joined =
+      replays-append g old now new (Piece bytes ∷ []) (Piece (byte ∷ []) ∷ []) held holds after before.replayed next in
       let items = items-joined old.rest bytes (byte ∷ []) in
       let behind = items_behind old.rest now.rest (Piece bytes ∷ []) (Piece (byte ∷ []) ∷ []) before.replayed.rest in
       record {
@@ -105,16 +130,21 @@ module _ {S : Type 0} (g : Ghosts S) where
           rest = joined.rest ∙ ap (λ w. rest_of (old.rest ++ w)) (sym (append_assoc bytes (byte ∷ []) []));
           idle = joined.idle;
         };
-        counted = rw (items, behind, length-append, is, length-map) (count_on count some total _ (length drained.packets) before.counted drained.counted);
+        counted =
+            rw (items, behind, length-append, is, length-map)
+            (count_on count some total _ (length drained.packets) before.counted drained.counted);
       }
 
   -- a write fails at the packets of one byte
-  pub takes_part : (old now mid new : Value S) (bytes : List ℕ) (byte : ℕ) (later piece : List ℕ) (held holds after : Option (List ℕ)) (count some : ℕ)
-      → Takes g old now (Piece bytes) held holds count some → Moves g now (Byte byte) mid → DrainsPart g mid new holds after → piece ≡ (bytes ++ byte ∷ []) ++ later
+  pub takes_part : (old now mid new : Value S) (bytes : List ℕ) (byte : ℕ) (later piece : List ℕ)
+      (held holds after : Option (List ℕ)) (count some : ℕ)
+      → Takes g old now (Piece bytes) held holds count some → Moves g now (Byte byte) mid
+      → DrainsPart g mid new holds after → piece ≡ (bytes ++ byte ∷ []) ++ later
       → BreaksOff g old new [] (Piece piece) held after
   takes_part old now mid new bytes byte later piece held holds after count some before moved drained whole =
       let is : items_of now.rest (Piece (byte ∷ []) ∷ []) ≡ map Received drained.packets ++ map Received new.ready =
-      items_of-byte now mid byte before.replayed.idle moved ∙ ap (λ (ps : List Packet). map Received ps) drained.ready ∙ map-append Received drained.packets new.ready in
+      items_of-byte now mid byte before.replayed.idle moved ∙ ap (λ (ps : List Packet). map Received ps) drained.ready
+      ∙ map-append Received drained.packets new.ready in
       let first = items_of old.rest (Piece bytes ∷ []) in
       record {
         begun = Piece (bytes ++ byte ∷ []);
@@ -127,8 +157,11 @@ module _ {S : Type 0} (g : Ghosts S) where
         rest = drained.rest ∙ moved.3
             ∙ rest_behind old.rest now.rest (Piece bytes ∷ []) (Piece (byte ∷ []) ∷ []) before.replayed.rest
             ∙ ap (λ w. rest_of (old.rest ++ w)) (sym (append_assoc bytes (byte ∷ []) []));
-        answered = answers-part g old.sight now.sight new.sight first (map Received drained.packets) held holds after before.replayed.answered
-            (let P : Sight S → Type 0 = λ s. AnswersPart g s new.sight (map Received drained.packets) holds after in subst P moved.1 drained.answered);
+        answered =
+            answers-part g old.sight now.sight new.sight first (map Received drained.packets) held holds after
+            before.replayed.answered
+            (let P : Sight S → Type 0 = λ s. AnswersPart g s new.sight (map Received drained.packets) holds after in
+            subst P moved.1 drained.answered);
       }
 
   -- ---- an order
@@ -137,7 +170,8 @@ module _ {S : Type 0} (g : Ghosts S) where
   rest_stays old new idle e = e ∙ (frames_of-may_become old.rest idle.rest).1 ∙ ap rest_of (sym (append-nil old.rest))
 
   pub takes_order : (old new : Value S) (line : List ℕ) (answer : Answer) (held now : Option (List ℕ)) (count total : ℕ)
-      → IsIdle old → Moves g old (Order line answer) new → Appends held now (text_of answer) → total ≡ count_with count 1 → Takes g old new (Line line) held now count total
+      → IsIdle old → Moves g old (Order line answer) new → Appends held now (text_of answer)
+      → total ≡ count_with count 1 → Takes g old new (Line line) held now count total
   takes_order old new line answer held now count total idle (ready, rest, handled) text counted = record {
     replayed = record {
       answered = answers_one g old.sight new.sight (Ordered line) answer held now handled text;
@@ -148,7 +182,8 @@ module _ {S : Type 0} (g : Ghosts S) where
   }
 
   pub breaks_at_order : (old new : Value S) (line : List ℕ) (answer : Answer) (held now : Option (List ℕ))
-      → IsIdle old → Moves g old (Order line answer) new → AppendsPart held now (text_of answer) → BreaksOff g old new [] (Line line) held now
+      → IsIdle old → Moves g old (Order line answer) new → AppendsPart held now (text_of answer)
+      → BreaksOff g old new [] (Line line) held now
   breaks_at_order old new line answer held now idle (ready, rest, handled) part = record {
     begun = Line line;
     begins = refl;

@@ -1,5 +1,6 @@
 -- How the writes of a text go on.
-use Rattle.std.proofs.Common.{◌≡◌, ℕ, ◌-◌, List, ◌++◌, length, take, drop, ap, sym, ◌∙◌, append_assoc, length-append, arith, length-drop, Option}
+use Rattle.std.proofs.Common.{◌≡◌, ℕ, ◌-◌, List, ◌++◌, length, take, drop, ap, sym, ◌∙◌, append_assoc, length-append}
+use Rattle.std.proofs.Common.{arith, length-drop, Option}
 use Rattle.std.specs.Prelude.{Result, IsErrAnd}
 use Rattle.std.specs.Io.KnownBytes.{Appends}
 use Rattle.std.proofs.KnownBytes.{Appends-trans}
@@ -14,10 +15,14 @@ pub record Left (old new : Option (List ℕ)) (text rest : List ℕ) : Type 0 wh
   pub whole : text ≡ done ++ rest
   pub grown : Appends old new done
 
-pub left_after : (old mid new : Option (List ℕ)) (text rest : List ℕ) (n : ℕ) → Left old mid text rest → Appends mid new (take n rest) → Left old new text (take (length rest - n) (drop n rest))
+pub left_after : (old mid new : Option (List ℕ)) (text rest : List ℕ) (n : ℕ) → Left old mid text rest
+    → Appends mid new (take n rest) → Left old new text (take (length rest - n) (drop n rest))
 left_after old mid new text rest n before more = record {
   done = before.done ++ take n rest;
-  whole = before.whole ∙ ap (λ s. before.done ++ s) (sym (take-append-drop n rest)) ∙ sym (append_assoc before.done (take n rest) (drop n rest)) ∙ ap (λ s. (before.done ++ take n rest) ++ s) (sym (all_taken rest n));
+  whole =
+      before.whole ∙ ap (λ s. before.done ++ s) (sym (take-append-drop n rest))
+      ∙ sym (append_assoc before.done (take n rest) (drop n rest))
+      ∙ ap (λ s. (before.done ++ take n rest) ++ s) (sym (all_taken rest n));
   grown = Appends-trans old mid new before.done (take n rest) before.grown more;
 }
   where
@@ -25,7 +30,8 @@ left_after old mid new text rest n before more = record {
     all_taken rest n = rw (← length-drop n rest) (take-length (drop n rest))
 
 -- a first part of the front is a first part of all
-pub part_of_front : (old new : Option (List ℕ)) (front back : List ℕ) → AppendsPart old new front → AppendsPart old new (front ++ back)
+pub part_of_front : (old new : Option (List ℕ)) (front back : List ℕ) → AppendsPart old new front
+    → AppendsPart old new (front ++ back)
 part_of_front old new front back p = record {
   part = p.part;
   missing = p.missing ++ back;
@@ -35,7 +41,8 @@ part_of_front old new front back p = record {
 }
 
 -- behind the front, a first part of the back
-pub part_behind : (old mid new : Option (List ℕ)) (front back : List ℕ) → Appends old mid front → AppendsPart mid new back → AppendsPart old new (front ++ back)
+pub part_behind : (old mid new : Option (List ℕ)) (front back : List ℕ) → Appends old mid front
+    → AppendsPart mid new back → AppendsPart old new (front ++ back)
 part_behind old mid new front back first p = record {
   part = front ++ p.part;
   missing = p.missing;
@@ -45,10 +52,13 @@ part_behind old mid new front back first p = record {
 }
 
 -- the front was written, and then the back
-pub writes_behind : {A E : Type 0} (old mid new : Option (List ℕ)) (r : Result A E) (front back : List ℕ) → Appends old mid front → Writes mid new r back → Writes old new r (front ++ back)
+pub writes_behind : {A E : Type 0} (old mid new : Option (List ℕ)) (r : Result A E) (front back : List ℕ)
+    → Appends old mid front → Writes mid new r back → Writes old new r (front ++ back)
 writes_behind old mid new r front back first second =
-    MatchResult-weaker r second (λ _ grown. Appends-trans old mid new front back first grown) (λ _ part. part_behind old mid new front back first part)
+    MatchResult-weaker r second (λ _ grown. Appends-trans old mid new front back first grown)
+    (λ _ part. part_behind old mid new front back first part)
 
 -- an error after a first part
-pub writes_part : {A E : Type 0} (Q : E → Type 0) (old new : Option (List ℕ)) (r : Result A E) (text : List ℕ) → IsErrAnd r Q → AppendsPart old new text → Writes old new r text
+pub writes_part : {A E : Type 0} (Q : E → Type 0) (old new : Option (List ℕ)) (r : Result A E) (text : List ℕ)
+    → IsErrAnd r Q → AppendsPart old new text → Writes old new r text
 writes_part Q old new r text err part = let p = err_from_is_err_and r err in rw p.1 part

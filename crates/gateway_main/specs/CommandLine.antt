@@ -61,7 +61,7 @@ IsMemory (Words error) = kind_of error ≡ OutOfMemory
 abbrev pub IsTaken : List Text → Type 0
 IsTaken words = fault_of enogate_app words ≡ []
 
--- `clap` refuses the line for a cause that it has of it, or for want of memory; or it takes it, and the base is none
+-- `clap` refuses the line for a cause that it has of it, or there was no memory; or it takes it, and the base is none
 abbrev pub RefusesLine : List Text → Refused → Type 0
 RefusesLine words (Words error) = HasKind (fault_of enogate_app words) error
 RefusesLine words BadBase = IsTaken words × (base_of_line words ≡ None)

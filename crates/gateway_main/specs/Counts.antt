@@ -13,9 +13,16 @@ none_yet = record { calls = 0; failed = 0; empty = 0 }
 
 -- the counts after a call with this answer
 abbrev pub counted : {E : Type 0} → Counts → Result ℕ E → Counts
-counted counts (Ok n) =
-    record { calls = one_more counts.calls; failed = counts.failed; empty = if n == 0 then one_more counts.empty else counts.empty }
-counted counts (Err e) = record { calls = one_more counts.calls; failed = one_more counts.failed; empty = counts.empty }
+counted counts (Ok n) = record {
+  calls = one_more counts.calls;
+  failed = counts.failed;
+  empty = if n == 0 then one_more counts.empty else counts.empty;
+}
+counted counts (Err e) = record {
+  calls = one_more counts.calls;
+  failed = one_more counts.failed;
+  empty = counts.empty;
+}
 
 -- no call failed, and none answered 0 bytes
 abbrev pub WentWell : Counts → Counts → Type 0

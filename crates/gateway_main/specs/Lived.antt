@@ -12,16 +12,21 @@ use Rattle.gateway_main.specs.Replayed.{Replays, BreaksOff}
 use Rattle.gateway_main.specs.Started.{Starts}
 
 module _ {S : Type 0} (g : Ghosts S) where
-  -- The life found the devices that were committed last, and handled the script's items with the answers that were written.
+  -- The life found the devices that were committed last, and handled the script's items with the answers that are out.
   abbrev pub ReplaysAreLives : Type 0
-  ReplaysAreLives = (database : Held S) (base : ℕ) (old new : Value S) (events : List Event) (held now : Option (List ℕ)) →
-      (began : Starts g database base old.sight) → (done : Replays g old new events held now) → HasCleanDisk (state g new.sight.registry)
+  ReplaysAreLives =
+      (database : Held S) (base : ℕ) (old new : Value S) (events : List Event) (held now : Option (List ℕ))
+      → (began : Starts g database base old.sight) → (done : Replays g old new events held now)
+      → HasCleanDisk (state g new.sight.registry)
       → (left : Devices) → MayFind (state g new.sight.registry) left
       → LeavesALife base began.found (items_of old.rest events) done.answered.answers None left
 
   -- The same where a write failed. The last answer need not be out, but its item was handled.
   abbrev pub BrokenReplaysAreLives : Type 0
-  BrokenReplaysAreLives = (database : Held S) (base : ℕ) (old new : Value S) (events : List Event) (event : Event) (held now : Option (List ℕ)) →
-      (began : Starts g database base old.sight) → (broken : BreaksOff g old new events event held now) → HasCleanDisk (state g new.sight.registry)
+  BrokenReplaysAreLives =
+      (database : Held S) (base : ℕ) (old new : Value S) (events : List Event) (event : Event)
+      (held now : Option (List ℕ))
+      → (began : Starts g database base old.sight) → (broken : BreaksOff g old new events event held now)
+      → HasCleanDisk (state g new.sight.registry)
       → (left : Devices) → MayFind (state g new.sight.registry) left
       → LeavesALife base began.found broken.items (broken.answered.answers ++ broken.answered.last ∷ []) None left

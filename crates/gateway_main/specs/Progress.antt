@@ -44,12 +44,14 @@ module _ {S : Type 0} (g : Ghosts S) where
     pub counted : total ≡ count_with count (length (items_of old.rest (event ∷ [])))
 
   -- a call that takes an event: it does so at `Ok`, and breaks off at `Err`
-  abbrev pub TakesOrBreaks : {A E : Type 0} → Result A E → Value S → Value S → Event → Option (List ℕ) → Option (List ℕ) → ℕ → ℕ → Type 0
+  abbrev pub TakesOrBreaks : {A E : Type 0} → Result A E → Value S → Value S → Event
+      → Option (List ℕ) → Option (List ℕ) → ℕ → ℕ → Type 0
   TakesOrBreaks result old new event held now count total =
       MatchResult result (λ _. Takes old new event held now count total) (λ _. BreaksOff g old new [] event held now)
 
   -- the lines that LF ended were replayed and counted, and the first bytes of the unended line are kept
-  pub record Progress (entry now : Value S) (input unended : List ℕ) (held holds : Option (List ℕ)) (total : ℕ) : Type 0 where
+  pub record Progress (entry now : Value S) (input unended : List ℕ) (held holds : Option (List ℕ)) (total : ℕ)
+      : Type 0 where
     pub lines : List (List ℕ)
     pub tail : List ℕ
     pub whole : input ≡ flat_map ended lines ++ tail

@@ -46,9 +46,10 @@ module _ {S : Type 0} (g : Ghosts S) where
     pub rest : new.rest ≡ rest_of (old.rest ++ bytes_in events)
     pub idle : IsIdle new
 
-  -- behind these events one event was begun, and a write failed: the items so far were handled, and the packets that its bytes
-  -- brought behind them wait
-  pub record BreaksOff (old new : Value S) (events : List Event) (event : Event) (held now : Option (List ℕ)) : Type 0 where
+  -- behind these events one event was begun, and a write failed: the items so far were handled, and the packets that
+  -- its bytes brought behind them wait
+  pub record BreaksOff (old new : Value S) (events : List Event) (event : Event) (held now : Option (List ℕ))
+      : Type 0 where
     pub begun : Event
     pub begins : IsBegun event begun
     pub items : List Item

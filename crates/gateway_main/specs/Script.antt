@@ -1,5 +1,6 @@
 -- Which events the bytes of a script are.
-use Rattle.std.specs.Prelude.{◌≡◌, ◌≢◌, ℕ, ◌⊎◌, ◌&&◌, All, nat_eq, nat_le, if◌then◌else◌, List, [], ◌++◌, length, drop, map, codes, Result, Ok, Err}
+use Rattle.std.specs.Prelude.{◌≡◌, ◌≢◌, ℕ, ◌⊎◌, ◌&&◌, All, nat_eq, nat_le, if◌then◌else◌, List, [], ◌++◌, length, drop}
+use Rattle.std.specs.Prelude.{map, codes, Result, Ok, Err}
 use Rattle.std.specs.List.{starts_with}
 use Rattle.std.specs.Str.Lines.{lines}
 use Rattle.hex.specs.Hex.{decode_of}
@@ -14,7 +15,8 @@ spelled line (Err fault) = Line line
 -- `S`, one space and an even number of hexadecimal digits are a serial piece, unless the line is longer than 200 bytes
 abbrev pub event_of : List ℕ → Event
 event_of line =
-    if nat_le (length line) 200 && starts_with nat_eq line (codes "S ") then spelled line (decode_of (drop 2 line)) else Line line
+    if nat_le (length line) 200 && starts_with nat_eq line (codes "S ") then spelled line (decode_of (drop 2 line))
+    else Line line
 
 -- a line ends with LF, or CR LF, or the end of the input
 abbrev pub script : List ℕ → List Event

@@ -19,8 +19,8 @@ pub record Starts {S : Type 0} (g : Ghosts S) (database : Held S) (base : ℕ) (
   pub begins : BeginsAt g now found
   pub registries : AreRegistries (state g now.registry).may_leave
 
--- Why no gateway is made: the database is no registry, in the words of its open, or the store refuses, or memory lacks.
--- Nothing is read or written yet.
+-- Why no gateway is made: the database is no registry, in the words of its open; or the store refuses; or there is no
+-- memory. Nothing is read or written yet.
 abbrev pub RefusesToStart : {S : Type 0} → Ghosts S → Held S → Fault → Type 0
 RefusesToStart {S} g database NotARegistry =
     (last : Held S) × RefusesToOpen (state g database) (state g last) opening.NotARegistry

@@ -13,8 +13,8 @@ const CONTACT: [u8; 21] = [
 const ACCEPTED: &[u8] =
     b"{\"eep\":\"D5-00-01\",\"id\":\"01800ABC\",\"maker\":null,\"result\":\"accepted\",\"type\":\"teach\"}\n";
 
-const READING: &[u8] =
-    b"{\"dbm\":-45,\"eep\":\"D5-00-01\",\"id\":\"01800ABC\",\"readings\":[{\"name\":\"CO\",\"word\":\"closed\"}],\"type\":\"reading\"}\n";
+const READING: &[u8] = b"{\"dbm\":-45,\"eep\":\"D5-00-01\",\"id\":\"01800ABC\",\
+    \"readings\":[{\"name\":\"CO\",\"word\":\"closed\"}],\"type\":\"reading\"}\n";
 
 const DELETED: &[u8] =
     b"{\"eep\":\"D5-00-01\",\"id\":\"01800ABC\",\"maker\":null,\"result\":\"deleted\",\"type\":\"teach\"}\n";

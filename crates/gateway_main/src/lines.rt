@@ -43,7 +43,8 @@ fn take_digits<W: Sink, S: Alter>(
     requires idle { IsIdle gateway.old }
     requires long { 2 ≤ length line.now }
     requires short { length line.now ≤ 200 }
-    ensures taken { TakesOrBreaks S.Store result gateway.old gateway.new (spelled line.now (decode_of (drop 2 line.now)))
+    ensures taken { TakesOrBreaks S.Store result gateway.old gateway.new
+        (spelled line.now (decode_of (drop 2 line.now)))
         (W.held writer.old) (W.held writer.new) items.old items.new }
     ensures told { Went result (W.counts writer.old) (W.counts writer.new) }
 {

@@ -1,5 +1,6 @@
 //! A script is replayed.
-ghost use Rattle.std.specs.Prelude.{◌≡◌, ◌↔◌, ◌⊎◌, ◌+◌, ◌-◌, ◌^◌, ◌≤◌, min, Err, [], ◌∷◌, ◌++◌, ℕ, List, Option, length, IfOk, OnErr, OnOk};
+ghost use Rattle.std.specs.Prelude.{◌≡◌, ◌↔◌, ◌⊎◌, ◌+◌, ◌-◌, ◌^◌, ◌≤◌, min, Err, [], ◌∷◌, ◌++◌, ℕ, List, Option};
+ghost use Rattle.std.specs.Prelude.{length, IfOk, OnErr, OnOk};
 ghost use Rattle.std.specs.Io.KnownBytes.{Consumes, IsAtEnd};
 ghost use Rattle.std.specs.Str.Lines.{strip_carriage_return};
 ghost use Rattle.gateway_core.specs.Calls.{Value as GatewayValue};
@@ -72,10 +73,12 @@ pub fn replay<R: Source, W: Sink, S: Alter>(
         × WentWell (W.counts writer.old) (W.counts writer.new) }
     ensures write { result ≡ Err RunFault.Write →
         (WentWell (R.counts reader.old) (R.counts reader.new) ⊎ OneEmpty (R.counts reader.old) (R.counts reader.new))
-        × (OneFailed (W.counts writer.old) (W.counts writer.new) ⊎ OneEmpty (W.counts writer.old) (W.counts writer.new)) }
+        × (OneFailed (W.counts writer.old) (W.counts writer.new)
+        ⊎ OneEmpty (W.counts writer.old) (W.counts writer.new)) }
     ensures too_many { HasRoom (R.counts reader.old) turns → HasRoom (W.counts writer.old) 0 →
         ((result ≡ Err RunFault.TooManyTurns) ↔ (((R.counts reader.new).calls ≡ (R.counts reader.old).calls + turns)
-        × WentWell (R.counts reader.old) (R.counts reader.new) × WentWell (W.counts writer.old) (W.counts writer.new))) }
+        × WentWell (R.counts reader.old) (R.counts reader.new)
+        × WentWell (W.counts writer.old) (W.counts writer.new))) }
 {
     let is_ready = gateway.is_ready();
     prove!(!is_ready);

@@ -26,7 +26,9 @@ fn scripts(rt: HostRuntime) -> Result<(), Fail> {
     let contact = b"add 01800ABC D5-00-01\nS 55000707017AD50901800ABC0001FFFFFFFF2D001F\n";
     let in_parts = b"add 01800abc d5-00-01\r\nS 55000707017ad50901800A\nS BC0001ffffffff2d001f";
     let contact_out =
-        b"{\"eep\":\"D5-00-01\",\"id\":\"01800ABC\",\"maker\":null,\"result\":\"accepted\",\"type\":\"teach\"}\n{\"dbm\":-45,\"eep\":\"D5-00-01\",\"id\":\"01800ABC\",\"readings\":[{\"name\":\"CO\",\"word\":\"closed\"}],\"type\":\"reading\"}\n";
+        b"{\"eep\":\"D5-00-01\",\"id\":\"01800ABC\",\"maker\":null,\"result\":\"accepted\",\"type\":\"teach\"}\n\
+        {\"dbm\":-45,\"eep\":\"D5-00-01\",\"id\":\"01800ABC\",\
+        \"readings\":[{\"name\":\"CO\",\"word\":\"closed\"}],\"type\":\"reading\"}\n";
     let rows = [
         (b"\n".as_slice(), 1, Err(RunFault::TooManyTurns), SYNTAX),
         (b"\n".as_slice(), 2, Ok(Summary { items: 1 }), SYNTAX),
@@ -224,7 +226,12 @@ fn help_text(rt: HostRuntime) -> Result<(), Fail> {
             let text = error.to_string(rt.alloc())?;
             assert_eq!(rt;
                 text.as_str(),
-                "Runs a script from standard input to standard output\n\nUsage: enogate replay [OPTIONS] --base <ID>\n\nOptions:\n      --base <ID>  Base ID of the radio module, 8 hexadecimal digits\n      --db <PATH>  SQLite file of the learned devices, which else stay in memory alone\n  -h, --help       Print help\n"
+                "Runs a script from standard input to standard output\n\n\
+                Usage: enogate replay [OPTIONS] --base <ID>\n\n\
+                Options:\n      \
+                --base <ID>  Base ID of the radio module, 8 hexadecimal digits\n      \
+                --db <PATH>  SQLite file of the learned devices, which else stay in memory alone\n  \
+                -h, --help       Print help\n"
             );
         }
         _ => return Err(Fail::from("no help")),

@@ -15,8 +15,10 @@ returns c =
     let named : app_of c.in_ok-bin_name.field-0 ≡ app_of c.new-2.result = search rules in
     let told : app_of c.about-2.result ≡ app_of c.in_ok-bin_name.field-0 = search rules in
     let versioned : app_of c.version.result ≡ with_version (app_of c.about-2.result) = search rules in
-    let required : app_of c.subcommand_required.result ≡ with_subcommand_required (app_of c.version.result) = search rules in
-    let above : app_of c.subcommand_required.result ≡ with_subcommand_required (with_version (new_app (codes "enogate"))) =
+    let required : app_of c.subcommand_required.result ≡ with_subcommand_required (app_of c.version.result) =
+    search rules in
+    let named_so = new_app (codes "enogate") in
+    let above : app_of c.subcommand_required.result ≡ with_subcommand_required (with_version named_so) =
     required ∙ ap with_subcommand_required (versioned ∙ ap with_version (told ∙ named ∙ c.new-2.ensures.app)) in
     IfOk-weaker c.subcommand.result _ _ (λ r added.
     added.shape (search rules) ∙ ap₂ with_subcommand above (ap (λ (a : App). a.top) replay_is)) c.subcommand.ensures

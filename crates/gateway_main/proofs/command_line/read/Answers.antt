@@ -14,10 +14,12 @@ returns-in_err-matches-clause-passes c =
 
 pub returns-in-Some-clause-taken : goal.returns-in-Some-clause-taken
 returns-in-Some-clause-taken c =
-    taken_so (map string_bytes c.args.words.now) c.in_ok-command.field-0 c.in_ok-command.ensures c.in_ok-matches.ensures.kinds
+    taken_so (map string_bytes c.args.words.now) c.in_ok-command.field-0 c.in_ok-command.ensures
+    c.in_ok-matches.ensures.kinds
 
 pub returns-clause-refused : goal.returns-clause-refused
 returns-clause-refused c = (
-  taken_so (map string_bytes c.args.words.now) c.in_ok-command.field-0 c.in_ok-command.ensures c.in_ok-matches.ensures.kinds,
+  taken_so (map string_bytes c.args.words.now) c.in_ok-command.field-0 c.in_ok-command.ensures
+      c.in_ok-matches.ensures.kinds,
   search rules,
 )

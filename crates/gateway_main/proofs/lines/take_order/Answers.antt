@@ -11,5 +11,7 @@ returns-clause-taken g c =
     let line = c.args.line.now in
     let answer = answer_of c.order-reply.result in
     MatchResult-weaker c.write_reply.result c.write_reply.ensures.written
-    (λ _ text. takes_order g.S.Store old new line answer (held c.args.writer.now) (held c.write_reply.new.writer) c.args.items.now c.saturating_add.result c.requires c.order-reply.ensures text c.saturating_add.ensures)
-    (λ _ part. breaks_at_order g.S.Store old new line answer (held c.args.writer.now) (held c.write_reply.new.writer) c.requires c.order-reply.ensures part)
+    (λ _ text. takes_order g.S.Store old new line answer (held c.args.writer.now) (held c.write_reply.new.writer)
+    c.args.items.now c.saturating_add.result c.requires c.order-reply.ensures text c.saturating_add.ensures)
+    (λ _ part. breaks_at_order g.S.Store old new line answer (held c.args.writer.now) (held c.write_reply.new.writer)
+    c.requires c.order-reply.ensures part)

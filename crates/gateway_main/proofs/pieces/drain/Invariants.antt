@@ -4,7 +4,8 @@ use Rattle.gateway_main.specs.Progress.{Drains}
 use Rattle.gateway_main.proofs.pieces.drain.Given as goal
 
 abbrev pub invariant-loop-reply : goal.invariant-loop-reply
-invariant-loop-reply g l = Drains g.S.Store l.fn.gateway l.gateway (g.W.Sink.held l.fn.writer) (g.W.Sink.held l.writer) l.fn.items l.items
+invariant-loop-reply g l =
+    Drains g.S.Store l.fn.gateway l.gateway (g.W.Sink.held l.fn.writer) (g.W.Sink.held l.writer) l.fn.items l.items
     × WentWell (g.W.Sink.counts l.fn.writer) (g.W.Sink.counts l.writer)
 
 abbrev pub decreases-loop-reply : goal.decreases-loop-reply

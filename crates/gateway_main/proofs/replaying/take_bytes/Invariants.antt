@@ -9,5 +9,6 @@ abbrev pub invariant-loop-byte : goal.invariant-loop-byte
 invariant-loop-byte g l =
     IsIdle l.gateway × ((entry : Value _) (input : List ℕ) (held : Option (List ℕ)) →
     Progress g.S.Store entry l.fn.gateway input l.fn.unended held (g.W.Sink.held l.fn.writer) l.fn.items →
-    Progress g.S.Store entry l.gateway (input ++ take l.byte-index l.bytes) l.unended held (g.W.Sink.held l.writer) l.items)
+    Progress g.S.Store entry l.gateway (input ++ take l.byte-index l.bytes) l.unended held (g.W.Sink.held l.writer)
+    l.items)
     × WentWell (g.W.Sink.counts l.fn.writer) (g.W.Sink.counts l.writer)

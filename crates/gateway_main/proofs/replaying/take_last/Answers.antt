@@ -8,7 +8,9 @@ use Rattle.gateway_main.proofs.replaying.take_last.Goals as goal
 
 pub returns-then-is_empty-clause-replayed : goal.returns-then-is_empty-clause-replayed
 returns-then-is_empty-clause-replayed g c = λ entry input held p.
-    let e = ends_here g.S.Store entry c.args.gateway.now input c.args.unended.now held (g.W.Sink.held c.args.writer.now) c.args.items.now (grind (arith, nat_tests)) p in
+    let e =
+    ends_here g.S.Store entry c.args.gateway.now input c.args.unended.now held (g.W.Sink.held c.args.writer.now)
+    c.args.items.now (grind (arith, nat_tests)) p in
     (e.replayed, e.counted)
 
 pub returns-clause-replayed : goal.returns-clause-replayed
@@ -21,8 +23,11 @@ returns-clause-replayed g c =
     let total = c.take_line.new.items in
     let there = eqb-false (length kept) 0 (sym c.is_empty.ensures ∙ c.if-is_empty.false) in
     MatchResult-weaker c.take_line.result c.take_line.ensures.taken (λ _ takes entry input held p.
-    let e = ends_at_last g.S.Store entry old new input kept held (h c.args.writer.now) (h c.take_line.new.writer) count total there p
-    (alike_last g.S.Store {A = Unit {0}} {E = Unit {0}} (Ok tt) old new kept p.tail (h c.args.writer.now) (h c.take_line.new.writer) count total p.kept (rw c.as_slice.ensures at takes)) in
+    let e =
+    ends_at_last g.S.Store entry old new input kept held (h c.args.writer.now) (h c.take_line.new.writer) count total
+    there p
+    (alike_last g.S.Store {A = Unit {0}} {E = Unit {0}} (Ok tt) old new kept p.tail (h c.args.writer.now)
+    (h c.take_line.new.writer) count total p.kept (rw c.as_slice.ensures at takes)) in
     (e.replayed, e.counted)) (λ _ _. tt)
 
 pub returns-clause-broken : goal.returns-clause-broken
@@ -35,4 +40,5 @@ returns-clause-broken g c =
     let there = eqb-false (length kept) 0 (sym c.is_empty.ensures ∙ c.if-is_empty.false) in
     MatchResult-weaker c.take_line.result c.take_line.ensures.taken (λ _ _. tt) (λ _ broken entry input held p.
     part_at_last g.S.Store entry old new input kept held (h c.args.writer.now) (h c.take_line.new.writer) count there p
-    (alike_last g.S.Store {A = Unit {0}} {E = Unit {0}} (Err tt) old new kept p.tail (h c.args.writer.now) (h c.take_line.new.writer) count count p.kept (rw c.as_slice.ensures at broken)))
+    (alike_last g.S.Store {A = Unit {0}} {E = Unit {0}} (Err tt) old new kept p.tail (h c.args.writer.now)
+    (h c.take_line.new.writer) count count p.kept (rw c.as_slice.ensures at broken)))

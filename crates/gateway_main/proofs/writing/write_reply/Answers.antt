@@ -8,10 +8,13 @@ returns-in_err-write_radio-clause-written g c =
     let held = g.W.Sink.held in
     let answer = answer_of c.args.reply.now in
     writes_part _ _ _ _ _ c.from_residual.ensures.1
-    (part_of_front (held c.args.writer.now) (held c.write_radio.new.writer) (radio_text answer.radio) answer.desk c.in_err-write_radio.ensures.written)
+    (part_of_front (held c.args.writer.now) (held c.write_radio.new.writer) (radio_text answer.radio) answer.desk
+    c.in_err-write_radio.ensures.written)
 
 pub returns-clause-written : goal.returns-clause-written
 returns-clause-written g c =
     let held = g.W.Sink.held in
     let answer = answer_of c.args.reply.now in
-    writes_behind (held c.args.writer.now) (held c.write_radio.new.writer) (held c.write_text.new.writer) c.write_text.result (radio_text answer.radio) answer.desk c.in_ok-write_radio.ensures.written (rw c.as_bytes.ensures at c.write_text.ensures.written)
+    writes_behind (held c.args.writer.now) (held c.write_radio.new.writer) (held c.write_text.new.writer)
+    c.write_text.result (radio_text answer.radio) answer.desk c.in_ok-write_radio.ensures.written
+    (rw c.as_bytes.ensures at c.write_text.ensures.written)
