@@ -6,7 +6,7 @@ use Rattle.esp3_frames.specs.Packet.{Packet}
 use Rattle.esp3_frames.specs.Frames.{packets_in, rest_of}
 use Rattle.esp3_frames.proofs.ForCallers.{framing_in_parts, frames_of-may_become, empty_may_become}
 use Rattle.gateway_core.specs.Step.{Item, Received, Ordered}
-use Rattle.gateway_core.specs.Handling.{Sight, Handles}
+use Rattle.gateway_core.specs.Handling.{HandlerValue, Handles}
 use Rattle.gateway_core.specs.Calls.{Value, Call, Byte, Next, Order, Moves, AllMove, bytes_of, answers_of, AreItems}
 use Rattle.gateway_core.specs.Calls.{CallsAreARun}
 use Rattle.gateway_core.proofs.RunLemmas.{handles-nothing, handles-append}
@@ -25,7 +25,7 @@ module _ {S : Type 0} (g : Ghosts S) where
     pub packets : packets_in (stream ++ bytes_of calls) ≡ before ++ (handled ++ new.ready)
     pub rest : rest_of (stream ++ bytes_of calls) ≡ new.rest
     pub in_order : AreItems calls handled items
-    pub run : Handles g old.sight items (answers_of calls) new.sight
+    pub run : Handles g old.handler items (answers_of calls) new.handler
 
   stands_after_byte : (stream : List ℕ) (before : List Packet) (old mid : Value S) (byte : ℕ) → Stands stream before old
       → Moves g old (Byte byte) mid → Stands (stream ++ byte ∷ []) before mid
@@ -48,7 +48,7 @@ module _ {S : Type 0} (g : Ghosts S) where
     rest = rw (append-nil, move) stands.rest;
     in_order = (refl, refl);
     run = let P : Value S → Type 0 =
-        λ v. Handles g old.sight [] [] v.sight in subst P (sym move) (handles-nothing g old.sight);
+        λ v. Handles g old.handler [] [] v.handler in subst P (sym move) (handles-nothing g old.handler);
   }
   goes_on stream before old (Byte byte ∷ calls) new stands (mid, move, moves) =
       let on =
@@ -62,8 +62,8 @@ module _ {S : Type 0} (g : Ghosts S) where
         packets = ap packets_in (sym along) ∙ on.packets;
         rest = ap rest_of (sym along) ∙ on.rest;
         in_order = on.in_order;
-        run = let P : Sight S → Type 0 =
-            λ s. Handles g s on.items (answers_of calls) new.sight in subst P move.1 on.run;
+        run = let P : HandlerValue S → Type 0 =
+            λ s. Handles g s on.items (answers_of calls) new.handler in subst P move.1 on.run;
       }
   goes_on stream before old (Next None ∷ calls) new stands (mid, (none, same), moves) =
       let from : Stands stream before mid =
@@ -76,7 +76,7 @@ module _ {S : Type 0} (g : Ghosts S) where
         rest = on.rest;
         in_order = on.in_order;
         run = let P : Value S → Type 0 =
-            λ v. Handles g v.sight on.items (answers_of calls) new.sight in subst P same on.run;
+            λ v. Handles g v.handler on.items (answers_of calls) new.handler in subst P same on.run;
       }
   goes_on stream before old (Next (Some answer) ∷ calls) new stands (mid, (packet, first, rest, handles), moves) =
       let from : Stands stream (before ++ packet ∷ []) mid = record {
@@ -90,7 +90,7 @@ module _ {S : Type 0} (g : Ghosts S) where
         packets = on.packets ∙ append_assoc before (packet ∷ []) (on.handled ++ new.ready);
         rest = on.rest;
         in_order = (refl, on.in_order);
-        run = handles-append g old.sight mid.sight new.sight (Received packet ∷ []) on.items (answer ∷ [])
+        run = handles-append g old.handler mid.handler new.handler (Received packet ∷ []) on.items (answer ∷ [])
             (answers_of calls) handles on.run;
       }
   goes_on stream before old (Order line answer ∷ calls) new stands (mid, (ready, rest, handles), moves) =
@@ -103,7 +103,7 @@ module _ {S : Type 0} (g : Ghosts S) where
         packets = on.packets;
         rest = on.rest;
         in_order = (refl, on.in_order);
-        run = handles-append g old.sight mid.sight new.sight (Ordered line ∷ []) on.items (answer ∷ [])
+        run = handles-append g old.handler mid.handler new.handler (Ordered line ∷ []) on.items (answer ∷ [])
             (answers_of calls) handles on.run;
       }
 

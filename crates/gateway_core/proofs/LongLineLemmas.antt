@@ -12,7 +12,7 @@ use Rattle.gateway_core.specs.Step.{State, Ordered, Answer, said, Decision, Deni
 use Rattle.gateway_core.specs.Step.{order_decision, change_in, with_change}
 use Rattle.gateway_core.specs.Run.{Fate, Taken, Refused, RefusedAtWrite, Run, needs_help, cause_text, refused}
 use Rattle.gateway_core.specs.Stops.{Left, nothing_left, told, pending, left_by, Safe}
-use Rattle.gateway_core.specs.Handling.{Sight, Went, Handles}
+use Rattle.gateway_core.specs.Handling.{HandlerValue, Went, Handles}
 
 decision-long : (devices : Devices) (line : List ℕ) → longest_line < length line
     → decision devices line ≡ Denies TooLong
@@ -47,7 +47,7 @@ left_alike old short long (Refused cause ∷ fates) e = refl
 left_alike old short long (RefusedAtWrite cause ∷ fates) e = ap (λ d. pending nothing_left old.devices (change_in d)) e
 
 module _ {S : Type 0} (g : Ghosts S) where
-  went_alike : (old new : Sight S) (start : State) (short long : List ℕ) (answers : List Answer)
+  went_alike : (old new : HandlerValue S) (start : State) (short long : List ℕ) (answers : List Answer)
       → decision start.devices short ≡ decision start.devices long → Went g old start (Ordered short ∷ []) answers new
       → Went g old start (Ordered long ∷ []) answers new
   went_alike old new start short long answers e went = record {
@@ -60,7 +60,8 @@ module _ {S : Type 0} (g : Ghosts S) where
   }
 
   -- two lines that are too long are handled alike
-  pub handles_alike : (old new : Sight S) (short long : List ℕ) (answers : List Answer) → longest_line < length short
+  pub handles_alike : (old new : HandlerValue S) (short long : List ℕ) (answers : List Answer)
+      → longest_line < length short
       → longest_line < length long → Handles g old (Ordered short ∷ []) answers new
       → Handles g old (Ordered long ∷ []) answers new
   handles_alike old new short long answers a b handled = record {

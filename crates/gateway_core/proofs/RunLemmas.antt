@@ -7,7 +7,7 @@ use Rattle.gateway_core.specs.Step.{State, Item, Answer, said}
 use Rattle.gateway_core.specs.Run.{Fate, Taken, Refused, RefusedAtWrite, Run, cause_of, cause_text, answer_with}
 use Rattle.gateway_core.specs.Run.{state_with, SameRefusals}
 use Rattle.gateway_core.specs.Stops.{nothing_left, left_by, Safe}
-use Rattle.gateway_core.specs.Handling.{Sight, Handles}
+use Rattle.gateway_core.specs.Handling.{HandlerValue, Handles}
 use Rattle.gateway_core.proofs.StopLemmas.{safe_joins, safe-weaker}
 
 -- a run goes on with another
@@ -24,8 +24,8 @@ run-append old mid new (item ∷ items) more [] others answers after first secon
 run-append old mid new (item ∷ items) more (fate ∷ fates) others [] after first second = absurd first
 
 module _ {S : Type 0} (g : Ghosts S) where
-  pub handles-nothing : (sight : Sight S) → Handles g sight [] [] sight
-  handles-nothing sight = record {
+  pub handles-nothing : (handler : HandlerValue S) → Handles g handler [] [] handler
+  handles-nothing handler = record {
     base = refl;
     clean = λ honest. honest;
     registries = λ honest before. before;
@@ -38,7 +38,7 @@ module _ {S : Type 0} (g : Ghosts S) where
     };
   }
 
-  pub handles-append : (old mid new : Sight S) (items more : List Item) (answers after : List Answer)
+  pub handles-append : (old mid new : HandlerValue S) (items more : List Item) (answers after : List Answer)
       → Handles g old items answers mid → Handles g mid more after new
       → Handles g old (items ++ more) (answers ++ after) new
   handles-append old mid new items more answers after first second = record {

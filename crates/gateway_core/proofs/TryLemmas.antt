@@ -34,7 +34,7 @@ use Rattle.gateway_core.specs.Step.{decision, removal, change_of, with_change, s
 use Rattle.gateway_core.specs.Refusals.{cause_of}
 use Rattle.gateway_core.specs.Run.{needs, needs_help, cause_text, Cause, Taken, Refused, RefusedAtWrite, refused}
 use Rattle.gateway_core.specs.Stops.{nothing_left, told, pending, Safe}
-use Rattle.gateway_core.specs.Handling.{Sight, Went, Handles}
+use Rattle.gateway_core.specs.Handling.{HandlerValue, Went, Handles}
 use Rattle.gateway_core.specs.Tries.{Wanted, of_item, of_decision, IsMade, IsPending, Comes, Tries, answer_from}
 use Rattle.gateway_core.specs.Tries.{counts_from, Unlearned}
 
@@ -134,7 +134,7 @@ module _ {S : Type 0} (g : Ghosts S) where
       }
 
   -- with nothing asked of the registry
-  pub tries-alone : (v : Sight S) (wanted : Devices → Wanted) (r : Result Done Refusal)
+  pub tries-alone : (v : HandlerValue S) (wanted : Devices → Wanted) (r : Result Done Refusal)
       → ((devices : Devices) → Keeps (state g v.registry) (state g v.registry) devices
       → Comes g v.registry v.registry devices (wanted devices) r) → Tries g v wanted r v
   tries-alone v wanted r comes = record {
@@ -164,7 +164,7 @@ module _ {S : Type 0} (g : Ghosts S) where
       rw (is, supported) (at_write old new devices id eep (is_full devices id) refl pends)
 
   -- an order behind a line
-  pub tries-order : (counts : Counts) (old new : Sight S) (line : List ℕ) (r : Result Done Refusal)
+  pub tries-order : (counts : Counts) (old new : HandlerValue S) (line : List ℕ) (r : Result Done Refusal)
       (order : Result Order OrderFault) → length line ≤ longest_line → order_of line ≡ order
       → Tries g old (λ devices. of_decision counts devices (order_decision devices order)) r new
       → Tries g old (λ devices. of_decision counts devices (decision devices line)) r new
@@ -185,7 +185,7 @@ module _ {S : Type 0} (g : Ghosts S) where
   made-safe old new devices (Some change) commits left may = inl (inl (commits.stop left may))
 
   -- what is refused at its write
-  at_write-went : (old new : Sight S) (start : State) (item : Item) (cause : Cause) (change : Option Change)
+  at_write-went : (old new : HandlerValue S) (start : State) (item : Item) (cause : Cause) (change : Option Change)
       → change_of start item ≡ change → new.base ≡ start.base → new.counts ≡ (refused start).counts
       → IsPending g old.registry new.registry start.devices (needs start item) change
       → Went g old start (item ∷ []) (said (cause_text cause) ∷ []) new
@@ -206,7 +206,8 @@ module _ {S : Type 0} (g : Ghosts S) where
         (elim (pends.stop left may) [ inl before ↦ inr (refl, before) | inr is ↦ inl (inl is) ]);
   }
 
-  comes-went : (old new : Sight S) (start : State) (item : Item) (r : Result Done Refusal) → new.base ≡ start.base
+  comes-went : (old new : HandlerValue S) (start : State) (item : Item) (r : Result Done Refusal)
+      → new.base ≡ start.base
       → new.counts ≡ counts_from start.counts r
       → Comes g old.registry new.registry start.devices (of_item start item) r
       → Went g old start (item ∷ []) (answer_from r ∷ []) new
@@ -233,13 +234,14 @@ module _ {S : Type 0} (g : Ghosts S) where
       at_write-went old new start item (cause_of cause) (change_of start item) refl base counts pending
 
   -- what was tried is settled: it is counted
-  pub record Settles (mid : Sight S) (r : Result Done Refusal) (answer : Answer) (new : Sight S) : Type 0 where
+  pub record Settles (mid : HandlerValue S) (r : Result Done Refusal) (answer : Answer)
+      (new : HandlerValue S) : Type 0 where
     pub answer_is : answer ≡ answer_from r
     pub base : new.base ≡ mid.base
     pub counts : new.counts ≡ counts_from mid.counts r
     pub registry : new.registry ≡ mid.registry
 
-  pub tries-handles : (old mid new : Sight S) (item : Item) (r : Result Done Refusal) (answer : Answer)
+  pub tries-handles : (old mid new : HandlerValue S) (item : Item) (r : Result Done Refusal) (answer : Answer)
       → Settles mid r answer new
       → Tries g old (λ devices. of_item (record { base = old.base; counts = old.counts; devices = devices }) item) r mid
       → Handles g old (item ∷ []) (answer ∷ []) new

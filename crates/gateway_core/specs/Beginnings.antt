@@ -7,7 +7,7 @@ use Rattle.device_registry.specs.Devices.{Devices, Change}
 use Rattle.device_registry.specs.Holding.{HasDevices, MayFind, MayLeave}
 use Rattle.gateway_core.specs.Step.{State, Item, Answer, change_of}
 use Rattle.gateway_core.specs.Run.{Fate}
-use Rattle.gateway_core.specs.Handling.{Sight, IsAt, Handles}
+use Rattle.gateway_core.specs.Handling.{HandlerValue, IsAt, Handles}
 use Rattle.gateway_core.specs.Lives.{IsLife, begun}
 
 -- a life that found these devices, handled these items and was stopped in this one may leave those
@@ -28,13 +28,13 @@ pub record LeavesALife (base : ℕ) (found : Devices) (items : List Item) (answe
 
 module _ {S : Type 0} (g : Ghosts S) where
   -- a life begins: the gateway knows what was found, and a stop leaves that and nothing else
-  pub record BeginsAt (v : Sight S) (found : Devices) : Type 0 where
+  pub record BeginsAt (v : HandlerValue S) (found : Devices) : Type 0 where
     pub at : IsAt g v (begun v.base found)
     pub stop : (left : Devices) → MayFind (state g v.registry) left → left ≡ found
 
   -- whatever is handled from there on, what a stop leaves then is what a life may leave
   abbrev pub CallsLeaveALife : Type 0
-  CallsLeaveALife = (old new : Sight S) (found : Devices) (items : List Item) (answers : List Answer)
+  CallsLeaveALife = (old new : HandlerValue S) (found : Devices) (items : List Item) (answers : List Answer)
       → HasCleanDisk (state g new.registry) → BeginsAt old found → Handles g old items answers new
       → (left : Devices) → MayFind (state g new.registry) left → LeavesALife old.base found items answers None left
 
@@ -42,7 +42,8 @@ module _ {S : Type 0} (g : Ghosts S) where
   -- once it is committed and not yet answered
   abbrev pub StopsLeaveALife : Type 0
   StopsLeaveALife =
-      (old new : Sight S) (within : Held S) (found : Devices) (items : List Item) (answers : List Answer) (item : Item)
+      (old new : HandlerValue S) (within : Held S) (found : Devices) (items : List Item) (answers : List Answer)
+      (item : Item)
       (change : Change) → HasCleanDisk (state g within) → HasCleanDisk (state g new.registry)
       → BeginsAt old found → Handles g old items answers new
       → ((start : State) → IsAt g new start → change_of start item ≡ Some change)

@@ -6,19 +6,19 @@ use Rattle.esp3_frames.specs.Packet.{Packet}
 use Rattle.esp3_frames.specs.Frames.{packets_in, rest_of}
 use Rattle.gateway_core.specs.Counts.{none_counted}
 use Rattle.gateway_core.specs.Step.{Item, Received, Ordered, Answer}
-use Rattle.gateway_core.specs.Handling.{Sight, Handles}
+use Rattle.gateway_core.specs.Handling.{HandlerValue, Handles}
 
 -- the registry and the base ID, the packets that wait to be handled, and the bytes behind them, of which one more
 -- packet may come
 pub record Value (S : Type 0) : Type 0 where
-  pub sight : Sight S
+  pub handler : HandlerValue S
   pub ready : List Packet
   pub rest : List ℕ
 
 -- a gateway with this base ID over this registry, which has counted nothing and to which no byte has come
 abbrev pub new_value : {S : Type 0} → ℕ → Held S → Value S
 new_value base registry =
-    record { sight = record { base = base; counts = none_counted; registry = registry }; ready = []; rest = [] }
+    record { handler = record { base = base; counts = none_counted; registry = registry }; ready = []; rest = [] }
 
 -- a call, with what it was given and what it answered
 pub data Call : Type 0 where
@@ -31,17 +31,18 @@ module _ {S : Type 0} (g : Ghosts S) where
   abbrev pub Moves : Value S → Call → Value S → Type 0
   -- a byte goes behind the rest, which is framed anew; this is allowed where no packet waits
   Moves old (Byte byte) new =
-      (old.ready ≡ []) × (new.sight ≡ old.sight) × (new.ready ≡ packets_in (old.rest ++ byte ∷ []))
+      (old.ready ≡ []) × (new.handler ≡ old.handler) × (new.ready ≡ packets_in (old.rest ++ byte ∷ []))
       × (new.rest ≡ rest_of (old.rest ++ byte ∷ []))
   -- the first packet that waits is handled
   Moves old (Next (Some answer)) new =
       (packet : Packet) × (old.ready ≡ packet ∷ new.ready) × (new.rest ≡ old.rest)
-      × Handles g old.sight (Received packet ∷ []) (answer ∷ []) new.sight
+      × Handles g old.handler (Received packet ∷ []) (answer ∷ []) new.handler
   -- no packet waits
   Moves old (Next None) new = (old.ready ≡ []) × (new ≡ old)
   -- a line is handled
   Moves old (Order line answer) new =
-      (new.ready ≡ old.ready) × (new.rest ≡ old.rest) × Handles g old.sight (Ordered line ∷ []) (answer ∷ []) new.sight
+      (new.ready ≡ old.ready) × (new.rest ≡ old.rest)
+      × Handles g old.handler (Ordered line ∷ []) (answer ∷ []) new.handler
 
   -- the calls take the gateway from old to new, one after another
   abbrev pub AllMove : Value S → List Call → Value S → Type 0
@@ -82,7 +83,7 @@ pub record IsARun {S : Type 0} (g : Ghosts S) (old : Value S) (calls : List Call
   pub packets : packets_in (bytes_of calls) ≡ handled ++ new.ready
   pub rest : rest_of (bytes_of calls) ≡ new.rest
   pub in_order : AreItems calls handled items
-  pub run : Handles g old.sight items (answers_of calls) new.sight
+  pub run : Handles g old.handler items (answers_of calls) new.handler
 
 -- whatever is called of a new gateway
 abbrev pub CallsAreARun : {S : Type 0} → Ghosts S → Type 0

@@ -2,7 +2,7 @@
 use Rattle.std.specs.Prelude.{ℕ, List, refl}
 use Rattle.std.specs.Coded.{Coded, code_by, coded×, coded_list, coded_ℕ}
 use Rattle.esp3_frames.specs.Packet.{Packet}
-use Rattle.gateway_core.specs.Handling.{Sight, sight_code}
+use Rattle.gateway_core.specs.Handling.{HandlerValue, handler_code}
 use Rattle.gateway_core.specs.Calls.{Value}
 
 abbrev packet_code : Coded Packet
@@ -13,7 +13,7 @@ packet_code =
 
 abbrev pub value_code : {S : Type 0} → Coded S → Coded (Value S)
 value_code {S} store =
-    code_by (Sight S × (List Packet × List ℕ))
-    (coded× (sight_code store) (coded× (coded_list packet_code) (coded_list coded_ℕ)))
-    (λ v. (v.sight, (v.ready, v.rest)))
-    (λ p. record { sight = p.0; ready = p.1.0; rest = p.1.1 }) (λ _. refl)
+    code_by (HandlerValue S × (List Packet × List ℕ))
+    (coded× (handler_code store) (coded× (coded_list packet_code) (coded_list coded_ℕ)))
+    (λ v. (v.handler, (v.ready, v.rest)))
+    (λ p. record { handler = p.0; ready = p.1.0; rest = p.1.1 }) (λ _. refl)

@@ -13,7 +13,7 @@ use Rattle.gateway_core.specs.Run.{Fate, Run}
 use Rattle.gateway_core.specs.Stops.{nothing_left, left_by, Safe}
 
 -- the base ID of the radio module, what was counted, and the registry's connection
-pub record Sight (S : Type 0) : Type 0 where
+pub record HandlerValue (S : Type 0) : Type 0 where
   pub base : ℕ
   pub counts : Counts
   pub registry : Held S
@@ -25,25 +25,25 @@ counts_code =
     (λ p. record { ignored = p.0; readings = p.1.0; refused = p.1.1.0; responses = p.1.1.1.0; teach = p.1.1.1.1 })
     (λ _. refl)
 
-abbrev pub sight_code : {S : Type 0} → Coded S → Coded (Sight S)
-sight_code {S} store =
+abbrev pub handler_code : {S : Type 0} → Coded S → Coded (HandlerValue S)
+handler_code {S} store =
     code_by (ℕ × (Counts × Held S)) (coded× coded_ℕ (coded× counts_code (held_code store)))
     (λ v. (v.base, (v.counts, v.registry)))
     (λ p. record { base = p.0; counts = p.1.0; registry = p.1.1 }) (λ _. refl)
 
 -- this is what the gateway knows
-abbrev pub IsAt : {S : Type 0} → Ghosts S → Sight S → State → Type 0
+abbrev pub IsAt : {S : Type 0} → Ghosts S → HandlerValue S → State → Type 0
 IsAt g v s = (v.base ≡ s.base) × HasDevices (state g v.registry) s.devices × (v.counts ≡ s.counts)
 
 -- while the disk has returned what was written, there is a state that the gateway knows
-abbrev pub KnowsState : {S : Type 0} → Ghosts S → Sight S → Type 0
+abbrev pub KnowsState : {S : Type 0} → Ghosts S → HandlerValue S → Type 0
 KnowsState g v = HasCleanDisk (state g v.registry) → (start : State) × IsAt g v start
 
 module _ {S : Type 0} (g : Ghosts S) where
   -- From what was known at the start, the items are handled with these answers and some fates. The gateway then knows
   -- what they make of it, and a stop leaves what is safe for them.
-  pub record Went (old : Sight S) (start : State) (items : List Item) (answers : List Answer)
-      (new : Sight S) : Type 0 where
+  pub record Went (old : HandlerValue S) (start : State) (items : List Item) (answers : List Answer)
+      (new : HandlerValue S) : Type 0 where
     pub fates : List Fate
     pub last : State
     pub run : Run start items fates answers last
@@ -52,7 +52,8 @@ module _ {S : Type 0} (g : Ghosts S) where
         → Safe (MayFind (state g old.registry)) (left_by nothing_left start items fates) left
 
   -- the items are handled with these answers, whatever the gateway knew
-  pub record Handles (old : Sight S) (items : List Item) (answers : List Answer) (new : Sight S) : Type 0 where
+  pub record Handles (old : HandlerValue S) (items : List Item) (answers : List Answer)
+      (new : HandlerValue S) : Type 0 where
     pub base : new.base ≡ old.base
     pub clean : HasCleanDisk (state g new.registry) → HasCleanDisk (state g old.registry)
     -- what a stop leaves is a registry still

@@ -23,7 +23,7 @@ use Rattle.gateway_core.specs.Step.{decision_answer, change_in, answer_to, count
 use Rattle.gateway_core.specs.Refusals.{as_told, cause_in}
 use Rattle.gateway_core.specs.Run.{needs, needs_help, cause_text}
 use Rattle.gateway_core.specs.Replies.{answer_of}
-use Rattle.gateway_core.specs.Handling.{Sight}
+use Rattle.gateway_core.specs.Handling.{HandlerValue}
 
 -- what is to be answered, counted and written, and whether that takes memory or the store
 pub record Wanted : Type 0 where
@@ -85,8 +85,9 @@ module _ {S : Type 0} (g : Ghosts S) (old new : Held S) (devices : Devices) wher
   Comes wanted (Err (AtWrite cause)) = IsPending wanted.help wanted.change
 
 -- what is wanted, by the devices that the registry has, is done or refused; it is not counted yet
-pub record Tries {S : Type 0} (g : Ghosts S) (old : Sight S) (wanted : Devices → Wanted) (result : Result Done Refusal)
-    (new : Sight S) : Type 0 where
+pub record Tries {S : Type 0} (g : Ghosts S) (old : HandlerValue S) (wanted : Devices → Wanted)
+    (result : Result Done Refusal)
+    (new : HandlerValue S) : Type 0 where
   pub base : new.base ≡ old.base
   pub counts : new.counts ≡ old.counts
   pub clean : HasCleanDisk (state g new.registry) → HasCleanDisk (state g old.registry)

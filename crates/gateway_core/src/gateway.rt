@@ -54,7 +54,7 @@ impl<S: Alter> Model for Gateway<S> {
     ghost coded = { value_code S.code };
 
     ghost view = { λ gateway.
-        record { sight = gateway.handler; ready = gateway.framer.ready; rest = gateway.framer.rest } };
+        record { handler = gateway.handler; ready = gateway.framer.ready; rest = gateway.framer.rest } };
 }
 
 impl<S: Alter + Drop> Gateway<S> {
@@ -113,8 +113,8 @@ impl<S: Alter> Gateway<S> {
     /// Hands on the connection of the registry, as it is, with no open transaction. What the gateway knows of devices
     /// is committed.
     pub fn close(self) -> Connection<S>
-        ensures same { result ≡ self.sight.registry }
-        ensures hands_on { HandsOn (state S.Store self.sight.registry) }
+        ensures same { result ≡ self.handler.registry }
+        ensures hands_on { HandsOn (state S.Store self.handler.registry) }
     {
         let Gateway { handler, .. } = self;
         handler.close()

@@ -51,11 +51,11 @@ pub struct Handler<S: Alter> {
 
 impl<S: Alter> Model for Handler<S> {
     ghost use Rattle.std.specs.Prelude.{◌≤◌};
-    ghost use Rattle.gateway_core.specs.Handling.{Sight, sight_code};
+    ghost use Rattle.gateway_core.specs.Handling.{HandlerValue, handler_code};
 
-    ghost Value = { Sight S };
+    ghost Value = { HandlerValue S };
 
-    ghost coded = { sight_code S.code };
+    ghost coded = { handler_code S.code };
 
     ghost view = { λ handler. record { base = handler.base; counts = handler.counts; registry = handler.registry } };
 

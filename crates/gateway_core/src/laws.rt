@@ -6,7 +6,7 @@ ghost use Rattle.device_registry.specs.Holding.{MayFind};
 ghost use Rattle.gateway_core.specs.Beginnings.{CallsLeaveALife, StopsLeaveALife};
 ghost use Rattle.gateway_core.specs.Calls.{CallsAreARun};
 ghost use Rattle.gateway_core.specs.Events.{CutsAreAnsweredAlike, CutsDoNotMatter, Event, brought, bytes_in, items_of};
-ghost use Rattle.gateway_core.specs.Handling.{Handles, KnowsState, Sight};
+ghost use Rattle.gateway_core.specs.Handling.{Handles, KnowsState, HandlerValue};
 ghost use Rattle.gateway_core.specs.Lives.{LivesKeep};
 ghost use Rattle.gateway_core.specs.Orders.{OrdersAreSpelled};
 ghost use Rattle.gateway_core.specs.Prefixes.{LeftIsPrefix, SafeIsPrefix, ToldStandBefore};
@@ -39,8 +39,8 @@ pub fn items_in_parts()
 
 /// Items that are handled, and then others, are handled one after another.
 pub fn handles_join<S: Alter>()
-    ensures nothing { (sight : Sight S) → Handles S.Store sight [] [] sight }
-    ensures join { (old mid new : Sight S) (items more : List Item) (answers after : List Answer) →
+    ensures nothing { (handler : HandlerValue S) → Handles S.Store handler [] [] handler }
+    ensures join { (old mid new : HandlerValue S) (items more : List Item) (answers after : List Answer) →
         Handles S.Store old items answers mid → Handles S.Store mid more after new
         → Handles S.Store old (items ++ more) (answers ++ after) new }
 {}
@@ -110,7 +110,7 @@ pub fn stops_leave_a_life<S: Alter>()
 
 /// Whatever gateway there is knows a state, while the disk has returned what was written.
 pub fn a_state_is_known<S: Alter>(gateway: &Gateway<S>)
-    ensures { KnowsState S.Store gateway.now.sight }
+    ensures { KnowsState S.Store gateway.now.handler }
 {
     devices_are_held(&gateway.handler.registry);
 }

@@ -1,4 +1,5 @@
--- All lines of more than 200 bytes are treated alike.
+-- All lines that are too long are treated alike.
+use Rattle.gateway_core.specs.Orders.{longest_line}
 use Rattle.std.proofs.Common.{◌≡◌, ℕ, ◌+◌, ◌-◌, ◌<◌, ◌≤◌, List, [], ◌∷◌, ◌++◌, length, take, drop, refl, ap, sym, subst}
 use Rattle.std.proofs.Common.{◌∙◌, arith, true, false, inl, inr, map, Option}
 use Rattle.std.specs.Prelude.{Result, ◌==◌, ◌&&◌, if◌then◌else◌, nat_eq, codes, slice_index}
@@ -16,7 +17,7 @@ use Rattle.gateway_core.specs.Events.{Event, Piece, Line, items_of, bytes_in}
 use Rattle.esp3_frames.specs.Frames.{rest_of}
 use Rattle.gateway_main.specs.Script.{event_of, spelled}
 use Rattle.gateway_main.specs.Replayed.{AnswersPart, BreaksOff, IsBegun}
-use Rattle.gateway_main.specs.Progress.{Takes, TakesOrBreaks}
+use Rattle.gateway_main.specs.Progress.{longest_kept, Takes, TakesOrBreaks}
 use Rattle.sqlite_trees.specs.declared.store.Store.{Ghosts}
 
 -- no packet stands for an order
@@ -36,10 +37,10 @@ one_item line item packets e = record { same = cc; none = cc }
 two_items : (line : List ℕ) (item other : Item) (items : List Item) → (Ordered line ∷ []) ≡ item ∷ other ∷ items → ⊥
 two_items line item other items e = cc
 
-event_of-long : (line : List ℕ) → 200 < length line → event_of line ≡ Line line
+event_of-long : (line : List ℕ) → longest_line < length line → event_of line ≡ Line line
 event_of-long line h =
     ap (λ b. if b && starts_with nat_eq line (codes "S ") then spelled line (decode_of (drop 2 line)) else Line line)
-    (lt-leb (length line) 200 h)
+    (lt-leb (length line) longest_line h)
 
 length-strip : (line : List ℕ) → length line ≤ length (strip_carriage_return line) + 1
 length-strip line =
@@ -51,7 +52,7 @@ length-strip line =
 
 module _ {S : Type 0} (g : Ghosts S) where
   takes_long : (old new : Value S) (short long : List ℕ) (held now : Option (List ℕ)) (count total : ℕ)
-      → 200 < length short → 200 < length long → Takes g old new (Line short) held now count total
+      → longest_line < length short → longest_line < length long → Takes g old new (Line short) held now count total
       → Takes g old new (Line long) held now count total
   takes_long old new short long held now count total a b takes =
       let done = takes.replayed.answered in
@@ -59,7 +60,7 @@ module _ {S : Type 0} (g : Ghosts S) where
         replayed = record {
           answered = record {
             answers = done.answers;
-            handled = handles_alike g old.sight new.sight short long done.answers a b done.handled;
+            handled = handles_alike g old.handler new.handler short long done.answers a b done.handled;
             text = done.text;
           };
           rest = takes.replayed.rest;
@@ -71,23 +72,23 @@ module _ {S : Type 0} (g : Ghosts S) where
   -- a break at one order, in its parts
   record BreaksAtOrder (old new : Value S) (line : List ℕ) (held now : Option (List ℕ)) : Type 0 where
     pub none : map Received new.ready ≡ []
-    pub answered : AnswersPart g old.sight new.sight (Ordered line ∷ []) held now
+    pub answered : AnswersPart g old.handler new.handler (Ordered line ∷ []) held now
 
   at_order : (old new : Value S) (line : List ℕ) (items : List Item) (held now : Option (List ℕ))
-      → (Ordered line ∷ []) ≡ items ++ map Received new.ready → AnswersPart g old.sight new.sight items held now
+      → (Ordered line ∷ []) ≡ items ++ map Received new.ready → AnswersPart g old.handler new.handler items held now
       → BreaksAtOrder old new line held now
   at_order old new line [] held now e part = absurd (no_packets line new.ready e)
   at_order old new line (item ∷ []) held now e part =
       let one = one_item line item new.ready e in
-      let P : Item → Type 0 = λ i. AnswersPart g old.sight new.sight (i ∷ []) held now in
+      let P : Item → Type 0 = λ i. AnswersPart g old.handler new.handler (i ∷ []) held now in
       record { none = one.none; answered = subst P one.same part }
   at_order old new line (item ∷ other ∷ items) held now e part =
       absurd (two_items line item other (items ++ map Received new.ready) e)
 
   breaks_long : (old new : Value S) (short long : List ℕ) (held now : Option (List ℕ)) (begun : Event)
-      (items : List Item) → 200 < length short → 200 < length long
+      (items : List Item) → longest_line < length short → longest_line < length long
       → IsBegun (Line short) begun → items_of old.rest (begun ∷ []) ≡ items ++ map Received new.ready
-      → new.rest ≡ rest_of (old.rest ++ bytes_in (begun ∷ [])) → AnswersPart g old.sight new.sight items held now
+      → new.rest ≡ rest_of (old.rest ++ bytes_in (begun ∷ [])) → AnswersPart g old.handler new.handler items held now
       → BreaksOff g old new [] (Line long) held now
   breaks_long old new short long held now (Piece bytes) items a b begins stand rest part = absurd begins
   breaks_long old new short long held now (Line line) items a b begins stand rest part =
@@ -103,7 +104,7 @@ module _ {S : Type 0} (g : Ghosts S) where
           answers = done.answers;
           last = done.last;
           handled =
-              handles_alike g old.sight new.sight line long (done.answers ++ done.last ∷ []) (rw begins a) b
+              handles_alike g old.handler new.handler line long (done.answers ++ done.last ∷ []) (rw begins a) b
               done.handled;
           part = done.part;
           missing = done.missing;
@@ -114,7 +115,7 @@ module _ {S : Type 0} (g : Ghosts S) where
       }
 
   alike_long : {A E : Type 0} (r : Result A E) (old new : Value S) (short long : List ℕ) (held now : Option (List ℕ))
-      (count total : ℕ) → 200 < length short → 200 < length long
+      (count total : ℕ) → longest_line < length short → longest_line < length long
       → TakesOrBreaks g r old new (event_of short) held now count total
       → TakesOrBreaks g r old new (event_of long) held now count total
   alike_long r old new short long held now count total a b given =
@@ -127,27 +128,28 @@ module _ {S : Type 0} (g : Ghosts S) where
 
   -- what is kept of a line that LF ends stands for the line
   pub alike : {A E : Type 0} (r : Result A E) (old new : Value S) (kept line : List ℕ) (held now : Option (List ℕ))
-      (count total : ℕ) → kept ≡ take 202 line
+      (count total : ℕ) → kept ≡ take longest_kept line
       → TakesOrBreaks g r old new (event_of (strip_carriage_return kept)) held now count total
       → TakesOrBreaks g r old new (event_of (strip_carriage_return line)) held now count total
-  alike r old new kept line held now count total e given = elim (cases_lt 202 (length line)) [
+  alike r old new kept line held now count total e given = elim (cases_lt longest_kept (length line)) [
     | inl far ↦ alike_long r old new (strip_carriage_return kept) (strip_carriage_return line) held now count total
-        (omega (arith, far, length-strip kept, ap length e, length-take 202 line))
+        (omega (arith, far, length-strip kept, ap length e, length-take longest_kept line))
         (omega (arith, far, length-strip line)) given
     | inr near ↦ let P : List ℕ → Type 0 =
         λ l. TakesOrBreaks g r old new (event_of (strip_carriage_return l)) held now count total in
-        subst P (e ∙ take_all 202 line near) given
+        subst P (e ∙ take_all longest_kept line near) given
   ]
 
   -- and so does what is kept of a line that the end of the input ends
   pub alike_last : {A E : Type 0} (r : Result A E) (old new : Value S) (kept line : List ℕ) (held now : Option (List ℕ))
-      (count total : ℕ) → kept ≡ take 202 line
+      (count total : ℕ) → kept ≡ take longest_kept line
       → TakesOrBreaks g r old new (event_of kept) held now count total
       → TakesOrBreaks g r old new (event_of line) held now count total
-  alike_last r old new kept line held now count total e given = elim (cases_lt 202 (length line)) [
+  alike_last r old new kept line held now count total e given = elim (cases_lt longest_kept (length line)) [
     | inl far ↦
-        alike_long r old new kept line held now count total (omega (arith, far, ap length e, length-take 202 line))
+        alike_long r old new kept line held now count total
+        (omega (arith, far, ap length e, length-take longest_kept line))
         (omega (arith, far)) given
     | inr near ↦ let P : List ℕ → Type 0 = λ l. TakesOrBreaks g r old new (event_of l) held now count total in
-        subst P (e ∙ take_all 202 line near) given
+        subst P (e ∙ take_all longest_kept line near) given
   ]

@@ -4,7 +4,7 @@ use Rattle.std.specs.Io.KnownBytes.{Appends}
 use Rattle.std.proofs.KnownBytes.{Appends-trans, Appends-nil}
 use Rattle.std.proofs.lemmas.List.Concat.{flat_map-append}
 use Rattle.gateway_core.specs.Step.{Item, Answer}
-use Rattle.gateway_core.specs.Handling.{Sight, Handles}
+use Rattle.gateway_core.specs.Handling.{HandlerValue, Handles}
 use Rattle.gateway_core.proofs.ForCallers.{handles-nothing, handles-append}
 use Rattle.gateway_main.specs.Writes.{AppendsPart}
 use Rattle.gateway_main.specs.Written.{text_of, written}
@@ -12,10 +12,10 @@ use Rattle.gateway_main.specs.Replayed.{Answers, AnswersPart}
 use Rattle.sqlite_trees.specs.declared.store.Store.{Ghosts}
 
 module _ {S : Type 0} (g : Ghosts S) where
-  pub answers_nothing : (state : Sight S) (held : Option (List ℕ)) → Answers g state state [] held held
+  pub answers_nothing : (state : HandlerValue S) (held : Option (List ℕ)) → Answers g state state [] held held
   answers_nothing state held = record { answers = []; handled = handles-nothing g state; text = Appends-nil held }
 
-  pub answers_one : (old new : Sight S) (item : Item) (answer : Answer) (held now : Option (List ℕ))
+  pub answers_one : (old new : HandlerValue S) (item : Item) (answer : Answer) (held now : Option (List ℕ))
       → Handles g old (item ∷ []) (answer ∷ []) new → Appends held now (text_of answer)
       → Answers g old new (item ∷ []) held now
   answers_one old new item answer held now handled text = record {
@@ -24,7 +24,7 @@ module _ {S : Type 0} (g : Ghosts S) where
     text = rw (append-nil (text_of answer)) text;
   }
 
-  pub answers-append : (old mid new : Sight S) (items more : List Item) (held holds now : Option (List ℕ))
+  pub answers-append : (old mid new : HandlerValue S) (items more : List Item) (held holds now : Option (List ℕ))
       → Answers g old mid items held holds → Answers g mid new more holds now
       → Answers g old new (items ++ more) held now
   answers-append old mid new items more held holds now first second = record {
@@ -34,7 +34,7 @@ module _ {S : Type 0} (g : Ghosts S) where
         (Appends-trans held holds now (written first.answers) (written second.answers) first.text second.text);
   }
 
-  pub part_one : (old new : Sight S) (item : Item) (answer : Answer) (held now : Option (List ℕ))
+  pub part_one : (old new : HandlerValue S) (item : Item) (answer : Answer) (held now : Option (List ℕ))
       → Handles g old (item ∷ []) (answer ∷ []) new → AppendsPart held now (text_of answer)
       → AnswersPart g old new (item ∷ []) held now
   part_one old new item answer held now handled p = record {
@@ -49,7 +49,7 @@ module _ {S : Type 0} (g : Ghosts S) where
   }
 
   -- whole answers, and then one of which a part is written
-  pub answers-part : (old mid new : Sight S) (items more : List Item) (held holds now : Option (List ℕ))
+  pub answers-part : (old mid new : HandlerValue S) (items more : List Item) (held holds now : Option (List ℕ))
       → Answers g old mid items held holds → AnswersPart g mid new more holds now
       → AnswersPart g old new (items ++ more) held now
   answers-part old mid new items more held holds now first second =

@@ -7,7 +7,7 @@ use Rattle.sqlite.specs.Held.{Held}
 use Rattle.device_registry.specs.Devices.{Devices}
 use Rattle.device_registry.specs.Holding.{MayFind}
 use Rattle.gateway_core.specs.Step.{Item, Answer}
-use Rattle.gateway_core.specs.Handling.{Sight, Handles}
+use Rattle.gateway_core.specs.Handling.{HandlerValue, Handles}
 use Rattle.gateway_core.specs.Beginnings.{LeavesALife}
 use Rattle.gateway_core.specs.Events.{items_of}
 use Rattle.gateway_core.proofs.ForCallers.{calls_leave_a_life}
@@ -15,7 +15,8 @@ use Rattle.gateway_main.specs.Started.{Starts}
 use Rattle.gateway_main.specs.Lived.{ReplaysAreLives, BrokenReplaysAreLives}
 
 module _ {S : Type 0} (g : Ghosts S) where
-  handled_is_a_life : (database : Held S) (base : ℕ) (old new : Sight S) (items : List Item) (answers : List Answer)
+  handled_is_a_life : (database : Held S) (base : ℕ) (old new : HandlerValue S) (items : List Item)
+      (answers : List Answer)
       (began : Starts g database base old) → Handles g old items answers new
       → HasCleanDisk (state g new.registry) → (left : Devices) → MayFind (state g new.registry) left
       → LeavesALife base began.found items answers None left
@@ -25,10 +26,10 @@ module _ {S : Type 0} (g : Ghosts S) where
 
   pub replays_are_lives : ReplaysAreLives g
   replays_are_lives database base old new events held now began done clean left may =
-      handled_is_a_life database base old.sight new.sight (items_of old.rest events) done.answered.answers began
+      handled_is_a_life database base old.handler new.handler (items_of old.rest events) done.answered.answers began
       done.answered.handled clean left may
 
   pub broken_replays_are_lives : BrokenReplaysAreLives g
   broken_replays_are_lives database base old new events event held now began broken clean left may =
-      handled_is_a_life database base old.sight new.sight broken.items
+      handled_is_a_life database base old.handler new.handler broken.items
       (broken.answered.answers ++ broken.answered.last ∷ []) began broken.answered.handled clean left may

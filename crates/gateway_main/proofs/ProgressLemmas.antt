@@ -14,7 +14,7 @@ use Rattle.gateway_core.proofs.ForCallers.{items_behind}
 use Rattle.gateway_core.specs.Counts.{count_with}
 use Rattle.gateway_main.specs.Script.{event_of, script}
 use Rattle.gateway_main.specs.Replayed.{IsIdle, Replays, BreaksOff, ReplaysClosed, ReplaysPart}
-use Rattle.gateway_main.specs.Progress.{Takes, Progress, IsOneLine, ended, events_of}
+use Rattle.gateway_main.specs.Progress.{longest_kept, Takes, Progress, IsOneLine, ended, events_of}
 use Rattle.gateway_core.proofs.ForCallers.{count_on}
 use Rattle.gateway_main.proofs.ReplayLemmas.{replays_nothing, replays-append, replays-break}
 use Rattle.gateway_main.proofs.LineLemmas.{script-first, script-last, script-ended, closed_of_lines, only, only_line}
@@ -47,14 +47,14 @@ module _ {S : Type 0} (g : Ghosts S) where
   -- a byte that ends no line
   pub progress_byte : (entry now : Value S) (input kept : List ℕ) (byte : ℕ) (held holds : Option (List ℕ)) (total : ℕ)
       → byte ≢ 10 → Progress g entry now input kept held holds total
-      → Progress g entry now (input ++ byte ∷ []) (take 202 (kept ++ byte ∷ [])) held holds total
+      → Progress g entry now (input ++ byte ∷ []) (take longest_kept (kept ++ byte ∷ [])) held holds total
   progress_byte entry now input kept byte held holds total other p = record {
     lines = p.lines;
     tail = p.tail ++ byte ∷ [];
     whole = ap (λ s. s ++ byte ∷ []) p.whole ∙ append_assoc (flat_map ended p.lines) p.tail (byte ∷ []);
     each = p.each;
     last = All-append (λ byte. byte ≢ 10) p.tail (byte ∷ []) p.last (only (λ byte. byte ≢ 10) byte other);
-    kept = ap (λ s. take 202 (s ++ byte ∷ [])) p.kept ∙ take_take 202 p.tail (byte ∷ []);
+    kept = ap (λ s. take longest_kept (s ++ byte ∷ [])) p.kept ∙ take_take longest_kept p.tail (byte ∷ []);
     replayed = p.replayed;
     counted = p.counted;
   }
@@ -130,7 +130,8 @@ module _ {S : Type 0} (g : Ghosts S) where
   pub ends_here : (entry now : Value S) (input kept : List ℕ) (held holds : Option (List ℕ)) (total : ℕ)
       → length kept ≡ 0 → Progress g entry now input kept held holds total → Ends entry now input held holds total
   ends_here entry now input kept held holds total none p =
-      let nil : p.tail ≡ [] = nil_from_length p.tail (omega (arith, ap length p.kept, length-take 202 p.tail)) in
+      let nil : p.tail ≡ [] =
+      nil_from_length p.tail (omega (arith, ap length p.kept, length-take longest_kept p.tail)) in
       let is : script input ≡ events_of p.lines =
       script_of entry now input kept held holds total p
       ∙ ap (λ t. events_of p.lines ++ (if length t == 0 then [] else event_of t ∷ [])) nil
@@ -143,7 +144,7 @@ module _ {S : Type 0} (g : Ghosts S) where
       → script input ≡ events_of p.lines ++ event_of p.tail ∷ []
   script_with_last entry now input kept held holds total there p =
       let full : (length p.tail == 0) ≡ false =
-      ne_eqb (length p.tail) 0 (λ h. there (omega (arith, h, ap length p.kept, length-take 202 p.tail))) in
+      ne_eqb (length p.tail) 0 (λ h. there (omega (arith, h, ap length p.kept, length-take longest_kept p.tail))) in
       script_of entry now input kept held holds total p
       ∙ ap (λ b. events_of p.lines ++ (if b then [] else event_of p.tail ∷ [])) full
 

@@ -13,7 +13,7 @@ use Rattle.sqlite_trees.specs.declared.store.Store.{Ghosts}
 module _ {S : Type 0} (g : Ghosts S) where
   pub replays_nothing : (old : Value S) (held : Option (List ℕ)) → IsIdle old → Replays g old old [] held held
   replays_nothing old held idle = record {
-    answered = answers_nothing g old.sight held;
+    answered = answers_nothing g old.handler held;
     rest = (frames_of-may_become old.rest idle.rest).1 ∙ ap rest_of (sym (append-nil old.rest));
     idle = idle;
   }
@@ -23,7 +23,8 @@ module _ {S : Type 0} (g : Ghosts S) where
       → Replays g old new (events ++ more) held now
   replays-append old mid new events more held holds now first second = record {
     answered = rw (items_behind old.rest mid.rest events more first.rest)
-        (answers-append g old.sight mid.sight new.sight (items_of old.rest events) (items_of mid.rest more) held holds
+        (answers-append g old.handler mid.handler new.handler (items_of old.rest events)
+        (items_of mid.rest more) held holds
         now first.answered second.answered);
     rest = second.rest ∙ rest_behind old.rest mid.rest events more first.rest;
     idle = second.idle;
@@ -44,6 +45,6 @@ module _ {S : Type 0} (g : Ghosts S) where
             ∙ sym (append_assoc (items_of old.rest events) second.items (map Received new.ready));
         rest = second.rest ∙ rest_behind old.rest mid.rest events last first.rest;
         answered =
-            answers-part g old.sight mid.sight new.sight (items_of old.rest events) second.items held holds now
+            answers-part g old.handler mid.handler new.handler (items_of old.rest events) second.items held holds now
             first.answered second.answered;
       }

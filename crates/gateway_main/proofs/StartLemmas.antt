@@ -25,9 +25,9 @@ pub starts : {S : Type 0} (g : Ghosts S) (database registry : Held S) (base : �
     → new ≡ new_value base registry
     → (HasCleanDisk (state g registry) → AreRegistries (state g registry).may_leave)
     → (HasCleanDisk (state g registry) → (devices : Devices) × Opens (state g database) (state g registry) devices)
-    → HasCleanDisk (state g new.sight.registry) → Starts g database base new.sight
+    → HasCleanDisk (state g new.handler.registry) → Starts g database base new.handler
 starts {S} g database registry base new is registries opens =
-    let P : Value S → Type 0 = λ v. HasCleanDisk (state g v.sight.registry) → Starts g database base v.sight in
+    let P : Value S → Type 0 = λ v. HasCleanDisk (state g v.handler.registry) → Starts g database base v.handler in
     subst P (sym is) (λ clean.
     let opened = opens clean in
     record {

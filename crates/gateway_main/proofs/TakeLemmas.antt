@@ -8,7 +8,7 @@ use Rattle.esp3_frames.specs.Frames.{packets_in, rest_of}
 use Rattle.esp3_frames.specs.Framing.{MayBecomePacket}
 use Rattle.esp3_frames.proofs.ForCallers.{frames_of-may_become}
 use Rattle.gateway_core.specs.Step.{Item, Received, Ordered, Answer}
-use Rattle.gateway_core.specs.Handling.{Sight}
+use Rattle.gateway_core.specs.Handling.{HandlerValue}
 use Rattle.gateway_core.specs.Calls.{Value, Moves, Next, Byte, Order}
 use Rattle.gateway_core.specs.Events.{Piece, Line, items_of}
 use Rattle.gateway_core.proofs.ForCallers.{brought-rest, cuts_do_not_matter, rest_goes_on, items_behind, rest_behind}
@@ -47,7 +47,7 @@ module _ {S : Type 0} (g : Ghosts S) where
   pub drains_nothing : (old : Value S) (held : Option (List ℕ)) (count : ℕ) → count < 2 ^ 64
       → Drains g old old held held count count
   drains_nothing old held count fits =
-      let none = answers_nothing g old.sight held in
+      let none = answers_nothing g old.handler held in
       record { packets = []; ready = refl; rest = refl; answered = none; counted = omega arith }
 
   pub drains_one : (old mid new : Value S) (answer : Answer) (held holds now : Option (List ℕ)) (count some total : ℕ)
@@ -59,9 +59,9 @@ module _ {S : Type 0} (g : Ghosts S) where
         ready = ready_after old.ready mid.ready new.ready before.packets packet before.ready first;
         rest = rest ∙ before.rest;
         answered = rw (map-append Received before.packets (packet ∷ []))
-            (answers-append g old.sight mid.sight new.sight (map Received before.packets) (Received packet ∷ [])
+            (answers-append g old.handler mid.handler new.handler (map Received before.packets) (Received packet ∷ [])
             held holds now before.answered
-            (answers_one g mid.sight new.sight (Received packet) answer holds now handled text));
+            (answers_one g mid.handler new.handler (Received packet) answer holds now handled text));
         counted =
             rw (length-append before.packets (packet ∷ []))
             (count_on count some total (length before.packets) 1 before.counted counted);
@@ -75,9 +75,9 @@ module _ {S : Type 0} (g : Ghosts S) where
     ready = ready_after old.ready mid.ready new.ready before.packets packet before.ready first;
     rest = rest ∙ before.rest;
     answered = rw (map-append Received before.packets (packet ∷ []))
-        (answers-part g old.sight mid.sight new.sight (map Received before.packets) (Received packet ∷ [])
+        (answers-part g old.handler mid.handler new.handler (map Received before.packets) (Received packet ∷ [])
         held holds now before.answered
-        (part_one g mid.sight new.sight (Received packet) answer holds now handled part));
+        (part_one g mid.handler new.handler (Received packet) answer holds now handled part));
   }
 
   -- ---- a piece
@@ -112,8 +112,9 @@ module _ {S : Type 0} (g : Ghosts S) where
       let is : items_of now.rest (Piece (byte ∷ []) ∷ []) ≡ map Received drained.packets =
       items_of-byte now mid byte before.replayed.idle moved ∙ ap (λ (ps : List Packet). map Received ps) all in
       let rest : new.rest ≡ rest_of (now.rest ++ byte ∷ []) = drained.rest ∙ moved.3 in
-      let answered : Answers g now.sight new.sight (items_of now.rest (Piece (byte ∷ []) ∷ [])) holds after =
-      rw is (let P : Sight S → Type 0 = λ s. Answers g s new.sight (map Received drained.packets) holds after in subst
+      let answered : Answers g now.handler new.handler (items_of now.rest (Piece (byte ∷ []) ∷ [])) holds after =
+      rw is (let P : HandlerValue S
+      → Type 0 = λ s. Answers g s new.handler (map Received drained.packets) holds after in subst
       P moved.1 drained.answered) in
       let next : Replays g now new (Piece (byte ∷ []) ∷ []) holds after = record {
         answered = answered;
@@ -158,9 +159,10 @@ module _ {S : Type 0} (g : Ghosts S) where
             ∙ rest_behind old.rest now.rest (Piece bytes ∷ []) (Piece (byte ∷ []) ∷ []) before.replayed.rest
             ∙ ap (λ w. rest_of (old.rest ++ w)) (sym (append_assoc bytes (byte ∷ []) []));
         answered =
-            answers-part g old.sight now.sight new.sight first (map Received drained.packets) held holds after
+            answers-part g old.handler now.handler new.handler first (map Received drained.packets) held holds after
             before.replayed.answered
-            (let P : Sight S → Type 0 = λ s. AnswersPart g s new.sight (map Received drained.packets) holds after in
+            (let P : HandlerValue S
+            → Type 0 = λ s. AnswersPart g s new.handler (map Received drained.packets) holds after in
             subst P moved.1 drained.answered);
       }
 
@@ -174,7 +176,7 @@ module _ {S : Type 0} (g : Ghosts S) where
       → total ≡ count_with count 1 → Takes g old new (Line line) held now count total
   takes_order old new line answer held now count total idle (ready, rest, handled) text counted = record {
     replayed = record {
-      answered = answers_one g old.sight new.sight (Ordered line) answer held now handled text;
+      answered = answers_one g old.handler new.handler (Ordered line) answer held now handled text;
       rest = rest_stays old new idle rest;
       idle = record { ready = ready ∙ idle.ready; rest = rw rest idle.rest };
     };
@@ -190,5 +192,5 @@ module _ {S : Type 0} (g : Ghosts S) where
     items = Ordered line ∷ [];
     stand = ap (λ (ps : List Packet). Ordered line ∷ map Received ps) (sym (ready ∙ idle.ready));
     rest = rest_stays old new idle rest;
-    answered = part_one g old.sight new.sight (Ordered line) answer held now handled part;
+    answered = part_one g old.handler new.handler (Ordered line) answer held now handled part;
   }

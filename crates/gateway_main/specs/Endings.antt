@@ -20,11 +20,11 @@ use Rattle.gateway_main.specs.Faults.{fault_of_run, fault_of_store}
 -- where the arguments of the process cannot be had: there is no memory for them, or one is not text
 abbrev pub ending_of_arguments : IoErrorKind → Ending
 ending_of_arguments io.OutOfMemory = Failed Memory
-ending_of_arguments other = NotText
+ending_of_arguments _ = NotText
 
 abbrev pub ending_of_words : ErrorKind → Error → Ending
 ending_of_words OutOfMemory error = Failed Memory
-ending_of_words other error = Said error
+ending_of_words _ error = Said error
 
 -- where the command line is refused
 abbrev pub ending_of_line : Refused → Ending
@@ -41,7 +41,7 @@ done_of (Ok summary) (Ok closed) = Ok closed
 abbrev pub status_of_kind : ErrorKind → ℕ
 status_of_kind DisplayHelp = 0
 status_of_kind DisplayVersion = 0
-status_of_kind other = 2
+status_of_kind _ = 2
 
 -- 0 where the program did what it was asked, 1 for a fault, 2 for a command line that is not taken
 abbrev pub status_of : {A : Type 0} → Result A Ending → ℕ

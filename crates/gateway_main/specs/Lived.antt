@@ -16,9 +16,9 @@ module _ {S : Type 0} (g : Ghosts S) where
   abbrev pub ReplaysAreLives : Type 0
   ReplaysAreLives =
       (database : Held S) (base : ℕ) (old new : Value S) (events : List Event) (held now : Option (List ℕ))
-      → (began : Starts g database base old.sight) → (done : Replays g old new events held now)
-      → HasCleanDisk (state g new.sight.registry)
-      → (left : Devices) → MayFind (state g new.sight.registry) left
+      → (began : Starts g database base old.handler) → (done : Replays g old new events held now)
+      → HasCleanDisk (state g new.handler.registry)
+      → (left : Devices) → MayFind (state g new.handler.registry) left
       → LeavesALife base began.found (items_of old.rest events) done.answered.answers None left
 
   -- The same where a write failed. The last answer need not be out, but its item was handled.
@@ -26,7 +26,7 @@ module _ {S : Type 0} (g : Ghosts S) where
   BrokenReplaysAreLives =
       (database : Held S) (base : ℕ) (old new : Value S) (events : List Event) (event : Event)
       (held now : Option (List ℕ))
-      → (began : Starts g database base old.sight) → (broken : BreaksOff g old new events event held now)
-      → HasCleanDisk (state g new.sight.registry)
-      → (left : Devices) → MayFind (state g new.sight.registry) left
+      → (began : Starts g database base old.handler) → (broken : BreaksOff g old new events event held now)
+      → HasCleanDisk (state g new.handler.registry)
+      → (left : Devices) → MayFind (state g new.handler.registry) left
       → LeavesALife base began.found broken.items (broken.answered.answers ++ broken.answered.last ∷ []) None left

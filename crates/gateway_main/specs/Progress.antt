@@ -1,15 +1,21 @@
 -- How far a replay has come.
-use Rattle.std.specs.Prelude.{◌≡◌, ◌≢◌, ℕ, List, [], ◌∷◌, ◌++◌, length, take, map, All, Option, Result, MatchResult}
+use Rattle.std.specs.Prelude.{◌≡◌, ◌≢◌, ◌+◌, ℕ, List, [], ◌∷◌, ◌++◌, length, take, map, All, Option, Result}
+use Rattle.std.specs.Prelude.{MatchResult}
 use Rattle.std.specs.List.{flat_map}
 use Rattle.std.specs.Str.Lines.{strip_carriage_return}
 use Rattle.gateway_core.specs.Step.{Received}
 use Rattle.gateway_core.specs.Calls.{Value}
 use Rattle.gateway_core.specs.Events.{Event, items_of}
+use Rattle.gateway_core.specs.Orders.{longest_line}
 use Rattle.esp3_frames.specs.Packet.{Packet}
 use Rattle.gateway_core.specs.Counts.{count_with}
 use Rattle.gateway_main.specs.Script.{event_of}
 use Rattle.gateway_main.specs.Replayed.{Answers, AnswersPart, Replays, BreaksOff}
 use Rattle.sqlite_trees.specs.declared.store.Store.{Ghosts}
+
+-- how many bytes are kept of a line: with CR they tell each line that is not too long from all that are
+abbrev pub longest_kept : ℕ
+longest_kept = longest_line + 2
 
 -- no LF stands in it
 abbrev pub IsOneLine : List ℕ → Type 0
@@ -28,7 +34,7 @@ module _ {S : Type 0} (g : Ghosts S) where
     pub packets : List Packet
     pub ready : old.ready ≡ packets ++ new.ready
     pub rest : new.rest ≡ old.rest
-    pub answered : Answers g old.sight new.sight (map Received packets) held now
+    pub answered : Answers g old.handler new.handler (map Received packets) held now
     pub counted : total ≡ count_with count (length packets)
 
   -- the same, where a write failed
@@ -36,7 +42,7 @@ module _ {S : Type 0} (g : Ghosts S) where
     pub packets : List Packet
     pub ready : old.ready ≡ packets ++ new.ready
     pub rest : new.rest ≡ old.rest
-    pub answered : AnswersPart g old.sight new.sight (map Received packets) held now
+    pub answered : AnswersPart g old.handler new.handler (map Received packets) held now
 
   -- the event's items were handled and counted
   pub record Takes (old new : Value S) (event : Event) (held now : Option (List ℕ)) (count total : ℕ) : Type 0 where
@@ -57,6 +63,6 @@ module _ {S : Type 0} (g : Ghosts S) where
     pub whole : input ≡ flat_map ended lines ++ tail
     pub each : All IsOneLine lines
     pub last : IsOneLine tail
-    pub kept : unended ≡ take 202 tail
+    pub kept : unended ≡ take longest_kept tail
     pub replayed : Replays g entry now (events_of lines) held holds
     pub counted : total ≡ count_with 0 (length (items_of entry.rest (events_of lines)))

@@ -4,7 +4,7 @@ use Rattle.std.specs.Io.KnownBytes.{Appends}
 use Rattle.esp3_frames.specs.Framing.{MayBecomePacket}
 use Rattle.esp3_frames.specs.Frames.{rest_of}
 use Rattle.gateway_core.specs.Step.{Item, Received, Answer}
-use Rattle.gateway_core.specs.Handling.{Sight, Handles}
+use Rattle.gateway_core.specs.Handling.{HandlerValue, Handles}
 use Rattle.gateway_core.specs.Calls.{Value}
 use Rattle.gateway_core.specs.Events.{Event, Piece, Line, items_of, bytes_in}
 use Rattle.gateway_main.specs.Written.{text_of, written}
@@ -24,13 +24,13 @@ IsBegun event other = ⊥
 
 module _ {S : Type 0} (g : Ghosts S) where
   -- the items were handled, and the text of their answers was written and nothing else
-  pub record Answers (old new : Sight S) (items : List Item) (held now : Option (List ℕ)) : Type 0 where
+  pub record Answers (old new : HandlerValue S) (items : List Item) (held now : Option (List ℕ)) : Type 0 where
     pub answers : List Answer
     pub handled : Handles g old items answers new
     pub text : Appends held now (written answers)
 
   -- the items were handled, but of the last answer's text only a first part was written, and not all of it
-  pub record AnswersPart (old new : Sight S) (items : List Item) (held now : Option (List ℕ)) : Type 0 where
+  pub record AnswersPart (old new : HandlerValue S) (items : List Item) (held now : Option (List ℕ)) : Type 0 where
     pub answers : List Answer
     pub last : Answer
     pub handled : Handles g old items (answers ++ last ∷ []) new
@@ -42,7 +42,7 @@ module _ {S : Type 0} (g : Ghosts S) where
 
   -- the events' items, and nothing else, were handled and answered
   pub record Replays (old new : Value S) (events : List Event) (held now : Option (List ℕ)) : Type 0 where
-    pub answered : Answers old.sight new.sight (items_of old.rest events) held now
+    pub answered : Answers old.handler new.handler (items_of old.rest events) held now
     pub rest : new.rest ≡ rest_of (old.rest ++ bytes_in events)
     pub idle : IsIdle new
 
@@ -55,7 +55,7 @@ module _ {S : Type 0} (g : Ghosts S) where
     pub items : List Item
     pub stand : items_of old.rest (events ++ begun ∷ []) ≡ items ++ map Received new.ready
     pub rest : new.rest ≡ rest_of (old.rest ++ bytes_in (events ++ begun ∷ []))
-    pub answered : AnswersPart old.sight new.sight items held now
+    pub answered : AnswersPart old.handler new.handler items held now
 
   -- the lines of the input that LF ends were replayed
   pub record ReplaysClosed (old new : Value S) (input : List ℕ) (held now : Option (List ℕ)) : Type 0 where

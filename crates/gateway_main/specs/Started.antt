@@ -6,13 +6,13 @@ use Rattle.device_registry.specs.Devices.{Devices}
 use Rattle.device_registry.specs.Holding.{AreRegistries, Finds}
 use Rattle.device_registry.specs.Opening.{RefusesToOpen}
 use Rattle.device_registry.specs.declared.fault.OpenFault.TheVariants as opening
-use Rattle.gateway_core.specs.Handling.{Sight}
+use Rattle.gateway_core.specs.Handling.{HandlerValue}
 use Rattle.gateway_core.specs.Beginnings.{BeginsAt}
 use Rattle.gateway_main.specs.declared.fault.Fault.{Fault}
 use Rattle.gateway_main.specs.declared.fault.Fault.TheVariants.{NotARegistry, Store, Memory, Read, Write, TooManyTurns}
 
 -- The gateway knows the devices that the database held when it was last committed. A stop leaves these, in a registry.
-pub record Starts {S : Type 0} (g : Ghosts S) (database : Held S) (base : ℕ) (now : Sight S) : Type 0 where
+pub record Starts {S : Type 0} (g : Ghosts S) (database : Held S) (base : ℕ) (now : HandlerValue S) : Type 0 where
   pub found : Devices
   pub finds : Finds (state g database).committed.trees found
   pub base_is : now.base ≡ base

@@ -13,10 +13,10 @@ pub mod fault;
 #[cfg(test)]
 mod gateway_tests;
 pub mod laws;
-mod lines;
 mod pieces;
 mod replaying;
 mod running;
+mod script_lines;
 mod sink;
 mod source;
 mod starting;

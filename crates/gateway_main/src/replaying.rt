@@ -10,13 +10,16 @@ ghost use Rattle.gateway_main.specs.Progress.{Progress};
 ghost use Rattle.gateway_main.specs.Replayed.{IsIdle, Replays, ReplaysClosed, ReplaysPart};
 ghost use Rattle.gateway_main.specs.Script.{script};
 
-use crate::lines::take_line;
+use crate::script_lines::take_line;
 use crate::sink::Sink;
 use crate::source::Source;
 use crate::tally::Failed;
 use crate::unended::UnendedLine;
 use gateway_core::Gateway;
 use sqlite::Alter;
+
+/// How many bytes are read at most in one turn. Own choice.
+const LONGEST_READ: usize = 256;
 
 /// What a replay did.
 #[derive(Clone, Copy, Debug, PartialEq, Eq)]
@@ -38,14 +41,15 @@ pub enum RunFault {
 
 /// Replays a script: reads its lines, handles them by the gateway, and writes what the gateway answers.
 ///
-/// A line ends with LF or with the end of the input, and one CR before LF is dropped; behind the last LF stands no
-/// line where nothing follows. A line of at most 200 bytes that is `S`, one space and an even number of hexadecimal
-/// digits is a piece of the serial stream. Each other line is an order of the desk. For each packet and each order
-/// the radio bytes are written as such a piece, in lower case and with LF, and then the desk's text.
+/// A line ends with LF or with the end of the input, and one CR before LF is dropped; behind the last LF stands no line
+/// where nothing follows. A line of at most `LONGEST_LINE` bytes that is `S`, one space and an even number of
+/// hexadecimal digits is a piece of the serial stream. Each other line is an order of the desk. For each packet and
+/// each order the radio bytes are written as such a piece, in lower case and with LF, and then the desk's text.
 ///
-/// A turn is one read of at most 256 bytes, and `turns` reads are made at most. A read of 0 bytes ends the input.
-/// After `Read` and `TooManyTurns` the lines that LF ended are done, and of a line that did not end nothing. After
-/// `Write` the output breaks off within the text of one packet or order, and packets may still wait in the gateway.
+/// A turn is one read of at most `LONGEST_READ` bytes, and `turns` reads are made at most. A read of 0 bytes ends the
+/// input. After `Read` and `TooManyTurns` the lines that LF ended are done, and of a line that did not end nothing.
+/// After `Write` the output breaks off within the text of one packet or order, and packets may still wait in the
+/// gateway.
 pub fn replay<R: Source, W: Sink, S: Alter>(
     reader: &mut R,
     writer: &mut W,
@@ -85,7 +89,7 @@ pub fn replay<R: Source, W: Sink, S: Alter>(
     let mut unended = UnendedLine::new();
     let mut items = 0u64;
     for _turn in 0..turns {
-        let mut buffer = [0u8; 256];
+        let mut buffer = [0u8; LONGEST_READ];
         let length = match reader.read(&mut buffer) {
             Ok(length) => length,
             Err(_) => return Err(RunFault::Read),

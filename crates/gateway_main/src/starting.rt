@@ -28,10 +28,10 @@ pub fn start<S: Alter + Drop>(
 ) -> Result<Gateway<S>, Fault>
     requires base { Address.is_base base ≡ true }
     requires idle { IsBetweenTransactions (state S.Store conn) }
-    ensures new { IfOk result (λ gateway. gateway ≡ new_value base gateway.sight.registry) }
+    ensures new { IfOk result (λ gateway. gateway ≡ new_value base gateway.handler.registry) }
     ensures idle { IfOk result IsIdle }
-    ensures starts { IfOk result (λ gateway. HasCleanDisk (state S.Store gateway.sight.registry) →
-        Starts S.Store conn base gateway.sight) }
+    ensures starts { IfOk result (λ gateway. HasCleanDisk (state S.Store gateway.handler.registry) →
+        Starts S.Store conn base gateway.handler) }
     ensures refused { IfErr result (RefusesToStart S.Store conn) }
 {
     let registry = Registry::open_with(alloc, conn, REMEMBERED)?;

@@ -53,6 +53,35 @@ fn scripts(rt: HostRuntime) -> Result<(), Fail> {
     Ok(())
 }
 
+/// A reader that fails where it is not given room for just 256 bytes.
+#[derive(Drop)]
+struct Wants256 {
+    text: &'static [u8],
+}
+
+impl Read for Wants256 {
+    fn read(&mut self, buffer: &mut [u8]) -> io::Result<usize> {
+        if buffer.len() != 256 {
+            return Err(io::Error::from(io::ErrorKind::Other));
+        }
+        self.text.read(buffer)
+    }
+}
+
+#[test]
+fn a_turn_reads_256_bytes(rt: HostRuntime) -> Result<(), Fail> {
+    let mut out = Vec::new(rt.alloc());
+    let reader = Wants256 { text: b"\n" };
+    let summary = run(
+        &rt,
+        &mut OverRead::new(reader),
+        &mut OverWrite::new(&mut out),
+        2,
+    )?;
+    assert!(rt; summary == Ok(Summary { items: 1 }));
+    Ok(())
+}
+
 /// A reader that fails at its second read.
 #[derive(Drop)]
 struct FailsAtSecond {

@@ -1,22 +1,30 @@
 //! A line of which the end has not come.
-ghost use Rattle.std.specs.Prelude.{◌≡◌, ◌≤◌, ◌==◌, [], ◌∷◌, ◌++◌, List, ℕ, length, take};
+ghost use Rattle.std.specs.Prelude.{◌≡◌, ◌==◌, [], ◌∷◌, ◌++◌, length, take};
+ghost use Rattle.gateway_main.specs.Progress.{longest_kept};
 
 use arrayvec::ArrayVec;
+use gateway_core::LONGEST_LINE;
 use std::marker::Model;
 
-/// The first 202 bytes of a line of which the end has not come. That is enough: with CR it tells each line of at most
-/// 200 bytes from all that are longer, which are treated alike.
+/// How many bytes are kept of a line. That is enough: with CR it tells each line of at most `LONGEST_LINE` bytes from
+/// all that are longer, which are treated alike.
+const LONGEST_KEPT: usize = LONGEST_LINE + 2;
+
+/// The first bytes of a line of which the end has not come.
 #[derive(Drop)]
 pub struct UnendedLine {
-    bytes: ArrayVec<u8, 202>,
+    bytes: ArrayVec<u8, LONGEST_KEPT>,
 }
 
 impl Model for UnendedLine {
+    ghost use Rattle.std.specs.Prelude.{◌≤◌, List, ℕ, length};
+    ghost use Rattle.gateway_main.specs.Progress.{longest_kept};
+
     ghost Value = { List ℕ };
 
     ghost view = { λ line. line.bytes.items };
 
-    ghost invariant = { λ line. length line.bytes.items ≤ 202 };
+    ghost invariant = { λ line. length line.bytes.items ≤ longest_kept };
 }
 
 impl UnendedLine {
@@ -36,9 +44,9 @@ impl UnendedLine {
 
     /// Takes the next byte. It is dropped where there is no room.
     pub fn push(&mut self, byte: u8)
-        ensures { self.new ≡ take 202 (self.old ++ byte ∷ []) }
+        ensures { self.new ≡ take longest_kept (self.old ++ byte ∷ []) }
     {
-        if self.bytes.len() < 202 {
+        if self.bytes.len() < LONGEST_KEPT {
             self.bytes.push(byte);
         }
     }

@@ -1,7 +1,7 @@
 use Rattle.std.proofs.lemmas.Result.{MatchResult-weaker}
 use Rattle.gateway_core.specs.Replies.{answer_of}
 use Rattle.gateway_main.proofs.TakeLemmas.{takes_order, breaks_at_order}
-use Rattle.gateway_main.proofs.lines.take_order.Goals as goal
+use Rattle.gateway_main.proofs.script_lines.take_order.Goals as goal
 
 pub returns-clause-taken : goal.returns-clause-taken
 returns-clause-taken g c =

@@ -2,6 +2,7 @@
 ghost use Rattle.std.specs.Prelude.{◌≡◌, ◌≤◌, ◌/◌, length, drop, IsErr, MatchBool, Ok};
 ghost use Rattle.hex.specs.Hex.{decode_of};
 ghost use Rattle.gateway_core.specs.Events.{Line as LineEvent};
+ghost use Rattle.gateway_core.specs.Orders.{longest_line};
 ghost use Rattle.gateway_main.specs.Counts.{Went};
 ghost use Rattle.gateway_main.specs.Progress.{TakesOrBreaks};
 ghost use Rattle.gateway_main.specs.Replayed.{IsIdle};
@@ -11,8 +12,11 @@ use crate::pieces::take_piece;
 use crate::sink::Sink;
 use crate::tally::Failed;
 use crate::writing::write_reply;
-use gateway_core::Gateway;
+use gateway_core::{Gateway, LONGEST_LINE};
 use sqlite::Alter;
+
+/// How many bytes the longest line spells: two digits each, behind `S` and a space.
+const LONGEST_PIECE: usize = (LONGEST_LINE - 2) / 2;
 
 /// Takes a line without its end.
 pub fn take_line<W: Sink, S: Alter>(
@@ -26,7 +30,7 @@ pub fn take_line<W: Sink, S: Alter>(
         (W.held writer.old) (W.held writer.new) items.old items.new }
     ensures told { Went result (W.counts writer.old) (W.counts writer.new) }
 {
-    if line.len() <= 200 && line.starts_with(b"S ".as_slice()) {
+    if line.len() <= LONGEST_LINE && line.starts_with(b"S ".as_slice()) {
         take_digits(writer, gateway, line, items)
     } else {
         take_order(writer, gateway, line, items)
@@ -42,14 +46,14 @@ fn take_digits<W: Sink, S: Alter>(
 ) -> Result<(), Failed>
     requires idle { IsIdle gateway.old }
     requires long { 2 ≤ length line.now }
-    requires short { length line.now ≤ 200 }
+    requires short { length line.now ≤ longest_line }
     ensures taken { TakesOrBreaks S.Store result gateway.old gateway.new
         (spelled line.now (decode_of (drop 2 line.now)))
         (W.held writer.old) (W.held writer.new) items.old items.new }
     ensures told { Went result (W.counts writer.old) (W.counts writer.new) }
 {
     let digits = &line[2..];
-    let mut bytes = [0u8; 99];
+    let mut bytes = [0u8; LONGEST_PIECE];
     let piece = &mut bytes[..digits.len() / 2];
     if spells(digits, piece) {
         take_piece(writer, gateway, piece, items)
