@@ -1,22 +1,21 @@
 -- The JSON values behind the lines have the texts of the lines, and hold no float.
-use Rattle.std.proofs.Common.{◌≡◌, ℕ, ℤ, pos, negsuc, ◌-ℤ◌, List, [], ◌∷◌, ◌++◌, map, codes, decimal, true, false}
+use Rattle.std.proofs.Common.{◌≡◌, ℕ, ℤ, pos, negsuc, ◌-ℤ◌, List, [], ◌∷◌, ◌++◌, map, codes, true, false}
 use Rattle.std.proofs.Common.{slice_get}
 use Rattle.std.proofs.Common.{Option, Some, None, refl, sym, ap, ap₂, ◌∙◌, append_assoc}
 use Rattle.std.specs.Fmt.{signed_decimal}
 use Rattle.std.specs.List.{AllByRecursion, join_by, flat_map}
-use Rattle.json.specs.Print.{escape, quoted}
-use Rattle.serde_json.specs.Data.{Data, unsigned, number, string, array, object, Members, member, no_members}
+use Rattle.json.specs.Print.{quoted}
+use Rattle.serde_json.specs.Data.{Data, object}
 use Rattle.serde_json.specs.Written.{number_text, compact_text, items_text, members_text, has_float, items_have_float}
 use Rattle.serde_json.specs.Find.{of_integer, is_float}
 use Rattle.serde_json.proofs.OnLiterals.{serde_json_on_literals}
 use Rattle.profiles_rps.specs.Reading.{Meaning, value, word, raw, out_of_range, Entry}
 use Rattle.device_registry.specs.declared.device.Device.{Device}
-use Rattle.gateway_core.specs.Lines.{id_text, eep_text, outcome_text, dbm_text, named_text, entry_text, list_text}
+use Rattle.gateway_core.specs.Lines.{eep_text, outcome_text, dbm_text, named_text, entry_text}
 use Rattle.gateway_core.specs.Lines.{in_quotes, member_text, object_text, line_text}
 use Rattle.gateway_core.specs.Lines.{ReadingLine, reading_text, maker_text, TeachLine, teach_text, device_text}
 use Rattle.gateway_core.specs.Lines.{count_text}
 use Rattle.gateway_core.specs.Lines.{status_text, code_names, name_text, response_text}
-use Rattle.hex.specs.Hex.{encode_upper}
 use Rattle.gateway_core.specs.Responses.{Response}
 use Rattle.gateway_core.specs.declared.counts.Counts.{Counts}
 use Rattle.gateway_core.specs.declared.lines.teach.Outcome.{Outcome}

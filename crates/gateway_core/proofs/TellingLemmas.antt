@@ -11,7 +11,6 @@ use Rattle.erp1_telegrams.specs.Telegram.{Telegram}
 use Rattle.erp1_telegrams.specs.declared.eep.Eep.{Eep}
 use Rattle.device_registry.specs.declared.device.Device.{Device}
 use Rattle.device_registry.specs.Devices.{Devices, device_of, all_of, is_full}
-use Rattle.gateway_core.specs.declared.counts.Counts.{Counts}
 use Rattle.gateway_core.specs.declared.lines.error.ErrorName.TheVariants.{TooLong}
 use Rattle.gateway_core.specs.declared.lines.teach.Outcome.{Outcome}
 use Rattle.gateway_core.specs.declared.lines.teach.Outcome.TheVariants.{Accepted, Deleted}
