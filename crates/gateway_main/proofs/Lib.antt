@@ -6,7 +6,7 @@ pub mod AnswerLemmas
 pub mod ReplayLemmas
 pub mod TakeLemmas
 pub mod LineLemmas
-pub mod AlikeLemmas
+pub mod LongLineLemmas
 pub mod ProgressLemmas
 pub mod CommandLemmas
 pub mod StartLemmas

@@ -1,6 +1,6 @@
 use Rattle.std.proofs.Common.{Ok, Err}
 use Rattle.std.proofs.lemmas.Result.{err_from_is_err_and}
-use Rattle.gateway_main.proofs.AlikeLemmas.{alike}
+use Rattle.gateway_main.proofs.LongLineLemmas.{kept_line_alike}
 use Rattle.gateway_main.proofs.ProgressLemmas.{progress_byte, progress_line, part_at_line}
 use Rattle.gateway_main.proofs.replaying.take_byte.Goals as goal
 
@@ -20,7 +20,7 @@ returns-in_err-take_line-clause-broken g c =
     let exit = err_from_is_err_and c.from_residual.result c.from_residual.ensures.1 in
     rw exit.1 (λ entry input held more p. rw c.if-byte-ne10.false
     (part_at_line g.S.Store entry old new input kept more held (h c.args.writer.now) (h c.take_line.new.writer) count p
-    (alike g.S.Store {A = Unit {0}} {E = Unit {0}} (Err tt) old new kept p.tail (h c.args.writer.now)
+    (kept_line_alike g.S.Store {A = Unit {0}} {E = Unit {0}} (Err tt) old new kept p.tail (h c.args.writer.now)
     (h c.take_line.new.writer) count count p.kept
     (rw (c.strip.ensures, c.as_slice.ensures) at c.in_err-take_line.ensures.taken))))
 
@@ -35,6 +35,6 @@ returns-clause-progress g c =
     λ entry input held p. rw (c.clear.ensures, c.if-byte-ne10.false)
     (progress_line g.S.Store entry old new input kept held (h c.args.writer.now) (h c.take_line.new.writer) count total
     p
-    (alike g.S.Store {A = Unit {0}} {E = Unit {0}} (Ok tt) old new kept p.tail (h c.args.writer.now)
+    (kept_line_alike g.S.Store {A = Unit {0}} {E = Unit {0}} (Ok tt) old new kept p.tail (h c.args.writer.now)
     (h c.take_line.new.writer) count total p.kept
     (rw (c.strip.ensures, c.as_slice.ensures) at c.in_ok-take_line.ensures.taken)))

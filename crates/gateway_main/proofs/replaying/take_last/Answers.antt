@@ -2,7 +2,7 @@ use Rattle.std.proofs.Common.{Ok, Err, arith, length, sym, ◌∙◌}
 use Rattle.std.proofs.lemmas.Bool.{eqb-false}
 use Rattle.std.proofs.lemmas.Bool.Decides.{nat_tests}
 use Rattle.std.proofs.lemmas.Result.{MatchResult-weaker}
-use Rattle.gateway_main.proofs.AlikeLemmas.{alike_last}
+use Rattle.gateway_main.proofs.LongLineLemmas.{kept_last_line_alike}
 use Rattle.gateway_main.proofs.ProgressLemmas.{ends_here, ends_at_last, part_at_last}
 use Rattle.gateway_main.proofs.replaying.take_last.Goals as goal
 
@@ -26,7 +26,7 @@ returns-clause-replayed g c =
     let e =
     ends_at_last g.S.Store entry old new input kept held (h c.args.writer.now) (h c.take_line.new.writer) count total
     there p
-    (alike_last g.S.Store {A = Unit {0}} {E = Unit {0}} (Ok tt) old new kept p.tail (h c.args.writer.now)
+    (kept_last_line_alike g.S.Store {A = Unit {0}} {E = Unit {0}} (Ok tt) old new kept p.tail (h c.args.writer.now)
     (h c.take_line.new.writer) count total p.kept (rw c.as_slice.ensures at takes)) in
     (e.replayed, e.counted)) (λ _ _. tt)
 
@@ -40,5 +40,5 @@ returns-clause-broken g c =
     let there = eqb-false (length kept) 0 (sym c.is_empty.ensures ∙ c.if-is_empty.false) in
     MatchResult-weaker c.take_line.result c.take_line.ensures.taken (λ _ _. tt) (λ _ broken entry input held p.
     part_at_last g.S.Store entry old new input kept held (h c.args.writer.now) (h c.take_line.new.writer) count there p
-    (alike_last g.S.Store {A = Unit {0}} {E = Unit {0}} (Err tt) old new kept p.tail (h c.args.writer.now)
+    (kept_last_line_alike g.S.Store {A = Unit {0}} {E = Unit {0}} (Err tt) old new kept p.tail (h c.args.writer.now)
     (h c.take_line.new.writer) count count p.kept (rw c.as_slice.ensures at broken)))

@@ -114,11 +114,12 @@ module _ {S : Type 0} (g : Ghosts S) where
         };
       }
 
-  alike_long : {A E : Type 0} (r : Result A E) (old new : Value S) (short long : List ℕ) (held now : Option (List ℕ))
+  long_lines_alike : {A E : Type 0} (r : Result A E) (old new : Value S) (short long : List ℕ)
+      (held now : Option (List ℕ))
       (count total : ℕ) → longest_line < length short → longest_line < length long
       → TakesOrBreaks g r old new (event_of short) held now count total
       → TakesOrBreaks g r old new (event_of long) held now count total
-  alike_long r old new short long held now count total a b given =
+  long_lines_alike r old new short long held now count total a b given =
       let P : Event → Type 0 = λ e. TakesOrBreaks g r old new e held now count total in
       subst P (sym (event_of-long long b))
       (MatchResult-weaker r (subst P (event_of-long short a) given)
@@ -127,12 +128,14 @@ module _ {S : Type 0} (g : Ghosts S) where
       broken.rest broken.answered))
 
   -- what is kept of a line that LF ends stands for the line
-  pub alike : {A E : Type 0} (r : Result A E) (old new : Value S) (kept line : List ℕ) (held now : Option (List ℕ))
+  pub kept_line_alike : {A E : Type 0} (r : Result A E) (old new : Value S) (kept line : List ℕ)
+      (held now : Option (List ℕ))
       (count total : ℕ) → kept ≡ take longest_kept line
       → TakesOrBreaks g r old new (event_of (strip_carriage_return kept)) held now count total
       → TakesOrBreaks g r old new (event_of (strip_carriage_return line)) held now count total
-  alike r old new kept line held now count total e given = elim (cases_lt longest_kept (length line)) [
-    | inl far ↦ alike_long r old new (strip_carriage_return kept) (strip_carriage_return line) held now count total
+  kept_line_alike r old new kept line held now count total e given = elim (cases_lt longest_kept (length line)) [
+    | inl far ↦ long_lines_alike r old new (strip_carriage_return kept)
+        (strip_carriage_return line) held now count total
         (omega (arith, far, length-strip kept, ap length e, length-take longest_kept line))
         (omega (arith, far, length-strip line)) given
     | inr near ↦ let P : List ℕ → Type 0 =
@@ -141,13 +144,14 @@ module _ {S : Type 0} (g : Ghosts S) where
   ]
 
   -- and so does what is kept of a line that the end of the input ends
-  pub alike_last : {A E : Type 0} (r : Result A E) (old new : Value S) (kept line : List ℕ) (held now : Option (List ℕ))
+  pub kept_last_line_alike : {A E : Type 0} (r : Result A E) (old new : Value S) (kept line : List ℕ)
+      (held now : Option (List ℕ))
       (count total : ℕ) → kept ≡ take longest_kept line
       → TakesOrBreaks g r old new (event_of kept) held now count total
       → TakesOrBreaks g r old new (event_of line) held now count total
-  alike_last r old new kept line held now count total e given = elim (cases_lt longest_kept (length line)) [
+  kept_last_line_alike r old new kept line held now count total e given = elim (cases_lt longest_kept (length line)) [
     | inl far ↦
-        alike_long r old new kept line held now count total
+        long_lines_alike r old new kept line held now count total
         (omega (arith, far, ap length e, length-take longest_kept line))
         (omega (arith, far)) given
     | inr near ↦ let P : List ℕ → Type 0 = λ l. TakesOrBreaks g r old new (event_of l) held now count total in
