@@ -16,7 +16,7 @@ use Rattle.device_registry.specs.Stored.{Registers, Holds, IsHeld, IsBare}
 abbrev pub HasDevices : State → Devices → Type 0
 HasDevices s devices = HasCleanDisk s → IsTrue s.is_open → Registers s.now devices
 
--- while the disk is honest, there are devices that the registry holds
+-- while the disk is honest and the connection is open, there are devices that the registry holds
 abbrev pub HoldsSome : State → Type 0
 HoldsSome s = HasCleanDisk s → (devices : Devices) × HasDevices s devices
 

@@ -5,8 +5,8 @@ use crate::device::Device;
 use sqlite::{Error, ErrorCode};
 use std::alloc::{AllocError, AllocFailed};
 
-/// Why the store does not answer: there was no memory, or it refused. It is made by conversion alone, from an error
-/// of the store or the allocator.
+/// Why the store does not answer: there was no memory, or it refused. It is made by conversion alone, of an error of
+/// the store or of the allocator, and keeps its cause.
 #[derive(Clone, Copy, Debug, PartialEq, Eq)]
 pub struct StoreFault {
     is_memory: bool,

@@ -21,7 +21,8 @@ pub fn handed_on<S: Alter>()
     ensures { HandedOn S.Store }
 {}
 
-/// Whatever registry there is holds some devices, while the disk has returned what was written.
+/// Whatever registry there is holds some devices, while the disk has returned what was written and the connection is
+/// open.
 pub fn devices_are_held<S: Alter>(registry: &Registry<S>)
     ensures { HoldsSome (state S.Store registry.now) }
 {

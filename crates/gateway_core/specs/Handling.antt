@@ -35,7 +35,7 @@ handler_code {S} store =
 abbrev pub IsAt : {S : Type 0} → Ghosts S → HandlerValue S → State → Type 0
 IsAt g v s = (v.base ≡ s.base) × HasDevices (state g v.registry) s.devices × (v.counts ≡ s.counts)
 
--- while the disk has returned what was written, there is a state that the gateway knows
+-- while the disk has returned what was written and the connection is open, there is a state that the gateway knows
 abbrev pub KnowsState : {S : Type 0} → Ghosts S → HandlerValue S → Type 0
 KnowsState g v = HasCleanDisk (state g v.registry) → (start : State) × IsAt g v start
 

@@ -1,5 +1,5 @@
--- What a stop leaves is what was known after a first part of the items, and that part has every item that was told
--- done.
+-- What a stop leaves is what was known after a first part of the items, perhaps with the change of the next one. That
+-- part has every item that was told done.
 use Rattle.std.specs.Prelude.{◌≡◌, ◌<◌, ◌⊎◌, length, IsSome, List, [], ◌∷◌, ◌++◌, Option, Some, None}
 use Rattle.device_registry.specs.Devices.{Devices}
 use Rattle.gateway_core.specs.Step.{State, Item, change_of, with_change}
@@ -45,7 +45,8 @@ pub record AfterPrefix (start : State) (items : List Item) (fates : List Fate) (
   pub untold : NoneTold at after more
   pub is : (devices ≡ at.devices) ⊎ IsYetDone at after more devices
 
--- what is safe is what is known after a first part of the items that has every told one
+-- what is safe is what is known after a first part of the items that has every told one, perhaps with the change of the
+-- next one, which was refused at its write
 abbrev pub SafeIsPrefix : Type 0
 SafeIsPrefix = (start : State) (items : List Item) (fates : List Fate) (devices : Devices) → length items ≡ length fates
     → Safe (λ found. found ≡ start.devices) (left_by nothing_left start items fates) devices

@@ -78,8 +78,9 @@ pub fn lives_keep()
     ensures { LivesKeep }
 {}
 
-/// What a stop may leave is what was known after a first part of the items, and that part has every item that was
-/// told done: in whatever way the items are parted at one that was told, it stands in that first part.
+/// What a stop may leave is what was known after a first part of the items, perhaps with the change of the next one,
+/// whose write was refused. That part has every item that was told done: in whatever way the items are parted at one
+/// that was told, it stands there.
 pub fn safe_is_prefix()
     ensures safe { SafeIsPrefix }
     ensures told { ToldStandBefore }
@@ -108,7 +109,7 @@ pub fn stops_leave_a_life<S: Alter>()
     ensures { StopsLeaveALife S.Store }
 {}
 
-/// Whatever gateway there is knows a state, while the disk has returned what was written.
+/// Whatever gateway there is knows a state, while the disk has returned what was written and the connection is open.
 pub fn a_state_is_known<S: Alter>(gateway: &Gateway<S>)
     ensures { KnowsState S.Store gateway.now.handler }
 {

@@ -20,7 +20,7 @@ pub record Starts {S : Type 0} (g : Ghosts S) (database : Held S) (base : ℕ) (
   pub registries : AreRegistries (state g now.registry).may_leave
 
 -- Why no gateway is made: the database is no registry, in the words of its open; or the store refuses; or there is no
--- memory. Nothing is read or written yet.
+-- memory. Which of the latter two it is, no clause says, nor what is left behind. Nothing is read or written yet.
 abbrev pub RefusesToStart : {S : Type 0} → Ghosts S → Held S → Fault → Type 0
 RefusesToStart {S} g database NotARegistry =
     (last : Held S) × RefusesToOpen (state g database) (state g last) opening.NotARegistry

@@ -55,8 +55,8 @@ impl From<AllocError> for Refused {
 }
 
 /// Reads a command line, whose first word is the program's name: `enogate replay --base ID [--db PATH]`, where ID is
-/// eight hexadecimal digits of either case and a base ID. Each other line is refused, and so is one that asks for
-/// help or for the version.
+/// eight hexadecimal digits of either case and a base ID. The options may stand in any order, and in the spellings that
+/// `clap` has for them. Each other line is refused, and so is one that asks for help or for the version.
 pub fn read<'a>(alloc: Global, words: &'a [String]) -> Result<Options<'a>, Refused>
     ensures taken { OnOk result (IsTaken (map string_bytes words.now)) }
     ensures base { IfOk result (λ options. base_of_line (map string_bytes words.now) ≡ Some options.base) }

@@ -20,7 +20,8 @@ const REMEMBERED: usize = 1024;
 /// A gateway for a radio module with this base ID, over the registry that the database holds. It is new: it has counted
 /// nothing, no packet waits, and no byte has come. A database that holds none of the registry's tables gets them.
 ///
-/// It is refused as the registry is, or where there is no memory, and then the connection is dropped.
+/// It is refused as the registry is, or where there is no memory, and then the connection is dropped. Which of `Store`
+/// and `Memory` is told, tests show.
 pub fn start<S: Alter + Drop>(
     alloc: Global,
     conn: Connection<S>,
