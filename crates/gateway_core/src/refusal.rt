@@ -4,8 +4,8 @@ ghost use Rattle.std.specs.Prelude.{◌≡◌};
 use device_registry::StoreFault;
 use std::alloc::AllocError;
 
-/// What was wanting: memory, or the store of the registry. It is made by conversion alone, of a fault of the registry or
-/// an error of the allocator, and keeps its cause.
+/// What was wanting: memory, or the store of the registry. It is made by conversion alone, of a fault of the registry
+/// or an error of the allocator, and keeps its cause.
 #[derive(Clone, Copy, Debug, PartialEq, Eq)]
 pub struct Cause {
     is_memory: bool,
