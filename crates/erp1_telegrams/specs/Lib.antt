@@ -1,1 +1,2 @@
 pub mod Telegram
+pub mod Address

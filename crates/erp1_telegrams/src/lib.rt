@@ -1,12 +1,14 @@
 //! The radio telegrams of ISO/IEC 14543-3-10, in packets of EnOcean Serial Protocol 3 of the type RADIO_ERP1: read from
-//! a packet, and written as one. Nothing here takes memory.
+//! a packet, and written as one; and the IDs that a gateway has for its own. Nothing here takes memory.
 #![tactic(auto)]
 
+mod address;
 mod eep;
 pub mod laws;
 mod serial;
 mod telegram;
 
+pub use address::{is_base, is_own, is_passed_over};
 pub use eep::Eep;
 pub use serial::{read, write};
 pub use telegram::{BROADCAST, Telegram, TelegramFault};

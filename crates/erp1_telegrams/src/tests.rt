@@ -1,5 +1,5 @@
-//! Telegrams whose packets are known, each fault, and the room that a packet needs.
-use crate::{BROADCAST, Telegram, TelegramFault, read, write};
+//! Telegrams whose packets are known, each fault, the room that a packet needs, and the IDs of a gateway.
+use crate::{BROADCAST, Telegram, TelegramFault, is_base, is_own, is_passed_over, read, write};
 use arrayvec::ArrayVec;
 use esp3_frames::{PacketFault, PacketRef, read_packet};
 use std::test::Fail;
@@ -148,5 +148,52 @@ fn room_for_a_packet(rt: HostRuntime) -> Result<(), Fail> {
     let (before, packet) = out.split_at(43);
     assert_eq!(rt; before, [7; 43].as_slice());
     assert_eq!(rt; packet, CONTACT_SENT.as_slice());
+    Ok(())
+}
+
+#[test]
+fn base_ids(rt: HostRuntime) {
+    for base in [0xFF80_0000, 0xFF80_0080, 0xFFFF_FF80] {
+        assert!(rt; is_base(base));
+    }
+    for id in [
+        0,
+        0xFF7F_FF80,
+        0xFF80_0001,
+        0xFF80_0040,
+        0xFFFF_FF81,
+        0xFFFF_FFFF,
+    ] {
+        assert!(rt; !is_base(id));
+    }
+}
+
+#[test]
+fn own_ids(rt: HostRuntime) {
+    for base in [0xFF80_0000, 0xFFFF_FF80] {
+        assert!(rt; is_own(base, base) && is_own(base, base + 127));
+        assert!(rt; !is_own(base, base - 1));
+    }
+    assert!(rt; !is_own(0xFF80_0000, 0xFF80_0080));
+}
+
+// A telegram is looked at that is for all or for an ID of the gateway's own, whoever sent it but the broadcast ID.
+#[test]
+fn telegrams_passed_over(rt: HostRuntime) -> Result<(), Fail> {
+    let cases = [
+        (0x0180_0ABC, BROADCAST, false),
+        (0x0180_0ABC, 0xFF80_0000, false),
+        (0x0180_0ABC, 0xFF80_007F, false),
+        (0xFFFF_FFFE, BROADCAST, false),
+        (0x0180_0ABC, 0xFF80_0080, true),
+        (0x0180_0ABC, 0xFF7F_FFFF, true),
+        (0x0180_0ABC, 0x0102_0304, true),
+        (BROADCAST, BROADCAST, true),
+        (BROADCAST, 0xFF80_0000, true),
+    ];
+    for (sender, dest, passed_over) in cases {
+        let telegram = Telegram::new(0xD5, &[0x09], sender, 0, dest, None)?;
+        assert_eq!(rt; is_passed_over(0xFF80_0000, &telegram), passed_over);
+    }
     Ok(())
 }

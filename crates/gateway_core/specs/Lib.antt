@@ -5,7 +5,6 @@ pub mod Responses
 pub mod Counts
 pub mod TeachIn
 pub mod Orders
-pub mod Address
 pub mod Step
 pub mod Run
 pub mod Stops

@@ -17,7 +17,7 @@ use Rattle.gateway_core.specs.declared.orders.Order.{Order}
 use Rattle.gateway_core.specs.declared.orders.Order.TheVariants.{Add, Remove, List as ListAll, Status}
 use Rattle.gateway_core.specs.declared.orders.OrderFault.{OrderFault}
 use Rattle.gateway_core.specs.declared.orders.OrderFault.TheVariants.{Syntax, Range}
-use Rattle.gateway_core.specs.Address.{is_passed_over}
+use Rattle.erp1_telegrams.specs.Address.{is_passed_over}
 use Rattle.gateway_core.specs.Profiles.{is_supported, readings_of}
 use Rattle.gateway_core.specs.Counts.{raised}
 use Rattle.profiles_rps.specs.Reading.{Entry}

@@ -4,14 +4,14 @@ ghost use Rattle.std.specs.Option.{option_map};
 ghost use Rattle.sqlite.specs.Held.{state};
 ghost use Rattle.esp3_frames.specs.Framing.{MayBecomePacket};
 ghost use Rattle.device_registry.specs.Holding.{HandsOn};
-ghost use Rattle.gateway_core.specs.Address;
+ghost use Rattle.erp1_telegrams.specs.Address;
 ghost use Rattle.gateway_core.specs.Calls.{Byte as ByteCall, Moves, Next as NextCall, Order as OrderCall, new_value};
 ghost use Rattle.gateway_core.specs.Replies.{answer_of};
 
-use crate::address::is_base;
 use crate::handler::Handler;
 use crate::reply::Reply;
 use device_registry::Registry;
+use erp1_telegrams::is_base;
 use esp3_resync::{Framer, PacketBuf};
 use sqlite::{Alter, Connection};
 use std::alloc::{AllocError, Global};

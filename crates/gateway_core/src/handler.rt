@@ -17,7 +17,6 @@ ghost use Rattle.gateway_core.specs.Step.{said, sender_effect};
 ghost use Rattle.gateway_core.specs.Tries.{Gives, Has, Tries, Unlearned, answer_from, counts_from};
 ghost use Rattle.gateway_core.specs.Tries.{of_decision, of_packet, of_telegram};
 
-use crate::address::is_passed_over;
 use crate::counts::{Count, Counts};
 use crate::lines::devices::device_lines;
 use crate::lines::error::ErrorName;
@@ -33,7 +32,7 @@ use crate::response::response_in;
 use crate::teach_in::is_teach_in;
 use crate::verdict::Verdict;
 use device_registry::{Device, LearnFault, Registry};
-use erp1_telegrams::{Eep, Telegram, read};
+use erp1_telegrams::{Eep, Telegram, is_passed_over, read};
 use esp3_frames::PacketRef;
 use sqlite::{Alter, Connection};
 use std::alloc::{AllocError, Global};

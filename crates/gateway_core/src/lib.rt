@@ -3,7 +3,6 @@
 //! registry, and what becomes of one is told once it is committed.
 #![tactic(auto)]
 
-mod address;
 mod counts;
 mod gateway;
 mod handler;
@@ -17,7 +16,7 @@ mod response;
 mod teach_in;
 mod verdict;
 
-pub use address::is_base;
+pub use erp1_telegrams::is_base;
 pub use gateway::{Gateway, StartFault};
 pub use lines::line::Line;
 pub use orders::LONGEST_LINE;

@@ -1,6 +1,6 @@
 -- The base ID that a text spells.
 use Rattle.std.specs.Prelude.{ℕ, List, if◌then◌else◌, Option, Some, None}
-use Rattle.gateway_core.specs.Address.{is_base}
+use Rattle.erp1_telegrams.specs.Address.{is_base}
 use Rattle.gateway_core.specs.Orders.{id_in}
 
 abbrev pub base_from : Option ℕ → Option ℕ

@@ -3,7 +3,7 @@ ghost use Rattle.std.specs.Prelude.{◌≡◌, ◌⊎◌, IfOk, IfErr, OnOk, Som
 ghost use Rattle.std.specs.Prelude.{true};
 ghost use Rattle.std.specs.String.{string_bytes};
 ghost use Rattle.clap.specs.Words.{app_of, rule_of, subcommand_rows_of, takes};
-ghost use Rattle.gateway_core.specs.Address;
+ghost use Rattle.erp1_telegrams.specs.Address;
 ghost use Rattle.gateway_main.specs.Bases.{base_in};
 ghost use Rattle.gateway_main.specs.CommandLine.{IsMemory, IsTaken, RefusesLine, base_of_line, base_rule, db_of_line};
 ghost use Rattle.gateway_main.specs.CommandLine.{db_rule, enogate_app, text_found};

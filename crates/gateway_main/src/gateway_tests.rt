@@ -1,6 +1,6 @@
 //! One gateway over a registry in memory, from the first byte to the line, and what is refused.
 use device_registry::Registry;
-use gateway_core::{Gateway, StartFault, is_base};
+use gateway_core::{Gateway, StartFault};
 use sqlite::{Connection, MemStore};
 use std::alloc::Global;
 use std::test::Fail;
@@ -55,8 +55,6 @@ fn feed(gateway: &mut Gateway<MemStore>, bytes: &[u8], told: &mut Vec<u8>) -> Re
 
 #[test]
 fn base_ids(rt: HostRuntime) -> Result<(), Fail> {
-    assert!(rt; is_base(0xFF80_0000) && is_base(0xFFFF_FF80) && is_base(0xFF80_0080));
-    assert!(rt; !is_base(0xFF7F_FF80) && !is_base(0xFF80_0001) && !is_base(0xFFFF_FFFF));
     let registry = Registry::open(rt.alloc(), Connection::open_in_memory(rt.alloc())?)?;
     let refused = Gateway::new(rt.alloc(), registry, 0xFF80_0001).err();
     assert_eq!(rt; refused, Some(StartFault::BadBase));

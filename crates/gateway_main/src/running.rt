@@ -2,7 +2,7 @@
 ghost use Rattle.std.specs.Prelude.{◌≡◌, true};
 ghost use Rattle.sqlite.specs.Held.{state};
 ghost use Rattle.device_registry.specs.Ready.{IsBetweenTransactions};
-ghost use Rattle.gateway_core.specs.Address;
+ghost use Rattle.erp1_telegrams.specs.Address;
 
 use crate::command_line::{self, Options};
 use crate::ending::{Ending, done, status, without_arguments};

@@ -1,8 +1,8 @@
 //! Which IDs are the gateway's own, and which telegrams it passes over.
 ghost use Rattle.std.specs.Prelude.{◌≡◌, ◌≤◌};
-ghost use Rattle.gateway_core.specs.Address;
+ghost use Rattle.erp1_telegrams.specs.Address;
 
-use erp1_telegrams::{BROADCAST, Telegram};
+use crate::telegram::{BROADCAST, Telegram};
 
 /// Whether an ID is a base ID: the first of the 128 IDs that a radio module sends as. It lies in `FF800000` to
 /// `FFFFFF80`, and its low seven bits are 0.
@@ -14,15 +14,19 @@ pub fn is_base(id: u32) -> bool
     id >= 0xFF80_0000 && id <= 0xFFFF_FF80 && id % 128 == 0
 }
 
-fn is_own(base: u32, id: u32) -> bool
+/// Whether an ID is one of the 128 that a gateway with this base ID sends as: those from `base` on. `base` is at most
+/// `FFFFFF80`.
+///
+/// EnOcean Serial Protocol 3, "CO_WR_IDBASE".
+pub fn is_own(base: u32, id: u32) -> bool
     requires { base ≤ 0xFFFF_FF80 }
     ensures { result ≡ Address.is_own base id }
 {
     base <= id && id <= base + 127
 }
 
-/// Whether a telegram is passed over, since its sender is the broadcast ID, or since it is neither for all nor for one
-/// of the 128 IDs from `base` on.
+/// Whether a gateway with this base ID passes a telegram over, since its sender is the broadcast ID, or since it is
+/// neither for all nor for one of the 128 IDs from `base` on. `base` is at most `FFFFFF80`. Own choice.
 pub fn is_passed_over(base: u32, telegram: &Telegram) -> bool
     requires { base ≤ 0xFFFF_FF80 }
     ensures { result ≡ Address.is_passed_over base telegram.now }
