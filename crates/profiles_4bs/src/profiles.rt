@@ -1,11 +1,11 @@
 //! The 4BS profiles, and what a telegram says by one of them.
 
-ghost use Rattle.std.specs.Prelude.{◌≡◌, option_map, OnErr};
+ghost use Rattle.std.specs.Prelude.{◌≡◌, List, Ok, Err, option_map, MatchResult, OnErr};
 ghost use Rattle.std.specs.Result.{result_map_both};
 ghost use Rattle.profiles_rps.specs.Reading.{entries};
 ghost use Rattle.profiles_rps.specs.Answer.{told};
-ghost use Rattle.profiles_rps.specs.Rows.{entries_of};
-ghost use Rattle.profiles_4bs.specs.Profiles.{rows_of, supported, readings_of};
+ghost use Rattle.profiles_rps.specs.Rows.{Row, entries_of};
+ghost use Rattle.profiles_4bs.specs.Profiles.{rows_of, supported, read_by, readings_of};
 
 use crate::{
     gas, humidity, light, light_temperature_occupancy, meter, occupancy, room_operating_panel,
@@ -15,19 +15,23 @@ use bit_fields::get;
 use erp1_telegrams::{Eep, Telegram};
 use profiles_rps::{Readings, Unreadable};
 
-/// The readings of a payload by the rows of a profile, where there are rows.
+/// The readings of a payload by the rows of a profile, where there are rows. Each function has the profiles of one
+/// FUNC.
 fn readings_by(eep: Eep, bytes: &[u8; 4]) -> Option<Readings>
     ensures { option_map (λ readings. entries readings.items) result
         ≡ option_map (entries_of bytes.now) (rows_of eep) }
 {
-    temperature::readings_by(eep, bytes)
-        .or(humidity::readings_by(eep, bytes))
-        .or(light::readings_by(eep, bytes))
-        .or(occupancy::readings_by(eep, bytes))
-        .or(light_temperature_occupancy::readings_by(eep, bytes))
-        .or(gas::readings_by(eep, bytes))
-        .or(room_operating_panel::readings_by(eep, bytes))
-        .or(meter::readings_by(eep, bytes))
+    match eep.func {
+        0x02 => temperature::readings_by(eep, bytes),
+        0x04 => humidity::readings_by(eep, bytes),
+        0x06 => light::readings_by(eep, bytes),
+        0x07 => occupancy::readings_by(eep, bytes),
+        0x08 => light_temperature_occupancy::readings_by(eep, bytes),
+        0x09 => gas::readings_by(eep, bytes),
+        0x10 => room_operating_panel::readings_by(eep, bytes),
+        0x12 => meter::readings_by(eep, bytes),
+        _ => None,
+    }
 }
 
 /// Whether telegrams of a profile are read: A5-02-01 to A5-02-0B, A5-02-10 to A5-02-1B, A5-02-20, A5-02-30, A5-04-01,
@@ -39,15 +43,13 @@ pub fn supports(eep: Eep) -> bool
     readings_by(eep, &[0; 4]).is_some()
 }
 
-/// The readings of a telegram, or the first refusal.
-fn readings_of(eep: Eep, telegram: &Telegram) -> Result<Readings, Unreadable>
-    ensures { result_map_both (λ readings. entries readings.items) (λ refusal. refusal) result
-        ≡ readings_of eep telegram.now }
+/// The bytes of a data telegram of this RORG, or the first refusal.
+fn data_of(rorg: u8, telegram: &Telegram) -> Result<&[u8; 4], Unreadable>
+    ensures { MatchResult result (λ bytes. (rows : List Row) →
+        read_by rorg rows telegram.now ≡ Ok (entries_of bytes.now rows))
+        (λ refusal. (rows : List Row) → read_by rorg rows telegram.now ≡ Err refusal) }
 {
-    if !supports(eep) {
-        return Err(Unreadable::NotSupported);
-    }
-    if telegram.rorg() != eep.rorg {
+    if telegram.rorg() != rorg {
         return Err(Unreadable::WrongKind);
     }
     let Ok(bytes) = <&[u8; 4]>::try_from(telegram.payload()) else {
@@ -56,7 +58,19 @@ fn readings_of(eep: Eep, telegram: &Telegram) -> Result<Readings, Unreadable>
     if get::<4, 28, 1>(bytes) == 0 {
         return Err(Unreadable::OtherMessage);
     }
-    readings_by(eep, bytes).ok_or(Unreadable::NotSupported)
+    Ok(bytes)
+}
+
+/// The readings of a telegram, or the first refusal. The rows are gone through once.
+fn readings_of(eep: Eep, telegram: &Telegram) -> Result<Readings, Unreadable>
+    ensures { result_map_both (λ readings. entries readings.items) (λ refusal. refusal) result
+        ≡ readings_of eep telegram.now }
+{
+    match data_of(eep.rorg, telegram) {
+        Ok(bytes) => readings_by(eep, bytes).ok_or(Unreadable::NotSupported),
+        Err(refusal) if supports(eep) => Err(refusal),
+        Err(_) => Err(Unreadable::NotSupported),
+    }
 }
 
 /// Reads a telegram by a profile: `readings` is what it says, in the order of the profile's rows (EnOcean Equipment

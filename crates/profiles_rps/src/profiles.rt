@@ -1,11 +1,11 @@
 //! The RPS and 1BS profiles, and what a telegram says by one of them.
 
-ghost use Rattle.std.specs.Prelude.{◌≡◌, option_map, OnErr};
+ghost use Rattle.std.specs.Prelude.{◌≡◌, List, Ok, Err, option_map, MatchResult, OnErr};
 ghost use Rattle.std.specs.Result.{result_map_both};
 ghost use Rattle.profiles_rps.specs.Reading.{entries};
-ghost use Rattle.profiles_rps.specs.Rows.{rows_entries};
+ghost use Rattle.profiles_rps.specs.Rows.{Row, rows_entries};
 ghost use Rattle.profiles_rps.specs.Answer.{told};
-ghost use Rattle.profiles_rps.specs.Profiles.{rows_of, supported, readings_of};
+ghost use Rattle.profiles_rps.specs.Profiles.{rows_of, supported, read_by, readings_of};
 
 use crate::{Readings, Unreadable, read_profiles};
 use bit_fields::get;
@@ -62,25 +62,34 @@ pub fn supports(eep: Eep) -> bool
     readings_by(eep, 0, &[0]).is_some()
 }
 
-/// The readings of a telegram, or the first refusal.
+/// The byte of a data telegram of this RORG, or the first refusal.
+fn data_of(rorg: u8, telegram: &Telegram) -> Result<&[u8; 1], Unreadable>
+    ensures { MatchResult result (λ bytes. (rows : List Row) →
+        read_by rorg rows telegram.now ≡ Ok (rows_entries telegram.now.status bytes.now rows))
+        (λ refusal. (rows : List Row) → read_by rorg rows telegram.now ≡ Err refusal) }
+{
+    if telegram.rorg() != rorg {
+        return Err(Unreadable::WrongKind);
+    }
+    let Ok(bytes) = <&[u8; 1]>::try_from(telegram.payload()) else {
+        return Err(Unreadable::WrongLength);
+    };
+    if rorg == 0xD5 && get::<1, 4, 1>(bytes) == 0 {
+        return Err(Unreadable::OtherMessage);
+    }
+    Ok(bytes)
+}
+
+/// The readings of a telegram, or the first refusal. The rows are gone through once.
 fn readings_of(eep: Eep, telegram: &Telegram) -> Result<Readings, Unreadable>
     ensures { result_map_both (λ readings. entries readings.items) (λ refusal. refusal) result
         ≡ readings_of eep telegram.now }
 {
-    if !supports(eep) {
-        return Err(Unreadable::NotSupported);
+    match data_of(eep.rorg, telegram) {
+        Ok(bytes) => { readings_by(eep, telegram.status(), bytes).ok_or(Unreadable::NotSupported) }
+        Err(refusal) if supports(eep) => Err(refusal),
+        Err(_) => Err(Unreadable::NotSupported),
     }
-    if telegram.rorg() != eep.rorg {
-        return Err(Unreadable::WrongKind);
-    }
-    let [byte] = telegram.payload() else {
-        return Err(Unreadable::WrongLength);
-    };
-    let bytes = [*byte];
-    if eep.rorg == 0xD5 && get::<1, 4, 1>(&bytes) == 0 {
-        return Err(Unreadable::OtherMessage);
-    }
-    readings_by(eep, telegram.status(), &bytes).ok_or(Unreadable::NotSupported)
 }
 
 /// Reads a telegram by a profile: `readings` is what it says, in the order of the profile's rows (EnOcean Equipment
