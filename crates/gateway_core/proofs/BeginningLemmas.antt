@@ -27,7 +27,7 @@ module _ {S : Type 0} (g : Ghosts S) where
   pub stops_leave_a_life : StopsLeaveALife g
   stops_leave_a_life old new within found items answers item change honest early begins handles asks tries left may =
       let went = handles.went early (begun old.base found) begins.at in
-      let leaves = tries went.last.devices went.at.1 in
+      let leaves = tries went.last.devices went.at.2 in
       let is = asks went.last went.at in
       let Before = λ (d : Devices). d ≡ found in
       let so_far = left_by nothing_left (begun old.base found) items went.fates in

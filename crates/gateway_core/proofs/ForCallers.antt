@@ -7,7 +7,6 @@ pub use Rattle.gateway_core.proofs.EventLemmas.{brought-rest, items_of-append, c
 pub use Rattle.gateway_core.proofs.EventLemmas.{cuts_are_answered_alike}
 pub use Rattle.gateway_core.proofs.LifeLemmas.{lives_keep}
 pub use Rattle.gateway_core.proofs.LongLineLemmas.{handles_alike}
-pub use Rattle.gateway_core.proofs.OrderLemmas.{orders_are_spelled}
 pub use Rattle.gateway_core.proofs.PrefixLemmas.{safe_is_prefix, left_is_prefix}
 pub use Rattle.gateway_core.proofs.RestLemmas.{rest_goes_on, items_behind, rest_behind}
 pub use Rattle.gateway_core.proofs.RunLemmas.{handles-nothing, handles-append, same_refusals}

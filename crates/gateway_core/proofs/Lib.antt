@@ -1,13 +1,12 @@
 pub mod BeginningLemmas
 pub mod CallLemmas
 pub mod CountLemmas
+pub mod DeviceLemmas
+pub mod EffectLemmas
 pub mod EventLemmas
 pub mod ForCallers
-pub mod HexTexts
 pub mod LifeLemmas
-pub mod LineTexts
 pub mod LongLineLemmas
-pub mod OrderLemmas
 pub mod PrefixLemmas
 pub mod RestLemmas
 pub mod RunLemmas

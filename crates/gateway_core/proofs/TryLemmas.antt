@@ -1,47 +1,54 @@
 -- One item, done or refused.
 use Rattle.std.proofs.Common.{◌<◌, ◌≡◌, inl, inr, ℕ, ◌≤◌, ◌+◌, ◌-◌, Bool, true, false, cond, IsTrue, IsSome, List, []}
-use Rattle.std.proofs.Common.{◌∷◌}
-use Rattle.std.proofs.Common.{length, Option, Some, None, Result, Ok, Err, refl, sym, ap, subst, ◌∙◌, arith}
-use Rattle.std.specs.Prelude.{if◌then◌else◌, unwrap_or}
-use Rattle.std.specs.Option.{option_map}
+use Rattle.std.proofs.Common.{◌∷◌, length, Option, Some, None, Result, Ok, Err, refl, sym, ap, subst, ◌∙◌, arith}
+use Rattle.std.specs.Prelude.{if◌then◌else◌}
 use Rattle.std.specs.Ordering.{nat_cmp}
 use Rattle.std.specs.Cmp.{nat_cmp_total}
-use Rattle.std.specs.FinMap.{get, len, insert, contains_key, from_entries, len-empty, len-insert, len-remove}
+use Rattle.std.specs.FinMap.{len, insert, contains_key, from_entries, len-empty, len-insert, len-remove}
 use Rattle.std.proofs.lemmas.Bool.{leb-true, le-ltb}
 use Rattle.sqlite.specs.Held.{Held, state}
 use Rattle.sqlite.specs.State.{State as Known, HasCleanDisk}
 use Rattle.sqlite_trees.specs.declared.store.Store.{Ghosts}
-use Rattle.erp1_telegrams.specs.declared.eep.Eep.{Eep}
+use Rattle.erp1_telegrams.specs.Telegram.{Telegram}
+use Rattle.profiles_rps.specs.Reading.{Entry}
 use Rattle.device_registry.specs.declared.device.Device.{Device}
-use Rattle.device_registry.specs.declared.fault.LearnFault.{LearnFault}
-use Rattle.device_registry.specs.declared.fault.LearnFault.TheVariants as fault
-use Rattle.device_registry.specs.Devices.{most_devices, Learned, Devices, device, device_of, is_full, Change, learned}
+use Rattle.device_registry.specs.Devices.{most_devices, Learned, Devices, is_full, Change, learned}
 use Rattle.device_registry.proofs.ForCallers.{few_are_held}
-use Rattle.device_registry.specs.Holding.{HasDevices, MayFind, AreRegistries, Keeps, Pends, RefusesToLearn}
-use Rattle.gateway_core.specs.declared.lines.error.ErrorName.TheVariants as error
-use Rattle.gateway_core.specs.declared.orders.Order.{Order}
-use Rattle.gateway_core.specs.declared.orders.Order.TheVariants.{Add}
-use Rattle.gateway_core.specs.declared.orders.OrderFault.{OrderFault}
+use Rattle.device_registry.specs.Holding.{HasDevices, MayFind, AreRegistries, Keeps, Pends}
+use Rattle.teach_in.specs.declared.mode.Mode.{Mode}
+use Rattle.json_lines.specs.declared.fixed.ErrorName.TheVariants as error
 use Rattle.gateway_core.specs.declared.refusal.Refusal.{Refusal}
 use Rattle.gateway_core.specs.declared.refusal.Refusal.TheVariants.{Before, AtWrite}
-use Rattle.gateway_core.specs.declared.counts.Counts.{Counts}
-use Rattle.gateway_core.specs.declared.handler.Done.{Done}
-use Rattle.gateway_core.specs.Profiles.{is_supported}
-use Rattle.gateway_core.specs.Counts.{raised}
-use Rattle.gateway_core.specs.Orders.{longest_line, order_of}
-use Rattle.gateway_core.specs.Step.{State, Item, Answer, Decision, Denies, Learns, change_in, said, order_decision}
-use Rattle.gateway_core.specs.Step.{decision, removal, change_of, with_change, state_after}
+use Rattle.json_lines.specs.declared.counts.Counts.{Counts}
+use Rattle.gateway_core.specs.declared.handler.done.Done.{Done}
+use Rattle.json_lines.specs.Counts.{raised}
+use Rattle.json_lines.specs.Lines.{Error}
+use Rattle.gateway_core.specs.Step.{State, Item, Answer, Effect, said, told as told_effect, learns, addition, removal}
+use Rattle.actuator_commands.specs.declared.orders.Order.{Order}
+use Rattle.actuator_commands.specs.declared.orders.OrderFault.{OrderFault}
+use Rattle.actuator_commands.specs.Orders.{order_of}
+use Rattle.gateway_core.specs.Step.{order_effect, line_effect, longest_line}
+use Rattle.gateway_core.specs.Step.{reading_effect, case_effect, data_case, effect, change_of, needs, with_change, state_after}
+use Rattle.gateway_core.specs.Profiles.{readings_of}
 use Rattle.gateway_core.specs.Refusals.{cause_of}
-use Rattle.gateway_core.specs.Run.{needs, needs_help, cause_text, Cause, Taken, Refused, RefusedAtWrite, refused}
+use Rattle.gateway_core.specs.Run.{cause_text, Cause, Taken, Refused, RefusedAtWrite, refused}
 use Rattle.gateway_core.specs.Stops.{nothing_left, told, pending, Safe}
 use Rattle.gateway_core.specs.Handling.{HandlerValue, Went, Handles}
-use Rattle.gateway_core.specs.Tries.{Wanted, of_item, of_decision, IsMade, IsPending, Comes, Tries, answer_from}
-use Rattle.gateway_core.specs.Tries.{counts_from, Unlearned}
+use Rattle.gateway_core.specs.Tries.{state_of, Gives, IsMade, IsPending, Comes, Tries, answer_from, counts_from}
+use Rattle.gateway_core.proofs.EffectLemmas.{mode-stays}
 
 -- ---- what is kept
 
 pub keeps-same : (s : Known) (devices : Devices) → HasDevices s devices → Keeps s s devices
 keeps-same s devices has = record { now = has; stop = λ left may. may }
+
+-- a look behind a look
+pub keeps-after : (old mid new : Known) (devices : Devices) → Keeps old mid devices → Keeps mid new devices
+    → Keeps old new devices
+keeps-after old mid new devices first second = record {
+  now = second.now;
+  stop = λ left may. first.stop left (second.stop left may);
+}
 
 -- a write that is tried behind a look
 pub pends-after : (old mid new : Known) (change : Change) (devices : Devices) → Keeps old mid devices
@@ -91,42 +98,71 @@ keeps-full old new it devices full pends = record {
   ];
 }
 
--- ---- what an order takes
+-- ---- what takes the store
 
-pub add-help : (devices : Devices) (id : ℕ) (eep : Eep) → is_supported eep ≡ true
-    → IsTrue (needs_help (order_decision devices (Ok (Add id eep))))
-add-help devices id eep supported = rw supported (one (is_full devices id))
+pub data-need : (mode : Mode) (t : Telegram) (known : Option Device)
+    → IsTrue (case_effect mode t (data_case known)).need
+data-need mode t None = refl
+data-need mode t (Some known) = one (readings_of known.eep t)
   where
-    one : (b : Bool) → IsTrue
-        (needs_help (if b then Denies error.Full else Learns (record { id = id; eep = eep; maker = None })))
+    one : (readings : Option (List Entry)) → IsTrue (reading_effect mode t known.eep readings).need
+    one None = refl
+    one (Some readings) = refl
+
+pub addition-need : (state : State) (known : Device) → IsTrue (addition state known).need
+addition-need state known = one (is_full state.devices known.id)
+  where
+    one : (full : Bool) → IsTrue
+        (if full then told_effect state.mode (Error error.Full ∷ []) else learns state.mode known).need
     one true = refl
     one false = refl
 
-pub remove-help : (known : Option Device) → IsTrue (needs_help (removal known))
-remove-help None = refl
-remove-help (Some known) = refl
-
-pub device_of-id : (devices : Devices) (id : ℕ) (known : Device) → Some known ≡ device_of devices id → known.id ≡ id
-device_of-id devices id known is = one (get devices id) is
-  where
-    one : (it : Option Learned) → Some known ≡ option_map (device id) it → known.id ≡ id
-    one None is = absurd cc
-    one (Some it) is = ap (λ (d : Device). d.id) (ap (λ o. unwrap_or o known) is)
+pub removal-need : (mode : Mode) (known : Option Device) → IsTrue (removal mode known).need
+removal-need mode None = refl
+removal-need mode (Some known) = refl
 
 module _ {S : Type 0} (g : Ghosts S) where
+  -- ---- an effect that comes behind a look
+
+  made-after : (old mid new : Held S) (devices : Devices) (change : Option Change)
+      → Keeps (state g old) (state g mid) devices → IsMade g mid new devices change → IsMade g old new devices change
+  made-after old mid new devices None keeps made =
+      keeps-after (state g old) (state g mid) (state g new) devices keeps made
+  made-after old mid new devices (Some change) keeps made = made
+
+  pending-after : (old mid new : Held S) (devices : Devices) (need : Bool) (change : Option Change)
+      → Keeps (state g old) (state g mid) devices → IsPending g mid new devices need change
+      → IsPending g old new devices need change
+  pending-after old mid new devices need None keeps (needed, kept) =
+      (needed, keeps-after (state g old) (state g mid) (state g new) devices keeps kept)
+  pending-after old mid new devices need (Some change) keeps pends =
+      pends-after (state g old) (state g mid) (state g new) change devices keeps pends
+
+  pub comes-after : (old mid new : Held S) (devices : Devices) (effect : Effect) (r : Result Done Refusal)
+      → Keeps (state g old) (state g mid) devices → Comes g mid new devices effect r → Comes g old new devices effect r
+  comes-after old mid new devices effect (Ok done) keeps (gives, made) =
+      (gives, made-after old mid new devices effect.change keeps made)
+  comes-after old mid new devices effect (Err (Before cause)) keeps (needed, kept) =
+      (needed, keeps-after (state g old) (state g mid) (state g new) devices keeps kept)
+  comes-after old mid new devices effect (Err (AtWrite cause)) keeps pending =
+      pending-after old mid new devices effect.need effect.change keeps pending
+
   -- ---- an item that is tried
 
-  -- over another registry, with the same base ID and the same counts
-  pub tries : (base : ℕ) (counts : Counts) (old new : Held S) (wanted : Devices → Wanted) (r : Result Done Refusal)
+  -- over another registry, where all else stays
+  pub tries : (base : ℕ) (mode : Mode) (counts : Counts) (old new : Held S) (effect : State → Effect)
+      (r : Result Done Refusal)
       → (HasCleanDisk (state g new) → HasCleanDisk (state g old))
       → (HasCleanDisk (state g new) → AreRegistries (state g new).may_leave)
       → (HasCleanDisk (state g new) → (devices : Devices) → HasDevices (state g old) devices
-      → Comes g old new devices (wanted devices) r)
-      → Tries g (record { base = base; counts = counts; registry = old }) wanted r
-      (record { base = base; counts = counts; registry = new })
-  tries base counts old new wanted r clean registries comes =
+      → Comes g old new devices
+      (effect (record { base = base; mode = mode; counts = counts; devices = devices })) r)
+      → Tries g (record { base = base; mode = mode; counts = counts; registry = old }) effect r
+      (record { base = base; mode = mode; counts = counts; registry = new })
+  tries base mode counts old new effect r clean registries comes =
       record {
         base = refl;
+        mode = refl;
         counts = refl;
         clean = clean;
         registries = λ honest before. registries honest;
@@ -134,41 +170,91 @@ module _ {S : Type 0} (g : Ghosts S) where
       }
 
   -- with nothing asked of the registry
-  pub tries-alone : (v : HandlerValue S) (wanted : Devices → Wanted) (r : Result Done Refusal)
+  pub tries-alone : (v : HandlerValue S) (effect : State → Effect) (r : Result Done Refusal)
       → ((devices : Devices) → Keeps (state g v.registry) (state g v.registry) devices
-      → Comes g v.registry v.registry devices (wanted devices) r) → Tries g v wanted r v
-  tries-alone v wanted r comes = record {
+      → Comes g v.registry v.registry devices (effect (state_of v devices)) r) → Tries g v effect r v
+  tries-alone v effect r comes = record {
     base = refl;
+    mode = refl;
     counts = refl;
     clean = λ honest. honest;
     registries = λ honest before. before;
     comes = λ honest devices has. comes devices (keeps-same (state g v.registry) devices has);
   }
 
-  at_write : (old new : Held S) (devices : Devices) (id : ℕ) (eep : Eep) (full : Bool) → is_full devices id ≡ full
-      → Pends (state g old) (state g new) (learned (record { id = id; eep = eep; maker = None })) devices
-      → let d : Decision = if full then Denies error.Full else Learns (record { id = id; eep = eep; maker = None }) in
-      IsPending g old new devices (needs_help d) (change_in d)
-  at_write old new devices id eep true full pends =
-      (refl, keeps-full (state g old) (state g new) (record { id = id; eep = eep; maker = None }) devices full pends)
-  at_write old new devices id eep false full pends = pends
+  -- where the effects are equal
+  pub tries-same : (old new : HandlerValue S) (effect other : State → Effect) (r : Result Done Refusal)
+      → ((devices : Devices) → effect (state_of old devices) ≡ other (state_of old devices))
+      → Tries g old other r new → Tries g old effect r new
+  tries-same old new effect other r same tries = record {
+    base = tries.base;
+    mode = tries.mode;
+    counts = tries.counts;
+    clean = tries.clean;
+    registries = tries.registries;
+    comes = λ honest devices has.
+        subst (λ e. Comes g old.registry new.registry devices e r) (sym (same devices))
+        (tries.comes honest devices has);
+  }
 
-  -- a device is not learned
-  pub add-comes : (counts : Counts) (old new : Held S) (devices : Devices) (id : ℕ) (eep : Eep) (why : LearnFault)
-      (r : Result Done Refusal) → is_supported eep ≡ true → Unlearned why r
-      → RefusesToLearn (state g old) (state g new) (record { id = id; eep = eep; maker = None }) devices why
-      → Comes g old new devices (of_decision counts devices (order_decision devices (Ok (Add id eep)))) r
-  add-comes counts old new devices id eep fault.Full r supported (done, is, gives) (full, keeps) =
-      rw (is, supported, full) (gives, keeps)
-  add-comes counts old new devices id eep (fault.Refused cause) r supported is pends =
-      rw (is, supported) (at_write old new devices id eep (is_full devices id) refl pends)
+  -- behind a look at the registry
+  pub tries-behind : (v mid new : HandlerValue S) (registry : Held S) (effect other : State → Effect)
+      (r : Result Done Refusal)
+      → mid ≡ record v { registry = registry }
+      → (HasCleanDisk (state g registry) → HasCleanDisk (state g v.registry))
+      → (HasCleanDisk (state g registry) → AreRegistries (state g registry).may_leave)
+      → (HasCleanDisk (state g registry) → (devices : Devices) → HasDevices (state g v.registry) devices
+      → (effect (state_of v devices) ≡ other (state_of v devices))
+      × Keeps (state g v.registry) (state g registry) devices)
+      → Tries g mid other r new → Tries g v effect r new
+  tries-behind v mid new registry effect other r is clean registries found tried =
+      let over : Tries g (record v { registry = registry }) other r new =
+      subst (λ (m : HandlerValue S). Tries g m other r new) is tried in
+      record {
+        base = over.base;
+        mode = over.mode;
+        counts = over.counts;
+        clean = λ honest. clean (over.clean honest);
+        registries = λ honest before. over.registries honest (registries (over.clean honest));
+        comes = λ honest devices has.
+            let f = found (over.clean honest) devices has in
+            subst (λ e. Comes g v.registry new.registry devices e r) (sym f.0)
+            (comes-after v.registry registry new.registry devices (other (state_of v devices)) r f.1
+            (over.comes honest devices f.1.now));
+      }
+
+  -- data gives a line or none, and changes nothing
+  pub data-comes : (old new : Held S) (devices : Devices) (mode : Mode) (t : Telegram) (known : Option Device)
+      (done : Done) → Gives done (case_effect mode t (data_case known)) → Keeps (state g old) (state g new) devices
+      → Comes g old new devices (case_effect mode t (data_case known)) (Ok done)
+  data-comes old new devices mode t None done gives keeps = (gives, keeps)
+  data-comes old new devices mode t (Some known) done gives keeps = one (readings_of known.eep t) gives
+    where
+      one : (readings : Option (List Entry)) → Gives done (reading_effect mode t known.eep readings)
+          → Comes g old new devices (reading_effect mode t known.eep readings) (Ok done)
+      one None gives = (gives, keeps)
+      one (Some readings) gives = (gives, keeps)
+
+  -- a device is not learned: the write was tried, though the registry is full perhaps
+  pub addition-pending : (old new : Held S) (now : State) (known : Device)
+      → Pends (state g old) (state g new) (learned known) now.devices
+      → IsPending g old new now.devices (addition now known).need (addition now known).change
+  addition-pending old new now known pends = one (is_full now.devices known.id) refl
+    where
+      one : (full : Bool) → is_full now.devices known.id ≡ full
+          → let e : Effect =
+          if full then told_effect now.mode (Error error.Full ∷ []) else learns now.mode known in
+          IsPending g old new now.devices e.need e.change
+      one true full = (refl, keeps-full (state g old) (state g new) known now.devices full pends)
+      one false full = pends
 
   -- an order behind a line
-  pub tries-order : (counts : Counts) (old new : HandlerValue S) (line : List ℕ) (r : Result Done Refusal)
+  pub tries-order : (old new : HandlerValue S) (line : List ℕ) (r : Result Done Refusal)
       (order : Result Order OrderFault) → length line ≤ longest_line → order_of line ≡ order
-      → Tries g old (λ devices. of_decision counts devices (order_decision devices order)) r new
-      → Tries g old (λ devices. of_decision counts devices (decision devices line)) r new
-  tries-order counts old new line r order short is tried = rw (le-ltb longest_line (length line) short, is) tried
+      → Tries g old (λ state. order_effect state order) r new → Tries g old (λ state. line_effect state line) r new
+  tries-order old new line r order short is tried =
+      tries-same old new (λ state. line_effect state line) (λ state. order_effect state order) r
+      (λ devices. rw (le-ltb longest_line (length line) short, is) refl) tried
 
   -- ---- an item that was tried is handled
 
@@ -186,21 +272,22 @@ module _ {S : Type 0} (g : Ghosts S) where
 
   -- what is refused at its write
   at_write-went : (old new : HandlerValue S) (start : State) (item : Item) (cause : Cause) (change : Option Change)
-      → change_of start item ≡ change → new.base ≡ start.base → new.counts ≡ (refused start).counts
+      → change_of start item ≡ change → new.base ≡ start.base → new.mode ≡ start.mode
+      → new.counts ≡ (refused start).counts
       → IsPending g old.registry new.registry start.devices (needs start item) change
       → Went g old start (item ∷ []) (said (cause_text cause) ∷ []) new
-  at_write-went old new start item cause None asks base counts (help, keeps) = record {
+  at_write-went old new start item cause None asks base mode counts (need, keeps) = record {
     fates = Refused cause ∷ [];
     last = refused start;
-    run = (help, refl, refl);
-    at = (base, keeps.now, counts);
+    run = (need, refl, refl);
+    at = (base, mode, keeps.now, counts);
     stop = λ left may. inr (refl, keeps.stop left may);
   }
-  at_write-went old new start item cause (Some change) asks base counts pends = record {
+  at_write-went old new start item cause (Some change) asks base mode counts pends = record {
     fates = RefusedAtWrite cause ∷ [];
     last = refused start;
     run = (subst (λ o. IsSome o) (sym asks) refl, refl, refl);
-    at = (base, pends.now, counts);
+    at = (base, mode, pends.now, counts);
     stop = λ left may. subst (λ o. Safe (MayFind (state g old.registry)) (pending nothing_left start.devices o) left)
         (sym asks)
         (elim (pends.stop left may) [ inl before ↦ inr (refl, before) | inr is ↦ inl (inl is) ]);
@@ -208,61 +295,70 @@ module _ {S : Type 0} (g : Ghosts S) where
 
   comes-went : (old new : HandlerValue S) (start : State) (item : Item) (r : Result Done Refusal)
       → new.base ≡ start.base
+      → new.mode ≡ start.mode
       → new.counts ≡ counts_from start.counts r
-      → Comes g old.registry new.registry start.devices (of_item start item) r
+      → Comes g old.registry new.registry start.devices (effect start item) r
       → Went g old start (item ∷ []) (answer_from r ∷ []) new
-  comes-went old new start item (Ok done) base counts ((says, counted), made) = record {
+  comes-went old new start item (Ok done) base mode counts ((says, counted), made) = record {
     fates = Taken ∷ [];
     last = state_after start item;
     run = (tt, says, refl);
     at = (
       base,
+      mode ∙ sym (mode-stays start item),
       made-now old.registry new.registry start.devices (change_of start item) made,
       counts
           ∙ ap (raised start.counts) counted,
     );
     stop = made-safe old.registry new.registry start.devices (change_of start item) made;
   }
-  comes-went old new start item (Err (Before cause)) base counts (help, keeps) = record {
+  comes-went old new start item (Err (Before cause)) base mode counts (need, keeps) = record {
     fates = Refused (cause_of cause) ∷ [];
     last = refused start;
-    run = (help, refl, refl);
-    at = (base, keeps.now, counts);
+    run = (need, refl, refl);
+    at = (base, mode, keeps.now, counts);
     stop = λ left may. inr (refl, keeps.stop left may);
   }
-  comes-went old new start item (Err (AtWrite cause)) base counts pending =
-      at_write-went old new start item (cause_of cause) (change_of start item) refl base counts pending
+  comes-went old new start item (Err (AtWrite cause)) base mode counts pending =
+      at_write-went old new start item (cause_of cause) (change_of start item) refl base mode counts pending
 
   -- what was tried is settled: it is counted
   pub record Settles (mid : HandlerValue S) (r : Result Done Refusal) (answer : Answer)
       (new : HandlerValue S) : Type 0 where
     pub answer_is : answer ≡ answer_from r
     pub base : new.base ≡ mid.base
+    pub mode : new.mode ≡ mid.mode
     pub counts : new.counts ≡ counts_from mid.counts r
     pub registry : new.registry ≡ mid.registry
 
   pub tries-handles : (old mid new : HandlerValue S) (item : Item) (r : Result Done Refusal) (answer : Answer)
       → Settles mid r answer new
-      → Tries g old (λ devices. of_item (record { base = old.base; counts = old.counts; devices = devices }) item) r mid
+      → Tries g old (λ state. effect state item) r mid
       → Handles g old (item ∷ []) (answer ∷ []) new
-  tries-handles old mid new item r answer settles tries =
+  tries-handles old mid new item r answer settles tried =
       let Over =
-      λ (registry : Held S).
-      Tries g old (λ devices. of_item (record { base = old.base; counts = old.counts; devices = devices }) item) r
-      (record { base = mid.base; counts = mid.counts; registry = registry }) in
-      let tried : Over new.registry = subst Over (sym settles.registry) tries in
+      λ (registry : Held S). Tries g old (λ state. effect state item) r (record mid { registry = registry }) in
+      let over : Over new.registry = subst Over (sym settles.registry) tried in
       record {
-        base = settles.base ∙ tried.base;
-        clean = tried.clean;
-        registries = tried.registries;
+        base = settles.base ∙ over.base;
+        clean = over.clean;
+        registries = over.registries;
         went = λ honest start at.
-            let come = tried.comes honest start.devices at.1 in
-            let Here =
-            λ (base : ℕ) (counts : Counts).
-            Comes g old.registry new.registry start.devices
-            (of_item (record { base = base; counts = counts; devices = start.devices }) item) r in
-            let here = subst (λ counts. Here start.base counts) at.2 (subst (λ base. Here base old.counts) at.0 come) in
+            let come = over.comes honest start.devices at.2 in
+            let Here = λ (s : State). Comes g old.registry new.registry start.devices (effect s item) r in
+            let here : Here start = subst Here (same old start at.0 at.1 at.3) come in
             subst (λ a. Went g old start (item ∷ []) (a ∷ []) new) (sym settles.answer_is)
-            (comes-went old new start item r (settles.base ∙ tried.base ∙ at.0)
-            (settles.counts ∙ ap (λ c. counts_from c r) (tried.counts ∙ at.2)) here);
+            (comes-went old new start item r (settles.base ∙ tried.base ∙ at.0) (settles.mode ∙ tried.mode ∙ at.1)
+            (settles.counts ∙ ap (λ c. counts_from c r) (tried.counts ∙ at.3)) here);
       }
+    where
+      -- what the gateway knows is what the handler knows over these devices
+      same : (v : HandlerValue S) (start : State) → v.base ≡ start.base → v.mode ≡ start.mode
+          → v.counts ≡ start.counts → state_of v start.devices ≡ start
+      same v start base mode counts =
+          ap (λ b. let s : State = record { base = b; mode = v.mode; counts = v.counts; devices = start.devices } in s)
+          base
+          ∙ ap (λ m. let s : State =
+          record { base = start.base; mode = m; counts = v.counts; devices = start.devices } in s) mode
+          ∙ ap (λ c. let s : State =
+          record { base = start.base; mode = start.mode; counts = c; devices = start.devices } in s) counts

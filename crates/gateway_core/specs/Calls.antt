@@ -4,7 +4,8 @@ use Rattle.sqlite.specs.Held.{Held}
 use Rattle.sqlite_trees.specs.declared.store.Store.{Ghosts}
 use Rattle.esp3_frames.specs.Packet.{Packet}
 use Rattle.esp3_frames.specs.Frames.{packets_in, rest_of}
-use Rattle.gateway_core.specs.Counts.{none_counted}
+use Rattle.teach_in.specs.declared.mode.Mode.TheVariants.{Closed}
+use Rattle.json_lines.specs.Counts.{none_counted}
 use Rattle.gateway_core.specs.Step.{Item, Received, Ordered, Answer}
 use Rattle.gateway_core.specs.Handling.{HandlerValue, Handles}
 
@@ -15,10 +16,13 @@ pub record Value (S : Type 0) : Type 0 where
   pub ready : List Packet
   pub rest : List ℕ
 
--- a gateway with this base ID over this registry, which has counted nothing and to which no byte has come
+-- a handler with this base ID over this registry, which learns from nobody and has counted nothing
+abbrev pub new_handler : {S : Type 0} → ℕ → Held S → HandlerValue S
+new_handler base registry = record { base = base; mode = Closed; counts = none_counted; registry = registry }
+
+-- a gateway with such a handler, to which no byte has come
 abbrev pub new_value : {S : Type 0} → ℕ → Held S → Value S
-new_value base registry =
-    record { handler = record { base = base; counts = none_counted; registry = registry }; ready = []; rest = [] }
+new_value base registry = record { handler = new_handler base registry; ready = []; rest = [] }
 
 -- a call, with what it was given and what it answered
 pub data Call : Type 0 where

@@ -1,9 +1,56 @@
 -- Codes of the values that contracts see, as the checker wants them of a type with a store in it.
-use Rattle.std.specs.Prelude.{ℕ, List, refl}
-use Rattle.std.specs.Coded.{Coded, code_by, coded×, coded_list, coded_ℕ}
+use Rattle.std.specs.Prelude.{◌≡◌, ℕ, List, Option, Some, None, refl}
+use Rattle.std.specs.Coded.{Coded, code_by, coded×, coded_list, coded_option, coded_ℕ}
+use Rattle.sqlite.specs.Held.{Held, held_code}
+use Rattle.erp1_telegrams.specs.declared.eep.Eep.{Eep}
+use Rattle.teach_in.specs.declared.mode.Mode.{Mode}
+use Rattle.teach_in.specs.declared.mode.Mode.TheVariants.{Closed, Learn, LearnAnswer, LearnAs}
+use Rattle.json_lines.specs.declared.counts.Counts.{Counts}
 use Rattle.esp3_frames.specs.Packet.{Packet}
-use Rattle.gateway_core.specs.Handling.{HandlerValue, handler_code}
+use Rattle.gateway_core.specs.Handling.{HandlerValue}
 use Rattle.gateway_core.specs.Calls.{Value}
+
+abbrev counts_code : Coded Counts
+counts_code =
+    code_by (ℕ × (ℕ × (ℕ × (ℕ × ℕ)))) (coded× coded_ℕ (coded× coded_ℕ (coded× coded_ℕ (coded× coded_ℕ coded_ℕ))))
+    (λ c. (c.ignored, (c.readings, (c.refused, (c.responses, c.teach)))))
+    (λ p. record { ignored = p.0; readings = p.1.0; refused = p.1.1.0; responses = p.1.1.1.0; teach = p.1.1.1.1 })
+    (λ _. refl)
+
+abbrev eep_code : Coded Eep
+eep_code =
+    code_by (ℕ × (ℕ × ℕ)) (coded× coded_ℕ (coded× coded_ℕ coded_ℕ)) (λ e. (e.rorg, (e.func, e.typ)))
+    (λ p. record { rorg = p.0; func = p.1.0; typ = p.1.1 }) (λ _. refl)
+
+abbrev as_option : Mode → Option (Option (Option Eep))
+as_option Closed = None
+as_option Learn = Some None
+as_option LearnAnswer = Some (Some None)
+as_option (LearnAs eep) = Some (Some (Some eep))
+
+abbrev as_mode : Option (Option (Option Eep)) → Mode
+as_mode None = Closed
+as_mode (Some None) = Learn
+as_mode (Some (Some None)) = LearnAnswer
+as_mode (Some (Some (Some eep))) = LearnAs eep
+
+pub mode_back : (mode : Mode) → as_mode (as_option mode) ≡ mode
+mode_back Closed = refl
+mode_back Learn = refl
+mode_back LearnAnswer = refl
+mode_back (LearnAs eep) = refl
+
+abbrev mode_code : Coded Mode
+mode_code =
+    code_by (Option (Option (Option Eep))) (coded_option (coded_option (coded_option eep_code))) as_option as_mode
+    mode_back
+
+abbrev pub handler_code : {S : Type 0} → Coded S → Coded (HandlerValue S)
+handler_code {S} store =
+    code_by (ℕ × (Mode × (Counts × Held S)))
+    (coded× coded_ℕ (coded× mode_code (coded× counts_code (held_code store))))
+    (λ v. (v.base, (v.mode, (v.counts, v.registry))))
+    (λ p. record { base = p.0; mode = p.1.0; counts = p.1.1.0; registry = p.1.1.1 }) (λ _. refl)
 
 abbrev packet_code : Coded Packet
 packet_code =

@@ -1,39 +1,28 @@
 -- How the gateway handles items, over its registry: what it answers, what it knows afterwards, and what a stop may
 -- leave. All this has one premise, the store's own: so far the disk has returned what was written.
-use Rattle.std.specs.Prelude.{◌≡◌, ℕ, List, refl}
-use Rattle.std.specs.Coded.{Coded, code_by, coded×, coded_ℕ}
-use Rattle.sqlite.specs.Held.{Held, held_code, state}
+use Rattle.std.specs.Prelude.{◌≡◌, ℕ, List}
+use Rattle.sqlite.specs.Held.{Held, state}
 use Rattle.sqlite.specs.State.{HasCleanDisk}
 use Rattle.sqlite_trees.specs.declared.store.Store.{Ghosts}
 use Rattle.device_registry.specs.Devices.{Devices}
 use Rattle.device_registry.specs.Holding.{HasDevices, MayFind, AreRegistries}
-use Rattle.gateway_core.specs.declared.counts.Counts.{Counts}
+use Rattle.teach_in.specs.declared.mode.Mode.{Mode}
+use Rattle.json_lines.specs.declared.counts.Counts.{Counts}
 use Rattle.gateway_core.specs.Step.{State, Item, Answer}
 use Rattle.gateway_core.specs.Run.{Fate, Run}
 use Rattle.gateway_core.specs.Stops.{nothing_left, left_by, Safe}
 
--- the base ID of the radio module, what was counted, and the registry's connection
+-- the base ID of the radio module, the mode, what was counted, and the registry's connection
 pub record HandlerValue (S : Type 0) : Type 0 where
   pub base : ℕ
+  pub mode : Mode
   pub counts : Counts
   pub registry : Held S
 
-abbrev counts_code : Coded Counts
-counts_code =
-    code_by (ℕ × (ℕ × (ℕ × (ℕ × ℕ)))) (coded× coded_ℕ (coded× coded_ℕ (coded× coded_ℕ (coded× coded_ℕ coded_ℕ))))
-    (λ c. (c.ignored, (c.readings, (c.refused, (c.responses, c.teach)))))
-    (λ p. record { ignored = p.0; readings = p.1.0; refused = p.1.1.0; responses = p.1.1.1.0; teach = p.1.1.1.1 })
-    (λ _. refl)
-
-abbrev pub handler_code : {S : Type 0} → Coded S → Coded (HandlerValue S)
-handler_code {S} store =
-    code_by (ℕ × (Counts × Held S)) (coded× coded_ℕ (coded× counts_code (held_code store)))
-    (λ v. (v.base, (v.counts, v.registry)))
-    (λ p. record { base = p.0; counts = p.1.0; registry = p.1.1 }) (λ _. refl)
-
 -- this is what the gateway knows
 abbrev pub IsAt : {S : Type 0} → Ghosts S → HandlerValue S → State → Type 0
-IsAt g v s = (v.base ≡ s.base) × HasDevices (state g v.registry) s.devices × (v.counts ≡ s.counts)
+IsAt g v s =
+    (v.base ≡ s.base) × (v.mode ≡ s.mode) × HasDevices (state g v.registry) s.devices × (v.counts ≡ s.counts)
 
 -- while the disk has returned what was written and the connection is open, there is a state that the gateway knows
 abbrev pub KnowsState : {S : Type 0} → Ghosts S → HandlerValue S → Type 0

@@ -1,10 +1,5 @@
-pub mod Lines
-pub mod LineData
 pub mod Profiles
 pub mod Responses
-pub mod Counts
-pub mod TeachIn
-pub mod Orders
 pub mod Step
 pub mod Run
 pub mod Stops

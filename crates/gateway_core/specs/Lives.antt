@@ -3,7 +3,8 @@ use Rattle.std.specs.Prelude.{◌≡◌, ◌≢◌, ℕ, List, [], ◌∷◌, �
 use Rattle.std.specs.List.{AllByRecursion}
 use Rattle.std.specs.FinMap.{get}
 use Rattle.device_registry.specs.Devices.{Devices, Change}
-use Rattle.gateway_core.specs.Counts.{none_counted}
+use Rattle.teach_in.specs.declared.mode.Mode.TheVariants.{Closed}
+use Rattle.json_lines.specs.Counts.{none_counted}
 use Rattle.gateway_core.specs.Step.{State, Item, Answer, change_of, state_after}
 use Rattle.gateway_core.specs.Run.{Fate, Taken, Refused, RefusedAtWrite, state_with, Run}
 use Rattle.gateway_core.specs.Stops.{Left, nothing_left, pending, left_by, Safe}
@@ -20,9 +21,9 @@ pub record Life : Type 0 where
   pub stopped : Option Item
   pub left : Devices
 
--- a life begins with the devices found, and with nothing counted
+-- a life begins with the devices found, learns from nobody, and has counted nothing
 abbrev pub begun : ℕ → Devices → State
-begun base devices = record { base = base; counts = none_counted; devices = devices }
+begun base devices = record { base = base; mode = Closed; counts = none_counted; devices = devices }
 
 -- the item in work may be done, and may not
 abbrev pub stopped_in : Left → State → Option Item → Left

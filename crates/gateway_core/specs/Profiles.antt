@@ -1,5 +1,6 @@
--- The profiles that telegrams are read by (EnOcean Equipment Profiles 2.6): those of the three crates of profiles.
-use Rattle.std.specs.Prelude.{Bool, ◌||◌, List, Option, Result, if◌then◌else◌}
+-- What telegrams say by the profiles that are read (EnOcean Equipment Profiles 2.6): those of the three crates of
+-- profiles.
+use Rattle.std.specs.Prelude.{◌==◌, List, Option, Result, if◌then◌else◌}
 use Rattle.std.specs.Result.{result_ok}
 use Rattle.erp1_telegrams.specs.declared.eep.Eep.{Eep}
 use Rattle.erp1_telegrams.specs.Telegram.{Telegram}
@@ -9,15 +10,12 @@ use Rattle.profiles_rps.specs.declared.unreadable.Unreadable.{Unreadable}
 use Rattle.profiles_4bs.specs.Profiles as four_byte
 use Rattle.profiles_vld.specs.Profiles as variable_length
 
-abbrev pub is_supported : Eep → Bool
-is_supported eep = rps.supported eep || four_byte.supported eep || variable_length.supported eep
-
--- what the profile reads in a telegram, or why it reads nothing
+-- what the profile reads in a telegram, or why it reads nothing: each crate has the profiles of its RORGs
 abbrev pub read_by : Eep → Telegram → Result (List Entry) Unreadable
 read_by eep t =
-    if rps.supported eep then rps.readings_of eep t
-    else if four_byte.supported eep then four_byte.readings_of eep t
-    else variable_length.readings_of eep t
+    if eep.rorg == 0xA5 then four_byte.readings_of eep t
+    else if eep.rorg == 0xD2 then variable_length.readings_of eep t
+    else rps.readings_of eep t
 
 -- what the telegram of a sender with this profile tells, if the profile can read it
 abbrev pub readings_of : Eep → Telegram → Option (List Entry)

@@ -1,12 +1,8 @@
 -- What the radio module answers (EnOcean Serial Protocol 3, "Packet type 2: RESPONSE").
 use Rattle.std.specs.Prelude.{ℕ, ◌==◌, List, [], ◌∷◌, Option, Some, None, if◌then◌else◌}
 use Rattle.esp3_frames.specs.Packet.{Packet}
+use Rattle.json_lines.specs.Lines.{Response}
 use Rattle.gateway_core.specs.declared.response.ResponseRef.{ResponseRef}
-
--- a return code, and the bytes behind it
-pub record Response : Type 0 where
-  pub code : ℕ
-  pub bytes : List ℕ
 
 -- own choice: a response without data says nothing
 abbrev pub response_from : List ℕ → Option Response

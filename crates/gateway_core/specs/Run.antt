@@ -1,38 +1,10 @@
 -- What the gateway does with many items, of which some may be refused.
-use Rattle.std.specs.Prelude.{◌≡◌, if◌then◌else◌, ◌||◌, Bool, true, false, is_some, IsTrue, IsSome, ℕ, ◌+◌, ◌^◌, ◌<◌}
-use Rattle.std.specs.Prelude.{List, [], ◌∷◌, map, Option, Some, None}
-use Rattle.gateway_core.specs.declared.counts.Count.TheVariants as count
-use Rattle.gateway_core.specs.declared.lines.error.ErrorName.{ErrorName}
-use Rattle.gateway_core.specs.declared.lines.error.ErrorName.TheVariants as error
-use Rattle.gateway_core.specs.Counts.{counted, count_with}
-use Rattle.gateway_core.specs.Lines.{error_text}
-use Rattle.gateway_core.specs.Responses.{response_in}
-use Rattle.gateway_core.specs.Step.{State, Item, Received, Ordered, Answer, said, Decision, Denies, Learns, Forgets}
-use Rattle.gateway_core.specs.Step.{Lists, Reports, decision, data_telegram, answer_to, change_of, state_after}
-
--- the errors that are told by the line alone; the others are told by the devices
-abbrev pub is_of_line : ErrorName → Bool
-is_of_line error.Syntax = true
-is_of_line error.TooLong = true
-is_of_line error.Range = true
-is_of_line error.UnsupportedProfile = true
-is_of_line error.UnknownDevice = false
-is_of_line error.Full = false
-is_of_line error.Memory = false
-is_of_line error.Store = false
-
--- a decision needs memory or the store unless the line alone denies it
-abbrev pub needs_help : Decision → Bool
-needs_help (Denies name) = if is_of_line name then false else true
-needs_help (Learns known) = true
-needs_help (Forgets known) = true
-needs_help Lists = true
-needs_help Reports = true
-
--- the items that need memory or the store
-abbrev pub needs : State → Item → Bool
-needs state (Received packet) = is_some (response_in packet) || is_some (data_telegram state.base packet)
-needs state (Ordered line) = needs_help (decision state.devices line)
+use Rattle.std.specs.Prelude.{◌≡◌, IsTrue, IsSome, ℕ, ◌+◌, ◌^◌, ◌<◌, List, [], ◌∷◌, map, Option, Some, None}
+use Rattle.json_lines.specs.declared.counts.Count.TheVariants as count
+use Rattle.json_lines.specs.declared.fixed.ErrorName.TheVariants as error
+use Rattle.json_lines.specs.Counts.{counted, count_with}
+use Rattle.json_lines.specs.Lines.{Error, text}
+use Rattle.gateway_core.specs.Step.{State, Item, Answer, said, answer_to, change_of, needs, state_after}
 
 -- what an item is refused for: there was no memory, or the store of the registry refused
 pub data Cause : Type 0 where
@@ -52,8 +24,8 @@ Allows state item (Refused cause) = IsTrue (needs state item)
 Allows state item (RefusedAtWrite cause) = IsSome (change_of state item)
 
 abbrev pub cause_text : Cause → List ℕ
-cause_text Memory = error_text error.Memory
-cause_text Store = error_text error.Store
+cause_text Memory = text (Error error.Memory)
+cause_text Store = text (Error error.Store)
 
 -- the answer to an item with this fate
 abbrev pub answer_with : State → Item → Fate → Answer
@@ -63,7 +35,7 @@ answer_with state item (RefusedAtWrite cause) = said (cause_text cause)
 
 -- what is known after an item that is refused: no more than that it was
 abbrev pub refused : State → State
-refused state = record { base = state.base; counts = counted state.counts count.Refused; devices = state.devices }
+refused state = record state { counts = counted state.counts count.Refused }
 
 -- what is known after an item with this fate
 abbrev pub state_with : State → Item → Fate → State

@@ -8,7 +8,6 @@ ghost use Rattle.gateway_core.specs.Calls.{CallsAreARun};
 ghost use Rattle.gateway_core.specs.Events.{CutsAreAnsweredAlike, CutsDoNotMatter, Event, brought, bytes_in, items_of};
 ghost use Rattle.gateway_core.specs.Handling.{Handles, KnowsState, HandlerValue};
 ghost use Rattle.gateway_core.specs.Lives.{LivesKeep};
-ghost use Rattle.gateway_core.specs.Orders.{OrdersAreSpelled};
 ghost use Rattle.gateway_core.specs.Prefixes.{LeftIsPrefix, SafeIsPrefix, ToldStandBefore};
 ghost use Rattle.gateway_core.specs.Run.{RefusalsAreCounted, SameRefusals};
 ghost use Rattle.gateway_core.specs.Step.{Answer, Item};
@@ -18,11 +17,6 @@ ghost use Rattle.gateway_core.specs.Telling.{TeachLinesAreTold};
 use crate::gateway::Gateway;
 use device_registry::laws::devices_are_held;
 use sqlite::Alter;
-
-/// The computed order of a line is the one that the line spells.
-pub fn orders_are_spelled()
-    ensures { OrdersAreSpelled }
-{}
 
 /// However the bytes between two lines are cut into pieces, the items are the same.
 pub fn independent_of_cuts()

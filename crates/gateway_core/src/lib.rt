@@ -3,21 +3,16 @@
 //! registry, and what becomes of one is told once it is committed.
 #![tactic(auto)]
 
-mod counts;
 mod gateway;
 mod handler;
 pub mod laws;
-mod lines;
-mod orders;
 mod profiles;
 mod refusal;
 mod reply;
 mod response;
-mod teach_in;
-mod verdict;
 
+pub use actuator_commands::id_of;
 pub use erp1_telegrams::is_base;
 pub use gateway::{Gateway, StartFault};
-pub use lines::line::Line;
-pub use orders::LONGEST_LINE;
+pub use handler::lines::LONGEST_LINE;
 pub use reply::{Desk, Reply};

@@ -2,8 +2,8 @@
 ghost use Rattle.std.specs.Prelude.{◌≡◌};
 ghost use Rattle.gateway_core.specs.Desks.{desk_bytes};
 
-use crate::lines::line::Line;
 use arrayvec::ArrayVec;
+use json_lines::Line;
 
 /// What the desk is told.
 #[derive(Drop)]

@@ -2,7 +2,7 @@
 use Rattle.std.proofs.Common.{◌≡◌, ℕ, ◌+◌, ◌<◌, ◌≤◌, ap, ◌∙◌, arith, false}
 use Rattle.std.specs.Prelude.{Ok, ◌==◌, if◌then◌else◌}
 use Rattle.std.proofs.lemmas.Bool.{ne_eqb}
-use Rattle.gateway_core.specs.Counts.{one_more}
+use Rattle.json_lines.specs.Counts.{one_more}
 use Rattle.gateway_main.specs.Counts.{Counts, counted, WentWell, Made}
 
 pub went_on : (old mid new : Counts) → WentWell old mid → WentWell mid new → WentWell old new

@@ -1,5 +1,5 @@
 -- All lines that are too long are treated alike.
-use Rattle.gateway_core.specs.Orders.{longest_line}
+use Rattle.gateway_core.specs.Step.{longest_line}
 use Rattle.std.proofs.Common.{◌≡◌, ℕ, ◌+◌, ◌-◌, ◌<◌, ◌≤◌, List, [], ◌∷◌, ◌++◌, length, take, drop, refl, ap, sym, subst}
 use Rattle.std.proofs.Common.{◌∙◌, arith, true, false, inl, inr, map, Option}
 use Rattle.std.specs.Prelude.{Result, ◌==◌, ◌&&◌, if◌then◌else◌, nat_eq, codes, slice_index}

@@ -11,7 +11,7 @@ use Rattle.std.proofs.lemmas.List.{map-append, nil_from_length, length-take}
 use Rattle.gateway_core.specs.Calls.{Value}
 use Rattle.gateway_core.specs.Events.{Event, items_of}
 use Rattle.gateway_core.proofs.ForCallers.{items_behind}
-use Rattle.gateway_core.specs.Counts.{count_with}
+use Rattle.json_lines.specs.Counts.{count_with}
 use Rattle.gateway_main.specs.Script.{event_of, script}
 use Rattle.gateway_main.specs.Replayed.{IsIdle, Replays, BreaksOff, ReplaysClosed, ReplaysPart}
 use Rattle.gateway_main.specs.Progress.{longest_kept, Takes, Progress, IsOneLine, ended, events_of}

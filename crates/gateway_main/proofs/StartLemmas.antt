@@ -34,7 +34,7 @@ starts {S} g database registry base new is registries opens =
       found = opened.0;
       finds = opened.1.found;
       base_is = refl;
-      begins = record { at = (refl, opened.1.now, refl); stop = opened.1.stop };
+      begins = record { at = (refl, refl, opened.1.now, refl); stop = opened.1.stop };
       registries = registries clean;
     })
 

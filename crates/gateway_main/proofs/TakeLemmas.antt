@@ -12,7 +12,7 @@ use Rattle.gateway_core.specs.Handling.{HandlerValue}
 use Rattle.gateway_core.specs.Calls.{Value, Moves, Next, Byte, Order}
 use Rattle.gateway_core.specs.Events.{Piece, Line, items_of}
 use Rattle.gateway_core.proofs.ForCallers.{brought-rest, cuts_do_not_matter, rest_goes_on, items_behind, rest_behind}
-use Rattle.gateway_core.specs.Counts.{count_with}
+use Rattle.json_lines.specs.Counts.{count_with}
 use Rattle.gateway_main.specs.Writes.{AppendsPart}
 use Rattle.gateway_main.specs.Written.{text_of}
 use Rattle.gateway_main.specs.Replayed.{IsIdle, Answers, AnswersPart, Replays, BreaksOff}

@@ -1,7 +1,7 @@
 -- The base ID that a text spells.
 use Rattle.std.specs.Prelude.{ℕ, List, if◌then◌else◌, Option, Some, None}
 use Rattle.erp1_telegrams.specs.Address.{is_base}
-use Rattle.gateway_core.specs.Orders.{id_in}
+use Rattle.actuator_commands.specs.Words.{id_in}
 
 abbrev pub base_from : Option ℕ → Option ℕ
 base_from (Some id) = if is_base id then Some id else None

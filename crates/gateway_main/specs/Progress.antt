@@ -6,9 +6,9 @@ use Rattle.std.specs.Str.Lines.{strip_carriage_return}
 use Rattle.gateway_core.specs.Step.{Received}
 use Rattle.gateway_core.specs.Calls.{Value}
 use Rattle.gateway_core.specs.Events.{Event, items_of}
-use Rattle.gateway_core.specs.Orders.{longest_line}
+use Rattle.gateway_core.specs.Step.{longest_line}
 use Rattle.esp3_frames.specs.Packet.{Packet}
-use Rattle.gateway_core.specs.Counts.{count_with}
+use Rattle.json_lines.specs.Counts.{count_with}
 use Rattle.gateway_main.specs.Script.{event_of}
 use Rattle.gateway_main.specs.Replayed.{Answers, AnswersPart, Replays, BreaksOff}
 use Rattle.sqlite_trees.specs.declared.store.Store.{Ghosts}

@@ -9,8 +9,7 @@ ghost use Rattle.gateway_main.specs.CommandLine.{IsMemory, IsTaken, RefusesLine,
 ghost use Rattle.gateway_main.specs.CommandLine.{db_rule, enogate_app, text_found};
 
 use clap::{Arg, ArgAction, ArgMatches, Command, Error};
-use gateway_core::is_base;
-use hex::FromHex;
+use gateway_core::{id_of, is_base};
 use std::alloc::{AllocError, Global};
 
 /// What `--version` tells, behind the program's name.
@@ -92,8 +91,7 @@ fn base_given(matches: &ArgMatches<'_>) -> Option<u32>
 fn base_of(text: &str) -> Option<u32>
     ensures { result ≡ base_in text.now }
 {
-    let bytes = <[u8; 4] as FromHex>::from_hex(text).ok()?;
-    let base = u32::from_be_bytes(bytes);
+    let base = id_of(text.as_bytes())?;
     if is_base(base) { Some(base) } else { None }
 }
 

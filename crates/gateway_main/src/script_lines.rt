@@ -2,7 +2,7 @@
 ghost use Rattle.std.specs.Prelude.{◌≡◌, ◌≤◌, ◌/◌, length, drop, IsErr, MatchBool, Ok};
 ghost use Rattle.hex.specs.Hex.{decode_of};
 ghost use Rattle.gateway_core.specs.Events.{Line as LineEvent};
-ghost use Rattle.gateway_core.specs.Orders.{longest_line};
+ghost use Rattle.gateway_core.specs.Step.{longest_line};
 ghost use Rattle.gateway_main.specs.Counts.{Went};
 ghost use Rattle.gateway_main.specs.Progress.{TakesOrBreaks};
 ghost use Rattle.gateway_main.specs.Replayed.{IsIdle};

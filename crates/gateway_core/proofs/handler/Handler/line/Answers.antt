@@ -8,6 +8,7 @@ returns g c =
     (record {
       answer_is = c.reply_to.ensures.answer;
       base = c.reply_to.ensures.base;
+      mode = c.reply_to.ensures.mode;
       counts = c.reply_to.ensures.counts;
       registry = c.reply_to.ensures.registry;
     }) c.try_line-tried.ensures

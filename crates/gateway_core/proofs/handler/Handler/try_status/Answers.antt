@@ -1,4 +1,5 @@
-use Rattle.std.proofs.Common.{ap, ◌∙◌}
+use Rattle.std.proofs.Common.{refl, sym, ap, ◌∙◌, append-nil}
+use Rattle.std.proofs.lemmas.Result.{err_from_is_err_and}
 use Rattle.gateway_core.specs.Step.{said}
 use Rattle.gateway_core.proofs.TryLemmas.{tries-alone}
 use Rattle.gateway_core.proofs.handler.Handler.try_status.Goals as goal
@@ -6,4 +7,5 @@ use Rattle.gateway_core.proofs.handler.Handler.try_status.Goals as goal
 pub returns : goal.returns
 returns g c =
     rw (← c.self.view_is) (tries-alone g.S.Store _ _ _
-    (λ devices keeps. ((c.told.ensures.0 ∙ ap said c.in_ok-line.ensures, c.told.ensures.1), keeps)))
+    (λ devices keeps.
+    ((c.told.ensures.answer ∙ ap said (c.in_ok-line.ensures ∙ sym (append-nil _)), c.told.ensures.count), keeps)))

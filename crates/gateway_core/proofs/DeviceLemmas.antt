@@ -1,0 +1,20 @@
+-- What is found of a device.
+use Rattle.std.proofs.Common.{◌≡◌, ℕ, Option, Some, None, sym, ap, subst, ◌∙◌}
+use Rattle.std.specs.Prelude.{unwrap_or}
+use Rattle.std.specs.Option.{option_map}
+use Rattle.std.specs.FinMap.{get}
+use Rattle.device_registry.specs.declared.device.Device.{Device}
+use Rattle.device_registry.specs.Devices.{Learned, Devices, device, device_of}
+
+-- it has the ID under which it is found
+pub device_of-id : (devices : Devices) (id : ℕ) (known : Device) → Some known ≡ device_of devices id → known.id ≡ id
+device_of-id devices id known is = one (get devices id) is
+  where
+    one : (it : Option Learned) → Some known ≡ option_map (device id) it → known.id ≡ id
+    one None is = absurd cc
+    one (Some it) is = ap (λ (d : Device). d.id) (ap (λ o. unwrap_or o known) is)
+
+-- so it is found under its ID
+pub device_of-known : (devices : Devices) (id : ℕ) (known : Device) → device_of devices id ≡ Some known
+    → device_of devices known.id ≡ Some known
+device_of-known devices id known is = ap (device_of devices) (device_of-id devices id known (sym is)) ∙ is

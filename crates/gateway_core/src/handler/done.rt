@@ -1,0 +1,73 @@
+//! What is done for an item that is taken.
+ghost use Rattle.std.specs.Prelude.{◌≡◌, None, Some};
+ghost use Rattle.gateway_core.specs.Desks.{desk_bytes};
+ghost use Rattle.gateway_core.specs.Refusals.{cause_in};
+ghost use Rattle.gateway_core.specs.Replies.{answer_of};
+ghost use Rattle.gateway_core.specs.Run.{cause_text};
+ghost use Rattle.gateway_core.specs.Step;
+ghost use Rattle.gateway_core.specs.Step.{said};
+ghost use Rattle.teach_in.specs.declared.mode.Mode.{Mode};
+ghost use Rattle.gateway_core.specs.Tries.{Gives};
+
+use crate::refusal::Refusal;
+use crate::reply::{Desk, Reply};
+use json_lines::{Count, ErrorName};
+
+// What the item is counted as, if it is counted, and the answer to it.
+#[derive(Drop)]
+pub(crate) struct Done {
+    pub(crate) count: Option<Count>,
+    pub(crate) reply: Reply,
+}
+
+// Nothing goes out by radio.
+fn reply_with(desk: Desk) -> Reply
+    ensures { answer_of result ≡ said (desk_bytes desk) }
+{
+    Reply { radio: None, desk }
+}
+
+pub(crate) fn told(desk: Desk) -> Done
+    ensures count { result.count ≡ None }
+    ensures answer { answer_of result.reply ≡ said (desk_bytes desk) }
+{
+    Done {
+        count: None,
+        reply: reply_with(desk),
+    }
+}
+
+pub(crate) fn counted(count: Count, desk: Desk) -> Done
+    ensures count { result.count ≡ Some count }
+    ensures answer { answer_of result.reply ≡ said (desk_bytes desk) }
+{
+    Done {
+        count: Some(count),
+        reply: reply_with(desk),
+    }
+}
+
+pub(crate) fn ignored() -> Done
+    ensures { (mode : Mode) → Gives result (Step.ignored mode) }
+{
+    counted(Count::Ignored, Desk::Nothing)
+}
+
+pub(crate) fn denied(name: ErrorName) -> Done
+    ensures { (mode : Mode) → Gives result (Step.denied mode name) }
+{
+    told(Desk::Fixed(name.line()))
+}
+
+// The answer to what is refused.
+pub(crate) fn refused(refusal: Refusal) -> Reply
+    ensures { answer_of result ≡ said (cause_text (cause_in refusal)) }
+{
+    let (Refusal::Before(cause) | Refusal::AtWrite(cause)) = refusal;
+    let name = if cause.is_memory() {
+        ErrorName::Memory
+    } else {
+        ErrorName::Store
+    };
+    reply_with(Desk::Fixed(name.line()))
+}

@@ -1,0 +1,5 @@
+pub mod ForCallers
+pub mod HexTexts
+pub mod LineTexts
+pub mod Sent
+pub mod TeachTexts

@@ -1,0 +1,245 @@
+-- The JSON values behind the lines have the texts of the lines, and hold no float; so what serde_json makes of what a
+-- line sends is the line's text.
+use Rattle.std.proofs.Common.{◌≡◌, ℕ, zero, suc, ℤ, pos, negsuc, ◌-ℤ◌, List, [], ◌∷◌, ◌++◌, map, codes, decimal}
+use Rattle.std.proofs.Common.{true, false}
+use Rattle.std.proofs.Common.{slice_get, Option, Some, None, refl, sym, ap, ap₂, ◌∙◌, append_assoc}
+use Rattle.std.specs.Fmt.{signed_decimal}
+use Rattle.std.specs.List.{AllByRecursion, join_by, flat_map}
+use Rattle.json.specs.Print.{quoted}
+use Rattle.serde_json.specs.Data.{Data, string}
+use Rattle.serde_json.specs.Events.{SendsValue}
+use Rattle.serde_json.specs.Written.{number_text, compact_text, items_text, members_text, has_float, items_have_float}
+use Rattle.serde_json.specs.Find.{of_integer, is_float}
+use Rattle.serde_json.proofs.FreeTexts.{text_of_value}
+use Rattle.serde_json.proofs.OnLiterals.{serde_json_on_literals}
+use Rattle.hex.specs.Hex.{encode_upper, IsBytes}
+use Rattle.erp1_telegrams.specs.declared.eep.Eep.{Eep}
+use Rattle.profiles_rps.specs.Reading.{Meaning, value, word, raw, out_of_range, Entry}
+use Rattle.device_registry.specs.declared.device.Device.{Device}
+use Rattle.teach_in.specs.declared.mode.Mode.{Mode}
+use Rattle.teach_in.specs.declared.mode.Mode.TheVariants.{Closed, Learn, LearnAnswer, LearnAs}
+use Rattle.teach_in.specs.declared.outcome.Outcome.{Outcome}
+use Rattle.teach_in.specs.declared.outcome.Outcome.TheVariants.{Accepted, Deleted, Unsupported, Full, General}
+use Rattle.teach_in.specs.declared.outcome.Outcome.TheVariants.{NoProfile}
+use Rattle.json_lines.specs.declared.counts.Counts.{Counts}
+use Rattle.json_lines.specs.Lines.{ReadingLine, TeachLine, Response, text, or_null, in_quotes, member_text, object_text}
+use Rattle.json_lines.specs.Lines.{Reading, Teach, DeviceLine, ListEnd, StatusLine, ResponseLine}
+use Rattle.json_lines.specs.Lines.{profile_text, dbm_text, named_text, entry_text, outcome_word, mode_word}
+use Rattle.json_lines.specs.Lines.{code_names}
+use Rattle.json_lines.specs.LineData.{IsPlain, IsLineOf, or_null as data_or_null, members, object_of, count_data}
+use Rattle.json_lines.specs.LineData.{dbm_data, profile_data}
+use Rattle.json_lines.specs.LineData.{named_members, named_data, entry_data, entries_data, reading_members}
+use Rattle.json_lines.specs.LineData.{teach_members, device_members, list_members, status_members, response_members}
+use Rattle.json_lines.proofs.HexTexts.{plain-id, plain-eep, plain-as_text, plain_bytes}
+
+-- ---- an object
+
+abbrev told : List (List ℕ × Data) → List (List ℕ × List ℕ)
+told ms = map (λ m. (m.0, compact_text m.1)) ms
+
+abbrev ArePlain : List (List ℕ × Data) → Type 0
+ArePlain ms = AllByRecursion (λ m. IsPlain m.0) ms
+
+-- a member, as the writer and as the definition group it
+grouped : (name text rest : List ℕ) → IsPlain name
+    → quoted name ++ 58 ∷ (text ++ rest) ≡ member_text (name, text) ++ rest
+grouped name text rest plain =
+    let regrouped = ap (λ (t : List ℕ). t ++ rest) (append_assoc (in_quotes name) (codes ":") text)
+    ∙ append_assoc (in_quotes name) (codes ":" ++ text) rest in
+    rw plain (sym regrouped)
+
+-- the members behind the first, each with a comma before it
+members_behind : (ms : List (List ℕ × Data)) → ArePlain ms
+    → members_text true (members ms) ≡ flat_map (λ m. codes "," ++ member_text m) (told ms) ++ codes "}"
+members_behind [] plain = refl
+members_behind (m ∷ ms) plain =
+    ap (λ (rest : List ℕ). codes "," ++ (quoted m.0 ++ 58 ∷ (compact_text m.1 ++ rest))) (members_behind ms plain.1)
+    ∙ ap (λ (text : List ℕ). codes "," ++ text) (grouped m.0 (compact_text m.1) _ plain.0)
+    ∙ sym (append_assoc (codes "," ++ member_text (m.0, compact_text m.1)) _ _)
+
+-- an object has the text of its members
+object_told : (ms : List (List ℕ × Data)) → ArePlain ms → compact_text (object_of ms) ≡ object_text (told ms)
+object_told [] plain = refl
+object_told (m ∷ ms) plain =
+    ap (λ (rest : List ℕ). codes "{" ++ (quoted m.0 ++ 58 ∷ (compact_text m.1 ++ rest))) (members_behind ms plain.1)
+    ∙ ap (λ (text : List ℕ). codes "{" ++ text) (grouped m.0 (compact_text m.1) _ plain.0)
+    ∙ ap (λ (text : List ℕ). codes "{" ++ text) (sym (append_assoc (member_text (m.0, compact_text m.1)) _ _))
+
+-- the line of what an object sends
+line_told : (ms : List (List ℕ × Data)) (line : List ℕ) → ArePlain ms → has_float (object_of ms) ≡ false
+    → IsLineOf (SendsValue (object_of ms)) line → line ≡ object_text (told ms) ++ codes "\n"
+line_told ms line plain whole sent =
+    let made = text_of_value (object_of ms) sent.log sent.text sent.writes sent.made whole in
+    sent.ends ∙ ap (λ (text : List ℕ). text ++ codes "\n") (made ∙ object_told ms plain)
+
+-- ---- the parts of the lines
+
+text-or_null : {A : Type 0} (data_of : A → Data) (text_of : A → List ℕ)
+    → ((known : A) → compact_text (data_of known) ≡ text_of known)
+    → (known : Option A) → compact_text (data_or_null data_of known) ≡ or_null text_of known
+text-or_null data_of text_of same None = refl
+text-or_null data_of text_of same (Some known) = same known
+
+no_float-or_null : {A : Type 0} (data_of : A → Data) → ((known : A) → has_float (data_of known) ≡ false)
+    → (known : Option A) → has_float (data_or_null data_of known) ≡ false
+no_float-or_null data_of whole None = refl
+no_float-or_null data_of whole (Some known) = whole known
+
+-- an integer's text is its digits
+digits_of : (z : ℤ) → number_text (of_integer z) ≡ signed_decimal z
+digits_of (pos n) = refl
+digits_of (negsuc n) = refl
+
+no_float-integer : (z : ℤ) → is_float (of_integer z) ≡ false
+no_float-integer (pos n) = refl
+no_float-integer (negsuc n) = refl
+
+text-dbm : (dbm : Option ℕ) → compact_text (data_or_null dbm_data dbm) ≡ or_null dbm_text dbm
+text-dbm = text-or_null dbm_data dbm_text (λ byte. digits_of (pos 0 -ℤ pos byte))
+
+no_float-dbm : (dbm : Option ℕ) → has_float (data_or_null dbm_data dbm) ≡ false
+no_float-dbm = no_float-or_null dbm_data (λ byte. no_float-integer (pos 0 -ℤ pos byte))
+
+text-maker : (maker : Option ℕ) → compact_text (data_or_null count_data maker) ≡ or_null decimal maker
+text-maker = text-or_null count_data decimal (λ maker. refl)
+
+no_float-maker : (maker : Option ℕ) → has_float (data_or_null count_data maker) ≡ false
+no_float-maker = no_float-or_null count_data (λ maker. refl)
+
+text-profile : (eep : Eep) → compact_text (profile_data eep) ≡ profile_text eep
+text-profile eep = ap in_quotes (plain-eep eep)
+
+text-known_profile : (eep : Option Eep) → compact_text (data_or_null profile_data eep) ≡ or_null profile_text eep
+text-known_profile = text-or_null profile_data profile_text text-profile
+
+no_float-known_profile : (eep : Option Eep) → has_float (data_or_null profile_data eep) ≡ false
+no_float-known_profile = no_float-or_null profile_data (λ eep. refl)
+
+-- the words need no escape
+plain-outcome : (outcome : Outcome) → IsPlain (outcome_word outcome)
+unfolding serde_json_on_literals
+plain-outcome Accepted = refl
+plain-outcome Deleted = refl
+plain-outcome Unsupported = refl
+plain-outcome Full = refl
+plain-outcome General = refl
+plain-outcome NoProfile = refl
+
+plain-mode : (mode : Mode) → IsPlain (mode_word mode)
+unfolding serde_json_on_literals
+plain-mode Closed = refl
+plain-mode Learn = refl
+plain-mode LearnAnswer = refl
+plain-mode (LearnAs eep) = plain-as_text eep
+
+text-name : (code : ℕ)
+    → compact_text (data_or_null string (slice_get code_names code)) ≡ or_null in_quotes (slice_get code_names code)
+unfolding serde_json_on_literals
+text-name zero = refl
+text-name (suc zero) = refl
+text-name (suc (suc zero)) = refl
+text-name (suc (suc (suc zero))) = refl
+text-name (suc (suc (suc (suc zero)))) = refl
+text-name (suc (suc (suc (suc (suc code))))) = refl
+
+no_float-name : (name : Option (List ℕ)) → has_float (data_or_null string name) ≡ false
+no_float-name = no_float-or_null string (λ name. refl)
+
+-- ---- the list of readings
+
+text-named : (name : List ℕ) (meaning : Meaning) → compact_text (named_data name meaning) ≡ named_text name meaning
+unfolding serde_json_on_literals
+text-named name (value ratio unit) =
+    let same : object_text (told (named_members name (value ratio unit))) ≡ named_text name (value ratio unit) =
+    rw (digits_of ratio.num) refl in
+    object_told (named_members name (value ratio unit)) (refl, (refl, (refl, (refl, tt)))) ∙ same
+text-named name (word text) = object_told (named_members name (word text)) (refl, (refl, tt))
+text-named name (raw n) = object_told (named_members name (raw n)) (refl, (refl, tt))
+text-named name (out_of_range n) = object_told (named_members name (out_of_range n)) (refl, (refl, tt))
+
+text-entry : (entry : Entry) → compact_text (entry_data entry) ≡ entry_text entry
+text-entry entry = text-named entry.name entry.meaning
+
+no_float-entry : (entry : Entry) → has_float (entry_data entry) ≡ false
+no_float-entry entry = one entry.name entry.meaning
+  where
+    one : (name : List ℕ) (meaning : Meaning) → has_float (named_data name meaning) ≡ false
+    one name (value ratio unit) = rw (no_float-integer ratio.num) refl
+    one name (word text) = refl
+    one name (raw n) = refl
+    one name (out_of_range n) = refl
+
+-- the entries after the first, each with a comma before it
+text-rest : (list : List Entry)
+    → items_text true (entries_data list) ≡ flat_map (λ entry. codes "," ++ entry_text entry) list ++ codes "]"
+text-rest [] = refl
+text-rest (entry ∷ list) =
+    ap₂ (λ text rest. codes "," ++ (text ++ rest)) (text-entry entry) (text-rest list)
+    ∙ sym (append_assoc (codes "," ++ entry_text entry) _ _)
+
+text-items : (list : List Entry)
+    → items_text false (entries_data list) ≡ join_by entry_text (codes ",") list ++ codes "]"
+text-items [] = refl
+text-items (entry ∷ list) =
+    ap₂ (λ text rest. text ++ rest) (text-entry entry) (text-rest list) ∙ sym (append_assoc (entry_text entry) _ _)
+
+no_float-items : (list : List Entry) → items_have_float (entries_data list) ≡ false
+no_float-items [] = refl
+no_float-items (entry ∷ list) = rw (no_float-entry entry) (no_float-items list)
+
+-- ---- the lines
+
+pub reading_told : (line : ReadingLine) (bytes : List ℕ)
+    → IsLineOf (SendsValue (object_of (reading_members line))) bytes → bytes ≡ text (Reading line)
+unfolding serde_json_on_literals
+reading_told line bytes sent =
+    let same : object_text (told (reading_members line)) ++ codes "\n" ≡ text (Reading line) =
+    rw (text-dbm line.dbm, plain-eep line.eep, plain-id line.id, text-items line.readings) refl in
+    let whole : has_float (object_of (reading_members line)) ≡ false =
+    rw (no_float-dbm line.dbm, no_float-items line.readings) refl in
+    line_told (reading_members line) bytes (refl, (refl, (refl, (refl, (refl, tt))))) whole sent ∙ same
+
+pub teach_told : (line : TeachLine) (bytes : List ℕ) → IsLineOf (SendsValue (object_of (teach_members line))) bytes
+    → bytes ≡ text (Teach line)
+unfolding serde_json_on_literals
+teach_told line bytes sent =
+    let same : object_text (told (teach_members line)) ++ codes "\n" ≡ text (Teach line) =
+    rw (text-known_profile line.eep, plain-id line.id, text-maker line.maker, plain-outcome line.outcome) refl in
+    let whole : has_float (object_of (teach_members line)) ≡ false =
+    rw (no_float-known_profile line.eep, no_float-maker line.maker) refl in
+    line_told (teach_members line) bytes (refl, (refl, (refl, (refl, (refl, tt))))) whole sent ∙ same
+
+pub device_told : (known : Device) (bytes : List ℕ) → IsLineOf (SendsValue (object_of (device_members known))) bytes
+    → bytes ≡ text (DeviceLine known)
+unfolding serde_json_on_literals
+device_told known bytes sent =
+    let same : object_text (told (device_members known)) ++ codes "\n" ≡ text (DeviceLine known) =
+    rw (plain-eep known.eep, plain-id known.id, text-maker known.maker) refl in
+    let whole : has_float (object_of (device_members known)) ≡ false = rw (no_float-maker known.maker) refl in
+    line_told (device_members known) bytes (refl, (refl, (refl, (refl, tt)))) whole sent ∙ same
+
+pub list_told : (count : ℕ) (bytes : List ℕ) → IsLineOf (SendsValue (object_of (list_members count))) bytes
+    → bytes ≡ text (ListEnd count)
+unfolding serde_json_on_literals
+list_told count bytes sent = line_told (list_members count) bytes (refl, (refl, tt)) refl sent
+
+pub status_told : (counts : Counts) (mode : Mode) (bytes : List ℕ)
+    → IsLineOf (SendsValue (object_of (status_members counts mode))) bytes → bytes ≡ text (StatusLine counts mode)
+unfolding serde_json_on_literals
+status_told counts mode bytes sent =
+    let same : object_text (told (status_members counts mode)) ++ codes "\n" ≡ text (StatusLine counts mode) =
+    rw (plain-mode mode) refl in
+    let plain : ArePlain (status_members counts mode) =
+    (refl, (refl, (refl, (refl, (refl, (refl, (refl, tt))))))) in
+    line_told (status_members counts mode) bytes plain refl sent ∙ same
+
+pub response_told : (response : Response) (line : List ℕ) → IsBytes response.bytes
+    → IsLineOf (SendsValue (object_of (response_members response.code (encode_upper response.bytes)))) line
+    → line ≡ text (ResponseLine response)
+unfolding serde_json_on_literals
+response_told response line bytes sent =
+    let ms : List (List ℕ × Data) = response_members response.code (encode_upper response.bytes) in
+    let same : object_text (told ms) ++ codes "\n" ≡ text (ResponseLine response) =
+    rw (plain_bytes response.bytes bytes, text-name response.code) refl in
+    let whole : has_float (object_of ms) ≡ false = rw (no_float-name (slice_get code_names response.code)) refl in
+    line_told ms line (refl, (refl, (refl, (refl, tt)))) whole sent ∙ same

@@ -1,0 +1,231 @@
+-- The text of a teach line is the text of one teach line alone, with that line's outcome.
+use Rattle.std.proofs.Common.{◌≡◌, ◌≢◌, ℕ, zero, suc, ◌+◌, ◌/◌, ◌%◌, Bool, true, false, cond, List, [], ◌∷◌, ◌++◌, drop}
+use Rattle.std.proofs.Common.{codes, decimal, Option, Some, None, refl, sym, ap, subst, ◌∙◌, arith, append_assoc}
+use Rattle.std.proofs.Common.{append-nil}
+use Rattle.std.specs.Prelude.{if◌then◌else◌, ◌==◌, nat_lt, slice_index_or}
+use Rattle.std.specs.Fmt.{digits_onto, digits, digit_glyph}
+use Rattle.std.proofs.lemmas.Bool.{ne_eqb}
+use Rattle.std.proofs.lemmas.List.{append_cancel_left}
+use Rattle.hex.specs.Hex.{encode_with}
+use Rattle.erp1_telegrams.specs.declared.eep.Eep.{Eep}
+use Rattle.device_registry.specs.declared.device.Device.{Device}
+use Rattle.teach_in.specs.declared.outcome.Outcome.{Outcome}
+use Rattle.teach_in.specs.declared.outcome.Outcome.TheVariants.{Accepted, Deleted, Unsupported, Full, General}
+use Rattle.teach_in.specs.declared.outcome.Outcome.TheVariants.{NoProfile}
+use Rattle.json_lines.specs.Lines.{DeskLine, Reading, Teach, DeviceLine, ListEnd, StatusLine, ResponseLine, Done, Error}
+use Rattle.json_lines.specs.Lines.{TeachLine, or_null, outcome_word, text, texts}
+
+-- ---- behind the first comma
+
+behind : List ℕ → List ℕ
+behind [] = []
+behind (c ∷ t) = if c == 44 then t else behind t
+
+behind-other : (c : ℕ) (t : List ℕ) → c ≢ 44 → behind (c ∷ t) ≡ behind t
+unfolding behind
+behind-other c t other = rw (ne_eqb c 44 other) refl
+
+glyph-other : (d : ℕ) (b : Bool) → cond b (48 + d) (87 + d) ≢ 44
+glyph-other d true e = absurd (omega (arith, e))
+glyph-other d false e = absurd (omega (arith, e))
+
+-- a number has no comma
+behind-digits : (k n : ℕ) (later rest : List ℕ) → behind (later ++ 44 ∷ rest) ≡ rest
+    → behind (digits_onto k 10 false n later ++ 44 ∷ rest) ≡ rest
+behind-digits zero n later rest h = h
+behind-digits (suc k) n later rest h =
+    let last = digit_glyph false (n % 10) in
+    let longer : behind ((last ∷ later) ++ 44 ∷ rest) ≡ rest =
+    behind-other last (later ++ 44 ∷ rest) (glyph-other (n % 10) (nat_lt (n % 10) 10)) ∙ h in
+    one _ _ (n / 10 == 0) longer (behind-digits k (n / 10) (last ∷ later) rest longer)
+  where
+    one : (now on : List ℕ) (b : Bool) → behind (now ++ 44 ∷ rest) ≡ rest → behind (on ++ 44 ∷ rest) ≡ rest
+        → behind ((if b then now else on) ++ 44 ∷ rest) ≡ rest
+    one now on true last more = last
+    one now on false last more = more
+
+behind-maker : (maker : Option ℕ) (rest : List ℕ) → behind (or_null decimal maker ++ 44 ∷ rest) ≡ rest
+unfolding behind digits
+behind-maker None rest = refl
+behind-maker (Some maker) rest = behind-digits 64 maker [] rest refl
+
+-- ---- from the maker on
+
+-- the end of a teach line
+result_text : Outcome → List ℕ
+result_text outcome = codes "\"result\":\"" ++ (outcome_word outcome ++ codes "\",\"type\":\"teach\"}\n")
+
+-- the parts behind the ID, as a line has them and one by one
+grouped-teach : (maker word more : List ℕ)
+    → (((maker ++ ((codes ",\"result\":\"" ++ (word ++ codes "\"")) ++ codes ",\"type\":\"teach\"")) ++ codes "}")
+    ++ codes "\n") ++ more
+    ≡ maker ++ 44 ∷ ((codes "\"result\":\"" ++ (word ++ codes "\",\"type\":\"teach\"}\n")) ++ more)
+grouped-teach maker word more = simp append_assoc
+
+grouped-device : (maker more : List ℕ)
+    → (((maker ++ codes ",\"type\":\"device\"") ++ codes "}") ++ codes "\n") ++ more
+    ≡ maker ++ 44 ∷ (codes "\"type\":\"device\"}\n" ++ more)
+grouped-device maker more = simp append_assoc
+
+teach-known : (eep : Eep) (id : ℕ) (maker : Option ℕ) (outcome : Outcome) (more : List ℕ)
+    → drop 42 (text (Teach (record { eep = Some eep; id = id; maker = maker; outcome = outcome })) ++ more)
+    ≡ or_null decimal maker ++ 44 ∷ (result_text outcome ++ more)
+unfolding encode_with result_text
+teach-known eep id maker outcome more = grouped-teach (or_null decimal maker) (outcome_word outcome) more
+
+teach-unknown : (id : ℕ) (maker : Option ℕ) (outcome : Outcome) (more : List ℕ)
+    → drop 36 (text (Teach (record { eep = None; id = id; maker = maker; outcome = outcome })) ++ more)
+    ≡ or_null decimal maker ++ 44 ∷ (result_text outcome ++ more)
+unfolding encode_with result_text
+teach-unknown id maker outcome more = grouped-teach (or_null decimal maker) (outcome_word outcome) more
+
+device-known : (known : Device) (more : List ℕ)
+    → drop 42 (text (DeviceLine known) ++ more)
+    ≡ or_null decimal known.maker ++ 44 ∷ (codes "\"type\":\"device\"}\n" ++ more)
+unfolding encode_with
+device-known known more = grouped-device (or_null decimal known.maker) more
+
+-- ---- the ends of teach lines
+
+-- the outcomes differ in their first letters
+letter : Outcome → ℕ
+letter Accepted = 97
+letter Deleted = 100
+letter Unsupported = 117
+letter Full = 102
+letter General = 103
+letter NoProfile = 110
+
+result-letter : (outcome : Outcome) (more : List ℕ) → slice_index_or (result_text outcome ++ more) 10 0 ≡ letter outcome
+unfolding result_text letter
+result-letter Accepted more = refl
+result-letter Deleted more = refl
+result-letter Unsupported more = refl
+result-letter Full more = refl
+result-letter General more = refl
+result-letter NoProfile more = refl
+
+of_letter : ℕ → Outcome
+of_letter n =
+    if n == 97 then Accepted else if n == 100 then Deleted else if n == 117 then Unsupported
+    else if n == 102 then Full else if n == 103 then General else NoProfile
+
+of_letter-letter : (outcome : Outcome) → of_letter (letter outcome) ≡ outcome
+unfolding letter of_letter
+of_letter-letter Accepted = refl
+of_letter-letter Deleted = refl
+of_letter-letter Unsupported = refl
+of_letter-letter Full = refl
+of_letter-letter General = refl
+of_letter-letter NoProfile = refl
+
+-- the same end has the same outcome, and the same behind it
+same-result : (a b : Outcome) (more : List ℕ) → result_text a ++ more ≡ result_text b ++ []
+    → (a ≡ b) × (more ≡ [])
+same-result a b more e =
+    let letters : letter a ≡ letter b =
+    sym (result-letter a more) ∙ ap (λ (t : List ℕ). slice_index_or t 10 0) e ∙ result-letter b [] in
+    let same : a ≡ b = sym (of_letter-letter a) ∙ ap of_letter letters ∙ of_letter-letter b in
+    let ends : result_text b ++ more ≡ result_text b ++ [] =
+    subst (λ o. result_text o ++ more ≡ result_text b ++ []) same e in
+    (same, append_cancel_left (result_text b) more [] ends)
+
+-- what stands behind the maker, in two lines with the same text
+same-behind : (a b : Option ℕ) (x y s t : List ℕ) → s ≡ or_null decimal a ++ 44 ∷ x → t ≡ or_null decimal b ++ 44 ∷ y
+    → s ≡ t → x ≡ y
+same-behind a b x y s t in_s in_t e =
+    sym (behind-maker a x) ∙ ap behind (sym in_s ∙ e ∙ in_t) ∙ behind-maker b y
+
+-- ---- one line and more
+
+-- a teach line, and more
+teach-more : (line told : TeachLine) (more : List ℕ) → text (Teach line) ++ more ≡ text (Teach told) ++ []
+    → (line.outcome ≡ told.outcome) × (more ≡ [])
+teach-more line told more e = one line.eep told.eep e
+  where
+    one : (a b : Option Eep)
+        → text (Teach (record line { eep = a })) ++ more ≡ text (Teach (record told { eep = b })) ++ []
+        → (line.outcome ≡ told.outcome) × (more ≡ [])
+    one (Some a) (Some b) h =
+        same-result line.outcome told.outcome more
+        (same-behind line.maker told.maker _ _ _ _ (teach-known a line.id line.maker line.outcome more)
+        (teach-known b told.id told.maker told.outcome []) (ap (drop 42) h))
+    one None None h =
+        same-result line.outcome told.outcome more
+        (same-behind line.maker told.maker _ _ _ _ (teach-unknown line.id line.maker line.outcome more)
+        (teach-unknown told.id told.maker told.outcome []) (ap (drop 36) h))
+    one (Some a) None h =
+        let bytes : 34 ≡ 110 = ap (λ (t : List ℕ). slice_index_or t 7 0) h in
+        absurd (omega (arith, bytes))
+    one None (Some b) h =
+        let bytes : 110 ≡ 34 = ap (λ (t : List ℕ). slice_index_or t 7 0) h in
+        absurd (omega (arith, bytes))
+
+-- the end of a device's line is none of a teach line
+device-end : (outcome : Outcome) (more : List ℕ) → codes "\"type\":\"device\"}\n" ++ more ≢ result_text outcome ++ []
+unfolding result_text
+device-end outcome more e =
+    let bytes : 116 ≡ 114 = ap (λ (t : List ℕ). slice_index_or t 1 0) e in
+    absurd (omega (arith, bytes))
+
+-- a device's line, and more
+device-more : (known : Device) (told : TeachLine) (more : List ℕ)
+    → text (DeviceLine known) ++ more ≢ text (Teach told) ++ []
+device-more known told more e = one told.eep e
+  where
+    one : (b : Option Eep) → text (DeviceLine known) ++ more ≢ text (Teach (record told { eep = b })) ++ []
+    one (Some b) h =
+        let behinds : codes "\"type\":\"device\"}\n" ++ more ≡ result_text told.outcome ++ [] =
+        same-behind known.maker told.maker _ _ _ _ (device-known known more)
+        (teach-known b told.id told.maker told.outcome []) (ap (drop 42) h) in
+        device-end told.outcome more behinds
+    one None h =
+        let bytes : 34 ≡ 110 = ap (λ (t : List ℕ). slice_index_or t 7 0) h in
+        absurd (omega (arith, bytes))
+
+-- lines with no text are none
+no_lines : (lines : List DeskLine) → texts lines ≡ [] → lines ≡ []
+no_lines [] e = refl
+no_lines (line ∷ lines) e = absurd cc
+
+-- the lines are one teach line, with this outcome
+abbrev pub IsTeachLine : List DeskLine → TeachLine → Type 0
+IsTeachLine lines told = (line : TeachLine) × (lines ≡ Teach line ∷ []) × (line.outcome ≡ told.outcome)
+
+-- the fourth byte
+fourth : (t : List ℕ) (told : TeachLine) → t ≡ text (Teach told) ++ [] → slice_index_or t 3 0 ≡ 101
+fourth t told e = ap (λ (u : List ℕ). slice_index_or u 3 0) e
+
+-- the first line is a teach line: the fourth byte of any other but a device's is another
+of_first : (first : DeskLine) (rest : List DeskLine) (told : TeachLine)
+    → text first ++ texts rest ≡ text (Teach told) ++ []
+    → IsTeachLine (first ∷ rest) told
+of_first (Teach line) rest told e =
+    let parts = teach-more line told (texts rest) e in
+    (line, ap (λ lines. Teach line ∷ lines) (no_lines rest parts.1), parts.0)
+of_first (DeviceLine known) rest told e = absurd (device-more known told (texts rest) e)
+of_first (Reading line) rest told e =
+    let h : 98 ≡ 101 = fourth _ told e in
+    absurd (omega (arith, h))
+of_first (ListEnd count) rest told e =
+    let h : 111 ≡ 101 = fourth _ told e in
+    absurd (omega (arith, h))
+of_first (StatusLine counts mode) rest told e =
+    let h : 103 ≡ 101 = fourth _ told e in
+    absurd (omega (arith, h))
+of_first (ResponseLine response) rest told e =
+    let h : 111 ≡ 101 = fourth _ told e in
+    absurd (omega (arith, h))
+of_first Done rest told e =
+    let h : 121 ≡ 101 = fourth _ told e in
+    absurd (omega (arith, h))
+of_first (Error name) rest told e =
+    let h : 114 ≡ 101 = fourth _ told e in
+    absurd (omega (arith, h))
+
+pub of_teach_lines : (lines : List DeskLine) (told : TeachLine) → texts lines ≡ text (Teach told)
+    → IsTeachLine lines told
+of_teach_lines [] told e =
+    let h : 0 ≡ 101 = fourth [] told (e ∙ sym (append-nil (text (Teach told)))) in
+    absurd (omega (arith, h))
+of_teach_lines (first ∷ rest) told e = of_first first rest told (e ∙ sym (append-nil (text (Teach told))))

@@ -1,0 +1,13 @@
+use Rattle.json_lines.specs.Lines.{TeachLine}
+use Rattle.json_lines.proofs.LineTexts.{teach_told}
+use Rattle.json_lines.proofs.teach.teach_line.Goals as goal
+
+pub returns-clause-line : goal.returns-clause-line
+returns-clause-line c =
+    let line : TeachLine = record {
+      eep = c.args.eep;
+      id = c.args.id;
+      maker = c.args.maker;
+      outcome = c.args.outcome;
+    } in
+    teach_told line c.in_ok-line.line c.in_ok-line.ensures

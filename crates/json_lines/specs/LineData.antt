@@ -1,0 +1,124 @@
+-- For private clauses: the JSON values whose texts the lines are, and what is said of the bytes that serde_json makes
+-- of one.
+use Rattle.std.specs.Prelude.{◌≡◌, ℕ, pos, ◌-ℤ◌, List, [], ◌∷◌, ◌++◌, map, slice_get, codes, Option, Some, None}
+use Rattle.json.specs.Print.{escape}
+use Rattle.serde.specs.Event.{Log}
+use Rattle.serde_json.specs.Data.{Data, unsigned, null, number, string, array, object, Items, Members, member}
+use Rattle.serde_json.specs.Data.{no_members}
+use Rattle.serde_json.specs.Find.{of_integer}
+use Rattle.serde_json.specs.Sent.{IsTextOf}
+use Rattle.serde_json.specs.View.{items_of}
+use Rattle.erp1_telegrams.specs.declared.eep.Eep.{Eep}
+use Rattle.profiles_rps.specs.Reading.{Meaning, value, word, raw, out_of_range, Entry}
+use Rattle.device_registry.specs.declared.device.Device.{Device}
+use Rattle.teach_in.specs.declared.mode.Mode.{Mode}
+use Rattle.json_lines.specs.declared.counts.Counts.{Counts}
+use Rattle.json_lines.specs.Lines.{ReadingLine, TeachLine}
+use Rattle.json_lines.specs.Lines.{id_text, eep_text, outcome_word, mode_word, code_names}
+
+-- the text stands in a JSON string as it is, with no escape
+abbrev pub IsPlain : List ℕ → Type 0
+IsPlain text = escape text ≡ text
+
+-- the line is the text that is made of what was sent, and a line feed
+pub record IsLineOf (Writes : Log → Log → Type 0) (line : List ℕ) : Type 0 where
+  pub text : List ℕ
+  pub log : Log
+  pub writes : Writes (Some []) log
+  pub made : IsTextOf log text
+  pub ends : line ≡ text ++ codes "\n"
+
+-- the members of an object, each a name and a value
+abbrev pub members : List (List ℕ × Data) → Members
+members [] = no_members
+members (m ∷ ms) = member m.0 m.1 (members ms)
+
+abbrev pub object_of : List (List ℕ × Data) → Data
+object_of ms = object (members ms)
+
+-- what is known, or null
+abbrev pub or_null : {A : Type 0} → (A → Data) → Option A → Data
+or_null data_of None = null
+or_null data_of (Some known) = data_of known
+
+abbrev pub count_data : ℕ → Data
+count_data n = number (unsigned n)
+
+abbrev pub id_data : ℕ → Data
+id_data id = string (id_text id)
+
+abbrev pub profile_data : Eep → Data
+profile_data eep = string (eep_text eep)
+
+abbrev pub dbm_data : ℕ → Data
+dbm_data byte = number (of_integer (pos 0 -ℤ pos byte))
+
+-- a name, and something under a key
+abbrev pub pair_members : List ℕ → List ℕ → Data → List (List ℕ × Data)
+pair_members name key said = (codes "name", string name) ∷ (key, said) ∷ []
+
+-- a reading
+abbrev pub named_members : List ℕ → Meaning → List (List ℕ × Data)
+named_members name (value ratio unit) =
+    (codes "den", count_data ratio.den)
+    ∷ (codes "name", string name)
+    ∷ (codes "num", number (of_integer ratio.num))
+    ∷ (codes "unit", string unit) ∷ []
+named_members name (word text) = pair_members name (codes "word") (string text)
+named_members name (raw n) = pair_members name (codes "raw") (count_data n)
+named_members name (out_of_range n) = pair_members name (codes "out_of_range") (count_data n)
+
+abbrev pub named_data : List ℕ → Meaning → Data
+named_data name meaning = object_of (named_members name meaning)
+
+abbrev pub entry_data : Entry → Data
+entry_data entry = named_data entry.name entry.meaning
+
+-- the entries in their order
+abbrev pub entries_data : List Entry → Items
+entries_data list = items_of (map entry_data list)
+
+-- ---- the lines
+
+abbrev pub reading_members : ReadingLine → List (List ℕ × Data)
+reading_members line =
+    (codes "dbm", or_null dbm_data line.dbm)
+    ∷ (codes "eep", profile_data line.eep)
+    ∷ (codes "id", id_data line.id)
+    ∷ (codes "readings", array (entries_data line.readings))
+    ∷ (codes "type", string (codes "reading")) ∷ []
+
+abbrev pub teach_members : TeachLine → List (List ℕ × Data)
+teach_members line =
+    (codes "eep", or_null profile_data line.eep)
+    ∷ (codes "id", id_data line.id)
+    ∷ (codes "maker", or_null count_data line.maker)
+    ∷ (codes "result", string (outcome_word line.outcome))
+    ∷ (codes "type", string (codes "teach")) ∷ []
+
+abbrev pub device_members : Device → List (List ℕ × Data)
+device_members known =
+    (codes "eep", profile_data known.eep)
+    ∷ (codes "id", id_data known.id)
+    ∷ (codes "maker", or_null count_data known.maker)
+    ∷ (codes "type", string (codes "device")) ∷ []
+
+abbrev pub list_members : ℕ → List (List ℕ × Data)
+list_members count = (codes "count", count_data count) ∷ (codes "type", string (codes "list")) ∷ []
+
+abbrev pub status_members : Counts → Mode → List (List ℕ × Data)
+status_members counts mode =
+    (codes "ignored", count_data counts.ignored)
+    ∷ (codes "mode", string (mode_word mode))
+    ∷ (codes "readings", count_data counts.readings)
+    ∷ (codes "refused", count_data counts.refused)
+    ∷ (codes "responses", count_data counts.responses)
+    ∷ (codes "teach", count_data counts.teach)
+    ∷ (codes "type", string (codes "status")) ∷ []
+
+abbrev pub response_members : ℕ → List ℕ → List (List ℕ × Data)
+response_members code digits =
+    (codes "code", count_data code)
+    ∷ (codes "data", string digits)
+    ∷ (codes "name", or_null string (slice_get code_names code))
+    ∷ (codes "type", string (codes "response")) ∷ []

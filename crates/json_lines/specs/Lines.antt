@@ -1,0 +1,200 @@
+-- The lines that the desk is sent, as values, and their texts, as bytes. The layout is an own choice: one JSON object
+-- with no space, its members in the byte order of their names, and a line feed at the end.
+use Rattle.std.specs.Prelude.{ℕ, pos, ◌-ℤ◌, List, [], ◌∷◌, ◌++◌, map, length, slice_get, codes, decimal}
+use Rattle.std.specs.Prelude.{Option, Some, None}
+use Rattle.std.specs.Fmt.{signed_decimal}
+use Rattle.std.specs.Int.{w8, w32, to_be_bytes}
+use Rattle.std.specs.List.{join_by, flat_map}
+use Rattle.json.specs.Print.{quoted}
+use Rattle.hex.specs.Hex.{encode_upper}
+use Rattle.erp1_telegrams.specs.declared.eep.Eep.{Eep}
+use Rattle.profiles_rps.specs.Reading.{Meaning, value, word, raw, out_of_range, Entry}
+use Rattle.device_registry.specs.declared.device.Device.{Device}
+use Rattle.teach_in.specs.declared.mode.Mode.{Mode}
+use Rattle.teach_in.specs.declared.mode.Mode.TheVariants.{Closed, Learn, LearnAnswer, LearnAs}
+use Rattle.teach_in.specs.declared.outcome.Outcome.{Outcome}
+use Rattle.teach_in.specs.declared.outcome.Outcome.TheVariants.{Accepted, Deleted, Unsupported, General, NoProfile}
+use Rattle.teach_in.specs.declared.outcome.Outcome.TheVariants as outcome
+use Rattle.json_lines.specs.declared.counts.Counts.{Counts}
+use Rattle.json_lines.specs.declared.fixed.ErrorName.{ErrorName}
+use Rattle.json_lines.specs.declared.fixed.ErrorName.TheVariants.{Syntax, TooLong, Range, UnknownDevice, WrongProfile}
+use Rattle.json_lines.specs.declared.fixed.ErrorName.TheVariants.{UnsupportedProfile, Memory, Store}
+use Rattle.json_lines.specs.declared.fixed.ErrorName.TheVariants as error
+
+-- ---- what a line tells
+
+-- the readings of a telegram: with which strength it was received, if that is known, the profile and the ID of the
+-- sender, and what is read
+pub record ReadingLine : Type 0 where
+  pub dbm : Option ℕ
+  pub eep : Eep
+  pub id : ℕ
+  pub readings : List Entry
+
+-- what came of a sender: the profile, its ID and the maker, where they are known, and the outcome
+pub record TeachLine : Type 0 where
+  pub eep : Option Eep
+  pub id : ℕ
+  pub maker : Option ℕ
+  pub outcome : Outcome
+
+-- what the radio module answers: a return code, and the bytes behind it (EnOcean Serial Protocol 3, "Packet type 2:
+-- RESPONSE")
+pub record Response : Type 0 where
+  pub code : ℕ
+  pub bytes : List ℕ
+
+pub data DeskLine : Type 0 where
+  Reading : (line : ReadingLine) → DeskLine
+  Teach : (line : TeachLine) → DeskLine
+  DeviceLine : (known : Device) → DeskLine
+  ListEnd : (count : ℕ) → DeskLine
+  StatusLine : (counts : Counts) (mode : Mode) → DeskLine
+  ResponseLine : (response : Response) → DeskLine
+  Done : DeskLine
+  Error : (name : ErrorName) → DeskLine
+
+-- ---- the parts of a line
+
+-- a text in quotation marks; it stands there as it is
+abbrev pub in_quotes : List ℕ → List ℕ
+in_quotes text = codes "\"" ++ text ++ codes "\""
+
+-- a member of an object: its name, and the text of its value
+abbrev pub member_text : List ℕ × List ℕ → List ℕ
+member_text member = in_quotes member.0 ++ codes ":" ++ member.1
+
+-- the members in their order, with a comma between each two
+abbrev pub object_text : List (List ℕ × List ℕ) → List ℕ
+object_text members = codes "{" ++ join_by member_text (codes ",") members ++ codes "}"
+
+-- the text of what is known, or null
+abbrev pub or_null : {A : Type 0} → (A → List ℕ) → Option A → List ℕ
+or_null text_of None = codes "null"
+or_null text_of (Some known) = text_of known
+
+-- a byte as two upper-case hexadecimal digits
+abbrev pub byte_text : ℕ → List ℕ
+byte_text byte = encode_upper (to_be_bytes w8 byte)
+
+-- an ID as 8 upper-case hexadecimal digits
+abbrev pub id_text : ℕ → List ℕ
+id_text id = encode_upper (to_be_bytes w32 id)
+
+-- a profile by its three numbers, with `-` between them (EnOcean Equipment Profiles 2.6, "EnOcean Equipment Profile")
+abbrev pub eep_text : Eep → List ℕ
+eep_text eep = byte_text eep.rorg ++ codes "-" ++ byte_text eep.func ++ codes "-" ++ byte_text eep.typ
+
+abbrev pub profile_text : Eep → List ℕ
+profile_text eep = in_quotes (eep_text eep)
+
+-- the signal strength in dBm: 0 minus the byte (EnOcean Serial Protocol 3, "Packet type 1: RADIO_ERP1")
+abbrev pub dbm_text : ℕ → List ℕ
+dbm_text byte = signed_decimal (pos 0 -ℤ pos byte)
+
+-- a reading as an object: a value in a unit, a word, a number, or a number out of range; `quoted` writes JSON's
+-- shortest escapes
+abbrev pub named_text : List ℕ → Meaning → List ℕ
+named_text name (value ratio unit) = object_text (
+    (codes "den", decimal ratio.den)
+    ∷ (codes "name", quoted name)
+    ∷ (codes "num", signed_decimal ratio.num)
+    ∷ (codes "unit", quoted unit) ∷ [])
+named_text name (word text) = object_text ((codes "name", quoted name) ∷ (codes "word", quoted text) ∷ [])
+named_text name (raw n) = object_text ((codes "name", quoted name) ∷ (codes "raw", decimal n) ∷ [])
+named_text name (out_of_range n) = object_text ((codes "name", quoted name) ∷ (codes "out_of_range", decimal n) ∷ [])
+
+abbrev pub entry_text : Entry → List ℕ
+entry_text entry = named_text entry.name entry.meaning
+
+-- a list of the entries, with a comma between each two
+abbrev pub list_text : List Entry → List ℕ
+list_text list = codes "[" ++ join_by entry_text (codes ",") list ++ codes "]"
+
+-- the outcome's word. Own choice
+abbrev pub outcome_word : Outcome → List ℕ
+outcome_word Accepted = codes "accepted"
+outcome_word Deleted = codes "deleted"
+outcome_word Unsupported = codes "unsupported"
+outcome_word outcome.Full = codes "full"
+outcome_word General = codes "general"
+outcome_word NoProfile = codes "no_profile"
+
+-- the word of the mode that learns with this profile. Own choice
+abbrev pub as_text : Eep → List ℕ
+as_text eep = codes "as " ++ eep_text eep
+
+-- the mode's word. Own choice
+abbrev pub mode_word : Mode → List ℕ
+mode_word Closed = codes "closed"
+mode_word Learn = codes "on"
+mode_word LearnAnswer = codes "answer"
+mode_word (LearnAs eep) = as_text eep
+
+-- the names of the return codes from 0 on (EnOcean Serial Protocol 3, "Packet type 2: RESPONSE"). Own choice: other
+-- codes have none
+abbrev pub code_names : List (List ℕ)
+code_names = codes "OK" ∷ codes "ERROR" ∷ codes "NOT_SUPPORTED" ∷ codes "WRONG_PARAM" ∷ codes "OPERATION_DENIED" ∷ []
+
+-- the error's name. Own choice
+abbrev pub error_name : ErrorName → List ℕ
+error_name Syntax = codes "syntax"
+error_name TooLong = codes "too_long"
+error_name Range = codes "range"
+error_name UnknownDevice = codes "unknown_device"
+error_name WrongProfile = codes "wrong_profile"
+error_name error.Full = codes "full"
+error_name UnsupportedProfile = codes "unsupported_profile"
+error_name Memory = codes "memory"
+error_name Store = codes "store"
+
+-- ---- the lines
+
+-- a line's members: their names, and the texts of their values. Own choice
+abbrev pub members_of : DeskLine → List (List ℕ × List ℕ)
+members_of (Reading line) =
+    (codes "dbm", or_null dbm_text line.dbm)
+    ∷ (codes "eep", profile_text line.eep)
+    ∷ (codes "id", in_quotes (id_text line.id))
+    ∷ (codes "readings", list_text line.readings)
+    ∷ (codes "type", in_quotes (codes "reading")) ∷ []
+members_of (Teach line) =
+    (codes "eep", or_null profile_text line.eep)
+    ∷ (codes "id", in_quotes (id_text line.id))
+    ∷ (codes "maker", or_null decimal line.maker)
+    ∷ (codes "result", in_quotes (outcome_word line.outcome))
+    ∷ (codes "type", in_quotes (codes "teach")) ∷ []
+members_of (DeviceLine known) =
+    (codes "eep", profile_text known.eep)
+    ∷ (codes "id", in_quotes (id_text known.id))
+    ∷ (codes "maker", or_null decimal known.maker)
+    ∷ (codes "type", in_quotes (codes "device")) ∷ []
+members_of (ListEnd count) = (codes "count", decimal count) ∷ (codes "type", in_quotes (codes "list")) ∷ []
+members_of (StatusLine counts mode) =
+    (codes "ignored", decimal counts.ignored)
+    ∷ (codes "mode", in_quotes (mode_word mode))
+    ∷ (codes "readings", decimal counts.readings)
+    ∷ (codes "refused", decimal counts.refused)
+    ∷ (codes "responses", decimal counts.responses)
+    ∷ (codes "teach", decimal counts.teach)
+    ∷ (codes "type", in_quotes (codes "status")) ∷ []
+members_of (ResponseLine response) =
+    (codes "code", decimal response.code)
+    ∷ (codes "data", in_quotes (encode_upper response.bytes))
+    ∷ (codes "name", or_null in_quotes (slice_get code_names response.code))
+    ∷ (codes "type", in_quotes (codes "response")) ∷ []
+members_of Done = (codes "type", in_quotes (codes "ok")) ∷ []
+members_of (Error name) =
+    (codes "error", in_quotes (error_name name)) ∷ (codes "type", in_quotes (codes "error")) ∷ []
+
+-- the text of a line, with its line feed
+abbrev pub text : DeskLine → List ℕ
+text line = object_text (members_of line) ++ codes "\n"
+
+-- the text of the lines in their order
+abbrev pub texts : List DeskLine → List ℕ
+texts = flat_map text
+
+-- a line for each device, and behind them a line that counts them. Own choice
+abbrev pub listing : List Device → List DeskLine
+listing known = map DeviceLine known ++ ListEnd (length known) ∷ []

@@ -1,0 +1,88 @@
+//! The lines of a listing.
+
+ghost use Rattle.std.specs.Prelude.{◌≡◌, IfOk};
+ghost use Rattle.serde_json.specs.Events.{SendsValue};
+ghost use Rattle.json_lines.specs.Lines.{DeviceLine, ListEnd, listing, text, texts};
+ghost use Rattle.json_lines.specs.LineData.{device_members, list_members, object_of};
+
+use crate::line::{Line, line_of};
+use crate::parts::{put_id, put_maker, put_profile};
+use device_registry::Device;
+use serde::{Described, Serialize, Serializer};
+use std::alloc::{AllocError, Global};
+
+// What the line of a device tells.
+#[derive(Drop)]
+struct DeviceObject<'a> {
+    device: &'a Device,
+}
+
+impl Described for DeviceObject<'_> {
+    ghost writes = { λ line. SendsValue (object_of (device_members line.device.now)) };
+}
+
+impl Serialize for DeviceObject<'_> {
+    fn serialize<S: Serializer>(&self, out: &mut S) -> Result<(), S::Error> {
+        out.begin_map(Some(4))?;
+        out.key("eep")?;
+        put_profile(self.device.eep, out)?;
+        out.key("id")?;
+        put_id(self.device.id, out)?;
+        out.key("maker")?;
+        put_maker(self.device.maker, out)?;
+        out.key("type")?;
+        out.str("device")?;
+        out.end_map()
+    }
+}
+
+// What the line behind the devices tells.
+#[derive(Drop)]
+struct ListObject {
+    count: usize,
+}
+
+impl Described for ListObject {
+    ghost writes = { λ line. SendsValue (object_of (list_members line.count)) };
+}
+
+impl Serialize for ListObject {
+    fn serialize<S: Serializer>(&self, out: &mut S) -> Result<(), S::Error> {
+        out.begin_map(Some(2))?;
+        out.key("count")?;
+        out.u64(self.count as u64)?;
+        out.key("type")?;
+        out.str("list")?;
+        out.end_map()
+    }
+}
+
+// The line of a device.
+fn device_line(alloc: Global, device: &Device) -> Result<Line, AllocError>
+    ensures { IfOk result (λ line. line ≡ text (DeviceLine device.now)) }
+{
+    line_of(alloc, &DeviceObject { device })
+}
+
+// The line behind so many devices.
+fn list_end(alloc: Global, count: usize) -> Result<Line, AllocError>
+    ensures { IfOk result (λ line. line ≡ text (ListEnd count)) }
+{
+    line_of(alloc, &ListObject { count })
+}
+
+/// The lines of some devices in their order, and behind them the line of their count.
+///
+/// `{"eep":"D5-00-01","id":"01800ABC","maker":null,"type":"device"}`, `{"count":1,"type":"list"}`
+///
+/// The only error is that there is no memory.
+pub fn device_lines(alloc: Global, devices: &[Device]) -> Result<Line, AllocError>
+    ensures { IfOk result (λ lines. lines ≡ texts (listing devices.now)) }
+{
+    let mut lines = Line::empty(alloc);
+    for device in devices {
+        lines.append(&device_line(alloc, device)?)?;
+    }
+    lines.append(&list_end(alloc, devices.len())?)?;
+    Ok(lines)
+}

@@ -1,0 +1,29 @@
+//! The lines that the desk is sent: one JSON object each, with no space, the members in the byte order of their
+//! names, and a line feed at the end; and the counts that a status line tells.
+//!
+//! What a line tells is a value of `DeskLine`, in `specs/Lines.antt`, and its bytes are that value's `text`.
+#![tactic(auto)]
+
+mod counts;
+mod devices;
+mod digits;
+mod fixed;
+pub mod laws;
+mod line;
+mod parts;
+mod reading;
+mod response;
+mod status;
+mod teach;
+
+pub use counts::{Count, Counts};
+pub use devices::device_lines;
+pub use fixed::{ErrorName, done_line};
+pub use line::Line;
+pub use reading::reading_line;
+pub use response::response_line;
+pub use status::status_line;
+pub use teach::{Draft, teach_line};
+
+#[cfg(test)]
+mod tests;

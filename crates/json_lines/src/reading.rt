@@ -1,0 +1,161 @@
+//! The line of a telegram's readings.
+
+ghost use Rattle.std.specs.Prelude.{◌≡◌, IfOk, OnOk};
+ghost use Rattle.serde_json.specs.Data.{array};
+ghost use Rattle.serde_json.specs.Events.{SendsValue};
+ghost use Rattle.profiles_rps.specs.Reading.{entries, entry_of, value, word};
+ghost use Rattle.exact_values.specs.Fraction.{ratio};
+ghost use Rattle.json_lines.specs.Lines as lines;
+ghost use Rattle.json_lines.specs.LineData.{count_data, dbm_data, entries_data, entry_data, named_data};
+ghost use Rattle.json_lines.specs.LineData.{object_of, or_null, pair_members, reading_members};
+
+use crate::line::{Line, line_of};
+use crate::parts::{put_id, put_integer, put_profile};
+use erp1_telegrams::{Eep, Telegram};
+use exact_values::Fraction;
+use profiles_rps::{Reading, Readings, What};
+use serde::{Described, Serialize, Serializer};
+use std::alloc::{AllocError, Global};
+
+// The signal strength, or null.
+fn put_dbm<S: Serializer>(dbm: Option<u8>, out: &mut S) -> Result<(), S::Error>
+    ensures { OnOk result (SendsValue (or_null dbm_data dbm) (S.written out.old) (S.written out.new)) }
+{
+    match dbm {
+        Some(byte) => put_integer(0 - i64::from(byte), out),
+        None => out.unit(),
+    }
+}
+
+// An exact value in its unit.
+fn put_value<S: Serializer>(
+    name: &str,
+    fraction: Fraction,
+    unit: &str,
+    out: &mut S,
+) -> Result<(), S::Error>
+    ensures { OnOk result (SendsValue (named_data name.now (value (ratio fraction) unit.now))
+        (S.written out.old) (S.written out.new)) }
+{
+    out.begin_map(Some(4))?;
+    out.key("den")?;
+    put_integer(fraction.den(), out)?;
+    out.key("name")?;
+    out.str(name)?;
+    out.key("num")?;
+    put_integer(fraction.num(), out)?;
+    out.key("unit")?;
+    out.str(unit)?;
+    out.end_map()
+}
+
+// A word.
+fn put_word<S: Serializer>(name: &str, text: &str, out: &mut S) -> Result<(), S::Error>
+    ensures { OnOk result (SendsValue (named_data name.now (word text.now))
+        (S.written out.old) (S.written out.new)) }
+{
+    out.begin_map(Some(2))?;
+    out.key("name")?;
+    out.str(name)?;
+    out.key("word")?;
+    out.str(text)?;
+    out.end_map()
+}
+
+// A number under this key.
+fn put_number<S: Serializer>(name: &str, key: &str, raw: u32, out: &mut S) -> Result<(), S::Error>
+    ensures { OnOk result (SendsValue (object_of (pair_members name.now key.now (count_data raw)))
+        (S.written out.old) (S.written out.new)) }
+{
+    out.begin_map(Some(2))?;
+    out.key("name")?;
+    out.str(name)?;
+    out.key(key)?;
+    out.u64(u64::from(raw))?;
+    out.end_map()
+}
+
+// One reading.
+fn put_reading<S: Serializer>(reading: &Reading, out: &mut S) -> Result<(), S::Error>
+    ensures { OnOk result (SendsValue (entry_data (entry_of reading.now)) (S.written out.old) (S.written out.new)) }
+{
+    let name = reading.name;
+    match reading.what {
+        What::Value(fraction, unit) => put_value(name, fraction, unit, out),
+        What::Word(word) => put_word(name, word, out),
+        What::Raw(raw) => put_number(name, "raw", raw, out),
+        What::OutOfRange(raw) => put_number(name, "out_of_range", raw, out),
+    }
+}
+
+// The readings in their order.
+fn put_readings<S: Serializer>(readings: &[Reading], out: &mut S) -> Result<(), S::Error>
+    ensures { OnOk result (SendsValue (array (entries_data (entries readings.now)))
+        (S.written out.old) (S.written out.new)) }
+{
+    out.begin_seq(Some(readings.len()))?;
+    for reading in readings {
+        put_reading(reading, out)?;
+    }
+    out.end_seq()
+}
+
+// What the line tells.
+#[derive(Drop)]
+struct ReadingObject<'a> {
+    dbm: Option<u8>,
+    eep: Eep,
+    id: u32,
+    readings: &'a [Reading],
+}
+
+impl Described for ReadingObject<'_> {
+    ghost writes = { λ line. SendsValue (object_of (reading_members
+        (record { dbm = line.dbm; eep = line.eep; id = line.id; readings = entries line.readings.now }))) };
+}
+
+impl Serialize for ReadingObject<'_> {
+    fn serialize<S: Serializer>(&self, out: &mut S) -> Result<(), S::Error> {
+        out.begin_map(Some(5))?;
+        out.key("dbm")?;
+        put_dbm(self.dbm, out)?;
+        out.key("eep")?;
+        put_profile(self.eep, out)?;
+        out.key("id")?;
+        put_id(self.id, out)?;
+        out.key("readings")?;
+        put_readings(self.readings, out)?;
+        out.key("type")?;
+        out.str("reading")?;
+        out.end_map()
+    }
+}
+
+/// The line that tells what a telegram says by this profile: the signal strength in dBm (0 minus the byte that the
+/// telegram came with; `null` where it came with none), the profile and the ID of the sender, and the readings in
+/// their order.
+///
+/// `{"dbm":-45,"eep":"D5-00-01","id":"01800ABC","readings":[{"name":"CO","word":"closed"}],"type":"reading"}`
+///
+/// The only error is that there is no memory.
+pub fn reading_line(
+    alloc: Global,
+    telegram: &Telegram,
+    eep: Eep,
+    readings: &Readings,
+) -> Result<Line, AllocError>
+    ensures { IfOk result (λ line. line ≡ lines.text (lines.Reading (record {
+      dbm = telegram.now.dbm;
+      eep = eep;
+      id = telegram.now.sender;
+      readings = entries readings.now.items;
+    }))) }
+{
+    let told = ReadingObject {
+        dbm: telegram.dbm(),
+        eep,
+        id: telegram.sender(),
+        readings: readings.as_slice(),
+    };
+    line_of(alloc, &told)
+}

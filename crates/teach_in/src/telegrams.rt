@@ -1,0 +1,85 @@
+//! What a telegram is at teach-in.
+ghost use Rattle.std.specs.Prelude.{◌≡◌, length};
+ghost use Rattle.teach_in.specs.Telegrams.{four_byte_kind, one_byte_kind, teach_in_of, ute_kind};
+
+use bit_fields::get;
+use erp1_telegrams::Telegram;
+
+/// What a telegram is at teach-in.
+///
+/// EnOcean Equipment Profiles 2.6, "Teach-in process".
+#[derive(Clone, Copy, Debug, PartialEq, Eq)]
+pub enum Teach {
+    /// It is data.
+    Plain,
+    /// A 1BS telegram of teach-in, which tells no more.
+    Contact,
+    /// A 4BS telegram of teach-in without a profile.
+    Bare,
+    /// A 4BS telegram of teach-in that tells its profile and its maker.
+    FourByte,
+    /// A query of universal teach-in.
+    Ute,
+    /// A reply to a telegram of teach-in.
+    Answer,
+}
+
+// A payload of a known length.
+fn bytes_of<const N: usize>(payload: &[u8]) -> &[u8; N]
+    requires { length payload.now ≡ N }
+    ensures { result.now ≡ payload.now }
+{
+    match <&[u8; N]>::try_from(payload) {
+        Ok(bytes) => bytes,
+        Err(_) => unreachable!(),
+    }
+}
+
+// What the byte of a 1BS telegram says.
+fn one_byte_kind(bytes: &[u8; 1]) -> Teach
+    ensures { result ≡ one_byte_kind bytes.now }
+{
+    match get::<1, 4, 1>(bytes) {
+        0 => Teach::Contact,
+        _ => Teach::Plain,
+    }
+}
+
+// What the bytes of a 4BS telegram say.
+fn four_byte_kind(bytes: &[u8; 4]) -> Teach
+    ensures { result ≡ four_byte_kind bytes.now }
+{
+    match (
+        get::<4, 28, 1>(bytes),
+        get::<4, 24, 1>(bytes),
+        get::<4, 27, 1>(bytes),
+    ) {
+        (1, _, _) => Teach::Plain,
+        (_, 0, _) => Teach::Bare,
+        (_, _, 0) => Teach::FourByte,
+        _ => Teach::Answer,
+    }
+}
+
+// What the bytes of a UTE telegram say.
+fn ute_kind(bytes: &[u8; 7]) -> Teach
+    ensures { result ≡ ute_kind bytes.now }
+{
+    match get::<7, 4, 4>(bytes) {
+        0 => Teach::Ute,
+        _ => Teach::Answer,
+    }
+}
+
+/// What a telegram is at teach-in.
+pub fn classify(telegram: &Telegram) -> Teach
+    ensures { result ≡ teach_in_of telegram.now }
+{
+    let payload = telegram.payload();
+    match telegram.rorg() {
+        0xD5 => one_byte_kind(bytes_of(payload)),
+        0xA5 => four_byte_kind(bytes_of(payload)),
+        0xD4 => ute_kind(bytes_of(payload)),
+        _ => Teach::Plain,
+    }
+}

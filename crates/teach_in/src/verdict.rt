@@ -1,0 +1,43 @@
+//! The verdict on a sender.
+ghost use Rattle.std.specs.Prelude.{◌≡◌, MatchBool};
+
+use crate::outcome::Outcome;
+use device_registry::Receipt;
+
+/// That a sender was learned or forgotten. It is made of the receipt of the change alone, so what it says is committed.
+#[derive(Drop)]
+pub struct Verdict {
+    id: u32,
+    outcome: Outcome,
+}
+
+impl Verdict {
+    /// The verdict on a change that is committed.
+    pub fn committed(receipt: Receipt) -> Verdict
+        ensures id { result.id ≡ receipt.id }
+        ensures outcome { MatchBool receipt.is_learned (result.outcome ≡ Outcome.Accepted)
+            (result.outcome ≡ Outcome.Deleted) }
+    {
+        let (id, is_learned) = receipt.spend();
+        let outcome = if is_learned {
+            Outcome::Accepted
+        } else {
+            Outcome::Deleted
+        };
+        Verdict { id, outcome }
+    }
+
+    /// The sender.
+    pub fn id(&self) -> u32
+        ensures { result ≡ self.now.id }
+    {
+        self.id
+    }
+
+    /// What came of it.
+    pub fn outcome(&self) -> Outcome
+        ensures { result ≡ self.now.outcome }
+    {
+        self.outcome
+    }
+}
