@@ -26,7 +26,7 @@ use Rattle.json_lines.specs.Lines.{ReadingLine, TeachLine, Response, text, or_nu
 use Rattle.json_lines.specs.Lines.{Reading, Teach, DeviceLine, ListEnd, StatusLine, ResponseLine}
 use Rattle.json_lines.specs.Lines.{profile_text, dbm_text, named_text, entry_text, outcome_word, mode_word}
 use Rattle.json_lines.specs.Lines.{code_names}
-use Rattle.json_lines.specs.LineData.{IsPlain, IsLineOf, or_null as data_or_null, members, object_of, count_data}
+use Rattle.json_lines.specs.LineData.{IsPlain, IsLineOf, or_null as data_or_null, members, object_of, number_data}
 use Rattle.json_lines.specs.LineData.{dbm_data, profile_data}
 use Rattle.json_lines.specs.LineData.{named_members, named_data, entry_data, entries_data, reading_members}
 use Rattle.json_lines.specs.LineData.{teach_members, device_members, list_members, status_members, response_members}
@@ -100,11 +100,11 @@ text-dbm = text-or_null dbm_data dbm_text (λ byte. digits_of (pos 0 -ℤ pos by
 no_float-dbm : (dbm : Option ℕ) → has_float (data_or_null dbm_data dbm) ≡ false
 no_float-dbm = no_float-or_null dbm_data (λ byte. no_float-integer (pos 0 -ℤ pos byte))
 
-text-maker : (maker : Option ℕ) → compact_text (data_or_null count_data maker) ≡ or_null decimal maker
-text-maker = text-or_null count_data decimal (λ maker. refl)
+text-maker : (maker : Option ℕ) → compact_text (data_or_null number_data maker) ≡ or_null decimal maker
+text-maker = text-or_null number_data decimal (λ maker. refl)
 
-no_float-maker : (maker : Option ℕ) → has_float (data_or_null count_data maker) ≡ false
-no_float-maker = no_float-or_null count_data (λ maker. refl)
+no_float-maker : (maker : Option ℕ) → has_float (data_or_null number_data maker) ≡ false
+no_float-maker = no_float-or_null number_data (λ maker. refl)
 
 text-profile : (eep : Eep) → compact_text (profile_data eep) ≡ profile_text eep
 text-profile eep = ap in_quotes (plain-eep eep)

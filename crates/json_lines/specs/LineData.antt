@@ -33,6 +33,7 @@ abbrev pub members : List (List ℕ × Data) → Members
 members [] = no_members
 members (m ∷ ms) = member m.0 m.1 (members ms)
 
+-- an object of these members
 abbrev pub object_of : List (List ℕ × Data) → Data
 object_of ms = object (members ms)
 
@@ -41,32 +42,36 @@ abbrev pub or_null : {A : Type 0} → (A → Data) → Option A → Data
 or_null data_of None = null
 or_null data_of (Some known) = data_of known
 
-abbrev pub count_data : ℕ → Data
-count_data n = number (unsigned n)
+-- a number that has no sign
+abbrev pub number_data : ℕ → Data
+number_data n = number (unsigned n)
 
+-- an ID
 abbrev pub id_data : ℕ → Data
 id_data id = string (id_text id)
 
+-- a profile
 abbrev pub profile_data : Eep → Data
 profile_data eep = string (eep_text eep)
 
+-- the signal strength
 abbrev pub dbm_data : ℕ → Data
 dbm_data byte = number (of_integer (pos 0 -ℤ pos byte))
 
--- a name, and something under a key
+-- a name, and what is said under a key
 abbrev pub pair_members : List ℕ → List ℕ → Data → List (List ℕ × Data)
 pair_members name key said = (codes "name", string name) ∷ (key, said) ∷ []
 
--- a reading
+-- what is read under a name
 abbrev pub named_members : List ℕ → Meaning → List (List ℕ × Data)
 named_members name (value ratio unit) =
-    (codes "den", count_data ratio.den)
+    (codes "den", number_data ratio.den)
     ∷ (codes "name", string name)
     ∷ (codes "num", number (of_integer ratio.num))
     ∷ (codes "unit", string unit) ∷ []
 named_members name (word text) = pair_members name (codes "word") (string text)
-named_members name (raw n) = pair_members name (codes "raw") (count_data n)
-named_members name (out_of_range n) = pair_members name (codes "out_of_range") (count_data n)
+named_members name (raw n) = pair_members name (codes "raw") (number_data n)
+named_members name (out_of_range n) = pair_members name (codes "out_of_range") (number_data n)
 
 abbrev pub named_data : List ℕ → Meaning → Data
 named_data name meaning = object_of (named_members name meaning)
@@ -78,8 +83,9 @@ entry_data entry = named_data entry.name entry.meaning
 abbrev pub entries_data : List Entry → Items
 entries_data list = items_of (map entry_data list)
 
--- ---- the lines
+-- ---- the members of the lines
 
+-- a reading line
 abbrev pub reading_members : ReadingLine → List (List ℕ × Data)
 reading_members line =
     (codes "dbm", or_null dbm_data line.dbm)
@@ -88,37 +94,42 @@ reading_members line =
     ∷ (codes "readings", array (entries_data line.readings))
     ∷ (codes "type", string (codes "reading")) ∷ []
 
+-- a teach line
 abbrev pub teach_members : TeachLine → List (List ℕ × Data)
 teach_members line =
     (codes "eep", or_null profile_data line.eep)
     ∷ (codes "id", id_data line.id)
-    ∷ (codes "maker", or_null count_data line.maker)
+    ∷ (codes "maker", or_null number_data line.maker)
     ∷ (codes "result", string (outcome_word line.outcome))
     ∷ (codes "type", string (codes "teach")) ∷ []
 
+-- the line of a device
 abbrev pub device_members : Device → List (List ℕ × Data)
 device_members known =
     (codes "eep", profile_data known.eep)
     ∷ (codes "id", id_data known.id)
-    ∷ (codes "maker", or_null count_data known.maker)
+    ∷ (codes "maker", or_null number_data known.maker)
     ∷ (codes "type", string (codes "device")) ∷ []
 
+-- the line behind so many devices
 abbrev pub list_members : ℕ → List (List ℕ × Data)
-list_members count = (codes "count", count_data count) ∷ (codes "type", string (codes "list")) ∷ []
+list_members count = (codes "count", number_data count) ∷ (codes "type", string (codes "list")) ∷ []
 
+-- a status line
 abbrev pub status_members : Counts → Mode → List (List ℕ × Data)
 status_members counts mode =
-    (codes "ignored", count_data counts.ignored)
+    (codes "ignored", number_data counts.ignored)
     ∷ (codes "mode", string (mode_word mode))
-    ∷ (codes "readings", count_data counts.readings)
-    ∷ (codes "refused", count_data counts.refused)
-    ∷ (codes "responses", count_data counts.responses)
-    ∷ (codes "teach", count_data counts.teach)
+    ∷ (codes "readings", number_data counts.readings)
+    ∷ (codes "refused", number_data counts.refused)
+    ∷ (codes "responses", number_data counts.responses)
+    ∷ (codes "teach", number_data counts.teach)
     ∷ (codes "type", string (codes "status")) ∷ []
 
+-- a response line, with the digits of the bytes
 abbrev pub response_members : ℕ → List ℕ → List (List ℕ × Data)
 response_members code digits =
-    (codes "code", count_data code)
+    (codes "code", number_data code)
     ∷ (codes "data", string digits)
     ∷ (codes "name", or_null string (slice_get code_names code))
     ∷ (codes "type", string (codes "response")) ∷ []

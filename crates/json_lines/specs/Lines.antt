@@ -1,5 +1,6 @@
--- The lines that the desk is sent, as values, and their texts, as bytes. The layout is an own choice: one JSON object
--- with no space, its members in the byte order of their names, and a line feed at the end.
+-- The lines that the desk is sent, as values, and their texts, as bytes. Which lines there are, and their layout, is
+-- an own choice: one JSON object (RFC 8259) with no space, its members in the byte order of their names, and a line
+-- feed at the end.
 use Rattle.std.specs.Prelude.{ℕ, pos, ◌-ℤ◌, List, [], ◌∷◌, ◌++◌, map, length, slice_get, codes, decimal}
 use Rattle.std.specs.Prelude.{Option, Some, None}
 use Rattle.std.specs.Fmt.{signed_decimal}
@@ -23,7 +24,7 @@ use Rattle.json_lines.specs.declared.fixed.ErrorName.TheVariants as error
 
 -- ---- what a line tells
 
--- the readings of a telegram: with which strength it was received, if that is known, the profile and the ID of the
+-- the readings of a telegram: with which strength it was received, where that is known, the profile and the ID of its
 -- sender, and what is read
 pub record ReadingLine : Type 0 where
   pub dbm : Option ℕ
@@ -31,7 +32,8 @@ pub record ReadingLine : Type 0 where
   pub id : ℕ
   pub readings : List Entry
 
--- what came of a sender: the profile, its ID and the maker, where they are known, and the outcome
+-- what came of a sender: its profile, where that is known, its ID, the number of its maker, where that is known, and
+-- the outcome
 pub record TeachLine : Type 0 where
   pub eep : Option Eep
   pub id : ℕ
@@ -44,6 +46,9 @@ pub record Response : Type 0 where
   pub code : ℕ
   pub bytes : List ℕ
 
+-- a line: the readings of a telegram; what came of a sender; a learned device; the end of a list of so many devices;
+-- what was counted, and in which mode the gateway learns; a response of the radio module; an order that is done; why
+-- something is not done. Own choice
 pub data DeskLine : Type 0 where
   Reading : (line : ReadingLine) → DeskLine
   Teach : (line : TeachLine) → DeskLine
@@ -56,35 +61,36 @@ pub data DeskLine : Type 0 where
 
 -- ---- the parts of a line
 
--- a text in quotation marks; it stands there as it is
+-- a text in quotation marks; it stands there as it is (RFC 8259, "Strings")
 abbrev pub in_quotes : List ℕ → List ℕ
 in_quotes text = codes "\"" ++ text ++ codes "\""
 
--- a member of an object: its name, and the text of its value
+-- a member of an object: its name, and the text of its value (RFC 8259, "Objects")
 abbrev pub member_text : List ℕ × List ℕ → List ℕ
 member_text member = in_quotes member.0 ++ codes ":" ++ member.1
 
--- the members in their order, with a comma between each two
+-- the members in their order, with a comma between each two (RFC 8259, "Objects")
 abbrev pub object_text : List (List ℕ × List ℕ) → List ℕ
 object_text members = codes "{" ++ join_by member_text (codes ",") members ++ codes "}"
 
--- the text of what is known, or null
+-- the text of what is known. Own choice: null where it is not
 abbrev pub or_null : {A : Type 0} → (A → List ℕ) → Option A → List ℕ
 or_null text_of None = codes "null"
 or_null text_of (Some known) = text_of known
 
--- a byte as two upper-case hexadecimal digits
+-- a byte as two upper-case hexadecimal digits. Own choice
 abbrev pub byte_text : ℕ → List ℕ
 byte_text byte = encode_upper (to_be_bytes w8 byte)
 
--- an ID as 8 upper-case hexadecimal digits
+-- an ID as 8 upper-case hexadecimal digits. Own choice
 abbrev pub id_text : ℕ → List ℕ
 id_text id = encode_upper (to_be_bytes w32 id)
 
--- a profile by its three numbers, with `-` between them (EnOcean Equipment Profiles 2.6, "EnOcean Equipment Profile")
+-- a profile by the three numbers that EnOcean Equipment Profiles 2.6 gives it, with `-` between them
 abbrev pub eep_text : Eep → List ℕ
 eep_text eep = byte_text eep.rorg ++ codes "-" ++ byte_text eep.func ++ codes "-" ++ byte_text eep.typ
 
+-- a profile as a string. Own choice
 abbrev pub profile_text : Eep → List ℕ
 profile_text eep = in_quotes (eep_text eep)
 
@@ -92,8 +98,8 @@ profile_text eep = in_quotes (eep_text eep)
 abbrev pub dbm_text : ℕ → List ℕ
 dbm_text byte = signed_decimal (pos 0 -ℤ pos byte)
 
--- a reading as an object: a value in a unit, a word, a number, or a number out of range; `quoted` writes JSON's
--- shortest escapes
+-- a reading as an object: a value in a unit, a word, a number, or a number out of range. Own choice. `quoted` writes
+-- the shortest escapes (RFC 8259, "Strings")
 abbrev pub named_text : List ℕ → Meaning → List ℕ
 named_text name (value ratio unit) = object_text (
     (codes "den", decimal ratio.den)
@@ -104,10 +110,11 @@ named_text name (word text) = object_text ((codes "name", quoted name) ∷ (code
 named_text name (raw n) = object_text ((codes "name", quoted name) ∷ (codes "raw", decimal n) ∷ [])
 named_text name (out_of_range n) = object_text ((codes "name", quoted name) ∷ (codes "out_of_range", decimal n) ∷ [])
 
+-- an entry: what is read under a name. Own choice
 abbrev pub entry_text : Entry → List ℕ
 entry_text entry = named_text entry.name entry.meaning
 
--- a list of the entries, with a comma between each two
+-- the entries in their order, with a comma between each two (RFC 8259, "Arrays")
 abbrev pub list_text : List Entry → List ℕ
 list_text list = codes "[" ++ join_by entry_text (codes ",") list ++ codes "]"
 
@@ -150,7 +157,7 @@ error_name Store = codes "store"
 
 -- ---- the lines
 
--- a line's members: their names, and the texts of their values. Own choice
+-- the members of a line: their names, and the texts of their values. Own choice
 abbrev pub members_of : DeskLine → List (List ℕ × List ℕ)
 members_of (Reading line) =
     (codes "dbm", or_null dbm_text line.dbm)
@@ -187,11 +194,11 @@ members_of Done = (codes "type", in_quotes (codes "ok")) ∷ []
 members_of (Error name) =
     (codes "error", in_quotes (error_name name)) ∷ (codes "type", in_quotes (codes "error")) ∷ []
 
--- the text of a line, with its line feed
+-- the text of a line: one object, and a line feed. Own choice
 abbrev pub text : DeskLine → List ℕ
 text line = object_text (members_of line) ++ codes "\n"
 
--- the text of the lines in their order
+-- the text of lines, in their order. Own choice
 abbrev pub texts : List DeskLine → List ℕ
 texts = flat_map text
 

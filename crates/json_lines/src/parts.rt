@@ -1,10 +1,10 @@
 //! What several lines tell: numbers, IDs, profiles and makers, each sent to a serializer.
 
 ghost use Rattle.std.specs.Prelude.{OnOk};
-ghost use Rattle.serde_json.specs.Data.{number, string};
+ghost use Rattle.serde_json.specs.Data.{number};
 ghost use Rattle.serde_json.specs.Events.{SendsValue};
 ghost use Rattle.serde_json.specs.Find.{of_integer};
-ghost use Rattle.json_lines.specs.LineData.{count_data, id_data, or_null, profile_data};
+ghost use Rattle.json_lines.specs.LineData.{id_data, number_data, or_null, profile_data};
 
 use crate::digits::{eep_digits, id_digits, text_of};
 use erp1_telegrams::Eep;
@@ -37,7 +37,7 @@ pub(crate) fn put_profile<S: Serializer>(eep: Eep, out: &mut S) -> Result<(), S:
 
 // The number of a maker, or null.
 pub(crate) fn put_maker<S: Serializer>(maker: Option<u16>, out: &mut S) -> Result<(), S::Error>
-    ensures { OnOk result (SendsValue (or_null count_data maker) (S.written out.old) (S.written out.new)) }
+    ensures { OnOk result (SendsValue (or_null number_data maker) (S.written out.old) (S.written out.new)) }
 {
     match maker {
         Some(maker) => out.u64(u64::from(maker)),

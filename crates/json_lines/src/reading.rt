@@ -6,7 +6,7 @@ ghost use Rattle.serde_json.specs.Events.{SendsValue};
 ghost use Rattle.profiles_rps.specs.Reading.{entries, entry_of, value, word};
 ghost use Rattle.exact_values.specs.Fraction.{ratio};
 ghost use Rattle.json_lines.specs.Lines as lines;
-ghost use Rattle.json_lines.specs.LineData.{count_data, dbm_data, entries_data, entry_data, named_data};
+ghost use Rattle.json_lines.specs.LineData.{dbm_data, entries_data, entry_data, named_data, number_data};
 ghost use Rattle.json_lines.specs.LineData.{object_of, or_null, pair_members, reading_members};
 
 use crate::line::{Line, line_of};
@@ -64,7 +64,7 @@ fn put_word<S: Serializer>(name: &str, text: &str, out: &mut S) -> Result<(), S:
 
 // A number under this key.
 fn put_number<S: Serializer>(name: &str, key: &str, raw: u32, out: &mut S) -> Result<(), S::Error>
-    ensures { OnOk result (SendsValue (object_of (pair_members name.now key.now (count_data raw)))
+    ensures { OnOk result (SendsValue (object_of (pair_members name.now key.now (number_data raw)))
         (S.written out.old) (S.written out.new)) }
 {
     out.begin_map(Some(2))?;
