@@ -1,5 +1,5 @@
 -- What is counted.
-use Rattle.std.proofs.Common.{◌≡◌, ℕ, ◌+◌, ◌^◌, ◌<◌, List, [], ◌∷◌, refl, ap, ◌∙◌, arith}
+use Rattle.std.proofs.Common.{◌≡◌, ℕ, ◌+◌, ◌^◌, ◌<◌, [], ◌∷◌, refl, ap, ◌∙◌, arith}
 use Rattle.json_lines.specs.Counts.{count_with, one_more, raised}
 use Rattle.gateway_core.specs.Step.{State, Item, count_of}
 use Rattle.gateway_core.specs.Run.{Taken, Refused, RefusedAtWrite, state_with, refusals, RefusalsAreCounted}

@@ -1,17 +1,16 @@
 -- A teach line is told only of the device that an item learns or forgets.
-use Rattle.std.proofs.Common.{◌≡◌, ℕ, List, [], ◌∷◌, ◌++◌, length, Option, Some, refl, sym, ap, subst, ◌∙◌, append-nil}
+use Rattle.std.proofs.Common.{◌≡◌, List, [], ◌∷◌, Some, refl, sym, ap, subst, ◌∙◌, append-nil}
 use Rattle.device_registry.specs.declared.device.Device.{Device}
 use Rattle.device_registry.specs.Devices.{device_of, all_of}
 use Rattle.teach_in.specs.declared.outcome.Outcome.{Outcome}
 use Rattle.teach_in.specs.declared.outcome.Outcome.TheVariants.{Accepted, Deleted}
-use Rattle.json_lines.specs.declared.fixed.ErrorName.{ErrorName}
 use Rattle.json_lines.specs.declared.fixed.ErrorName.TheVariants as error
-use Rattle.json_lines.specs.Lines.{DeskLine, Reading, Teach, DeviceLine, ListEnd, StatusLine, ResponseLine, Error}
+use Rattle.json_lines.specs.Lines.{DeskLine, Reading, Teach, ListEnd, StatusLine, ResponseLine, Error}
 use Rattle.json_lines.specs.Lines.{TeachLine, text, texts, listing}
 use Rattle.json_lines.proofs.ForCallers.{of_teach_lines}
 use Rattle.gateway_core.specs.Step.{State, Item, Effect, effect, told_of, learns, forgets}
 use Rattle.gateway_core.specs.Run.{Cause, Memory, Store, Taken, Refused, RefusedAtWrite, cause_text}
-use Rattle.gateway_core.specs.Telling.{AsksFor, IsToldOf, TeachLinesAreTold}
+use Rattle.gateway_core.specs.Telling.{AsksFor, TeachLinesAreTold}
 use Rattle.gateway_core.proofs.EffectLemmas.{of_effect}
 
 -- whether a line is a teach line

@@ -1,4 +1,4 @@
-use Rattle.std.proofs.Common.{◌≡◌, true, false, refl, sym, ◌∙◌}
+use Rattle.std.proofs.Common.{◌≡◌, true, false, refl}
 use Rattle.teach_in.specs.Profiles.{supported}
 use Rattle.gateway_core.proofs.TryLemmas.{tries-alone, tries-same}
 use Rattle.gateway_core.proofs.handler.Handler.try_add.Goals as goal

@@ -1,5 +1,4 @@
-use Rattle.std.proofs.Common.{refl, sym, ap, ◌∙◌, append-nil}
-use Rattle.std.proofs.lemmas.Result.{err_from_is_err_and}
+use Rattle.std.proofs.Common.{sym, ap, ◌∙◌, append-nil}
 use Rattle.gateway_core.specs.Step.{said}
 use Rattle.gateway_core.proofs.TryLemmas.{tries-alone}
 use Rattle.gateway_core.proofs.handler.Handler.try_status.Goals as goal

@@ -1,4 +1,4 @@
-use Rattle.std.proofs.Common.{List, ◌≡◌, None, sym, ap, ◌∙◌}
+use Rattle.std.proofs.Common.{◌≡◌, None, sym, ap, ◌∙◌}
 use Rattle.std.specs.Option.{option_map}
 use Rattle.profiles_rps.specs.Reading.{entries}
 use Rattle.gateway_core.specs.Profiles.{readings_of}
