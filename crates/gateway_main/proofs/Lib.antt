@@ -2,12 +2,16 @@ pub mod ResultLemmas
 pub mod ListLemmas
 pub mod CountLemmas
 pub mod WriteLemmas
+pub mod OutletLemmas
 pub mod AnswerLemmas
-pub mod ReplayLemmas
+pub mod PlayLemmas
 pub mod TakeLemmas
 pub mod LineLemmas
 pub mod LongLineLemmas
+pub mod SearchLemmas
 pub mod ProgressLemmas
+pub mod EndedLemmas
+pub mod ReplayedLemmas
 pub mod CommandLemmas
 pub mod StartLemmas
 pub mod LifeLemmas

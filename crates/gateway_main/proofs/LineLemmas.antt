@@ -61,10 +61,6 @@ closed_of_lines (l ∷ ls) = elim (closed_of_lines ls) [
       inr ((l ++ 10 ∷ []) ++ q.0, ap (λ s. (l ++ 10 ∷ []) ++ s) q.1 ∙ sym (append_assoc (l ++ 10 ∷ []) q.0 (10 ∷ [])))
 ]
 
-pub only : (P : ℕ → Type 0) (x : ℕ) → P x → All P (x ∷ [])
-only P x h zero d l = h
-only P x h (suc k) d l = absurd (omega arith)
-
 pub only_line : (line : List ℕ) → IsOneLine line → All IsOneLine (line ∷ [])
 only_line line h zero d l = h
 only_line line h (suc k) d l = absurd (omega arith)

@@ -1,15 +1,25 @@
--- An element of a list, and what stands round it.
-use Rattle.std.proofs.Common.{◌≡◌, ℕ, ◌+◌, ◌<◌, List, [], ◌∷◌, ◌++◌, length, get_or, take, drop, ap, sym, ◌∙◌}
-use Rattle.std.proofs.Common.{append_assoc}
-use Rattle.std.proofs.lemmas.List.{take-append-drop, take_more}
+-- An element of a list, and what stands round it; and how much of a list fits.
+use Rattle.std.proofs.Common.{◌≡◌, ℕ, ◌+◌, ◌-◌, ◌<◌, ◌≤◌, List, [], ◌∷◌, ◌++◌, length, get_or, take, drop, ap, sym, ◌∙◌}
+use Rattle.std.proofs.Common.{append_assoc, arith, min, true}
+use Rattle.std.specs.Prelude.{◌==◌, slice_index}
+use Rattle.std.proofs.Math.Seq.{take-append-add}
+use Rattle.std.proofs.lemmas.Bool.{eqb-true}
+use Rattle.std.proofs.lemmas.List.{take-append-drop, take_min, take_more}
 
 pub split_at : (xs : List ℕ) (i : ℕ) → i < length xs → xs ≡ (take i xs ++ get_or xs i 0 ∷ []) ++ drop (i + 1) xs
 split_at xs i below = sym (take-append-drop (i + 1) xs) ∙ ap (λ s. s ++ drop (i + 1) xs) (take_more xs i 0 below)
 
--- the same behind some front
-pub split_behind : (front xs : List ℕ) (i : ℕ) → i < length xs
-    → (front ++ take i xs) ++ get_or xs i 0 ∷ drop (i + 1) xs ≡ front ++ xs
-split_behind front xs i below =
-    append_assoc front (take i xs) (get_or xs i 0 ∷ drop (i + 1) xs)
-    ∙ ap (λ s. front ++ s) (sym (append_assoc (take i xs) (get_or xs i 0 ∷ []) (drop (i + 1) xs))
-    ∙ sym (split_at xs i below))
+-- an element that is known, and what stands round it
+pub split_round : (xs : List ℕ) (i x : ℕ) → i < length xs → (slice_index xs i == x) ≡ true
+    → xs ≡ take i xs ++ x ∷ drop (i + 1) xs
+split_round xs i x below is =
+    split_at xs i below ∙ append_assoc (take i xs) (get_or xs i 0 ∷ []) (drop (i + 1) xs)
+    ∙ ap (λ y. take i xs ++ y ∷ drop (i + 1) xs) (eqb-true (get_or xs i 0) x is)
+
+-- what fits behind some elements
+pub take-append : (n : ℕ) (xs ys : List ℕ) → length xs ≤ n
+    → take n (xs ++ ys) ≡ xs ++ take (min (n - length xs) (length ys)) ys
+take-append n xs ys fits =
+    let e : n ≡ length xs + (n - length xs) = omega arith in
+    ap (λ k. take k (xs ++ ys)) e ∙ take-append-add xs ys (n - length xs)
+    ∙ ap (λ zs. xs ++ zs) (sym (take_min (n - length xs) ys))

@@ -1,7 +1,7 @@
 -- All lines that are too long are treated alike.
 use Rattle.gateway_core.specs.Step.{longest_line}
 use Rattle.std.proofs.Common.{◌≡◌, ℕ, ◌+◌, ◌-◌, ◌<◌, ◌≤◌, List, [], ◌∷◌, ◌++◌, length, take, drop, refl, ap, sym, subst}
-use Rattle.std.proofs.Common.{◌∙◌, arith, true, false, inl, inr, map, Option}
+use Rattle.std.proofs.Common.{◌∙◌, arith, true, false, inl, inr, map}
 use Rattle.std.specs.Prelude.{Result, ◌==◌, ◌&&◌, if◌then◌else◌, nat_eq, codes, slice_index}
 use Rattle.std.specs.List.{starts_with}
 use Rattle.std.specs.Str.Lines.{strip_carriage_return}
@@ -9,14 +9,14 @@ use Rattle.std.proofs.lemmas.Bool.{lt-leb, cases_lt}
 use Rattle.std.proofs.lemmas.List.{length-take, take_all}
 use Rattle.std.proofs.lemmas.Result.{MatchResult-weaker}
 use Rattle.hex.specs.Hex.{decode_of}
-use Rattle.gateway_core.specs.Step.{Item, Received, Ordered}
+use Rattle.gateway_core.specs.Step.{Item, Received, Ordered, Answer}
 use Rattle.gateway_core.proofs.ForCallers.{handles_alike}
 use Rattle.esp3_frames.specs.Packet.{Packet}
 use Rattle.gateway_core.specs.Calls.{Value}
 use Rattle.gateway_core.specs.Events.{Event, Piece, Line, items_of, bytes_in}
 use Rattle.esp3_frames.specs.Frames.{rest_of}
 use Rattle.gateway_main.specs.Script.{event_of, spelled}
-use Rattle.gateway_main.specs.Replayed.{AnswersPart, BreaksOff, IsBegun}
+use Rattle.gateway_main.specs.Played.{AnswersPart, Breaks, IsBegun}
 use Rattle.gateway_main.specs.Progress.{longest_kept, Takes, TakesOrBreaks}
 use Rattle.sqlite_trees.specs.declared.store.Store.{Ghosts}
 
@@ -51,48 +51,48 @@ length-strip line =
     ]
 
 module _ {S : Type 0} (g : Ghosts S) where
-  takes_long : (old new : Value S) (short long : List ℕ) (held now : Option (List ℕ)) (count total : ℕ)
-      → longest_line < length short → longest_line < length long → Takes g old new (Line short) held now count total
-      → Takes g old new (Line long) held now count total
-  takes_long old new short long held now count total a b takes =
-      let done = takes.replayed.answered in
+  takes_long : (old new : Value S) (short long : List ℕ) (puts : List Answer → Type 0) (count total : ℕ)
+      → longest_line < length short → longest_line < length long → Takes g old new (Line short) puts count total
+      → Takes g old new (Line long) puts count total
+  takes_long old new short long puts count total a b takes =
+      let done = takes.played.answered in
       record {
-        replayed = record {
+        played = record {
           answered = record {
             answers = done.answers;
             handled = handles_alike g old.handler new.handler short long done.answers a b done.handled;
-            text = done.text;
+            out = done.out;
           };
-          rest = takes.replayed.rest;
-          idle = takes.replayed.idle;
+          rest = takes.played.rest;
+          idle = takes.played.idle;
         };
         counted = takes.counted;
       }
 
   -- a break at one order, in its parts
-  record BreaksAtOrder (old new : Value S) (line : List ℕ) (held now : Option (List ℕ)) : Type 0 where
+  record BreaksAtOrder (old new : Value S) (line : List ℕ) (breaks : List Answer → Answer → Type 0) : Type 0 where
     pub none : map Received new.ready ≡ []
-    pub answered : AnswersPart g old.handler new.handler (Ordered line ∷ []) held now
+    pub answered : AnswersPart g old.handler new.handler (Ordered line ∷ []) breaks
 
-  at_order : (old new : Value S) (line : List ℕ) (items : List Item) (held now : Option (List ℕ))
-      → (Ordered line ∷ []) ≡ items ++ map Received new.ready → AnswersPart g old.handler new.handler items held now
-      → BreaksAtOrder old new line held now
-  at_order old new line [] held now e part = absurd (no_packets line new.ready e)
-  at_order old new line (item ∷ []) held now e part =
+  at_order : (old new : Value S) (line : List ℕ) (items : List Item) (breaks : List Answer → Answer → Type 0)
+      → (Ordered line ∷ []) ≡ items ++ map Received new.ready → AnswersPart g old.handler new.handler items breaks
+      → BreaksAtOrder old new line breaks
+  at_order old new line [] breaks e part = absurd (no_packets line new.ready e)
+  at_order old new line (item ∷ []) breaks e part =
       let one = one_item line item new.ready e in
-      let P : Item → Type 0 = λ i. AnswersPart g old.handler new.handler (i ∷ []) held now in
+      let P : Item → Type 0 = λ i. AnswersPart g old.handler new.handler (i ∷ []) breaks in
       record { none = one.none; answered = subst P one.same part }
-  at_order old new line (item ∷ other ∷ items) held now e part =
+  at_order old new line (item ∷ other ∷ items) breaks e part =
       absurd (two_items line item other (items ++ map Received new.ready) e)
 
-  breaks_long : (old new : Value S) (short long : List ℕ) (held now : Option (List ℕ)) (begun : Event)
+  breaks_long : (old new : Value S) (short long : List ℕ) (breaks : List Answer → Answer → Type 0) (begun : Event)
       (items : List Item) → longest_line < length short → longest_line < length long
       → IsBegun (Line short) begun → items_of old.rest (begun ∷ []) ≡ items ++ map Received new.ready
-      → new.rest ≡ rest_of (old.rest ++ bytes_in (begun ∷ [])) → AnswersPart g old.handler new.handler items held now
-      → BreaksOff g old new [] (Line long) held now
-  breaks_long old new short long held now (Piece bytes) items a b begins stand rest part = absurd begins
-  breaks_long old new short long held now (Line line) items a b begins stand rest part =
-      let at = at_order old new line items held now stand part in
+      → new.rest ≡ rest_of (old.rest ++ bytes_in (begun ∷ [])) → AnswersPart g old.handler new.handler items breaks
+      → Breaks g old new [] (Line long) breaks
+  breaks_long old new short long breaks (Piece bytes) items a b begins stand rest part = absurd begins
+  breaks_long old new short long breaks (Line line) items a b begins stand rest part =
+      let at = at_order old new line items breaks stand part in
       let done = at.answered in
       record {
         begun = Line long;
@@ -106,54 +106,51 @@ module _ {S : Type 0} (g : Ghosts S) where
           handled =
               handles_alike g old.handler new.handler line long (done.answers ++ done.last ∷ []) (rw begins a) b
               done.handled;
-          part = done.part;
-          missing = done.missing;
-          whole = done.whole;
-          proper = done.proper;
-          text = done.text;
+          out = done.out;
         };
       }
 
   long_lines_alike : {A E : Type 0} (r : Result A E) (old new : Value S) (short long : List ℕ)
-      (held now : Option (List ℕ))
+      (puts : List Answer → Type 0) (breaks : List Answer → Answer → Type 0)
       (count total : ℕ) → longest_line < length short → longest_line < length long
-      → TakesOrBreaks g r old new (event_of short) held now count total
-      → TakesOrBreaks g r old new (event_of long) held now count total
-  long_lines_alike r old new short long held now count total a b given =
-      let P : Event → Type 0 = λ e. TakesOrBreaks g r old new e held now count total in
+      → TakesOrBreaks g r old new (event_of short) puts breaks count total
+      → TakesOrBreaks g r old new (event_of long) puts breaks count total
+  long_lines_alike r old new short long puts breaks count total a b given =
+      let P : Event → Type 0 = λ e. TakesOrBreaks g r old new e puts breaks count total in
       subst P (sym (event_of-long long b))
       (MatchResult-weaker r (subst P (event_of-long short a) given)
-      (λ _ takes. takes_long old new short long held now count total a b takes)
-      (λ _ broken. breaks_long old new short long held now broken.begun broken.items a b broken.begins broken.stand
+      (λ _ takes. takes_long old new short long puts count total a b takes)
+      (λ _ broken. breaks_long old new short long breaks broken.begun broken.items a b broken.begins broken.stand
       broken.rest broken.answered))
 
   -- what is kept of a line that LF ends stands for the line
   pub kept_line_alike : {A E : Type 0} (r : Result A E) (old new : Value S) (kept line : List ℕ)
-      (held now : Option (List ℕ))
+      (puts : List Answer → Type 0) (breaks : List Answer → Answer → Type 0)
       (count total : ℕ) → kept ≡ take longest_kept line
-      → TakesOrBreaks g r old new (event_of (strip_carriage_return kept)) held now count total
-      → TakesOrBreaks g r old new (event_of (strip_carriage_return line)) held now count total
-  kept_line_alike r old new kept line held now count total e given = elim (cases_lt longest_kept (length line)) [
+      → TakesOrBreaks g r old new (event_of (strip_carriage_return kept)) puts breaks count total
+      → TakesOrBreaks g r old new (event_of (strip_carriage_return line)) puts breaks count total
+  kept_line_alike r old new kept line puts breaks count total e given = elim (cases_lt longest_kept (length line)) [
     | inl far ↦ long_lines_alike r old new (strip_carriage_return kept)
-        (strip_carriage_return line) held now count total
+        (strip_carriage_return line) puts breaks count total
         (omega (arith, far, length-strip kept, ap length e, length-take longest_kept line))
         (omega (arith, far, length-strip line)) given
     | inr near ↦ let P : List ℕ → Type 0 =
-        λ l. TakesOrBreaks g r old new (event_of (strip_carriage_return l)) held now count total in
+        λ l. TakesOrBreaks g r old new (event_of (strip_carriage_return l)) puts breaks count total in
         subst P (e ∙ take_all longest_kept line near) given
   ]
 
   -- and so does what is kept of a line that the end of the input ends
   pub kept_last_line_alike : {A E : Type 0} (r : Result A E) (old new : Value S) (kept line : List ℕ)
-      (held now : Option (List ℕ))
+      (puts : List Answer → Type 0) (breaks : List Answer → Answer → Type 0)
       (count total : ℕ) → kept ≡ take longest_kept line
-      → TakesOrBreaks g r old new (event_of kept) held now count total
-      → TakesOrBreaks g r old new (event_of line) held now count total
-  kept_last_line_alike r old new kept line held now count total e given = elim (cases_lt longest_kept (length line)) [
-    | inl far ↦
-        long_lines_alike r old new kept line held now count total
-        (omega (arith, far, ap length e, length-take longest_kept line))
-        (omega (arith, far)) given
-    | inr near ↦ let P : List ℕ → Type 0 = λ l. TakesOrBreaks g r old new (event_of l) held now count total in
-        subst P (e ∙ take_all longest_kept line near) given
-  ]
+      → TakesOrBreaks g r old new (event_of kept) puts breaks count total
+      → TakesOrBreaks g r old new (event_of line) puts breaks count total
+  kept_last_line_alike r old new kept line puts breaks count total e given =
+      elim (cases_lt longest_kept (length line)) [
+        | inl far ↦
+            long_lines_alike r old new kept line puts breaks count total
+            (omega (arith, far, ap length e, length-take longest_kept line))
+            (omega (arith, far)) given
+        | inr near ↦ let P : List ℕ → Type 0 = λ l. TakesOrBreaks g r old new (event_of l) puts breaks count total in
+            subst P (e ∙ take_all longest_kept line near) given
+      ]

@@ -11,7 +11,7 @@ use Rattle.device_registry.specs.Opening.{RefusesToOpen}
 use Rattle.device_registry.specs.declared.fault.OpenFault.{OpenFault}
 use Rattle.device_registry.specs.declared.fault.OpenFault.TheVariants.{NotARegistry, Refused}
 use Rattle.gateway_core.specs.Calls.{Value, new_value}
-use Rattle.gateway_main.specs.Replayed.{IsIdle}
+use Rattle.gateway_main.specs.Played.{IsIdle}
 use Rattle.gateway_main.specs.Faults.{fault_of_open}
 use Rattle.gateway_main.specs.Started.{RefusesToStart, Starts}
 use Rattle.gateway_main.specs.declared.fault.Fault.TheVariants.{Store, Memory}

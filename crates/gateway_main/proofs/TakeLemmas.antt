@@ -1,7 +1,6 @@
 -- How packets, pieces and orders are taken.
 use Rattle.std.proofs.Common.{◌≡◌, ℕ, ◌^◌, ◌<◌, List, [], ◌∷◌, ◌++◌, length, refl, ap, sym, subst, ◌∙◌, append_assoc}
-use Rattle.std.proofs.Common.{append-nil, arith, length-append, map, Option, Some}
-use Rattle.std.specs.Io.KnownBytes.{Appends}
+use Rattle.std.proofs.Common.{append-nil, arith, length-append, map, Some}
 use Rattle.std.proofs.lemmas.List.{map-append, length-map}
 use Rattle.esp3_frames.specs.Packet.{Packet}
 use Rattle.esp3_frames.specs.Frames.{packets_in, rest_of}
@@ -13,13 +12,12 @@ use Rattle.gateway_core.specs.Calls.{Value, Moves, Next, Byte, Order}
 use Rattle.gateway_core.specs.Events.{Piece, Line, items_of}
 use Rattle.gateway_core.proofs.ForCallers.{brought-rest, cuts_do_not_matter, rest_goes_on, items_behind, rest_behind}
 use Rattle.json_lines.specs.Counts.{count_with}
-use Rattle.gateway_main.specs.Writes.{AppendsPart}
-use Rattle.gateway_main.specs.Written.{text_of}
-use Rattle.gateway_main.specs.Replayed.{IsIdle, Answers, AnswersPart, Replays, BreaksOff}
+use Rattle.gateway_main.specs.Outlets.{IsOutlet}
+use Rattle.gateway_main.specs.Played.{IsIdle, Answers, AnswersPart, Plays, Breaks}
 use Rattle.gateway_main.specs.Progress.{Drains, DrainsPart, Takes}
 use Rattle.gateway_core.proofs.ForCallers.{count_on}
 use Rattle.gateway_main.proofs.AnswerLemmas.{answers_nothing, answers_one, answers-append, part_one, answers-part}
-use Rattle.gateway_main.proofs.ReplayLemmas.{replays_nothing, replays-append}
+use Rattle.gateway_main.proofs.PlayLemmas.{plays_nothing, plays-append}
 use Rattle.sqlite_trees.specs.declared.store.Store.{Ghosts}
 
 -- one packet more leaves the queue
@@ -41,43 +39,44 @@ items_of-piece rest bytes live =
     append-nil (map Received _) ∙ ap (λ (ps : List Packet). map Received ps)
     (brought-rest rest bytes ∙ ap (λ r. packets_in (r ++ bytes)) (sym (frames_of-may_become rest live).1))
 
-module _ {S : Type 0} (g : Ghosts S) where
+module _ {S : Type 0} (g : Ghosts S) {O : Type 0} (puts : O → O → List Answer → Type 0)
+    (breaks : O → O → List Answer → Answer → Type 0) (outlet : IsOutlet puts breaks) where
   -- ---- the packets that wait
 
-  pub drains_nothing : (old : Value S) (held : Option (List ℕ)) (count : ℕ) → count < 2 ^ 64
-      → Drains g old old held held count count
-  drains_nothing old held count fits =
-      let none = answers_nothing g old.handler held in
+  pub drains_nothing : (old : Value S) (o : O) (count : ℕ) → count < 2 ^ 64
+      → Drains g old old (puts o o) count count
+  drains_nothing old o count fits =
+      let none = answers_nothing g puts breaks outlet old.handler o in
       record { packets = []; ready = refl; rest = refl; answered = none; counted = omega arith }
 
-  pub drains_one : (old mid new : Value S) (answer : Answer) (held holds now : Option (List ℕ)) (count some total : ℕ)
-      → Drains g old mid held holds count some → Moves g mid (Next (Some answer)) new
-      → Appends holds now (text_of answer) → total ≡ count_with some 1 → Drains g old new held now count total
-  drains_one old mid new answer held holds now count some total before (packet, first, rest, handled) text counted =
+  pub drains_one : (old mid new : Value S) (answer : Answer) (o mids now : O) (count some total : ℕ)
+      → Drains g old mid (puts o mids) count some → Moves g mid (Next (Some answer)) new
+      → puts mids now (answer ∷ []) → total ≡ count_with some 1 → Drains g old new (puts o now) count total
+  drains_one old mid new answer o mids now count some total before (packet, first, rest, handled) out counted =
       record {
         packets = before.packets ++ packet ∷ [];
         ready = ready_after old.ready mid.ready new.ready before.packets packet before.ready first;
         rest = rest ∙ before.rest;
         answered = rw (map-append Received before.packets (packet ∷ []))
-            (answers-append g old.handler mid.handler new.handler (map Received before.packets) (Received packet ∷ [])
-            held holds now before.answered
-            (answers_one g mid.handler new.handler (Received packet) answer holds now handled text));
+            (answers-append g puts breaks outlet old.handler mid.handler new.handler (map Received before.packets)
+            (Received packet ∷ []) o mids now before.answered
+            (answers_one g puts breaks outlet mid.handler new.handler (Received packet) answer mids now handled out));
         counted =
             rw (length-append before.packets (packet ∷ []))
             (count_on count some total (length before.packets) 1 before.counted counted);
       }
 
-  pub drains_part : (old mid new : Value S) (answer : Answer) (held holds now : Option (List ℕ)) (count some : ℕ)
-      → Drains g old mid held holds count some → Moves g mid (Next (Some answer)) new
-      → AppendsPart holds now (text_of answer) → DrainsPart g old new held now
-  drains_part old mid new answer held holds now count some before (packet, first, rest, handled) part = record {
+  pub drains_part : (old mid new : Value S) (answer : Answer) (o mids now : O) (count some : ℕ)
+      → Drains g old mid (puts o mids) count some → Moves g mid (Next (Some answer)) new
+      → breaks mids now [] answer → DrainsPart g old new (breaks o now)
+  drains_part old mid new answer o mids now count some before (packet, first, rest, handled) part = record {
     packets = before.packets ++ packet ∷ [];
     ready = ready_after old.ready mid.ready new.ready before.packets packet before.ready first;
     rest = rest ∙ before.rest;
     answered = rw (map-append Received before.packets (packet ∷ []))
-        (answers-part g old.handler mid.handler new.handler (map Received before.packets) (Received packet ∷ [])
-        held holds now before.answered
-        (part_one g mid.handler new.handler (Received packet) answer holds now handled part));
+        (answers-part g puts breaks outlet old.handler mid.handler new.handler (map Received before.packets)
+        (Received packet ∷ []) o mids now before.answered
+        (part_one g puts breaks outlet mid.handler new.handler (Received packet) answer mids now handled part));
   }
 
   -- ---- a piece
@@ -88,45 +87,46 @@ module _ {S : Type 0} (g : Ghosts S) where
   items_of-byte old mid byte idle (none, state, ready, rest) =
       items_of-piece old.rest (byte ∷ []) idle.rest ∙ ap (λ (ps : List Packet). map Received ps) (sym ready)
 
-  pub takes_nothing : (old : Value S) (held : Option (List ℕ)) (count : ℕ) → IsIdle old → count < 2 ^ 64
-      → Takes g old old (Piece []) held held count count
-  takes_nothing old held count idle fits =
+  pub takes_nothing : (old : Value S) (o : O) (count : ℕ) → IsIdle old → count < 2 ^ 64
+      → Takes g old old (Piece []) (puts o o) count count
+  takes_nothing old o count idle fits =
       let none : items_of old.rest (Piece [] ∷ []) ≡ [] =
       items_of-piece old.rest [] idle.rest ∙ ap (λ r. map Received (packets_in r)) (append-nil old.rest)
       ∙ ap (λ (ps : List Packet). map Received ps) (sym (frames_of-may_become old.rest idle.rest).0) in
-      let replayed = replays_nothing g old held idle in
+      let played = plays_nothing g puts breaks outlet old o idle in
       record {
-        replayed = record { answered = rw none replayed.answered; rest = replayed.rest; idle = idle };
+        played = record { answered = rw none played.answered; rest = played.rest; idle = idle };
         counted = rw none (omega arith);
       }
 
   -- one byte more of a piece, and the packets that it brings
-  pub takes_more : (old now mid new : Value S) (bytes : List ℕ) (byte : ℕ) (held holds after : Option (List ℕ))
+  pub takes_more : (old now mid new : Value S) (bytes : List ℕ) (byte : ℕ) (o mids after : O)
       (count some total : ℕ)
-      → Takes g old now (Piece bytes) held holds count some → Moves g now (Byte byte) mid → new.ready ≡ []
-      → Drains g mid new holds after some total
-      → Takes g old new (Piece (bytes ++ byte ∷ [])) held after count total
-  takes_more old now mid new bytes byte held holds after count some total before moved none drained =
+      → Takes g old now (Piece bytes) (puts o mids) count some → Moves g now (Byte byte) mid → new.ready ≡ []
+      → Drains g mid new (puts mids after) some total
+      → Takes g old new (Piece (bytes ++ byte ∷ [])) (puts o after) count total
+  takes_more old now mid new bytes byte o mids after count some total before moved none drained =
       let all : mid.ready ≡ drained.packets =
       drained.ready ∙ ap (λ (ps : List Packet). drained.packets ++ ps) none ∙ append-nil drained.packets in
       let is : items_of now.rest (Piece (byte ∷ []) ∷ []) ≡ map Received drained.packets =
-      items_of-byte now mid byte before.replayed.idle moved ∙ ap (λ (ps : List Packet). map Received ps) all in
+      items_of-byte now mid byte before.played.idle moved ∙ ap (λ (ps : List Packet). map Received ps) all in
       let rest : new.rest ≡ rest_of (now.rest ++ byte ∷ []) = drained.rest ∙ moved.3 in
-      let answered : Answers g now.handler new.handler (items_of now.rest (Piece (byte ∷ []) ∷ [])) holds after =
+      let answered : Answers g now.handler new.handler (items_of now.rest (Piece (byte ∷ []) ∷ [])) (puts mids after) =
       rw is (let P : HandlerValue S
-      → Type 0 = λ s. Answers g s new.handler (map Received drained.packets) holds after in subst
+      → Type 0 = λ s. Answers g s new.handler (map Received drained.packets) (puts mids after) in subst
       P moved.1 drained.answered) in
-      let next : Replays g now new (Piece (byte ∷ []) ∷ []) holds after = record {
+      let next : Plays g now new (Piece (byte ∷ []) ∷ []) (puts mids after) = record {
         answered = answered;
         rest = rest;
         idle = record { ready = none; rest = rw rest (rest_goes_on (now.rest ++ byte ∷ [])) };
       } in
       let joined =
-      replays-append g old now new (Piece bytes ∷ []) (Piece (byte ∷ []) ∷ []) held holds after before.replayed next in
+      plays-append g puts breaks outlet old now new (Piece bytes ∷ []) (Piece (byte ∷ []) ∷ []) o mids after
+      before.played next in
       let items = items-joined old.rest bytes (byte ∷ []) in
-      let behind = items_behind old.rest now.rest (Piece bytes ∷ []) (Piece (byte ∷ []) ∷ []) before.replayed.rest in
+      let behind = items_behind old.rest now.rest (Piece bytes ∷ []) (Piece (byte ∷ []) ∷ []) before.played.rest in
       record {
-        replayed = record {
+        played = record {
           answered = rw items joined.answered;
           rest = joined.rest ∙ ap (λ w. rest_of (old.rest ++ w)) (sym (append_assoc bytes (byte ∷ []) []));
           idle = joined.idle;
@@ -136,15 +136,15 @@ module _ {S : Type 0} (g : Ghosts S) where
             (count_on count some total _ (length drained.packets) before.counted drained.counted);
       }
 
-  -- a write fails at the packets of one byte
+  -- an answer does not get out at the packets of one byte
   pub takes_part : (old now mid new : Value S) (bytes : List ℕ) (byte : ℕ) (later piece : List ℕ)
-      (held holds after : Option (List ℕ)) (count some : ℕ)
-      → Takes g old now (Piece bytes) held holds count some → Moves g now (Byte byte) mid
-      → DrainsPart g mid new holds after → piece ≡ (bytes ++ byte ∷ []) ++ later
-      → BreaksOff g old new [] (Piece piece) held after
-  takes_part old now mid new bytes byte later piece held holds after count some before moved drained whole =
+      (o mids after : O) (count some : ℕ)
+      → Takes g old now (Piece bytes) (puts o mids) count some → Moves g now (Byte byte) mid
+      → DrainsPart g mid new (breaks mids after) → piece ≡ (bytes ++ byte ∷ []) ++ later
+      → Breaks g old new [] (Piece piece) (breaks o after)
+  takes_part old now mid new bytes byte later piece o mids after count some before moved drained whole =
       let is : items_of now.rest (Piece (byte ∷ []) ∷ []) ≡ map Received drained.packets ++ map Received new.ready =
-      items_of-byte now mid byte before.replayed.idle moved ∙ ap (λ (ps : List Packet). map Received ps) drained.ready
+      items_of-byte now mid byte before.played.idle moved ∙ ap (λ (ps : List Packet). map Received ps) drained.ready
       ∙ map-append Received drained.packets new.ready in
       let first = items_of old.rest (Piece bytes ∷ []) in
       record {
@@ -152,17 +152,17 @@ module _ {S : Type 0} (g : Ghosts S) where
         begins = (later, whole);
         items = first ++ map Received drained.packets;
         stand = items-joined old.rest bytes (byte ∷ [])
-            ∙ items_behind old.rest now.rest (Piece bytes ∷ []) (Piece (byte ∷ []) ∷ []) before.replayed.rest
+            ∙ items_behind old.rest now.rest (Piece bytes ∷ []) (Piece (byte ∷ []) ∷ []) before.played.rest
             ∙ ap (λ (is : List Item). first ++ is) is
             ∙ sym (append_assoc first (map Received drained.packets) (map Received new.ready));
         rest = drained.rest ∙ moved.3
-            ∙ rest_behind old.rest now.rest (Piece bytes ∷ []) (Piece (byte ∷ []) ∷ []) before.replayed.rest
+            ∙ rest_behind old.rest now.rest (Piece bytes ∷ []) (Piece (byte ∷ []) ∷ []) before.played.rest
             ∙ ap (λ w. rest_of (old.rest ++ w)) (sym (append_assoc bytes (byte ∷ []) []));
         answered =
-            answers-part g old.handler now.handler new.handler first (map Received drained.packets) held holds after
-            before.replayed.answered
+            answers-part g puts breaks outlet old.handler now.handler new.handler first (map Received drained.packets)
+            o mids after before.played.answered
             (let P : HandlerValue S
-            → Type 0 = λ s. AnswersPart g s new.handler (map Received drained.packets) holds after in
+            → Type 0 = λ s. AnswersPart g s new.handler (map Received drained.packets) (breaks mids after) in
             subst P moved.1 drained.answered);
       }
 
@@ -171,26 +171,26 @@ module _ {S : Type 0} (g : Ghosts S) where
   rest_stays : (old new : Value S) → IsIdle old → new.rest ≡ old.rest → new.rest ≡ rest_of (old.rest ++ [])
   rest_stays old new idle e = e ∙ (frames_of-may_become old.rest idle.rest).1 ∙ ap rest_of (sym (append-nil old.rest))
 
-  pub takes_order : (old new : Value S) (line : List ℕ) (answer : Answer) (held now : Option (List ℕ)) (count total : ℕ)
-      → IsIdle old → Moves g old (Order line answer) new → Appends held now (text_of answer)
-      → total ≡ count_with count 1 → Takes g old new (Line line) held now count total
-  takes_order old new line answer held now count total idle (ready, rest, handled) text counted = record {
-    replayed = record {
-      answered = answers_one g old.handler new.handler (Ordered line) answer held now handled text;
+  pub takes_order : (old new : Value S) (line : List ℕ) (answer : Answer) (o now : O) (count total : ℕ)
+      → IsIdle old → Moves g old (Order line answer) new → puts o now (answer ∷ [])
+      → total ≡ count_with count 1 → Takes g old new (Line line) (puts o now) count total
+  takes_order old new line answer o now count total idle (ready, rest, handled) out counted = record {
+    played = record {
+      answered = answers_one g puts breaks outlet old.handler new.handler (Ordered line) answer o now handled out;
       rest = rest_stays old new idle rest;
       idle = record { ready = ready ∙ idle.ready; rest = rw rest idle.rest };
     };
     counted = counted;
   }
 
-  pub breaks_at_order : (old new : Value S) (line : List ℕ) (answer : Answer) (held now : Option (List ℕ))
-      → IsIdle old → Moves g old (Order line answer) new → AppendsPart held now (text_of answer)
-      → BreaksOff g old new [] (Line line) held now
-  breaks_at_order old new line answer held now idle (ready, rest, handled) part = record {
+  pub breaks_at_order : (old new : Value S) (line : List ℕ) (answer : Answer) (o now : O)
+      → IsIdle old → Moves g old (Order line answer) new → breaks o now [] answer
+      → Breaks g old new [] (Line line) (breaks o now)
+  breaks_at_order old new line answer o now idle (ready, rest, handled) part = record {
     begun = Line line;
     begins = refl;
     items = Ordered line ∷ [];
     stand = ap (λ (ps : List Packet). Ordered line ∷ map Received ps) (sym (ready ∙ idle.ready));
     rest = rest_stays old new idle rest;
-    answered = part_one g old.handler new.handler (Ordered line) answer held now handled part;
+    answered = part_one g puts breaks outlet old.handler new.handler (Ordered line) answer o now handled part;
   }

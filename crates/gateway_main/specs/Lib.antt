@@ -2,6 +2,9 @@ pub mod Counts
 pub mod Writes
 pub mod Written
 pub mod Script
+pub mod Outlets
+pub mod TextOutlet
+pub mod Played
 pub mod Replayed
 pub mod Progress
 pub mod Bases

@@ -1,5 +1,6 @@
--- The text that is written for an answer.
-use Rattle.std.specs.Prelude.{ℕ, List, [], ◌++◌, codes, Option, Some, None}
+-- The text that is written for answers.
+use Rattle.std.specs.Prelude.{◌≡◌, ◌<◌, ℕ, List, [], ◌++◌, length, codes, Option, Some, None}
+use Rattle.std.specs.Io.KnownBytes.{Appends}
 use Rattle.std.specs.List.{flat_map}
 use Rattle.hex.specs.Hex.{encode_lower}
 use Rattle.gateway_core.specs.Step.{Answer}
@@ -14,3 +15,15 @@ text_of answer = radio_text answer.radio ++ answer.desk
 
 abbrev pub written : List Answer → List ℕ
 written answers = flat_map text_of answers
+
+-- the text of the answers was written and nothing else
+abbrev pub WritesAll : Option (List ℕ) → Option (List ℕ) → List Answer → Type 0
+WritesAll held now answers = Appends held now (written answers)
+
+-- the text of the answers was written, and of the last one's behind them only a first part, and not all of it
+pub record WritesPart (held now : Option (List ℕ)) (answers : List Answer) (last : Answer) : Type 0 where
+  pub part : List ℕ
+  pub missing : List ℕ
+  pub whole : text_of last ≡ part ++ missing
+  pub proper : 0 < length missing
+  pub text : Appends held now (written answers ++ part)

@@ -9,11 +9,13 @@ mod cut_tests;
 mod ending;
 #[cfg(test)]
 mod ending_tests;
+mod engine;
 pub mod fault;
 #[cfg(test)]
 mod gateway_tests;
 pub mod laws;
-mod pieces;
+mod outlet;
+mod player;
 mod replaying;
 mod running;
 mod script_lines;

@@ -1,20 +1,17 @@
 //! A script is replayed.
-ghost use Rattle.std.specs.Prelude.{◌≡◌, ◌↔◌, ◌⊎◌, ◌+◌, ◌-◌, ◌^◌, ◌≤◌, min, Err, [], ◌∷◌, ◌++◌, ℕ, List, Option};
-ghost use Rattle.std.specs.Prelude.{length, IfOk, OnErr, OnOk};
+ghost use Rattle.std.specs.Prelude.{◌≡◌, ◌↔◌, ◌⊎◌, ◌+◌, ◌-◌, ◌^◌, ◌≤◌, min, Err, [], ℕ, List, length, IfOk, OnOk};
 ghost use Rattle.std.specs.Io.KnownBytes.{Consumes, IsAtEnd};
-ghost use Rattle.std.specs.Str.Lines.{strip_carriage_return};
-ghost use Rattle.gateway_core.specs.Calls.{Value as GatewayValue};
 ghost use Rattle.gateway_core.specs.Events.{items_of};
-ghost use Rattle.gateway_main.specs.Counts.{HasRoom, Made, OneEmpty, OneFailed, WentWell, Went};
-ghost use Rattle.gateway_main.specs.Progress.{Progress};
-ghost use Rattle.gateway_main.specs.Replayed.{IsIdle, Replays, ReplaysClosed, ReplaysPart};
+ghost use Rattle.gateway_main.specs.Counts.{HasRoom, Made, OneEmpty, OneFailed, WentWell};
+ghost use Rattle.gateway_main.specs.Replayed.{Replays, ReplaysClosed, ReplaysPart};
 ghost use Rattle.gateway_main.specs.Script.{script};
 
-use crate::script_lines::take_line;
+use crate::engine::Engine;
+use crate::player::Player;
 use crate::sink::Sink;
 use crate::source::Source;
-use crate::tally::Failed;
 use crate::unended::UnendedLine;
+use crate::writing::Script;
 use gateway_core::Gateway;
 use sqlite::Alter;
 
@@ -86,8 +83,14 @@ pub fn replay<R: Source, W: Sink, S: Alter>(
 {
     let is_ready = gateway.is_ready();
     prove!(!is_ready);
-    let mut unended = UnendedLine::new();
-    let mut items = 0u64;
+    let mut player = Player {
+        engine: Engine {
+            outlet: Script { sink: writer },
+            gateway,
+            items: 0,
+        },
+        unended: UnendedLine::new(),
+    };
     for _turn in 0..turns {
         let mut buffer = [0u8; LONGEST_READ];
         let length = match reader.read(&mut buffer) {
@@ -95,97 +98,16 @@ pub fn replay<R: Source, W: Sink, S: Alter>(
             Err(_) => return Err(RunFault::Read),
         };
         if length == 0 {
-            take_last(writer, gateway, &unended, &mut items).map_err(|_| RunFault::Write)?;
-            return Ok(Summary { items });
+            let Ok(()) = player.take_last() else {
+                return Err(RunFault::Write);
+            };
+            return Ok(Summary {
+                items: player.engine.items,
+            });
         }
-        take_bytes(writer, gateway, &buffer[..length], &mut unended, &mut items).map_err(
-            |_| RunFault::Write,
-        )?;
+        let Ok(()) = player.take_bytes(&buffer[..length]) else {
+            return Err(RunFault::Write);
+        };
     }
     Err(RunFault::TooManyTurns)
-}
-
-/// Takes some bytes of a script.
-fn take_bytes<W: Sink, S: Alter>(
-    writer: &mut W,
-    gateway: &mut Gateway<S>,
-    bytes: &[u8],
-    unended: &mut UnendedLine,
-    items: &mut u64,
-) -> Result<(), Failed>
-    requires { IsIdle gateway.old }
-    ensures idle { OnOk result (IsIdle gateway.new) }
-    ensures progress { OnOk result ((entry : GatewayValue S) (input : List ℕ) (held : Option (List ℕ)) →
-        Progress S.Store entry gateway.old input unended.old held (W.held writer.old) items.old →
-        Progress S.Store entry gateway.new (input ++ bytes.now) unended.new held (W.held writer.new) items.new) }
-    ensures broken { OnErr result ((entry : GatewayValue S) (input : List ℕ) (held : Option (List ℕ)) →
-        Progress S.Store entry gateway.old input unended.old held (W.held writer.old) items.old →
-        ReplaysPart S.Store entry gateway.new (input ++ bytes.now) held (W.held writer.new)) }
-    ensures told { Went result (W.counts writer.old) (W.counts writer.new) }
-{
-    for byte in bytes {
-        take_byte(writer, gateway, *byte, unended, items)?;
-    }
-    Ok(())
-}
-
-/// Takes the next byte of a script. If it ends a line, the line is taken.
-fn take_byte<W: Sink, S: Alter>(
-    writer: &mut W,
-    gateway: &mut Gateway<S>,
-    byte: u8,
-    unended: &mut UnendedLine,
-    items: &mut u64,
-) -> Result<(), Failed>
-    requires { IsIdle gateway.old }
-    ensures idle { OnOk result (IsIdle gateway.new) }
-    ensures progress { OnOk result ((entry : GatewayValue S) (input : List ℕ) (held : Option (List ℕ)) →
-        Progress S.Store entry gateway.old input unended.old held (W.held writer.old) items.old →
-        Progress S.Store entry gateway.new (input ++ byte ∷ []) unended.new held (W.held writer.new) items.new) }
-    // Whatever follows the byte.
-    ensures broken { OnErr result ((entry : GatewayValue S) (input : List ℕ) (held : Option (List ℕ)) (more : List ℕ) →
-        Progress S.Store entry gateway.old input unended.old held (W.held writer.old) items.old →
-        ReplaysPart S.Store entry gateway.new (input ++ byte ∷ more) held (W.held writer.new)) }
-    ensures told { Went result (W.counts writer.old) (W.counts writer.new) }
-{
-    if byte != b'\n' {
-        unended.push(byte);
-        return Ok(());
-    }
-    take_line(writer, gateway, strip(unended.as_slice()), items)?;
-    unended.clear();
-    Ok(())
-}
-
-/// Takes the line that the end of the input ends, if there is one.
-fn take_last<W: Sink, S: Alter>(
-    writer: &mut W,
-    gateway: &mut Gateway<S>,
-    unended: &UnendedLine,
-    items: &mut u64,
-) -> Result<(), Failed>
-    requires { IsIdle gateway.old }
-    ensures replayed { OnOk result ((entry : GatewayValue S) (input : List ℕ) (held : Option (List ℕ)) →
-        Progress S.Store entry gateway.old input unended.now held (W.held writer.old) items.old →
-        Replays S.Store entry gateway.new (script input) held (W.held writer.new)
-        × (items.new ≡ min (length (items_of entry.rest (script input))) (2 ^ 64 - 1))) }
-    ensures broken { OnErr result ((entry : GatewayValue S) (input : List ℕ) (held : Option (List ℕ)) →
-        Progress S.Store entry gateway.old input unended.now held (W.held writer.old) items.old →
-        ReplaysPart S.Store entry gateway.new input held (W.held writer.new)) }
-    ensures told { Went result (W.counts writer.old) (W.counts writer.new) }
-{
-    if unended.is_empty() {
-        return Ok(());
-    }
-    take_line(writer, gateway, unended.as_slice(), items)
-}
-
-/// A line without the CR at its end, if there is one.
-fn strip(line: &[u8]) -> &[u8]
-    ensures { result.now ≡ strip_carriage_return line.now }
-{
-    match line.last() {
-        Some(b'\r') => &line[..line.len() - 1],
-        _ => line,
-    }
 }

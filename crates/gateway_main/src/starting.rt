@@ -5,7 +5,7 @@ ghost use Rattle.sqlite.specs.State.{HasCleanDisk};
 ghost use Rattle.device_registry.specs.Ready.{IsBetweenTransactions};
 ghost use Rattle.erp1_telegrams.specs.Address;
 ghost use Rattle.gateway_core.specs.Calls.{new_value};
-ghost use Rattle.gateway_main.specs.Replayed.{IsIdle};
+ghost use Rattle.gateway_main.specs.Played.{IsIdle};
 ghost use Rattle.gateway_main.specs.Started.{RefusesToStart, Starts};
 
 use crate::fault::Fault;

@@ -1,5 +1,5 @@
 //! A line of which the end has not come.
-ghost use Rattle.std.specs.Prelude.{◌≡◌, ◌==◌, [], ◌∷◌, ◌++◌, length, take};
+ghost use Rattle.std.specs.Prelude.{◌≡◌, [], ◌++◌, take};
 ghost use Rattle.gateway_main.specs.Progress.{longest_kept};
 
 use arrayvec::ArrayVec;
@@ -36,19 +36,14 @@ impl UnendedLine {
         }
     }
 
-    pub fn is_empty(&self) -> bool
-        ensures { result ≡ (length self.now == 0) }
+    /// Takes the next bytes. Those are dropped for which there is no room.
+    pub fn extend(&mut self, bytes: &[u8])
+        ensures { self.new ≡ take longest_kept (self.old ++ bytes.now) }
     {
-        self.bytes.is_empty()
-    }
-
-    /// Takes the next byte. It is dropped where there is no room.
-    pub fn push(&mut self, byte: u8)
-        ensures { self.new ≡ take longest_kept (self.old ++ byte ∷ []) }
-    {
-        if self.bytes.len() < LONGEST_KEPT {
-            self.bytes.push(byte);
-        }
+        let room = LONGEST_KEPT - self.bytes.len();
+        let _fits = self
+            .bytes
+            .try_extend_from_slice(&bytes[..room.min(bytes.len())]);
     }
 
     pub fn clear(&mut self)

@@ -1,17 +1,20 @@
-use Rattle.std.proofs.Common.{List, ℕ}
+use Rattle.std.proofs.Common.{◌≡◌, List, ℕ}
 use Rattle.std.specs.Io.KnownBytes.{Consumes}
 use Rattle.gateway_main.specs.Counts.{WentWell, Made}
+use Rattle.gateway_main.specs.Played.{IsIdle}
 use Rattle.gateway_main.specs.Progress.{Progress}
-use Rattle.gateway_main.specs.Replayed.{IsIdle}
+use Rattle.gateway_main.specs.TextOutlet.{PutsText}
 use Rattle.gateway_main.proofs.replaying.replay.Given as goal
 
 abbrev pub invariant-loop-turn : goal.invariant-loop-turn
 invariant-loop-turn g l = record {
-  idle : IsIdle l.gateway;
+  gateway : l.player.engine.gateway.ghost_name ≡ l.initial.player.engine.gateway.ghost_name;
+  writer : l.player.engine.outlet.sink.ghost_name ≡ l.initial.player.engine.outlet.sink.ghost_name;
+  idle : IsIdle l.player.engine.gateway.now;
   progress : (input : List ℕ) × Consumes (g.R.Source.left l.fn.reader) (g.R.Source.left l.reader) input
-      × Progress g.S.Store l.fn.gateway l.gateway input l.unended (g.W.Sink.held l.fn.writer) (g.W.Sink.held l.writer)
-      l.items;
-  writes : WentWell (g.W.Sink.counts l.fn.writer) (g.W.Sink.counts l.writer);
+      × Progress g.S.Store l.fn.gateway l.player.engine.gateway.now input l.player.unended
+      (PutsText g.W.Sink.held g.W.Sink.counts l.fn.writer l.player.engine.outlet.sink.now) l.player.engine.items;
+  writes : WentWell (g.W.Sink.counts l.fn.writer) (g.W.Sink.counts l.player.engine.outlet.sink.now);
   reads : WentWell (g.R.Source.counts l.fn.reader) (g.R.Source.counts l.reader);
   made : Made (g.R.Source.counts l.fn.reader) (g.R.Source.counts l.reader) l._turn;
 }

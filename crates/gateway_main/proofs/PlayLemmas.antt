@@ -1,0 +1,51 @@
+-- How an engine goes on with events.
+use Rattle.std.proofs.Common.{List, [], ◌∷◌, ◌++◌, ap, sym, ◌∙◌, append_assoc, append-nil, map}
+use Rattle.esp3_frames.specs.Frames.{rest_of}
+use Rattle.esp3_frames.proofs.ForCallers.{frames_of-may_become}
+use Rattle.gateway_core.specs.Step.{Item, Received, Answer}
+use Rattle.gateway_core.specs.Calls.{Value}
+use Rattle.gateway_core.specs.Events.{Event, items_of}
+use Rattle.gateway_core.proofs.ForCallers.{items_behind, rest_behind}
+use Rattle.gateway_main.specs.Outlets.{IsOutlet}
+use Rattle.gateway_main.specs.Played.{IsIdle, Plays, Breaks}
+use Rattle.gateway_main.proofs.AnswerLemmas.{answers_nothing, answers-append, answers-part}
+use Rattle.sqlite_trees.specs.declared.store.Store.{Ghosts}
+
+module _ {S : Type 0} (g : Ghosts S) {O : Type 0} (puts : O → O → List Answer → Type 0)
+    (breaks : O → O → List Answer → Answer → Type 0) (outlet : IsOutlet puts breaks) where
+  pub plays_nothing : (old : Value S) (o : O) → IsIdle old → Plays g old old [] (puts o o)
+  plays_nothing old o idle = record {
+    answered = answers_nothing g puts breaks outlet old.handler o;
+    rest = (frames_of-may_become old.rest idle.rest).1 ∙ ap rest_of (sym (append-nil old.rest));
+    idle = idle;
+  }
+
+  pub plays-append : (old mid new : Value S) (events more : List Event) (o mids now : O)
+      → Plays g old mid events (puts o mids) → Plays g mid new more (puts mids now)
+      → Plays g old new (events ++ more) (puts o now)
+  plays-append old mid new events more o mids now first second = record {
+    answered = rw (items_behind old.rest mid.rest events more first.rest)
+        (answers-append g puts breaks outlet old.handler mid.handler new.handler (items_of old.rest events)
+        (items_of mid.rest more) o mids now first.answered second.answered);
+    rest = second.rest ∙ rest_behind old.rest mid.rest events more first.rest;
+    idle = second.idle;
+  }
+
+  -- an answer does not get out behind some events
+  pub plays-break : (old mid new : Value S) (events : List Event) (event : Event) (o mids now : O)
+      → Plays g old mid events (puts o mids) → Breaks g mid new [] event (breaks mids now)
+      → Breaks g old new events event (breaks o now)
+  plays-break old mid new events event o mids now first second =
+      let last = second.begun ∷ [] in
+      record {
+        begun = second.begun;
+        begins = second.begins;
+        items = items_of old.rest events ++ second.items;
+        stand = items_behind old.rest mid.rest events last first.rest
+            ∙ ap (λ (is : List Item). items_of old.rest events ++ is) second.stand
+            ∙ sym (append_assoc (items_of old.rest events) second.items (map Received new.ready));
+        rest = second.rest ∙ rest_behind old.rest mid.rest events last first.rest;
+        answered =
+            answers-part g puts breaks outlet old.handler mid.handler new.handler (items_of old.rest events)
+            second.items o mids now first.answered second.answered;
+      }

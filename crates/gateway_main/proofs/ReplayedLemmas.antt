@@ -1,0 +1,83 @@
+-- What was put out into a sink was written, also where the loans of the gateway and of the sink have ended.
+use Rattle.std.proofs.Common.{◌≡◌, List, ℕ, Option}
+use Rattle.std.specs.Prelude.{◌⊎◌}
+use Rattle.gateway_core.specs.Step.{Answer}
+use Rattle.gateway_core.specs.Calls.{Value}
+use Rattle.gateway_core.specs.Events.{Event}
+use Rattle.gateway_main.specs.Counts.{Counts, OneFailed, OneEmpty}
+use Rattle.gateway_main.specs.Written.{WritesAll, WritesPart}
+use Rattle.gateway_main.specs.TextOutlet.{PutsText, BreaksText}
+use Rattle.gateway_main.specs.Played.{Plays, PlaysClosed, PlaysPart}
+use Rattle.gateway_main.specs.Replayed.{Replays, ReplaysClosed, ReplaysPart}
+use Rattle.sqlite_trees.specs.declared.store.Store.{Ghosts}
+
+pub wrong_at : {W : Type 0} (counts : W → Counts) (old sink writer : W) → writer ≡ sink
+    → OneFailed (counts old) (counts sink) ⊎ OneEmpty (counts old) (counts sink)
+    → OneFailed (counts old) (counts writer) ⊎ OneEmpty (counts old) (counts writer)
+wrong_at counts old sink writer e wrong = rw e wrong
+
+module _ {S : Type 0} (g : Ghosts S) where
+  plays-weaker : (old new : Value S) (events : List Event) (P Q : List Answer → Type 0)
+      → ((answers : List Answer) → P answers → Q answers) → Plays g old new events P → Plays g old new events Q
+  plays-weaker old new events P Q so p = record {
+    answered = record {
+      answers = p.answered.answers;
+      handled = p.answered.handled;
+      out = so p.answered.answers p.answered.out;
+    };
+    rest = p.rest;
+    idle = p.idle;
+  }
+
+  closed-weaker : (old new : Value S) (input : List ℕ) (P Q : List Answer → Type 0)
+      → ((answers : List Answer) → P answers → Q answers)
+      → PlaysClosed g old new input P → PlaysClosed g old new input Q
+  closed-weaker old new input P Q so p =
+      record { closed = p.closed; is = p.is; played = plays-weaker old new _ P Q so p.played }
+
+  part-weaker : (old new : Value S) (input : List ℕ) (P Q : List Answer → Answer → Type 0)
+      → ((answers : List Answer) (last : Answer) → P answers last → Q answers last)
+      → PlaysPart g old new input P → PlaysPart g old new input Q
+  part-weaker old new input P Q so p =
+      let broken = p.broken in
+      record {
+        events = p.events;
+        event = p.event;
+        later = p.later;
+        whole = p.whole;
+        broken = record {
+          begun = broken.begun;
+          begins = broken.begins;
+          items = broken.items;
+          stand = broken.stand;
+          rest = broken.rest;
+          answered = record {
+            answers = broken.answered.answers;
+            last = broken.answered.last;
+            handled = broken.answered.handled;
+            out = so broken.answered.answers broken.answered.last broken.answered.out;
+          };
+        };
+      }
+
+  module _ {W : Type 0} (held : W → Option (List ℕ)) (counts : W → Counts) where
+    pub replays_at : (entry now gateway : Value S) (events : List Event) (old sink writer : W) → gateway ≡ now
+        → writer ≡ sink → Plays g entry now events (PutsText held counts old sink)
+        → Replays g entry gateway events (held old) (held writer)
+    replays_at entry now gateway events old sink writer e f p =
+        rw (e, f) (plays-weaker entry now events (PutsText held counts old sink) (WritesAll (held old) (held sink))
+        (λ answers out. out.text) p)
+
+    pub closed_at : (entry now gateway : Value S) (input : List ℕ) (old sink writer : W) → gateway ≡ now
+        → writer ≡ sink → PlaysClosed g entry now input (PutsText held counts old sink)
+        → ReplaysClosed g entry gateway input (held old) (held writer)
+    closed_at entry now gateway input old sink writer e f p =
+        rw (e, f) (closed-weaker entry now input (PutsText held counts old sink) (WritesAll (held old) (held sink))
+        (λ answers out. out.text) p)
+
+    pub part_at : (entry now gateway : Value S) (input : List ℕ) (old sink writer : W) → gateway ≡ now
+        → writer ≡ sink → PlaysPart g entry now input (BreaksText held counts old sink)
+        → ReplaysPart g entry gateway input (held old) (held writer)
+    part_at entry now gateway input old sink writer e f p =
+        rw (e, f) (part-weaker entry now input (BreaksText held counts old sink) (WritesPart (held old) (held sink))
+        (λ answers last out. out.text) p)
