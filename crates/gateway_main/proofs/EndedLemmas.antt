@@ -47,7 +47,8 @@ module _ {S : Type 0} (g : Ghosts S) {O : Type 0} (puts : O → O → List Answe
 
   pub line_in_slices : (entry old new : Value S) (input kept bytes : List ℕ) (o mids now : O) (some total : ℕ)
       → IsOneLine bytes → Progress g entry old input kept (puts o mids) some
-      → Takes g old new (event_of (strip_carriage_return (take longest_kept (kept ++ bytes)))) (puts mids now) some total
+      → Takes g old new (event_of (strip_carriage_return (take longest_kept (kept ++ bytes)))) (puts mids now) some
+      total
       → Progress g entry new (input ++ bytes ++ 10 ∷ []) [] (puts o now) total
   line_in_slices entry old new input kept bytes o mids now some total one p takes =
       let joined = progress_bytes g puts breaks outlet entry old input kept bytes o mids some one p in

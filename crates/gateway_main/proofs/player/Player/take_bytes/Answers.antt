@@ -60,7 +60,8 @@ loop-end-preserved g c =
       taken = (
         done ++ line,
         whole,
-        λ entry input first p. rw (← append_assoc input done line, ← append_assoc (input ++ done) (take end rest) (10 ∷ []))
+        λ entry input first p.
+            rw (← append_assoc input done line, ← append_assoc (input ++ done) (take end rest) (10 ∷ []))
             (c.in_ok-take_ended.ensures.progress entry (input ++ done) first (taken.2 entry input first p)),
       );
     }

@@ -10,7 +10,8 @@ returns-then-is_empty-clause-progress g c =
     let old = c.args.self.now.engine in
     let new = c.take_line.new.self in
     let kept = c.args.self.now.unended in
-    let none = eqb-true (length kept) 0 (sym (rw c.as_slice.ensures at c.is_empty.ensures) ∙ c.if-is_empty.true) in
+    let tested = rw c.as_slice.ensures at c.is_empty.ensures in
+    let none = eqb-true (length kept) 0 (sym tested ∙ c.if-is_empty.true) in
     MatchResult-weaker c.take_line.result c.take_line.ensures.taken (λ _ takes entry input first p.
     line_in_slice g.S.Store o.puts o.breaks g.met.O.Outlet.lawful entry old.gateway.now new.gateway.now input kept
     c.args.bytes.now first old.outlet new.outlet old.items new.items none c.requires.one_line p
@@ -22,7 +23,8 @@ returns-then-is_empty-clause-broken g c =
     let old = c.args.self.now.engine in
     let new = c.take_line.new.self in
     let kept = c.args.self.now.unended in
-    let none = eqb-true (length kept) 0 (sym (rw c.as_slice.ensures at c.is_empty.ensures) ∙ c.if-is_empty.true) in
+    let tested = rw c.as_slice.ensures at c.is_empty.ensures in
+    let none = eqb-true (length kept) 0 (sym tested ∙ c.if-is_empty.true) in
     MatchResult-weaker c.take_line.result c.take_line.ensures.taken (λ _ _. tt) (λ _ broken entry input first more p.
     part_in_slice g.S.Store o.puts o.breaks g.met.O.Outlet.lawful entry old.gateway.now new.gateway.now input kept
     c.args.bytes.now more first old.outlet new.outlet old.items none c.requires.one_line p

@@ -10,7 +10,8 @@ returns-then-is_empty-clause-played g c = λ entry input first p.
     let o = g.O.Outlet in
     let old = c.args.self.now.engine in
     let kept = c.args.self.now.unended in
-    let none = eqb-true (length kept) 0 (sym (rw c.as_slice-line.ensures at c.is_empty.ensures) ∙ c.if-is_empty.true) in
+    let tested = rw c.as_slice-line.ensures at c.is_empty.ensures in
+    let none = eqb-true (length kept) 0 (sym tested ∙ c.if-is_empty.true) in
     let e =
     ends_here g.S.Store o.puts o.breaks g.met.O.Outlet.lawful entry old.gateway.now input kept first old.outlet
     old.items none p in
@@ -22,7 +23,8 @@ returns-clause-played g c =
     let old = c.args.self.now.engine in
     let new = c.take_line.new.self in
     let kept = c.args.self.now.unended in
-    let there = eqb-false (length kept) 0 (sym (rw c.as_slice-line.ensures at c.is_empty.ensures) ∙ c.if-is_empty.false) in
+    let tested = rw c.as_slice-line.ensures at c.is_empty.ensures in
+    let there = eqb-false (length kept) 0 (sym tested ∙ c.if-is_empty.false) in
     MatchResult-weaker c.take_line.result c.take_line.ensures.taken (λ _ takes entry input first p.
     let e =
     ends_at_last g.S.Store o.puts o.breaks g.met.O.Outlet.lawful entry old.gateway.now new.gateway.now input kept first
@@ -38,7 +40,8 @@ returns-clause-broken g c =
     let old = c.args.self.now.engine in
     let new = c.take_line.new.self in
     let kept = c.args.self.now.unended in
-    let there = eqb-false (length kept) 0 (sym (rw c.as_slice-line.ensures at c.is_empty.ensures) ∙ c.if-is_empty.false) in
+    let tested = rw c.as_slice-line.ensures at c.is_empty.ensures in
+    let there = eqb-false (length kept) 0 (sym tested ∙ c.if-is_empty.false) in
     MatchResult-weaker c.take_line.result c.take_line.ensures.taken (λ _ _. tt) (λ _ broken entry input first p.
     part_at_last g.S.Store o.puts o.breaks g.met.O.Outlet.lawful entry old.gateway.now new.gateway.now input kept first
     old.outlet new.outlet old.items there p
