@@ -4,13 +4,15 @@ use Rattle.json_lines.specs.declared.counts.Count.{Count}
 use Rattle.json_lines.specs.declared.counts.Count.TheVariants.{Ignored, Reading, Refused, Response, Teach}
 use Rattle.json_lines.specs.declared.counts.Counts.{Counts}
 
+-- nothing is counted yet
 abbrev pub none_counted : Counts
 none_counted = record { ignored = 0; readings = 0; refused = 0; responses = 0; teach = 0 }
 
--- a count, and n more
+-- a count, and n more, up to its greatest value
 abbrev pub count_with : ℕ → ℕ → ℕ
 count_with count n = min (count + n) (2 ^ 64 - 1)
 
+-- a count, and one more
 abbrev pub one_more : ℕ → ℕ
 one_more count = count_with count 1
 
