@@ -1,12 +1,10 @@
 -- How counts of calls go on.
-use Rattle.std.proofs.Common.{◌≡◌, ℕ, ◌+◌, ◌<◌, ◌≤◌, ap, ◌∙◌, arith, false, inl, inr}
+use Rattle.std.proofs.Common.{◌≡◌, ℕ, ◌+◌, ◌<◌, ◌≤◌, ap, ◌∙◌, arith, false}
 use Rattle.std.specs.Prelude.{Result, Ok, Err, ◌==◌, if◌then◌else◌}
 use Rattle.std.proofs.lemmas.Bool.{ne_eqb}
 use Rattle.json_lines.specs.Counts.{one_more}
 use Rattle.gateway_main.specs.Counts.{Counts, counted, Went, WentWell, Made}
-
-pub went_on : (old mid new : Counts) → WentWell old mid → WentWell mid new → WentWell old new
-went_on old mid new first second = (second.0 ∙ first.0, second.1 ∙ first.1)
+use Rattle.gateway_main.specs.TextOutlet.{well_behind, wrong_behind}
 
 -- a call that answers some bytes went well
 pub went_well : (E : Type 0) (old mid new : Counts) (n : ℕ) → WentWell old mid → new ≡ counted {E = E} mid (Ok n)
@@ -30,8 +28,5 @@ made_within old mid new n turns below before e = (n + 1, omega arith, made_more 
 -- calls that went well, and then a last one
 pub went_behind : {A E : Type 0} (r : Result A E) (old mid new : Counts) → WentWell old mid → Went r mid new
     → Went r old new
-went_behind (Ok done) old mid new first second = went_on old mid new first second
-went_behind (Err failed) old mid new first (inl one) =
-    inl (one.0 ∙ ap one_more first.0, one.1 ∙ first.1)
-went_behind (Err failed) old mid new first (inr one) =
-    inr (one.0 ∙ first.0, one.1 ∙ ap one_more first.1)
+went_behind (Ok done) old mid new first second = well_behind old mid new first second
+went_behind (Err failed) old mid new first second = wrong_behind old mid new first second

@@ -30,11 +30,12 @@ part_behind held mids now first second last a b = record {
       (Appends-trans held mids now (written first) (written second ++ b.part) a b.text);
 }
 
-well_behind : (old mid new : Counts) → WentWell old mid → WentWell mid new → WentWell old new
+-- no call went wrong
+pub well_behind : (old mid new : Counts) → WentWell old mid → WentWell mid new → WentWell old new
 well_behind old mid new first second = (second.0 ∙ first.0, second.1 ∙ first.1)
 
 -- the last call went wrong, and those before it well
-wrong_behind : (old mid new : Counts) → WentWell old mid → OneFailed mid new ⊎ OneEmpty mid new
+pub wrong_behind : (old mid new : Counts) → WentWell old mid → OneFailed mid new ⊎ OneEmpty mid new
     → OneFailed old new ⊎ OneEmpty old new
 wrong_behind old mid new well (inl failed) = inl (failed.0 ∙ ap one_more well.0, failed.1 ∙ well.1)
 wrong_behind old mid new well (inr empty) = inr (empty.0 ∙ well.0, empty.1 ∙ ap one_more well.1)
