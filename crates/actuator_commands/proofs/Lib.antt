@@ -1,3 +1,4 @@
+pub mod SpaceLemmas
 pub mod WordLemmas
 pub mod SpellingLemmas
 pub mod OrderLemmas

@@ -1,18 +1,21 @@
 -- The computed order of a line is the one that the line spells.
 use Rattle.std.proofs.Common.{◌≡◌, ℕ, Bool, true, false, cond, List, [], ◌∷◌, refl, sym, ap, ◌∙◌, subst, Option, Some}
-use Rattle.std.proofs.Common.{None}
+use Rattle.std.proofs.Common.{None, not, ◌==◌}
 use Rattle.std.specs.Prelude.{Result, Ok, Err, codes, bytes_eq, option_map}
-use Rattle.std.specs.List.{AllZip}
+use Rattle.std.specs.List.{AllByRecursion, AllZip, list_all}
+use Rattle.std.proofs.lemmas.Bool.{and_parts, ne_eqb}
+use Rattle.std.proofs.lemmas.List.Splits.{join_with_byte-slice_split}
 use Rattle.std.proofs.lemmas.Slice.Eq.{bytes_eq-Decides}
 use Rattle.erp1_telegrams.specs.declared.eep.Eep.{Eep}
-use Rattle.actuator_commands.specs.Words.{words, Word, SpellsWord}
-use Rattle.actuator_commands.specs.Words.{id_in, eep_in}
+use Rattle.actuator_commands.specs.Words.{words, Word, Says, Id, Profile, SpellsWord, IsWordInRange}
+use Rattle.actuator_commands.specs.Words.{is_word_in_range, id_in, eep_in}
 use Rattle.actuator_commands.specs.declared.orders.Order.{Order}
 use Rattle.actuator_commands.specs.declared.orders.Order.TheVariants.{Add, Remove, List as ListAll, Status}
 use Rattle.actuator_commands.specs.declared.orders.OrderFault.{OrderFault}
 use Rattle.actuator_commands.specs.declared.orders.OrderFault.TheVariants.{Syntax, Range}
 use Rattle.actuator_commands.specs.Orders.{words_of, HasShape, IsInRange, Spells, is_in_range, add_of}
 use Rattle.actuator_commands.specs.Orders.{order_in, result_of, order_of, OrdersAreSpelled}
+use Rattle.actuator_commands.proofs.SpaceLemmas.{words-joined}
 use Rattle.actuator_commands.proofs.SpellingLemmas.{id_spelled, id_read, eep_spelled, eep_read}
 
 -- ---- the shape
@@ -101,6 +104,25 @@ read ws Status h =
     let is : ws ≡ codes "status" ∷ [] = cc (a.whole, a.spelled, end) in
     ap order_in is
 
+-- ---- the range
+
+in_range : (some : List Word) → list_all is_word_in_range some ≡ true → AllByRecursion IsWordInRange some
+in_range [] is = tt
+in_range (Says name ∷ some) is = (tt, in_range some is)
+in_range (Id id ∷ some) is =
+    let parts = and_parts (not (id == 0xFFFF_FFFF)) (list_all is_word_in_range some) is in
+    (λ e. no (subst (λ n. not (n == 0xFFFF_FFFF) ≡ true) e parts.0), in_range some parts.1)
+  where
+    no : false ≡ true → ⊥
+    no e = cc
+in_range (Profile eep ∷ some) is = (tt, in_range some is)
+
+all_tested : (some : List Word) → AllByRecursion IsWordInRange some → list_all is_word_in_range some ≡ true
+all_tested [] is = refl
+all_tested (Says name ∷ some) is = all_tested some is.1
+all_tested (Id id ∷ some) is = rw (ne_eqb id 0xFFFF_FFFF is.0) (all_tested some is.1)
+all_tested (Profile eep ∷ some) is = all_tested some is.1
+
 -- ---- both
 
 -- what a result says of its line
@@ -112,20 +134,25 @@ Speaks line (Err Syntax) = Unit {0}
 speaks_by_range : (line : List ℕ) (order : Order) (b : Bool) → is_in_range order ≡ b → HasShape line order
     → Speaks line (cond b (Ok order) (Err Range))
 unfolding Speaks
-speaks_by_range line order true e shape = (shape, e)
-speaks_by_range line order false e shape = (order, shape, λ h. cc)
+speaks_by_range line order true e shape = (shape, in_range (words_of order) e)
+speaks_by_range line order false e shape =
+    (order, shape, λ h. let tested = all_tested (words_of order) h in cc)
 
 speaks_by_shape : (line : List ℕ) (o : Option Order) → Fits (words line) o → Speaks line (result_of o)
 unfolding Speaks Fits
-speaks_by_shape line None shape = tt
-speaks_by_shape line (Some order) shape = speaks_by_range line order (is_in_range order) refl shape
+speaks_by_shape line None fits = tt
+speaks_by_shape line (Some order) fits =
+    speaks_by_range line order (is_in_range order) refl
+    (words line, sym (join_with_byte-slice_split 32 line), fits)
 
 speaks : (line : List ℕ) → Speaks line (order_of line)
 speaks line = speaks_by_shape line (order_in (words line)) (fits (words line))
 
 -- a line with the shape of an order is read as its range says
 in_shape : (line : List ℕ) (order : Order) → HasShape line order → order_of line ≡ result_of (Some order)
-in_shape line order shape = ap result_of (read (words line) order shape)
+in_shape line order (texts, is, spell) =
+    ap order_of is ∙ ap (λ ws. result_of (order_in ws)) (words-joined order texts spell)
+    ∙ ap result_of (read texts order spell)
 
 no_syntax : (order : Order) (b : Bool) → cond b (Ok order) (Err Range) ≡ Err Syntax → ⊥
 no_syntax order true e = cc
@@ -136,7 +163,8 @@ unfolding Speaks
 orders_are_spelled = record {
   spelled = λ line order e. subst (Speaks line) e (speaks line);
   only = λ line order spells.
-      in_shape line order spells.0 ∙ ap (λ b. cond b (Ok order) (Err Range)) spells.1;
+      in_shape line order spells.0
+      ∙ ap (λ b. cond b (Ok order) (Err Range)) (all_tested (words_of order) spells.1);
   out_of_range = λ line e. subst (Speaks line) e (speaks line);
   no_shape = λ line e order shape. no_syntax order (is_in_range order) (sym (in_shape line order shape) ∙ e);
 }

@@ -1,10 +1,11 @@
 -- The orders that a line of the desk spells. Own choice: words stand as written, with exactly one space between two of
 -- them.
-use Rattle.std.specs.Prelude.{◌≡◌, ℕ, Bool, IsTrue, List, [], ◌∷◌, codes, bytes_eq, Option, Some, None, Result, Ok, Err}
+use Rattle.std.specs.Prelude.{◌≡◌, ℕ, Bool, List, [], ◌∷◌, codes, bytes_eq, Option, Some, None, Result, Ok, Err}
 use Rattle.std.specs.Prelude.{option_map, if◌then◌else◌}
-use Rattle.std.specs.List.{AllZip, list_all}
+use Rattle.std.specs.List.{AllByRecursion, AllZip, join_with_byte, list_all}
 use Rattle.erp1_telegrams.specs.declared.eep.Eep.{Eep}
-use Rattle.actuator_commands.specs.Words.{words, Word, Says, Id, Profile, SpellsWord, is_word_in_range, id_in, eep_in}
+use Rattle.actuator_commands.specs.Words.{words, Word, Says, Id, Profile, SpellsWord, IsWordInRange}
+use Rattle.actuator_commands.specs.Words.{is_word_in_range, id_in, eep_in}
 use Rattle.actuator_commands.specs.declared.orders.Order.{Order}
 use Rattle.actuator_commands.specs.declared.orders.Order.TheVariants.{Add, Remove, List as ListAll, Status}
 use Rattle.actuator_commands.specs.declared.orders.OrderFault.{OrderFault}
@@ -17,22 +18,25 @@ words_of (Remove id) = Says (codes "remove") ∷ Id id ∷ []
 words_of ListAll = Says (codes "list") ∷ []
 words_of Status = Says (codes "status") ∷ []
 
--- the line has the shape of the order, whatever its numbers: one by one, its words spell those of the order
+-- The line has the shape of the order, whatever its numbers: texts that spell the order's words, one by one, with one
+-- space between each two and none before or behind. Own choice.
 abbrev pub HasShape : List ℕ → Order → Type 0
-HasShape line order = AllZip SpellsWord (words line) (words_of order)
+HasShape line order =
+    (texts : List (List ℕ)) × (line ≡ join_with_byte 32 texts) × AllZip SpellsWord texts (words_of order)
 
--- whether the order's numbers are in range
-abbrev pub is_in_range : Order → Bool
-is_in_range order = list_all is_word_in_range (words_of order)
-
+-- the order's numbers are in range
 abbrev pub IsInRange : Order → Type 0
-IsInRange order = IsTrue (is_in_range order)
+IsInRange order = AllByRecursion IsWordInRange (words_of order)
 
 -- the line spells the order
 abbrev pub Spells : List ℕ → Order → Type 0
 Spells line order = HasShape line order × IsInRange order
 
 -- ---- the same, computed. That it is the same is the law `orders_are_spelled`.
+
+-- whether the order's numbers are in range
+abbrev pub is_in_range : Order → Bool
+is_in_range order = list_all is_word_in_range (words_of order)
 
 abbrev pub add_of : Option ℕ → Option Eep → Option Order
 add_of (Some id) (Some eep) = Some (Add id eep)

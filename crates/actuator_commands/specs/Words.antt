@@ -1,5 +1,5 @@
--- The words of a line, and what a word spells.
-use Rattle.std.specs.Prelude.{◌≡◌, ℕ, ◌==◌, ◌&&◌, Bool, true, not, if◌then◌else◌, List, [], ◌∷◌, ◌++◌, codes}
+-- The words of an order, and what a text spells.
+use Rattle.std.specs.Prelude.{◌≡◌, ◌≢◌, ℕ, ◌==◌, ◌&&◌, Bool, true, not, if◌then◌else◌, List, [], ◌∷◌, ◌++◌, codes}
 use Rattle.std.specs.Prelude.{length, Option, Some, None, Result, Ok, Err}
 use Rattle.std.specs.Borrow.{Bor}
 use Rattle.std.specs.Int.{w32, from_be_bytes}
@@ -8,15 +8,6 @@ use Rattle.std.specs.Option.{option_map_or}
 use Rattle.hex.specs.Hex.{decode_of, decode_sized}
 use Rattle.hex.specs.declared.error.FromHexError.{FromHexError}
 use Rattle.erp1_telegrams.specs.declared.eep.Eep.{Eep}
-
--- The words of a line: what stands before, between and behind its spaces. Own choice: exactly one space stands between
--- two words. Two spaces have an empty word between them, which is a word of no order.
-abbrev pub words : List ℕ → List (List ℕ)
-words = slice_split (λ b. b == 32)
-
--- the words of what is left of a line, if anything is
-abbrev pub words_left : Option (Bor (List ℕ)) → List (List ℕ)
-words_left left = option_map_or (λ rest. words rest.now) left []
 
 -- A word of an order: a text that stands as it is, an ID or a profile. Own choice.
 pub data Word : Type 0 where
@@ -30,7 +21,7 @@ abbrev pub SpellsId : List ℕ → ℕ → Type 0
 SpellsId digits id =
     (bytes : List ℕ) × (length bytes ≡ 4) × (decode_of digits ≡ Ok bytes) × (id ≡ from_be_bytes w32 bytes)
 
--- the name of a profile (EnOcean Equipment Profiles, "Structure"): three pairs of hexadecimal digits with `-` between
+-- the name of a profile (EnOcean Equipment Profiles 2.6, "Structure"): three pairs of hexadecimal digits with `-` between
 -- them. Own choice: of either case
 pub record SpellsEep (text : List ℕ) (eep : Eep) : Type 0 where
   pub rorg : List ℕ
@@ -47,14 +38,29 @@ SpellsWord text (Says name) = text ≡ name
 SpellsWord text (Id id) = SpellsId text id
 SpellsWord text (Profile eep) = SpellsEep text eep
 
--- whether the word's number is in range: no device has the broadcast ID (EnOcean Serial Protocol 3, "Packet type 1:
+-- the word's number is in range: no device has the broadcast ID (EnOcean Serial Protocol 3, "Packet type 1:
 -- RADIO_ERP1")
+abbrev pub IsWordInRange : Word → Type 0
+IsWordInRange (Says name) = Unit {0}
+IsWordInRange (Id id) = id ≢ 0xFFFF_FFFF
+IsWordInRange (Profile eep) = Unit {0}
+
+-- ---- the same, computed. That it is the same are the laws `ids_are_spelled` and `orders_are_spelled`.
+
+-- the words of a line: what stands before, between and behind its spaces; two spaces have an empty word between them,
+-- which is a word of no order
+abbrev pub words : List ℕ → List (List ℕ)
+words = slice_split (λ b. b == 32)
+
+-- the words of what is left of a line, if anything is
+abbrev pub words_left : Option (Bor (List ℕ)) → List (List ℕ)
+words_left left = option_map_or (λ rest. words rest.now) left []
+
+-- whether the word's number is in range
 abbrev pub is_word_in_range : Word → Bool
 is_word_in_range (Says name) = true
 is_word_in_range (Id id) = not (id == 0xFFFF_FFFF)
 is_word_in_range (Profile eep) = true
-
--- ---- the same, computed. That it is the same are the laws `ids_are_spelled` and `orders_are_spelled`.
 
 -- the number of two hexadecimal digits
 abbrev pub byte_from : Result (List ℕ) FromHexError → Option ℕ

@@ -1,5 +1,5 @@
 //! Which IDs are the gateway's own, and which telegrams it passes over.
-ghost use Rattle.std.specs.Prelude.{◌≡◌, ◌≤◌};
+ghost use Rattle.std.specs.Prelude.{◌≡◌};
 ghost use Rattle.erp1_telegrams.specs.Address;
 
 use crate::telegram::{BROADCAST, Telegram};
@@ -14,21 +14,18 @@ pub fn is_base(id: u32) -> bool
     id >= 0xFF80_0000 && id <= 0xFFFF_FF80 && id % 128 == 0
 }
 
-/// Whether an ID is one of the 128 that a gateway with this base ID sends as: those from `base` on. `base` is at most
-/// `FFFFFF80`.
+/// Whether an ID is one of the 128 that a gateway with this base ID sends as: those from `base` on.
 ///
 /// EnOcean Serial Protocol 3, "CO_WR_IDBASE".
 pub fn is_own(base: u32, id: u32) -> bool
-    requires { base ≤ 0xFFFF_FF80 }
     ensures { result ≡ Address.is_own base id }
 {
-    base <= id && id <= base + 127
+    base <= id && id - base <= 127
 }
 
 /// Whether a gateway with this base ID passes a telegram over, since its sender is the broadcast ID, or since it is
-/// neither for all nor for one of the 128 IDs from `base` on. `base` is at most `FFFFFF80`. Own choice.
+/// neither for all nor for one of the 128 IDs from `base` on. Own choice.
 pub fn is_passed_over(base: u32, telegram: &Telegram) -> bool
-    requires { base ≤ 0xFFFF_FF80 }
     ensures { result ≡ Address.is_passed_over base telegram.now }
 {
     let dest = telegram.dest();

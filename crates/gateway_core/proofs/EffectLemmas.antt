@@ -23,7 +23,7 @@ use Rattle.actuator_commands.specs.Orders.{order_of}
 use Rattle.json_lines.specs.Lines.{Reading, StatusLine, ResponseLine, Error, ReadingLine, Response, listing}
 use Rattle.gateway_core.specs.Profiles.{readings_of}
 use Rattle.gateway_core.specs.Responses.{response_in}
-use Rattle.gateway_core.specs.Step.{State, Item, Received, Ordered, Effect, ignored, unread, counted_line, denied, told}
+use Rattle.gateway_core.specs.Step.{State, Item, Received, Ordered, Effect, ignored, unread, counted_line, denied, tells}
 use Rattle.gateway_core.specs.Step.{learns, forgets, PassedOver, Teaches, data_case, kind_case, reading_effect, case_effect}
 use Rattle.gateway_core.specs.Step.{packet_by, addition, removal, order_effect, longest_line, effect}
 use Rattle.gateway_core.proofs.DeviceLemmas.{device_of-known}
@@ -47,9 +47,9 @@ pub record OfEach (P : Effect → Type 0) (state : State) : Type 0 where
   pub reads : (line : ReadingLine) → P (counted_line state.mode count.Reading (Reading line))
   pub hears : (response : Response) → P (counted_line state.mode count.Response (ResponseLine response))
   pub denies : (name : ErrorName) → P (denied state.mode name)
-  pub finds : (name : ErrorName) → P (told state.mode (Error name ∷ []))
-  pub lists : P (told state.mode (listing (all_of state.devices)))
-  pub reports : P (told state.mode (StatusLine state.counts state.mode ∷ []))
+  pub finds : (name : ErrorName) → P (tells state.mode (Error name ∷ []))
+  pub lists : P (tells state.mode (listing (all_of state.devices)))
+  pub reports : P (tells state.mode (StatusLine state.counts state.mode ∷ []))
   pub teaches : (known : Device) → P (learns state.mode known)
   pub drops : (known : Device) → device_of state.devices known.id ≡ Some known → P (forgets state.mode known)
 

@@ -1,7 +1,7 @@
 -- A teach line is told only of the device that an item learns or forgets.
 use Rattle.std.proofs.Common.{◌≡◌, List, [], ◌∷◌, Some, refl, sym, ap, subst, ◌∙◌, append-nil}
 use Rattle.device_registry.specs.declared.device.Device.{Device}
-use Rattle.device_registry.specs.Devices.{device_of, all_of}
+use Rattle.device_registry.specs.Devices.{Change, device_of, all_of}
 use Rattle.teach_in.specs.declared.outcome.Outcome.{Outcome}
 use Rattle.teach_in.specs.declared.outcome.Outcome.TheVariants.{Accepted, Deleted}
 use Rattle.json_lines.specs.declared.fixed.ErrorName.TheVariants as error
@@ -10,7 +10,7 @@ use Rattle.json_lines.specs.Lines.{TeachLine, text, texts, listing}
 use Rattle.json_lines.proofs.ForCallers.{of_teach_lines}
 use Rattle.gateway_core.specs.Step.{State, Item, Effect, effect, told_of, learns, forgets}
 use Rattle.gateway_core.specs.Run.{Cause, Memory, Store, Taken, Refused, RefusedAtWrite, cause_text}
-use Rattle.gateway_core.specs.Telling.{AsksFor, TeachLinesAreTold}
+use Rattle.gateway_core.specs.Telling.{AsksFor, ChangesAreTold, TeachLinesAreTold}
 use Rattle.gateway_core.proofs.EffectLemmas.{of_effect}
 
 -- whether a line is a teach line
@@ -104,3 +104,31 @@ teach_lines_are_told state item Taken line e =
     record { known = it.known; tells = it.tells; asks = asked state item it.known line.outcome it.asks; taken = refl }
 teach_lines_are_told state item (Refused cause) line e = absurd (cause-other cause line e)
 teach_lines_are_told state item (RefusedAtWrite cause) line e = absurd (cause-other cause line e)
+
+-- ---- a change is told
+
+-- what an effect asks for, it tells
+abbrev Answers : State → Effect → Type 0
+Answers state e = (change : Change) → e.change ≡ Some change
+    → (known : Device) × (outcome : Outcome) × Asks state e known outcome
+    × (texts e.desk ≡ text (Teach (told_of known outcome)))
+
+effects-answer : (state : State) (item : Item) → Answers state (effect state item)
+effects-answer state =
+    of_effect (Answers state) state (record {
+      ignores = λ change e. absurd cc;
+      looks = λ change e. absurd cc;
+      reads = λ line change e. absurd cc;
+      hears = λ response change e. absurd cc;
+      denies = λ name change e. absurd cc;
+      finds = λ name change e. absurd cc;
+      lists = λ change e. absurd cc;
+      reports = λ change e. absurd cc;
+      teaches = λ known change e. (known, Accepted, refl, append-nil _);
+      drops = λ known is change e. (known, Deleted, (is, refl), append-nil _);
+    })
+
+pub changes_are_told : ChangesAreTold
+changes_are_told state item change e =
+    let told = effects-answer state item change e in
+    (told.0, told.1, asked state item told.0 told.1 told.2, told.3)

@@ -23,7 +23,7 @@ use Rattle.json_lines.specs.declared.counts.Counts.{Counts}
 use Rattle.gateway_core.specs.declared.handler.done.Done.{Done}
 use Rattle.json_lines.specs.Counts.{raised}
 use Rattle.json_lines.specs.Lines.{Error}
-use Rattle.gateway_core.specs.Step.{State, Item, Answer, Effect, said, told as told_effect, learns, addition, removal}
+use Rattle.gateway_core.specs.Step.{State, Item, Answer, Effect, said, tells, learns, addition, removal}
 use Rattle.actuator_commands.specs.declared.orders.Order.{Order}
 use Rattle.actuator_commands.specs.declared.orders.OrderFault.{OrderFault}
 use Rattle.actuator_commands.specs.Orders.{order_of}
@@ -113,7 +113,7 @@ pub addition-need : (state : State) (known : Device) → IsTrue (addition state 
 addition-need state known = one (is_full state.devices known.id)
   where
     one : (full : Bool) → IsTrue
-        (if full then told_effect state.mode (Error error.Full ∷ []) else learns state.mode known).need
+        (if full then tells state.mode (Error error.Full ∷ []) else learns state.mode known).need
     one true = refl
     one false = refl
 
@@ -243,7 +243,7 @@ module _ {S : Type 0} (g : Ghosts S) where
     where
       one : (full : Bool) → is_full now.devices known.id ≡ full
           → let e : Effect =
-          if full then told_effect now.mode (Error error.Full ∷ []) else learns now.mode known in
+          if full then tells now.mode (Error error.Full ∷ []) else learns now.mode known in
           IsPending g old new now.devices e.need e.change
       one true full = (refl, keeps-full (state g old) (state g new) known now.devices full pends)
       one false full = pends

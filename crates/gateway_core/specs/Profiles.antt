@@ -1,5 +1,5 @@
--- What telegrams say by the profiles that are read (EnOcean Equipment Profiles 2.6): those of the three crates of
--- profiles.
+-- What telegrams say by the profiles that are read (EnOcean Equipment Profiles 2.6). Which are read is an own choice:
+-- those of the three crates of profiles.
 use Rattle.std.specs.Prelude.{◌==◌, List, Option, Result, if◌then◌else◌}
 use Rattle.std.specs.Result.{result_ok}
 use Rattle.erp1_telegrams.specs.declared.eep.Eep.{Eep}

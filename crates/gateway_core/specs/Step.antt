@@ -62,7 +62,7 @@ nothing mode = record { radio = None; desk = []; count = None; change = None; mo
 
 -- ---- a packet
 
--- the desk is told nothing
+-- The counts are own choice: a packet raises just one. The desk is told nothing of this one.
 abbrev pub ignored : Mode → Effect
 ignored mode = record (nothing mode) { count = Some count.Ignored }
 
@@ -74,7 +74,7 @@ unread mode = record (ignored mode) { need = true }
 abbrev pub counted_line : Mode → Count → DeskLine → Effect
 counted_line mode count line = record (nothing mode) { desk = line ∷ []; count = Some count; need = true }
 
--- what a telegram is: the first of these five cases
+-- what a telegram is: the first of these five cases. Own choice
 pub data Case : Type 0 where
   -- its sender or its destination is ignored
   PassedOver : Case
@@ -121,7 +121,7 @@ case_effect mode t OfOther = unread mode
 abbrev pub telegram_effect : State → Telegram → Effect
 telegram_effect state t = case_effect state.mode t (case_of state t)
 
--- a packet is a response, or has a telegram, or is ignored
+-- a packet is a response, or has a telegram, or is ignored. Own choice
 abbrev pub packet_by : State → Option Response → Result Telegram TelegramFault → Effect
 packet_by state (Some response) telegram = counted_line state.mode count.Response (ResponseLine response)
 packet_by state None (Ok t) = telegram_effect state t
@@ -137,8 +137,8 @@ abbrev pub denied : Mode → ErrorName → Effect
 denied mode name = record (nothing mode) { desk = Error name ∷ [] }
 
 -- the desk is told some lines, and nothing else comes of it
-abbrev pub told : Mode → List DeskLine → Effect
-told mode lines = record (nothing mode) { desk = lines; need = true }
+abbrev pub tells : Mode → List DeskLine → Effect
+tells mode lines = record (nothing mode) { desk = lines; need = true }
 
 -- the line that tells what came of a device
 abbrev pub told_of : Device → Outcome → TeachLine
@@ -146,19 +146,19 @@ told_of known outcome = record { eep = Some known.eep; id = known.id; maker = kn
 
 abbrev pub learns : Mode → Device → Effect
 learns mode known =
-    record (told mode (TeachOf (told_of known Accepted) ∷ [])) { change = Some (learned known) }
+    record (tells mode (TeachOf (told_of known Accepted) ∷ [])) { change = Some (learned known) }
 
 abbrev pub forgets : Mode → Device → Effect
 forgets mode known =
-    record (told mode (TeachOf (told_of known Deleted) ∷ [])) { change = Some (forgotten known.id) }
+    record (tells mode (TeachOf (told_of known Deleted) ∷ [])) { change = Some (forgotten known.id) }
 
 -- a device is learned unless as many others are as can be
 abbrev pub addition : State → Device → Effect
 addition state known =
-    if is_full state.devices known.id then told state.mode (Error error.Full ∷ []) else learns state.mode known
+    if is_full state.devices known.id then tells state.mode (Error error.Full ∷ []) else learns state.mode known
 
 abbrev pub removal : Mode → Option Device → Effect
-removal mode None = told mode (Error error.UnknownDevice ∷ [])
+removal mode None = tells mode (Error error.UnknownDevice ∷ [])
 removal mode (Some known) = forgets mode known
 
 -- own choice: of several errors the first is told, and before all of them that the line is too long
@@ -169,8 +169,8 @@ order_effect state (Ok (Add id eep)) =
     if supported eep then addition state (record { id = id; eep = eep; maker = None })
     else denied state.mode error.UnsupportedProfile
 order_effect state (Ok (Remove id)) = removal state.mode (device_of state.devices id)
-order_effect state (Ok ListAll) = told state.mode (listing (all_of state.devices))
-order_effect state (Ok Status) = told state.mode (StatusLine state.counts state.mode ∷ [])
+order_effect state (Ok ListAll) = tells state.mode (listing (all_of state.devices))
+order_effect state (Ok Status) = tells state.mode (StatusLine state.counts state.mode ∷ [])
 
 -- the longest line of the desk, in bytes. Own choice
 abbrev pub longest_line : ℕ

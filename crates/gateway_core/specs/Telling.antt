@@ -1,7 +1,7 @@
 -- Of what a teach line tells.
 use Rattle.std.specs.Prelude.{◌≡◌, Some}
 use Rattle.device_registry.specs.declared.device.Device.{Device}
-use Rattle.device_registry.specs.Devices.{device_of, learned, forgotten}
+use Rattle.device_registry.specs.Devices.{Change, device_of, learned, forgotten}
 use Rattle.teach_in.specs.declared.outcome.Outcome.{Outcome}
 use Rattle.teach_in.specs.declared.outcome.Outcome.TheVariants.{Accepted, Deleted}
 use Rattle.json_lines.specs.Lines.{TeachLine, Teach, text}
@@ -27,3 +27,9 @@ pub record IsToldOf (state : State) (item : Item) (fate : Fate) (line : TeachLin
 abbrev pub TeachLinesAreTold : Type 0
 TeachLinesAreTold = (state : State) (item : Item) (fate : Fate) (line : TeachLine)
     → (answer_with state item fate).desk ≡ text (Teach line) → IsToldOf state item fate line
+
+-- and an item that is taken and asks for a change is answered with the line that tells it
+abbrev pub ChangesAreTold : Type 0
+ChangesAreTold = (state : State) (item : Item) (change : Change) → change_of state item ≡ Some change
+    → (known : Device) × (outcome : Outcome) × AsksFor state item known outcome
+    × ((answer_with state item Taken).desk ≡ text (Teach (told_of known outcome)))

@@ -12,7 +12,7 @@ ghost use Rattle.gateway_core.specs.Prefixes.{LeftIsPrefix, SafeIsPrefix, ToldSt
 ghost use Rattle.gateway_core.specs.Run.{RefusalsAreCounted, SameRefusals};
 ghost use Rattle.gateway_core.specs.Step.{Answer, Item};
 ghost use Rattle.gateway_core.specs.Stops.{SafeJoins};
-ghost use Rattle.gateway_core.specs.Telling.{TeachLinesAreTold};
+ghost use Rattle.gateway_core.specs.Telling.{ChangesAreTold, TeachLinesAreTold};
 
 use crate::gateway::Gateway;
 use device_registry::laws::devices_are_held;
@@ -90,6 +90,12 @@ pub fn left_is_prefix()
 /// `accepted`, or forgets it, where it tells `deleted`.
 pub fn teach_lines_are_told()
     ensures { TeachLinesAreTold }
+{}
+
+/// An item that is taken and changes what is learned is answered with the teach line that tells so: `accepted` of the
+/// device that it learns, `deleted` of the one that it forgets.
+pub fn changes_are_told()
+    ensures { ChangesAreTold }
 {}
 
 /// What a stop leaves after the calls of a life is what a life may leave.

@@ -1,6 +1,6 @@
 -- The lines that the desk is sent, as values, and their texts, as bytes. Which lines there are, and their layout, is
--- an own choice: one JSON object (RFC 8259) with no space, its members in the byte order of their names, and a line
--- feed at the end.
+-- an own choice: one JSON object (RFC 8259) with no space between its parts, its members in the byte order of their
+-- names, and a line feed at the end.
 use Rattle.std.specs.Prelude.{ℕ, pos, ◌-ℤ◌, List, [], ◌∷◌, ◌++◌, map, length, slice_get, codes, decimal}
 use Rattle.std.specs.Prelude.{Option, Some, None}
 use Rattle.std.specs.Fmt.{signed_decimal}

@@ -75,7 +75,7 @@ fn list_end(alloc: Global, count: usize) -> Result<Line, AllocError>
 ///
 /// `{"eep":"D5-00-01","id":"01800ABC","maker":null,"type":"device"}`, `{"count":1,"type":"list"}`
 ///
-/// The only error is that there is no memory.
+/// Any error is told as out of memory.
 pub fn device_lines(alloc: Global, devices: &[Device]) -> Result<Line, AllocError>
     ensures { IfOk result (λ lines. lines ≡ texts (listing devices.now)) }
 {

@@ -137,7 +137,7 @@ impl Serialize for ReadingObject<'_> {
 ///
 /// `{"dbm":-45,"eep":"D5-00-01","id":"01800ABC","readings":[{"name":"CO","word":"closed"}],"type":"reading"}`
 ///
-/// The only error is that there is no memory.
+/// Any error is told as out of memory.
 pub fn reading_line(
     alloc: Global,
     telegram: &Telegram,

@@ -56,7 +56,7 @@ impl Serialize for ResponseObject<'_> {
 ///
 /// `{"code":0,"data":"FF800000","name":"OK","type":"response"}`
 ///
-/// The only error is that there is no memory.
+/// Any error is told as out of memory.
 pub fn response_line(alloc: Global, code: u8, rest: &[u8]) -> Result<Line, AllocError>
     ensures { IfOk result (λ line. line ≡ text (ResponseLine (record { code = code; bytes = rest.now }))) }
 {

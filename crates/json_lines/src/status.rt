@@ -62,7 +62,7 @@ impl Serialize for StatusObject<'_> {
 ///
 /// `{"ignored":0,"mode":"closed","readings":1,"refused":0,"responses":0,"teach":0,"type":"status"}`
 ///
-/// The only error is that there is no memory.
+/// Any error is told as out of memory.
 pub fn status_line(alloc: Global, counts: &Counts, mode: Mode) -> Result<Line, AllocError>
     ensures { IfOk result (λ line. line ≡ text (StatusLine counts.now mode)) }
 {

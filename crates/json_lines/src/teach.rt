@@ -92,7 +92,7 @@ impl Draft {
 ///
 /// `{"eep":"D5-00-01","id":"01800ABC","maker":null,"result":"accepted","type":"teach"}`
 ///
-/// The only error is that there is no memory.
+/// Any error is told as out of memory.
 pub fn teach_line(
     alloc: Global,
     id: u32,

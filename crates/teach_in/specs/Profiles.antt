@@ -1,4 +1,4 @@
--- The profiles that can be learned (EnOcean Equipment Profiles 2.6): those of the three crates of profiles.
+-- The profiles that can be learned. Own choice: those of the three crates of profiles.
 use Rattle.std.specs.Prelude.{Bool, ◌||◌}
 use Rattle.erp1_telegrams.specs.declared.eep.Eep.{Eep}
 use Rattle.profiles_rps.specs.Profiles as rps

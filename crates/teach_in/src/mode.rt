@@ -1,13 +1,12 @@
 //! In which mode the gateway learns.
 use erp1_telegrams::Eep;
 
-/// Which teach-in telegrams the gateway learns by. The desk opens and closes the window; a gateway begins closed. Own
-/// choice.
+/// Which teach-in telegrams the gateway learns by. A gateway begins closed, and nothing opens it as yet. Own choice.
 #[derive(Clone, Copy, Debug, PartialEq, Eq)]
 pub enum Mode {
     /// None.
     Closed,
-    /// Those that tell a profile which is supported.
+    /// Contacts, and those that tell a profile which is supported.
     Learn,
     /// The same, and 4BS queries are answered.
     LearnAnswer,
