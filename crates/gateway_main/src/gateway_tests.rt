@@ -191,6 +191,11 @@ fn a_thousand_devices(rt: HostRuntime) -> Result<(), Fail> {
         full.desk.as_bytes(),
         b"{\"error\":\"full\",\"type\":\"error\"}\n".as_slice()
     );
+    let unsupported = gateway.order(b"add 01800ABD A5-38-08");
+    assert_eq!(rt;
+        unsupported.desk.as_bytes(),
+        b"{\"error\":\"unsupported_profile\",\"type\":\"error\"}\n".as_slice()
+    );
     let again = gateway.order(&add_line(999));
     assert!(rt; again.desk.as_bytes().starts_with(b"{\"eep\"".as_slice()));
     Ok(())
