@@ -1,4 +1,4 @@
--- The base ID that a text spells.
+-- The base ID that a text spells (EnOcean Serial Protocol 3, "CO_WR_IDBASE"). Own choice: eight digits of either case.
 use Rattle.std.specs.Prelude.{ℕ, List, if◌then◌else◌, Option, Some, None}
 use Rattle.erp1_telegrams.specs.Address.{is_base}
 use Rattle.actuator_commands.specs.Words.{id_in}

@@ -1,4 +1,4 @@
--- What the words of the command line say, in the words of `clap`.
+-- What the words of the command line say, in the words of `clap`. Own choice.
 use Rattle.std.specs.Prelude.{◌≡◌, ℕ, List, [], codes, true, if◌then◌else◌, Option, Some, None, option_and_then}
 use Rattle.std.specs.Str.{bytes_eq}
 use Rattle.clap.specs.Words.{App, HasKind, Row, Rule, Text, fault_of, first_of, kind_of, new_app, new_rule}

@@ -1,4 +1,4 @@
--- How the program ends, and with which status.
+-- How the program ends, and with which status. Own choice.
 use Rattle.std.specs.Prelude.{ℕ, Result, Ok, Err}
 use Rattle.std.specs.declared.io.ErrorKind.{ErrorKind as IoErrorKind}
 use Rattle.std.specs.declared.io.ErrorKind.TheVariants as io

@@ -1,4 +1,4 @@
--- Which events the bytes of a script are.
+-- Which events the bytes of a script are. Own choice.
 use Rattle.std.specs.Prelude.{◌≡◌, ◌≢◌, ℕ, ◌⊎◌, ◌&&◌, All, nat_eq, nat_le, if◌then◌else◌, List, [], ◌++◌, length, drop}
 use Rattle.std.specs.Prelude.{map, codes, Result, Ok, Err}
 use Rattle.std.specs.List.{starts_with}

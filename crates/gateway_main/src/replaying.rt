@@ -11,7 +11,7 @@ use crate::player::Player;
 use crate::sink::Sink;
 use crate::source::Source;
 use crate::unended::UnendedLine;
-use crate::writing::Script;
+use crate::writing::ReplayText;
 use gateway_core::Gateway;
 use sqlite::Alter;
 
@@ -85,7 +85,7 @@ pub fn replay<R: Source, W: Sink, S: Alter>(
     prove!(!is_ready);
     let mut player = Player {
         engine: Engine {
-            outlet: Script { sink: writer },
+            outlet: ReplayText { sink: writer },
             gateway,
             items: 0,
         },

@@ -38,6 +38,12 @@ fn scripts(rt: HostRuntime) -> Result<(), Fail> {
             Ok(Summary { items: 2 }),
             contact_out.as_slice(),
         ),
+        (
+            in_parts.as_slice(),
+            2,
+            Ok(Summary { items: 2 }),
+            contact_out.as_slice(),
+        ),
     ];
     for (script, turns, wanted, text) in rows {
         let mut out = Vec::new(rt.alloc());
@@ -49,6 +55,64 @@ fn scripts(rt: HostRuntime) -> Result<(), Fail> {
         )?;
         assert!(rt; summary == wanted);
         assert_eq!(rt; out.as_slice(), text);
+    }
+    Ok(())
+}
+
+/// What is written for a script.
+fn written(rt: &HostRuntime, script: &[u8]) -> Result<Vec<u8>, Fail> {
+    let mut out = Vec::new(rt.alloc());
+    let summary = run(
+        rt,
+        &mut OverRead::new(script),
+        &mut OverWrite::new(&mut out),
+        9,
+    )?;
+    if summary.is_err() {
+        return Err(Fail::from("it did not end"));
+    }
+    Ok(out)
+}
+
+// A line's end does not count to its 200 bytes. With 100 bytes of digits before it, the line lies across two reads.
+#[test]
+fn lengths_of_lines(rt: HostRuntime) -> Result<(), Fail> {
+    const TOO_LONG: &[u8] = b"{\"error\":\"too_long\",\"type\":\"error\"}\n";
+    let cases: [(usize, &[u8], &[u8]); 6] = [
+        (200, b"\n", SYNTAX),
+        (200, b"\r\n", SYNTAX),
+        (200, b"", SYNTAX),
+        (201, b"\n", TOO_LONG),
+        (201, b"\r\n", TOO_LONG),
+        (200, b"\r", TOO_LONG),
+    ];
+    for (length, end, wanted) in cases {
+        let mut script = Vec::new(rt.alloc());
+        script.extend_from_slice(b"S ")?;
+        script.extend_from_slice(&[b'0'; 98])?;
+        script.extend_from_slice(b"\n")?;
+        script.extend_from_slice(&[b'x'; 201][..length.min(201)])?;
+        script.extend_from_slice(end)?;
+        assert_eq!(rt; written(&rt, script.as_slice())?.as_slice(), wanted);
+    }
+    Ok(())
+}
+
+// One CR before LF belongs to the end of a line, and a CR before the end of the input to the line.
+#[test]
+fn ends_of_lines(rt: HostRuntime) -> Result<(), Fail> {
+    const NONE: &[u8] = b"{\"count\":0,\"type\":\"list\"}\n";
+    let cases: [(&[u8], &[u8]); 7] = [
+        (b"list\n", NONE),
+        (b"list\r\n", NONE),
+        (b"list", NONE),
+        (b"list\r", SYNTAX),
+        (b"list\r\r\n", SYNTAX),
+        (b"\n", SYNTAX),
+        (b"\r\n", SYNTAX),
+    ];
+    for (script, wanted) in cases {
+        assert_eq!(rt; written(&rt, script)?.as_slice(), wanted);
     }
     Ok(())
 }

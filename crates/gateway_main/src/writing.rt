@@ -12,16 +12,16 @@ use gateway_core::Reply;
 
 /// The text of a replay: of each reply its radio bytes as a serial piece, if there are any, and then the desk's text.
 #[derive(Drop)]
-pub struct Script<'w, W> {
+pub struct ReplayText<'w, W> {
     pub sink: &'w mut W,
 }
 
-impl<W: Sink> Outlet for Script<'_, W> {
+impl<W: Sink> Outlet for ReplayText<'_, W> {
     ghost puts = { λ old new. PutsText W.held W.counts old.sink.now new.sink.now };
 
     ghost breaks = { λ old new. BreaksText W.held W.counts old.sink.now new.sink.now };
 
-    ghost loans = { λ script. script.sink.ghost_name ∷ [] };
+    ghost loans = { λ text. text.sink.ghost_name ∷ [] };
 
     fn put(&mut self, reply: &Reply) -> Result<(), Failed> {
         if let Some(bytes) = &reply.radio {
@@ -30,7 +30,7 @@ impl<W: Sink> Outlet for Script<'_, W> {
         write_text(self.sink, reply.desk.as_bytes())
     }
 
-    ghost lawful = { text_outlet W.held W.counts (λ script. script.sink.now) };
+    ghost lawful = { text_outlet W.held W.counts (λ text. text.sink.now) };
 }
 
 /// Writes bytes as a serial piece: behind `S` and a space, as hexadecimal digits, and with LF.
@@ -62,3 +62,6 @@ fn write_text<W: Sink>(writer: &mut W, text: &[u8]) -> Result<(), Failed>
     }
     Ok(())
 }
+
+#[cfg(test)]
+mod tests;

@@ -9,8 +9,8 @@ use Rattle.gateway_main.specs.Written.{radio_text}
 use Rattle.gateway_main.proofs.CountLemmas.{went_behind}
 use Rattle.gateway_main.proofs.OutletLemmas.{puts_one}
 use Rattle.gateway_main.proofs.WriteLemmas.{part_of_front, writes_behind, writes_part}
-use Rattle.gateway_main.proofs.writing.ScriptOutlet.put.Goals as goal
-use Rattle.gateway_main.proofs.writing.ScriptOutlet.put.Goals.{in-Some+in_ok-write_piece, in_default}
+use Rattle.gateway_main.proofs.writing.ReplayTextOutlet.put.Goals as goal
+use Rattle.gateway_main.proofs.writing.ReplayTextOutlet.put.Goals.{in-Some+in_ok-write_piece, in_default}
 
 pub returns-in_err-write_piece-clause-put : goal.returns-in_err-write_piece-clause-put
 returns-in_err-write_piece-clause-put g c =
