@@ -1,12 +1,11 @@
 -- A profile stands in the table of its own FUNC, and in no other.
 use Rattle.std.proofs.Common.{◌≡◌, ◌≢◌, ℕ, Bool, true, false, cond, List, [], ◌∷◌, ◌++◌, Option, Some, None, option_map}
 use Rattle.std.proofs.Common.{refl, sym, ap, ◌∙◌, ◌==◌, ◌&&◌, not}
-use Rattle.std.specs.List.{find, list_any, list_all}
+use Rattle.std.specs.List.{list_any, list_all}
 use Rattle.std.specs.Option.{option_or}
 use Rattle.std.proofs.lemmas.Bool.{and_parts, ne_eqb, eqb-true}
 use Rattle.std.proofs.lemmas.List.Folds.{find-append}
 use Rattle.erp1_telegrams.specs.declared.eep.Eep.{Eep}
-use Rattle.profiles_rps.specs.Rows.{Row}
 use Rattle.profiles_rps.specs.Profile.{Profiles, is_one_of, rows_in}
 
 -- the profile is none of the first ones, where its FUNC is another

@@ -1,8 +1,8 @@
-use Rattle.std.proofs.Common.{◌≡◌, ◌≢◌, arith, sym, None, ◌++◌, ℕ, List, [], refl, ap, ◌∙◌}
+use Rattle.std.proofs.Common.{arith, sym, ◌++◌, List, [], refl, ap, ◌∙◌}
 use Rattle.std.specs.Option.{option_map}
-use Rattle.profiles_rps.specs.Profile.{Profiles, rows_in}
+use Rattle.profiles_rps.specs.Profile.{Profiles}
 use Rattle.profiles_rps.specs.Rows.{entries_of}
-use Rattle.profiles_4bs.specs.Profiles.{rows_of, table}
+use Rattle.profiles_4bs.specs.Profiles.{rows_of}
 use Rattle.profiles_4bs.specs.Temperature.{temperature}
 use Rattle.profiles_4bs.specs.Humidity.{humidity}
 use Rattle.profiles_4bs.specs.Light.{light}
