@@ -21,8 +21,8 @@ abbrev pub SpellsId : List ℕ → ℕ → Type 0
 SpellsId digits id =
     (bytes : List ℕ) × (length bytes ≡ 4) × (decode_of digits ≡ Ok bytes) × (id ≡ from_be_bytes w32 bytes)
 
--- the name of a profile (EnOcean Equipment Profiles 2.6, "Structure"): three pairs of hexadecimal digits with `-` between
--- them. Own choice: of either case
+-- the name of a profile (EnOcean Equipment Profiles 2.6, "Structure"): three pairs of hexadecimal digits with `-`
+-- between them. Own choice: of either case
 pub record SpellsEep (text : List ℕ) (eep : Eep) : Type 0 where
   pub rorg : List ℕ
   pub func : List ℕ

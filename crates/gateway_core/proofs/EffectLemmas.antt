@@ -23,8 +23,10 @@ use Rattle.actuator_commands.specs.Orders.{order_of}
 use Rattle.json_lines.specs.Lines.{Reading, StatusLine, ResponseLine, Error, ReadingLine, Response, listing}
 use Rattle.gateway_core.specs.Profiles.{readings_of}
 use Rattle.gateway_core.specs.Responses.{response_in}
-use Rattle.gateway_core.specs.Step.{State, Item, Received, Ordered, Effect, ignored, unread, counted_line, denied, tells}
-use Rattle.gateway_core.specs.Step.{learns, forgets, PassedOver, Teaches, data_case, kind_case, reading_effect, case_effect}
+use Rattle.gateway_core.specs.Step.{State, Item, Received, Ordered, Effect, ignored, unread, counted_line, denied}
+use Rattle.gateway_core.specs.Step.{tells}
+use Rattle.gateway_core.specs.Step.{learns, forgets, PassedOver, Teaches, data_case, kind_case, reading_effect}
+use Rattle.gateway_core.specs.Step.{case_effect}
 use Rattle.gateway_core.specs.Step.{packet_by, addition, removal, order_effect, longest_line, effect}
 use Rattle.gateway_core.proofs.DeviceLemmas.{device_of-known}
 

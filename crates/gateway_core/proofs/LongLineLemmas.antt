@@ -22,7 +22,8 @@ effect-long start line h =
 
 -- a run on one item hangs on its effect alone
 run_alike : (old new : State) (item other : Item) (fates : List Fate) (answers : List Answer)
-    → effect old item ≡ effect old other → Run old (item ∷ []) fates answers new → Run old (other ∷ []) fates answers new
+    → effect old item ≡ effect old other → Run old (item ∷ []) fates answers new
+    → Run old (other ∷ []) fates answers new
 run_alike old new item other (Taken ∷ fates) (answer ∷ answers) e run =
     let P : Effect → Type 0 = λ d. Unit {0} × (answer ≡ answer_by d)
     × Run (record {

@@ -1,5 +1,5 @@
-//! The lines that the desk is sent: one JSON object each, with no space between its parts, the members in the byte order
-//! of their names, and a line feed at the end; and the counts that a status line tells.
+//! The lines that the desk is sent: one JSON object each, with no space between its parts, the members in the byte
+//! order of their names, and a line feed at the end; and the counts that a status line tells.
 //!
 //! What a line tells is a value of `DeskLine`, in `specs/Lines.antt`, and its bytes are that value's `text`.
 #![tactic(auto)]

@@ -15,22 +15,26 @@ returns-then-line-gt-LONGEST_LINE g c =
 pub returns-in-Ok-Add : goal.returns-in-Ok-Add
 returns-in-Ok-Add g c =
     tries-order g.S.Store _ _ c.args.line.now _ (Ok (Add c.in-Ok-Add.id c.in-Ok-Add.eep))
-    c.if-line-gt-LONGEST_LINE.false (sym c.parse.ensures ∙ c.in-Ok-Add.is ∙ ap Ok c.in-Ok-Add.field-0-is) c.try_add.ensures
+    c.if-line-gt-LONGEST_LINE.false
+    (sym c.parse.ensures ∙ c.in-Ok-Add.is ∙ ap Ok c.in-Ok-Add.field-0-is) c.try_add.ensures
 
 pub returns-in-Ok-Remove : goal.returns-in-Ok-Remove
 returns-in-Ok-Remove g c =
     tries-order g.S.Store _ _ c.args.line.now _ (Ok (Remove c.in-Ok-Remove.id))
-    c.if-line-gt-LONGEST_LINE.false (sym c.parse.ensures ∙ c.in-Ok-Remove.is ∙ ap Ok c.in-Ok-Remove.field-0-is) c.try_remove.ensures
+    c.if-line-gt-LONGEST_LINE.false
+    (sym c.parse.ensures ∙ c.in-Ok-Remove.is ∙ ap Ok c.in-Ok-Remove.field-0-is) c.try_remove.ensures
 
 pub returns-in-Ok-List : goal.returns-in-Ok-List
 returns-in-Ok-List g c =
     tries-order g.S.Store _ _ c.args.line.now _ (Ok ListAll)
-    c.if-line-gt-LONGEST_LINE.false (sym c.parse.ensures ∙ c.in-Ok-List.is ∙ ap Ok c.in-Ok-List.field-0-is) c.try_list.ensures
+    c.if-line-gt-LONGEST_LINE.false
+    (sym c.parse.ensures ∙ c.in-Ok-List.is ∙ ap Ok c.in-Ok-List.field-0-is) c.try_list.ensures
 
 pub returns-in-Ok-Status : goal.returns-in-Ok-Status
 returns-in-Ok-Status g c =
     tries-order g.S.Store _ _ c.args.line.now _ (Ok Status)
-    c.if-line-gt-LONGEST_LINE.false (sym c.parse.ensures ∙ c.in-Ok-Status.is ∙ ap Ok c.in-Ok-Status.field-0-is) c.try_status.ensures
+    c.if-line-gt-LONGEST_LINE.false
+    (sym c.parse.ensures ∙ c.in-Ok-Status.is ∙ ap Ok c.in-Ok-Status.field-0-is) c.try_status.ensures
 
 pub returns-in-Err-Syntax : goal.returns-in-Err-Syntax
 returns-in-Err-Syntax g c =
