@@ -1,4 +1,5 @@
--- A sink that is given the text of answers is an outlet.
+-- A sink that is given the text of answers is an outlet. The lemmas stand here, since the law of an `impl` cites nothing
+-- outside `specs`.
 use Rattle.std.specs.Prelude.{◌⊎◌, ℕ, List, ◌++◌, Option}
 use Rattle.std.specs.Io.KnownBytes.{Appends}
 use Rattle.std.proofs.Common.{refl, ap, sym, ◌∙◌, append_assoc, subst, inl, inr}
@@ -10,12 +11,14 @@ use Rattle.gateway_main.specs.Counts.{Counts, WentWell, OneFailed, OneEmpty}
 use Rattle.gateway_main.specs.Outlets.{IsOutlet}
 use Rattle.gateway_main.specs.Written.{text_of, written, WritesAll, WritesPart}
 
+-- more text behind text
 all_behind : (held mids now : Option (List ℕ)) (first second : List Answer) → WritesAll held mids first
     → WritesAll mids now second → WritesAll held now (first ++ second)
 all_behind held mids now first second a b =
     subst (Appends held now) (sym (flat_map-append text_of first second))
     (Appends-trans held mids now (written first) (written second) a b)
 
+-- a part of more text behind text
 part_behind : (held mids now : Option (List ℕ)) (first second : List Answer) (last : Answer)
     → WritesAll held mids first → WritesPart mids now second last → WritesPart held now (first ++ second) last
 part_behind held mids now first second last a b = record {
@@ -31,6 +34,7 @@ part_behind held mids now first second last a b = record {
 }
 
 -- no call went wrong
+-- calls that went well behind others
 pub well_behind : (old mid new : Counts) → WentWell old mid → WentWell mid new → WentWell old new
 well_behind old mid new first second = (second.0 ∙ first.0, second.1 ∙ first.1)
 
