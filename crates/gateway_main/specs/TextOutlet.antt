@@ -34,7 +34,6 @@ part_behind held mids now first second last a b = record {
 }
 
 -- no call went wrong
--- calls that went well behind others
 pub well_behind : (old mid new : Counts) → WentWell old mid → WentWell mid new → WentWell old new
 well_behind old mid new first second = (second.0 ∙ first.0, second.1 ∙ first.1)
 
