@@ -18,10 +18,18 @@ def packet(kind, data, optional=b""):
     return bytes([0x55, *header, check8(header), *data, *optional, check8(data + optional)])
 
 
-def telegram(rorg, payload, sender, status=0):
-    """The packet of a telegram to all: one subtelegram, -45 dBm, no security."""
+ALL = 0xFFFFFFFF
+
+
+def radio(subtelegrams=1, destination=ALL, dbm=45):
+    """The optional data of a telegram; no security."""
+    return bytes([subtelegrams, *destination.to_bytes(4, "big"), dbm, 0])
+
+
+def telegram(rorg, payload, sender, status=0, optional=radio()):
+    """The packet of a telegram; without more it is to all, one subtelegram, -45 dBm."""
     data = bytes([rorg, *payload, *sender.to_bytes(4, "big"), status])
-    return packet(1, data, bytes.fromhex("01FFFFFFFF2D00"))
+    return packet(1, data, optional)
 
 
 def pieces(stream, size=99):

@@ -1,6 +1,6 @@
 -- The computed order of a line is the one that the line spells.
 use Rattle.std.proofs.Common.{◌≡◌, ℕ, Bool, true, false, cond, List, [], ◌∷◌, refl, sym, ap, ◌∙◌, subst, Option, Some}
-use Rattle.std.proofs.Common.{None, not, ◌==◌}
+use Rattle.std.proofs.Common.{None, not, ◌==◌, ◌&&◌}
 use Rattle.std.specs.Prelude.{Result, Ok, Err, codes, bytes_eq, option_map}
 use Rattle.std.specs.List.{AllByRecursion, AllZip, list_all}
 use Rattle.std.proofs.lemmas.Bool.{and_parts, ne_eqb}
@@ -10,6 +10,7 @@ use Rattle.erp1_telegrams.specs.declared.eep.Eep.{Eep}
 use Rattle.actuator_commands.specs.Words.{words, Word, Says, Id, Profile, SpellsWord, IsWordInRange}
 use Rattle.actuator_commands.specs.Words.{is_word_in_range, id_in, eep_in}
 use Rattle.actuator_commands.specs.declared.orders.Order.{Order}
+use Rattle.actuator_commands.specs.declared.orders.Order.TheVariants.{LearnOn, LearnOnAnswer, LearnAs, LearnOff}
 use Rattle.actuator_commands.specs.declared.orders.Order.TheVariants.{Add, Remove, List as ListAll, Status}
 use Rattle.actuator_commands.specs.declared.orders.OrderFault.{OrderFault}
 use Rattle.actuator_commands.specs.declared.orders.OrderFault.TheVariants.{Syntax, Range}
@@ -23,6 +24,10 @@ use Rattle.actuator_commands.proofs.SpellingLemmas.{id_spelled, id_read, eep_spe
 named : (text name : List ℕ) → bytes_eq text name ≡ true → text ≡ name
 named text name e = (bytes_eq-Decides text name).0 e
 
+two_named : (a b first second : List ℕ) → (bytes_eq a first && bytes_eq b second) ≡ true → (a ≡ first) × (b ≡ second)
+two_named a b first second e =
+    let parts = and_parts (bytes_eq a first) (bytes_eq b second) e in (named a first parts.0, named b second parts.1)
+
 -- the words have the shape of the order, if there is one
 Fits : List (List ℕ) → Option Order → Type 0
 Fits ws None = Unit {0}
@@ -32,6 +37,12 @@ fits_if : (ws : List (List ℕ)) (b : Bool) (o else' : Option Order) → (b ≡ 
     → Fits ws (cond b o else')
 fits_if ws true o else' h k = h refl
 fits_if ws false o else' h k = k
+
+fits-learn_as : (name by eep : List ℕ) (p : Option Eep) → eep_in eep ≡ p → name ≡ codes "learn" → by ≡ codes "as"
+    → Fits (name ∷ by ∷ eep ∷ []) (option_map (λ e. LearnAs e) p)
+unfolding Fits
+fits-learn_as name by eep None e is by_is = tt
+fits-learn_as name by eep (Some p) e is by_is = (is, (by_is, (eep_spelled eep p e, tt)))
 
 fits-remove : (name id : List ℕ) (i : Option ℕ) → id_in id ≡ i → name ≡ codes "remove"
     → Fits (name ∷ id ∷ []) (option_map (λ n. Remove n) i)
@@ -53,12 +64,26 @@ fits (name ∷ []) =
     fits_if (name ∷ []) (bytes_eq name (codes "list")) (Some ListAll) _ (λ e. (named name (codes "list") e, tt))
     (fits_if (name ∷ []) (bytes_eq name (codes "status")) (Some Status) None
     (λ e. (named name (codes "status") e, tt)) tt)
-fits (name ∷ id ∷ []) =
-    fits_if (name ∷ id ∷ []) (bytes_eq name (codes "remove")) (option_map (λ n. Remove n) (id_in id)) None
-    (λ e. fits-remove name id (id_in id) refl (named name (codes "remove") e)) tt
-fits (name ∷ id ∷ eep ∷ []) =
-    fits_if (name ∷ id ∷ eep ∷ []) (bytes_eq name (codes "add")) (add_of (id_in id) (eep_in eep)) None
-    (λ e. fits-add name id eep (id_in id) (eep_in eep) refl refl (named name (codes "add") e)) tt
+fits (name ∷ second ∷ []) =
+    fits_if (name ∷ second ∷ []) (bytes_eq name (codes "learn") && bytes_eq second (codes "on")) (Some LearnOn) _
+    (λ e. let both = two_named name second (codes "learn") (codes "on") e in (both.0, (both.1, tt)))
+    (fits_if (name ∷ second ∷ []) (bytes_eq name (codes "learn") && bytes_eq second (codes "off")) (Some LearnOff) _
+    (λ e. let both = two_named name second (codes "learn") (codes "off") e in (both.0, (both.1, tt)))
+    (fits_if (name ∷ second ∷ []) (bytes_eq name (codes "remove")) (option_map (λ n. Remove n) (id_in second)) None
+    (λ e. fits-remove name second (id_in second) refl (named name (codes "remove") e)) tt))
+fits (name ∷ second ∷ third ∷ []) =
+    fits_if (name ∷ second ∷ third ∷ [])
+    (bytes_eq name (codes "learn") && bytes_eq second (codes "on") && bytes_eq third (codes "answer"))
+    (Some LearnOnAnswer) _
+    (λ e. let all = and_parts _ (bytes_eq third (codes "answer")) e in
+    let both = two_named name second (codes "learn") (codes "on") all.0 in
+    (both.0, (both.1, (named third (codes "answer") all.1, tt))))
+    (fits_if (name ∷ second ∷ third ∷ []) (bytes_eq name (codes "learn") && bytes_eq second (codes "as"))
+    (option_map (λ eep. LearnAs eep) (eep_in third)) _
+    (λ e. let both = two_named name second (codes "learn") (codes "as") e in
+    fits-learn_as name second third (eep_in third) refl both.0 both.1)
+    (fits_if (name ∷ second ∷ third ∷ []) (bytes_eq name (codes "add")) (add_of (id_in second) (eep_in third)) None
+    (λ e. fits-add name second third (id_in second) (eep_in third) refl refl (named name (codes "add") e)) tt))
 fits (a ∷ b ∷ c ∷ d ∷ more) = tt
 
 -- texts that spell words: the first of them, and the others
@@ -80,6 +105,34 @@ no_more (text ∷ texts) h = absurd h
 
 -- words that spell those of an order are read as it
 read : (ws : List (List ℕ)) (order : Order) → AllZip SpellsWord ws (words_of order) → order_in ws ≡ Some order
+read ws LearnOn h =
+    let a = parts ws _ _ h in
+    let b = parts a.texts _ _ a.others in
+    let end = no_more b.texts b.others in
+    let is : ws ≡ codes "learn" ∷ codes "on" ∷ [] = cc (a.whole, a.spelled, b.whole, b.spelled, end) in
+    ap order_in is
+read ws LearnOnAnswer h =
+    let a = parts ws _ _ h in
+    let b = parts a.texts _ _ a.others in
+    let c = parts b.texts _ _ b.others in
+    let end = no_more c.texts c.others in
+    let is : ws ≡ codes "learn" ∷ codes "on" ∷ codes "answer" ∷ [] =
+    cc (a.whole, a.spelled, b.whole, b.spelled, c.whole, c.spelled, end) in
+    ap order_in is
+read ws (LearnAs eep) h =
+    let a = parts ws _ _ h in
+    let b = parts a.texts _ _ a.others in
+    let c = parts b.texts _ _ b.others in
+    let end = no_more c.texts c.others in
+    let is : ws ≡ codes "learn" ∷ codes "as" ∷ c.text ∷ [] =
+    cc (a.whole, a.spelled, b.whole, b.spelled, c.whole, end) in
+    rw (is, eep_read c.text eep c.spelled) refl
+read ws LearnOff h =
+    let a = parts ws _ _ h in
+    let b = parts a.texts _ _ a.others in
+    let end = no_more b.texts b.others in
+    let is : ws ≡ codes "learn" ∷ codes "off" ∷ [] = cc (a.whole, a.spelled, b.whole, b.spelled, end) in
+    ap order_in is
 read ws (Add id eep) h =
     let a = parts ws _ _ h in
     let b = parts a.texts _ _ a.others in

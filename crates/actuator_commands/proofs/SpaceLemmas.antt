@@ -10,6 +10,7 @@ use Rattle.hex.proofs.HexLemmas.{decode_of-ok}
 use Rattle.erp1_telegrams.specs.declared.eep.Eep.{Eep}
 use Rattle.actuator_commands.specs.Words.{words, Word, Says, Id, Profile, SpellsEep, SpellsWord}
 use Rattle.actuator_commands.specs.declared.orders.Order.{Order}
+use Rattle.actuator_commands.specs.declared.orders.Order.TheVariants.{LearnOn, LearnOnAnswer, LearnAs, LearnOff}
 use Rattle.actuator_commands.specs.declared.orders.Order.TheVariants.{Add, Remove, List as ListAll, Status}
 use Rattle.actuator_commands.specs.Orders.{words_of}
 
@@ -70,6 +71,11 @@ words-lack (text ∷ texts) (word ∷ more) plain spell =
 
 plain-words : (order : Order) → AllByRecursion IsPlain (words_of order)
 unfolding IsPlain
+plain-words LearnOn = (lacks (codes "learn") refl, (lacks (codes "on") refl, tt))
+plain-words LearnOnAnswer =
+    (lacks (codes "learn") refl, (lacks (codes "on") refl, (lacks (codes "answer") refl, tt)))
+plain-words (LearnAs eep) = (lacks (codes "learn") refl, (lacks (codes "as") refl, (tt, tt)))
+plain-words LearnOff = (lacks (codes "learn") refl, (lacks (codes "off") refl, tt))
 plain-words (Add id eep) = (lacks (codes "add") refl, (tt, (tt, tt)))
 plain-words (Remove id) = (lacks (codes "remove") refl, (tt, tt))
 plain-words ListAll = (lacks (codes "list") refl, tt)
@@ -84,6 +90,10 @@ joined text (next ∷ texts) lack more =
 
 -- an order has words
 some_words : (order : Order) → AllZip SpellsWord [] (words_of order) → ⊥
+some_words LearnOn none = none
+some_words LearnOnAnswer none = none
+some_words (LearnAs eep) none = none
+some_words LearnOff none = none
 some_words (Add id eep) none = none
 some_words (Remove id) none = none
 some_words ListAll none = none

@@ -1,18 +1,23 @@
 -- The orders that a line of the desk spells. Own choice: words stand as written, with exactly one space between two of
 -- them.
-use Rattle.std.specs.Prelude.{◌≡◌, ℕ, Bool, List, [], ◌∷◌, codes, bytes_eq, Option, Some, None, Result, Ok, Err}
+use Rattle.std.specs.Prelude.{◌≡◌, ℕ, Bool, ◌&&◌, List, [], ◌∷◌, codes, bytes_eq, Option, Some, None, Result, Ok, Err}
 use Rattle.std.specs.Prelude.{option_map, if◌then◌else◌}
 use Rattle.std.specs.List.{AllByRecursion, AllZip, join_with_byte, list_all}
 use Rattle.erp1_telegrams.specs.declared.eep.Eep.{Eep}
 use Rattle.actuator_commands.specs.Words.{words, Word, Says, Id, Profile, SpellsWord, IsWordInRange}
 use Rattle.actuator_commands.specs.Words.{is_word_in_range, id_in, eep_in}
 use Rattle.actuator_commands.specs.declared.orders.Order.{Order}
+use Rattle.actuator_commands.specs.declared.orders.Order.TheVariants.{LearnOn, LearnOnAnswer, LearnAs, LearnOff}
 use Rattle.actuator_commands.specs.declared.orders.Order.TheVariants.{Add, Remove, List as ListAll, Status}
 use Rattle.actuator_commands.specs.declared.orders.OrderFault.{OrderFault}
 use Rattle.actuator_commands.specs.declared.orders.OrderFault.TheVariants.{Syntax, Range}
 
 -- The table of the orders: the words of each, as they stand in its lines. Own choice.
 abbrev pub words_of : Order → List Word
+words_of LearnOn = Says (codes "learn") ∷ Says (codes "on") ∷ []
+words_of LearnOnAnswer = Says (codes "learn") ∷ Says (codes "on") ∷ Says (codes "answer") ∷ []
+words_of (LearnAs eep) = Says (codes "learn") ∷ Says (codes "as") ∷ Profile eep ∷ []
+words_of LearnOff = Says (codes "learn") ∷ Says (codes "off") ∷ []
 words_of (Add id eep) = Says (codes "add") ∷ Id id ∷ Profile eep ∷ []
 words_of (Remove id) = Says (codes "remove") ∷ Id id ∷ []
 words_of ListAll = Says (codes "list") ∷ []
@@ -48,8 +53,18 @@ order_in (name ∷ []) =
     if bytes_eq name (codes "list") then Some ListAll
     else if bytes_eq name (codes "status") then Some Status
     else None
-order_in (name ∷ id ∷ []) = if bytes_eq name (codes "remove") then option_map (λ n. Remove n) (id_in id) else None
-order_in (name ∷ id ∷ eep ∷ []) = if bytes_eq name (codes "add") then add_of (id_in id) (eep_in eep) else None
+order_in (name ∷ second ∷ []) =
+    if bytes_eq name (codes "learn") && bytes_eq second (codes "on") then Some LearnOn
+    else if bytes_eq name (codes "learn") && bytes_eq second (codes "off") then Some LearnOff
+    else if bytes_eq name (codes "remove") then option_map (λ id. Remove id) (id_in second)
+    else None
+order_in (name ∷ second ∷ third ∷ []) =
+    if bytes_eq name (codes "learn") && bytes_eq second (codes "on") && bytes_eq third (codes "answer")
+    then Some LearnOnAnswer
+    else if bytes_eq name (codes "learn") && bytes_eq second (codes "as")
+    then option_map (λ eep. LearnAs eep) (eep_in third)
+    else if bytes_eq name (codes "add") then add_of (id_in second) (eep_in third)
+    else None
 order_in texts = None
 
 -- an order that has the shape is taken where its numbers are in range

@@ -9,6 +9,14 @@ use erp1_telegrams::{BROADCAST, Eep};
 /// An order of the desk.
 #[derive(Clone, Copy, Debug, PartialEq, Eq)]
 pub enum Order {
+    /// `learn on`: learn by telegrams of teach-in.
+    LearnOn,
+    /// `learn on answer`: learn by telegrams of teach-in, and answer 4BS queries.
+    LearnOnAnswer,
+    /// `learn as EEP`: learn the next sender that fits, with this profile.
+    LearnAs(Eep),
+    /// `learn off`: learn no more.
+    LearnOff,
     /// `add ID EEP`: learn the device with this ID and profile.
     Add(u32, Eep),
     /// `remove ID`: forget the device with this ID.
@@ -39,7 +47,17 @@ fn order_in(line: &[u8]) -> Option<Order>
         next_word(&mut left),
         next_word(&mut left),
     );
+    let is_learn = name == b"learn".as_slice();
     match words {
+        (Some(on), None, _) if is_learn && on == b"on".as_slice() => Some(Order::LearnOn),
+        (Some(on), Some(answer), None)
+            if is_learn && on == b"on".as_slice() && answer == b"answer".as_slice() => {
+            Some(Order::LearnOnAnswer)
+        }
+        (Some(by), Some(eep), None) if is_learn && by == b"as".as_slice() => {
+            Some(Order::LearnAs(eep_of(eep)?))
+        }
+        (Some(off), None, _) if is_learn && off == b"off".as_slice() => Some(Order::LearnOff),
         (Some(id), Some(eep), None) if name == b"add".as_slice() => {
             Some(Order::Add(id_of(id)?, eep_of(eep)?))
         }
@@ -54,8 +72,13 @@ fn is_in_range(order: &Order) -> bool
     ensures { result ≡ is_in_range order.now }
 {
     match order {
+        Order::LearnOn
+        | Order::LearnOnAnswer
+        | Order::LearnAs(_)
+        | Order::LearnOff
+        | Order::List
+        | Order::Status => true,
         Order::Add(id, _) | Order::Remove(id) => *id != BROADCAST,
-        Order::List | Order::Status => true,
     }
 }
 

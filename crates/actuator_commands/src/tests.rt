@@ -16,7 +16,25 @@ fn orders(rt: HostRuntime) {
         func: 0x38,
         typ: 0x08,
     };
-    let cases: [(&[u8], Order); 9] = [
+    let first = Eep {
+        rorg: 0x00,
+        func: 0x00,
+        typ: 0x00,
+    };
+    let last = Eep {
+        rorg: 0xFF,
+        func: 0xFF,
+        typ: 0xFF,
+    };
+    let cases: [(&[u8], Order); 17] = [
+        (b"learn on", Order::LearnOn),
+        (b"learn on answer", Order::LearnOnAnswer),
+        (b"learn as D5-00-01", Order::LearnAs(CONTACT)),
+        (b"learn as d5-00-01", Order::LearnAs(CONTACT)),
+        (b"learn as A5-38-08", Order::LearnAs(lamp)),
+        (b"learn as ff-Ff-fF", Order::LearnAs(last)),
+        (b"learn as 00-00-00", Order::LearnAs(first)),
+        (b"learn off", Order::LearnOff),
         (b"add 01800ABC D5-00-01", Order::Add(0x0180_0ABC, CONTACT)),
         (b"add 01800abc d5-00-01", Order::Add(0x0180_0ABC, CONTACT)),
         (b"add 01800aBc a5-38-08", Order::Add(0x0180_0ABC, lamp)),
@@ -48,11 +66,11 @@ fn out_of_range(rt: HostRuntime) {
 
 #[test]
 fn lines_that_are_no_order(rt: HostRuntime) {
-    let cases: [&[u8]; 46] = [
+    let cases: [&[u8]; 85] = [
         b"",
         b" ",
         b"\r",
-        // A name with one letter changed, or in upper case.
+        // A word with one letter changed, or in upper case.
         b"aad 01800ABC D5-00-01",
         b"adds 01800ABC D5-00-01",
         b"ADD 01800ABC D5-00-01",
@@ -63,6 +81,16 @@ fn lines_that_are_no_order(rt: HostRuntime) {
         b"lisT",
         b"statut",
         b"statu",
+        b"learm on",
+        b"Learn on",
+        b"learn of",
+        b"learn onn",
+        b"learn On",
+        b"learn on Answer",
+        b"learn on answers",
+        b"learn at D5-00-01",
+        b"learn AS D5-00-01",
+        b"learn offf",
         // Words that are missing, that are too many, or that stand in another order.
         b"add",
         b"add 01800ABC",
@@ -74,6 +102,20 @@ fn lines_that_are_no_order(rt: HostRuntime) {
         b"01800ABC",
         b"list 01800ABC",
         b"status list",
+        b"learn",
+        b"learn as",
+        b"learn as on",
+        b"learn answer",
+        b"learn answer on",
+        b"learn D5-00-01",
+        b"learn on as D5-00-01",
+        b"learn on D5-00-01",
+        b"learn on answer x",
+        b"learn as D5-00-01 x",
+        b"learn off x",
+        b"learn off answer",
+        b"on learn",
+        b"on",
         // Spaces that are too many, and other bytes in the place of one.
         b"add  01800ABC D5-00-01",
         b"add 01800ABC  D5-00-01",
@@ -87,6 +129,18 @@ fn lines_that_are_no_order(rt: HostRuntime) {
         b"add 01800ABC\tD5-00-01",
         b"list\t",
         b"list\r",
+        b"learn ",
+        b"learn  on",
+        b"learn on  answer",
+        b" learn on",
+        b"learn on ",
+        b"learn on answer ",
+        b"learn as  D5-00-01",
+        b"learn as D5-00-01 ",
+        b"learn\t",
+        b"learn\ton",
+        b"learn on\tanswer",
+        b"learn off\r",
         b"add 01800ABC D5-00-01\n",
         // Digits that are too few, too many or none.
         b"remove 1800ABC",
@@ -98,6 +152,9 @@ fn lines_that_are_no_order(rt: HostRuntime) {
         b"add 01800ABC D5_00-01",
         b"add 01800ABC D5-00_01",
         b"add 01800ABC D5-0G-01",
+        b"learn as D5-00",
+        b"learn as D5-00-1",
+        b"learn as D50001",
         // What is out of range besides.
         b"add FFFFFFFF D5-00-0",
     ];

@@ -84,3 +84,8 @@ sent t = record {
   body = t.rorg ∷ t.payload ++ to_be_bytes w32 t.sender ++ t.status ∷ [];
   opt = 3 ∷ to_be_bytes w32 t.dest ++ 0xFF ∷ 0 ∷ [];
 }
+
+-- the longest packet that a telegram is sent in: 20 bytes of data and 7 of optional data, with a header of 6 bytes and
+-- one check byte
+abbrev pub longest_sent : ℕ
+longest_sent = 34

@@ -1,9 +1,9 @@
 //! Telegrams in packets.
-ghost use Rattle.std.specs.Prelude.{◌≡◌, ◌-◌, ◌++◌, length, nat_lt, if◌then◌else◌, Ok, Err, OnOk, OnErr};
+ghost use Rattle.std.specs.Prelude.{◌≡◌, ◌≤◌, ◌-◌, ◌++◌, length, nat_lt, if◌then◌else◌, Ok, Err, OnOk, OnErr};
 ghost use Rattle.arrayvec.specs.ArrayVec.{array_vec_len};
 ghost use Rattle.esp3_frames.specs.Packet.{IsPacket, spelling};
 ghost use Rattle.esp3_frames.specs.Outcome.{packet_of};
-ghost use Rattle.erp1_telegrams.specs.Telegram.{telegram_of, destination, strength, sent};
+ghost use Rattle.erp1_telegrams.specs.Telegram.{telegram_of, destination, strength, sent, longest_sent};
 
 use crate::telegram::{BROADCAST, Telegram, TelegramFault, is_kind};
 use arrayvec::ArrayVec;
@@ -53,6 +53,7 @@ pub fn write(t: &Telegram, out: &mut ArrayVec<u8, 64>) -> Result<(), PacketFault
         then Err PacketFault.NoRoom else Ok tt) }
     ensures ok { OnOk result (out.new.items ≡ out.old.items ++ spelling (sent t.now)) }
     ensures packet { IsPacket (sent t.now) (spelling (sent t.now)) }
+    ensures short { length (spelling (sent t.now)) ≤ longest_sent }
     ensures err { OnErr result (out.new ≡ out.old) }
 {
     let mut body = ArrayVec::<u8, 20>::new();

@@ -16,11 +16,14 @@ unrefused state =
       looks = refl;
       reads = λ line. refl;
       hears = λ response. refl;
+      admits = λ kind known. refl;
+      refuses = λ kind line is. refl;
       denies = λ name. refl;
       finds = λ name. refl;
+      sets = λ mode. refl;
       lists = refl;
       reports = refl;
-      teaches = λ known. refl;
+      adds = λ known. refl;
       drops = λ known is. refl;
     })
 

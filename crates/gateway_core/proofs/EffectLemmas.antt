@@ -8,77 +8,112 @@ use Rattle.erp1_telegrams.specs.Telegram.{Telegram, telegram_of}
 use Rattle.profiles_rps.specs.Reading.{Entry}
 use Rattle.device_registry.specs.declared.device.Device.{Device}
 use Rattle.device_registry.specs.Devices.{device_of, all_of, is_full}
-use Rattle.teach_in.specs.Profiles.{supported}
-use Rattle.teach_in.specs.Telegrams.{teach_in_of}
+use Rattle.teach_in.specs.declared.four_byte.FourByteQuery.{FourByteQuery}
+use Rattle.teach_in.specs.declared.mode.Mode.{Mode}
+use Rattle.teach_in.specs.declared.outcome.Outcome.{Outcome}
+use Rattle.teach_in.specs.declared.outcome.Outcome.TheVariants.{Accepted, Deleted, Unsupported, NoProfile}
 use Rattle.teach_in.specs.declared.telegrams.Teach.{Teach}
 use Rattle.teach_in.specs.declared.telegrams.Teach.TheVariants as teach
+use Rattle.teach_in.specs.Profiles.{supported}
+use Rattle.teach_in.specs.Telegrams.{teach_in_of}
+use Rattle.teach_in.specs.Verdicts.{plan_of}
+use Rattle.teach_in.proofs.ForCallers.{either, Refuses, of_plan}
 use Rattle.json_lines.specs.declared.counts.Count.TheVariants as count
 use Rattle.json_lines.specs.declared.fixed.ErrorName.{ErrorName}
 use Rattle.json_lines.specs.declared.fixed.ErrorName.TheVariants as error
 use Rattle.actuator_commands.specs.declared.orders.Order.{Order}
-use Rattle.actuator_commands.specs.declared.orders.Order.TheVariants.{Add, Remove, List as ListAll, Status}
+use Rattle.actuator_commands.specs.declared.orders.Order.TheVariants.{LearnOn, LearnOnAnswer, LearnOff, Add, Remove}
+use Rattle.actuator_commands.specs.declared.orders.Order.TheVariants.{LearnAs, List as ListAll, Status}
 use Rattle.actuator_commands.specs.declared.orders.OrderFault.{OrderFault}
 use Rattle.actuator_commands.specs.declared.orders.OrderFault.TheVariants.{Syntax, Range}
 use Rattle.actuator_commands.specs.Orders.{order_of}
-use Rattle.json_lines.specs.Lines.{Reading, StatusLine, ResponseLine, Error, ReadingLine, Response, listing}
+use Rattle.json_lines.specs.Lines.{Reading, StatusLine, ResponseLine, Error, ReadingLine, TeachLine, Response, listing}
 use Rattle.gateway_core.specs.Profiles.{readings_of}
 use Rattle.gateway_core.specs.Responses.{response_in}
-use Rattle.gateway_core.specs.Step.{State, Item, Received, Ordered, Effect, ignored, unread, counted_line, denied}
-use Rattle.gateway_core.specs.Step.{tells}
-use Rattle.gateway_core.specs.Step.{learns, forgets, PassedOver, Teaches, data_case, kind_case, reading_effect}
-use Rattle.gateway_core.specs.Step.{case_effect}
-use Rattle.gateway_core.specs.Step.{packet_by, addition, removal, order_effect, longest_line, effect}
+use Rattle.gateway_core.specs.Step.{State, Item, Received, Ordered, Effect, ignored, unread, unsaid}
+use Rattle.gateway_core.specs.Step.{counted_line, denied}
+use Rattle.gateway_core.specs.Step.{tells, opens, learns, forgets, taught, accepts, refused_line, plan_effect}
+use Rattle.gateway_core.specs.Step.{PassedOver, Teaches, data_case, kind_case, reading_effect, case_effect}
+use Rattle.gateway_core.specs.Step.{packet_by, addition, removal, if_supported, order_effect, longest_line, effect}
 use Rattle.gateway_core.proofs.DeviceLemmas.{device_of-known}
 
 -- ---- a telegram of teach-in is one, whatever it tells
 
 pub teaches : (kind : Teach) (known : Option Device)
-    → (kind ≡ teach.Contact) ⊎ ((kind ≡ teach.Bare) ⊎ ((kind ≡ teach.FourByte) ⊎ (kind ≡ teach.Ute)))
+    → (kind ≡ teach.Contact) ⊎ ((kind ≡ teach.Bare) ⊎ ((((query : FourByteQuery) × (kind ≡ teach.FourByte query)) ⊎ (kind ≡ teach.Ute))))
     → kind_case kind known ≡ Teaches
 teaches kind known (inl is) = ap (λ k. kind_case k known) is
 teaches kind known (inr (inl is)) = ap (λ k. kind_case k known) is
-teaches kind known (inr (inr (inl is))) = ap (λ k. kind_case k known) is
+teaches kind known (inr (inr (inl (query, is)))) = ap (λ k. kind_case k known) is
 teaches kind known (inr (inr (inr is))) = ap (λ k. kind_case k known) is
+
+-- ---- a sender that is refused
+
+-- nothing is done for it
+abbrev pub IsRefusal : Outcome → Type 0
+IsRefusal Accepted = ⊥
+IsRefusal Deleted = ⊥
+IsRefusal outcome = Unit {0}
+
+pub refused-outcome : (id : ℕ) (kind : Teach) (outcome : Outcome) → (refused_line id kind outcome).outcome ≡ outcome
+refused-outcome id (teach.FourByte query) outcome = refl
+refused-outcome id kind outcome = refl
+
+is-refusal : (id : ℕ) (kind : Teach) (outcome : Outcome) → Refuses kind outcome
+    → IsRefusal (refused_line id kind outcome).outcome
+is-refusal id teach.Bare NoProfile is = tt
+is-refusal id (teach.FourByte query) Unsupported is = tt
+is-refusal id kind outcome is = absurd is
 
 -- ---- all effects
 
 -- it holds of each effect that there is
 pub record OfEach (P : Effect → Type 0) (state : State) : Type 0 where
-  pub ignores : P (ignored state.mode)
-  pub looks : P (unread state.mode)
-  pub reads : (line : ReadingLine) → P (counted_line state.mode count.Reading (Reading line))
-  pub hears : (response : Response) → P (counted_line state.mode count.Response (ResponseLine response))
-  pub denies : (name : ErrorName) → P (denied state.mode name)
-  pub finds : (name : ErrorName) → P (tells state.mode (Error name ∷ []))
-  pub lists : P (tells state.mode (listing (all_of state.devices)))
-  pub reports : P (tells state.mode (StatusLine state.counts state.mode ∷ []))
-  pub teaches : (known : Device) → P (learns state.mode known)
-  pub drops : (known : Device) → device_of state.devices known.id ≡ Some known → P (forgets state.mode known)
+  pub ignores : P ignored
+  pub looks : P unread
+  pub reads : (line : ReadingLine) → P (counted_line count.Reading (Reading line))
+  pub hears : (response : Response) → P (counted_line count.Response (ResponseLine response))
+  pub admits : (kind : Teach) (known : Device) → P (accepts state kind known)
+  pub refuses : (kind : Teach) (line : TeachLine) → IsRefusal line.outcome → P (taught state kind line)
+  pub denies : (name : ErrorName) → P (denied name)
+  pub finds : (name : ErrorName) → P (tells (Error name ∷ []))
+  pub sets : (mode : Mode) → P (opens mode)
+  pub lists : P (tells (listing (all_of state.devices)))
+  pub reports : P (tells (StatusLine state.counts state.mode ∷ []))
+  pub adds : (known : Device) → P (learns known)
+  pub drops : (known : Device) → device_of state.devices known.id ≡ Some known → P (forgets known)
 
 module _ (P : Effect → Type 0) (state : State) (each : OfEach P state) where
-  either : (b : Bool) (one other : Effect) → P one → P other → P (if b then one else other)
-  either true one other holds may = holds
-  either false one other holds may = may
-
-  of-reading : (t : Telegram) (eep : Eep) (readings : Option (List Entry))
-      → P (reading_effect state.mode t eep readings)
+  of-reading : (t : Telegram) (eep : Eep) (readings : Option (List Entry)) → P (reading_effect t eep readings)
   of-reading t eep None = each.looks
   of-reading t eep (Some readings) = each.reads _
 
-  of-data : (t : Telegram) (known : Option Device) → P (case_effect state.mode t (data_case known))
-  of-data t None = each.looks
+  of-plan : (t : Telegram) (asked : Bool) → P (unsaid asked)
+      → P (plan_effect state t asked (plan_of t state.mode false))
+  of-plan t asked holds =
+      of_plan (λ plan. P (plan_effect state t asked plan)) t holds
+      (λ eep maker.
+      either P (is_full state.devices t.sender) _ _ (each.refuses (teach_in_of t) _ tt)
+      (each.admits (teach_in_of t) _))
+      state.mode false
+      (λ outcome is.
+      each.refuses (teach_in_of t) (refused_line t.sender (teach_in_of t) outcome)
+      (is-refusal t.sender (teach_in_of t) outcome is))
+
+  of-data : (t : Telegram) (known : Option Device) → P (case_effect state t (data_case known))
+  of-data t None = of-plan t true each.looks
   of-data t (Some known) = of-reading t known.eep (readings_of known.eep t)
 
-  of-kind : (t : Telegram) (kind : Teach) (known : Option Device) → P (case_effect state.mode t (kind_case kind known))
+  of-kind : (t : Telegram) (kind : Teach) (known : Option Device) → P (case_effect state t (kind_case kind known))
   of-kind t teach.Answer known = each.ignores
-  of-kind t teach.Contact known = each.ignores
-  of-kind t teach.Bare known = each.ignores
-  of-kind t teach.FourByte known = each.ignores
-  of-kind t teach.Ute known = each.ignores
+  of-kind t teach.Contact known = of-plan t false each.ignores
+  of-kind t teach.Bare known = of-plan t false each.ignores
+  of-kind t (teach.FourByte query) known = of-plan t false each.ignores
+  of-kind t teach.Ute known = of-plan t false each.ignores
   of-kind t teach.Plain known = of-data t known
 
   of-telegram : (t : Telegram) (over : Bool)
-      → P (case_effect state.mode t
+      → P (case_effect state t
       (if over then PassedOver else kind_case (teach_in_of t) (device_of state.devices t.sender)))
   of-telegram t true = each.ignores
   of-telegram t false = of-kind t (teach_in_of t) (device_of state.devices t.sender)
@@ -89,19 +124,22 @@ module _ (P : Effect → Type 0) (state : State) (each : OfEach P state) where
   of-packet None (Ok t) = of-telegram t (is_passed_over state.base t)
   of-packet None (Err fault) = each.ignores
 
-  of-addition : (known : Device) → P (addition state known)
-  of-addition known =
-      either (is_full state.devices known.id) _ _ (each.finds error.Full) (each.teaches known)
+  of-supported : (eep : Eep) (effect : Effect) → P effect → P (if_supported eep effect)
+  of-supported eep effect holds = either P (supported eep) _ _ holds (each.denies error.UnsupportedProfile)
 
-  of-removal : (id : ℕ) (known : Option Device) → device_of state.devices id ≡ known → P (removal state.mode known)
+  of-removal : (id : ℕ) (known : Option Device) → device_of state.devices id ≡ known → P (removal known)
   of-removal id None is = each.finds error.UnknownDevice
   of-removal id (Some known) is = each.drops known (device_of-known state.devices id known is)
 
   of-order : (order : Result Order OrderFault) → P (order_effect state order)
   of-order (Err Syntax) = each.denies error.Syntax
   of-order (Err Range) = each.denies error.Range
+  of-order (Ok LearnOn) = each.sets _
+  of-order (Ok LearnOnAnswer) = each.sets _
+  of-order (Ok (LearnAs eep)) = of-supported eep _ (each.sets _)
+  of-order (Ok LearnOff) = each.sets _
   of-order (Ok (Add id eep)) =
-      either (supported eep) _ _ (of-addition _) (each.denies error.UnsupportedProfile)
+      of-supported eep _ (either P (is_full state.devices id) _ _ (each.finds error.Full) (each.adds _))
   of-order (Ok (Remove id)) = of-removal id (device_of state.devices id) refl
   of-order (Ok ListAll) = each.lists
   of-order (Ok Status) = each.reports
@@ -110,20 +148,4 @@ module _ (P : Effect → Type 0) (state : State) (each : OfEach P state) where
   pub of_effect : (item : Item) → P (effect state item)
   of_effect (Received packet) = of-packet (response_in packet) (telegram_of packet)
   of_effect (Ordered line) =
-      either (nat_lt longest_line (length line)) _ _ (each.denies error.TooLong) (of-order (order_of line))
-
--- as yet no item changes the mode
-pub mode-stays : (state : State) (item : Item) → (effect state item).mode ≡ state.mode
-mode-stays state =
-    of_effect (λ e. e.mode ≡ state.mode) state (record {
-      ignores = refl;
-      looks = refl;
-      reads = λ line. refl;
-      hears = λ response. refl;
-      denies = λ name. refl;
-      finds = λ name. refl;
-      lists = refl;
-      reports = refl;
-      teaches = λ known. refl;
-      drops = λ known is. refl;
-    })
+      either P (nat_lt longest_line (length line)) _ _ (each.denies error.TooLong) (of-order (order_of line))

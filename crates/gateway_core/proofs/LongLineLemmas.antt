@@ -9,15 +9,15 @@ use Rattle.json_lines.specs.Counts.{raised}
 use Rattle.json_lines.specs.declared.fixed.ErrorName.TheVariants.{TooLong}
 use Rattle.actuator_commands.specs.Orders.{order_of}
 use Rattle.gateway_core.specs.Step.{State, Item, Ordered, Answer, said, Effect, denied, order_effect, longest_line}
-use Rattle.gateway_core.specs.Step.{line_effect, effect, answer_by, with_change}
+use Rattle.gateway_core.specs.Step.{line_effect, effect, answer_by, with_change, with_mode}
 use Rattle.gateway_core.specs.Run.{Fate, Taken, Refused, RefusedAtWrite, Run, cause_text, refused}
 use Rattle.gateway_core.specs.Stops.{Left, nothing_left, told, pending, left_by, Safe}
 use Rattle.gateway_core.specs.Handling.{HandlerValue, Went, Handles}
 
 effect-long : (start : State) (line : List ℕ) → longest_line < length line
-    → line_effect start line ≡ denied start.mode TooLong
+    → line_effect start line ≡ denied TooLong
 effect-long start line h =
-    ap (λ b. if b then denied start.mode TooLong else order_effect start (order_of line))
+    ap (λ b. if b then denied TooLong else order_effect start (order_of line))
     (lt-ltb longest_line (length line) h)
 
 -- a run on one item hangs on its effect alone
@@ -28,7 +28,7 @@ run_alike old new item other (Taken ∷ fates) (answer ∷ answers) e run =
     let P : Effect → Type 0 = λ d. Unit {0} × (answer ≡ answer_by d)
     × Run (record {
       base = old.base;
-      mode = d.mode;
+      mode = with_mode old.mode d.mode;
       counts = raised old.counts d.count;
       devices = with_change old.devices d.change;
     }) [] fates answers new in subst P e run

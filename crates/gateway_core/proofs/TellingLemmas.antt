@@ -1,17 +1,19 @@
--- A teach line is told only of the device that an item learns or forgets.
-use Rattle.std.proofs.Common.{◌≡◌, List, [], ◌∷◌, Some, refl, sym, ap, subst, ◌∙◌, append-nil}
+-- What teach lines tell, and that changes are told.
+use Rattle.std.proofs.Common.{◌≡◌, List, [], ◌∷◌, Some, None, refl, sym, ap, subst, ◌∙◌, append-nil}
 use Rattle.device_registry.specs.declared.device.Device.{Device}
-use Rattle.device_registry.specs.Devices.{Change, device_of, all_of}
+use Rattle.device_registry.specs.Devices.{Change, device_of, all_of, learned, forgotten}
 use Rattle.teach_in.specs.declared.outcome.Outcome.{Outcome}
-use Rattle.teach_in.specs.declared.outcome.Outcome.TheVariants.{Accepted, Deleted}
+use Rattle.teach_in.specs.declared.outcome.Outcome.TheVariants.{Accepted, Deleted, Unsupported, General, NoProfile}
+use Rattle.teach_in.specs.declared.outcome.Outcome.TheVariants as outcome
+use Rattle.teach_in.specs.declared.telegrams.Teach.{Teach as Kind}
 use Rattle.json_lines.specs.declared.fixed.ErrorName.TheVariants as error
-use Rattle.json_lines.specs.Lines.{DeskLine, Reading, Teach, ListEnd, StatusLine, ResponseLine, Error}
+use Rattle.json_lines.specs.Lines.{DeskLine, Reading, Teach, ListEnd, StatusLine, ResponseLine, Done, Error}
 use Rattle.json_lines.specs.Lines.{TeachLine, text, texts, listing}
 use Rattle.json_lines.proofs.ForCallers.{of_teach_lines}
-use Rattle.gateway_core.specs.Step.{State, Item, Effect, effect, told_of, learns, forgets}
+use Rattle.gateway_core.specs.Step.{State, Item, Effect, effect, told_of, taught, accepts, learns, forgets}
 use Rattle.gateway_core.specs.Run.{Cause, Memory, Store, Taken, Refused, RefusedAtWrite, cause_text}
-use Rattle.gateway_core.specs.Telling.{AsksFor, ChangesAreTold, TeachLinesAreTold}
-use Rattle.gateway_core.proofs.EffectLemmas.{of_effect}
+use Rattle.gateway_core.specs.Telling.{Tells, ChangesAreTold, TeachLinesAreTold}
+use Rattle.gateway_core.proofs.EffectLemmas.{IsRefusal, of_effect}
 
 -- whether a line is a teach line
 abbrev IsTeach : DeskLine → Type 0
@@ -41,77 +43,67 @@ cause-other : (cause : Cause) (line : TeachLine) → cause_text cause ≡ text (
 cause-other Memory line e = other-line (Error error.Memory) line (λ never. never) (append-nil _ ∙ e)
 cause-other Store line e = other-line (Error error.Store) line (λ never. never) (append-nil _ ∙ e)
 
--- the line of a device tells what came of it
-same-outcome : (known : Device) (outcome : Outcome) (line : TeachLine)
-    → texts (Teach (told_of known outcome) ∷ []) ≡ text (Teach line) → outcome ≡ line.outcome
-same-outcome known outcome line e =
-    let found = of_teach_lines (Teach (told_of known outcome) ∷ []) line e in
-    let same = alone (Teach (told_of known outcome)) (Teach found.0) found.1 in
+-- two teach lines with one text tell the same outcome
+same-outcome : (one line : TeachLine) → texts (Teach one ∷ []) ≡ text (Teach line) → one.outcome ≡ line.outcome
+same-outcome one line e =
+    let found = of_teach_lines (Teach one ∷ []) line e in
+    let same = alone (Teach one) (Teach found.0) found.1 in
     ap outcome_in same ∙ found.2
   where
     outcome_in : DeskLine → Outcome
     outcome_in (Teach line) = line.outcome
     outcome_in line = Accepted
 
--- what an effect tells of a device, it asks for
-abbrev Asks : State → Effect → Device → Outcome → Type 0
-Asks state e known Accepted = e.change ≡ (learns state.mode known).change
-Asks state e known Deleted =
-    (device_of state.devices known.id ≡ Some known) × (e.change ≡ (forgets state.mode known).change)
-Asks state e known outcome = ⊥
-
-record Told (state : State) (line : TeachLine) (e : Effect) : Type 0 where
-  pub known : Device
-  pub tells : text (Teach line) ≡ text (Teach (told_of known line.outcome))
-  pub asks : Asks state e known line.outcome
+-- what is refused changes nothing
+refused-tells : (state : State) (kind : Kind) (one line : TeachLine) (outcome : Outcome) → IsRefusal outcome
+    → Tells state (taught state kind one) line outcome
+refused-tells state kind one line Accepted is = absurd is
+refused-tells state kind one line Deleted is = absurd is
+refused-tells state kind one line Unsupported is = (refl, refl)
+refused-tells state kind one line outcome.Full is = (refl, refl)
+refused-tells state kind one line General is = (refl, refl)
+refused-tells state kind one line NoProfile is = (refl, refl)
 
 told : (state : State) (line : TeachLine) (e : Effect) (known : Device) (outcome : Outcome)
-    → texts (Teach (told_of known outcome) ∷ []) ≡ text (Teach line) → Asks state e known outcome → Told state line e
+    → texts (Teach (told_of known outcome) ∷ []) ≡ text (Teach line)
+    → (text (Teach line) ≡ text (Teach (told_of known outcome)) → Tells state e line outcome)
+    → Tells state e line line.outcome
 told state line e known outcome is asks =
-    let same = same-outcome known outcome line is in
-    record {
-      known = known;
-      tells =
-          subst (λ o. text (Teach line) ≡ text (Teach (told_of known o))) same (sym (sym (append-nil _) ∙ is));
-      asks = subst (λ o. Asks state e known o) same asks;
-    }
+    subst (Tells state e line) (same-outcome (told_of known outcome) line is) (asks (sym is ∙ append-nil _))
 
 effects-tell : (state : State) (line : TeachLine) (item : Item)
-    → texts (effect state item).desk ≡ text (Teach line) → Told state line (effect state item)
+    → texts (effect state item).desk ≡ text (Teach line) → Tells state (effect state item) line line.outcome
 effects-tell state line =
-    of_effect (λ e. texts e.desk ≡ text (Teach line) → Told state line e) state (record {
+    of_effect (λ e. texts e.desk ≡ text (Teach line) → Tells state e line line.outcome) state (record {
       ignores = λ e. absurd (no_line line e);
       looks = λ e. absurd (no_line line e);
       reads = λ read e. absurd (other-line (Reading read) line (λ never. never) e);
       hears = λ response e. absurd (other-line (ResponseLine response) line (λ never. never) e);
+      admits = λ kind known e. told state line (accepts state kind known) known Accepted e (λ is. (known, is, refl));
+      refuses = λ kind other is e.
+          subst (Tells state (taught state kind other) line) (same-outcome other line e)
+          (refused-tells state kind other line other.outcome is);
       denies = λ name e. absurd (other-line (Error name) line (λ never. never) e);
       finds = λ name e. absurd (other-line (Error name) line (λ never. never) e);
+      sets = λ mode e. absurd (other-line Done line (λ never. never) e);
       lists = λ e. absurd (listing-other (all_of state.devices) line e);
       reports = λ e. absurd (other-line (StatusLine state.counts state.mode) line (λ never. never) e);
-      teaches = λ known e. told state line (learns state.mode known) known Accepted e refl;
-      drops = λ known is e. told state line (forgets state.mode known) known Deleted e (is, refl);
+      adds = λ known e. told state line (learns known) known Accepted e (λ is. (known, is, refl));
+      drops = λ known has e. told state line (forgets known) known Deleted e (λ is. (known, is, has, refl));
     })
-
-asked : (state : State) (item : Item) (known : Device) (outcome : Outcome)
-    → Asks state (effect state item) known outcome → AsksFor state item known outcome
-asked state item known Accepted asks = asks
-asked state item known Deleted asks = asks
-asked state item known outcome asks = absurd asks
 
 pub teach_lines_are_told : TeachLinesAreTold
 teach_lines_are_told state item Taken line e =
-    let it = effects-tell state line item e in
-    record { known = it.known; tells = it.tells; asks = asked state item it.known line.outcome it.asks; taken = refl }
+    (refl, effects-tell state line item e)
 teach_lines_are_told state item (Refused cause) line e = absurd (cause-other cause line e)
 teach_lines_are_told state item (RefusedAtWrite cause) line e = absurd (cause-other cause line e)
 
 -- ---- a change is told
 
--- what an effect asks for, it tells
+-- what an effect changes, it tells
 abbrev Answers : State → Effect → Type 0
 Answers state e = (change : Change) → e.change ≡ Some change
-    → (known : Device) × (outcome : Outcome) × Asks state e known outcome
-    × (texts e.desk ≡ text (Teach (told_of known outcome)))
+    → (line : TeachLine) × (texts e.desk ≡ text (Teach line)) × Tells state e line line.outcome
 
 effects-answer : (state : State) (item : Item) → Answers state (effect state item)
 effects-answer state =
@@ -120,15 +112,16 @@ effects-answer state =
       looks = λ change e. absurd cc;
       reads = λ line change e. absurd cc;
       hears = λ response change e. absurd cc;
+      admits = λ kind known change e. (told_of known Accepted, append-nil _, (known, refl, refl));
+      refuses = λ kind line is change e. absurd cc;
       denies = λ name change e. absurd cc;
       finds = λ name change e. absurd cc;
+      sets = λ mode change e. absurd cc;
       lists = λ change e. absurd cc;
       reports = λ change e. absurd cc;
-      teaches = λ known change e. (known, Accepted, refl, append-nil _);
-      drops = λ known is change e. (known, Deleted, (is, refl), append-nil _);
+      adds = λ known change e. (told_of known Accepted, append-nil _, (known, refl, refl));
+      drops = λ known is change e. (told_of known Deleted, append-nil _, (known, refl, is, refl));
     })
 
 pub changes_are_told : ChangesAreTold
-changes_are_told state item change e =
-    let told = effects-answer state item change e in
-    (told.0, told.1, asked state item told.0 told.1 told.2, told.3)
+changes_are_told state = effects-answer state

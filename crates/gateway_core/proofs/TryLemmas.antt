@@ -1,6 +1,6 @@
 -- One item, done or refused.
 use Rattle.std.proofs.Common.{◌<◌, ◌≡◌, inl, inr, ℕ, ◌≤◌, ◌+◌, ◌-◌, Bool, true, false, cond, IsTrue, IsSome, List, []}
-use Rattle.std.proofs.Common.{◌∷◌, length, Option, Some, None, Result, Ok, Err, refl, sym, ap, subst, ◌∙◌, arith}
+use Rattle.std.proofs.Common.{◌∷◌, length, Option, Some, None, Result, Ok, Err, refl, sym, ap, subst, ◌∙◌, arith, append-nil}
 use Rattle.std.specs.Prelude.{if◌then◌else◌}
 use Rattle.std.specs.Ordering.{nat_cmp}
 use Rattle.std.specs.Cmp.{nat_cmp_total}
@@ -9,6 +9,7 @@ use Rattle.std.proofs.lemmas.Bool.{leb-true, le-ltb}
 use Rattle.sqlite.specs.Held.{Held, state}
 use Rattle.sqlite.specs.State.{State as Known, HasCleanDisk}
 use Rattle.sqlite_trees.specs.declared.store.Store.{Ghosts}
+use Rattle.erp1_telegrams.specs.declared.eep.Eep.{Eep}
 use Rattle.erp1_telegrams.specs.Telegram.{Telegram}
 use Rattle.profiles_rps.specs.Reading.{Entry}
 use Rattle.device_registry.specs.declared.device.Device.{Device}
@@ -16,27 +17,38 @@ use Rattle.device_registry.specs.Devices.{most_devices, Learned, Devices, is_ful
 use Rattle.device_registry.proofs.ForCallers.{few_are_held}
 use Rattle.device_registry.specs.Holding.{HasDevices, MayFind, AreRegistries, Keeps, Pends}
 use Rattle.teach_in.specs.declared.mode.Mode.{Mode}
+use Rattle.teach_in.specs.declared.mode.Mode.TheVariants.{LearnAs}
+use Rattle.teach_in.specs.Profiles.{supported}
+use Rattle.teach_in.specs.declared.outcome.Outcome.{Outcome}
+use Rattle.teach_in.specs.declared.telegrams.Teach.{Teach}
+use Rattle.teach_in.specs.declared.plans.Plan.TheVariants.{Refuse}
+use Rattle.teach_in.specs.Telegrams.{teach_in_of}
+use Rattle.teach_in.specs.Verdicts.{plan_of}
+use Rattle.teach_in.proofs.ForCallers.{either, of_plan}
 use Rattle.json_lines.specs.declared.fixed.ErrorName.TheVariants as error
+use Rattle.gateway_core.specs.declared.handler.changes.Entered.{Entered}
+use Rattle.gateway_core.specs.declared.refusal.Cause as told
 use Rattle.gateway_core.specs.declared.refusal.Refusal.{Refusal}
 use Rattle.gateway_core.specs.declared.refusal.Refusal.TheVariants.{Before, AtWrite}
 use Rattle.json_lines.specs.declared.counts.Counts.{Counts}
 use Rattle.gateway_core.specs.declared.handler.done.Done.{Done}
 use Rattle.json_lines.specs.Counts.{raised}
-use Rattle.json_lines.specs.Lines.{Error}
+use Rattle.json_lines.specs.Lines.{Error, Teach as TeachOf, TeachLine, text}
 use Rattle.gateway_core.specs.Step.{State, Item, Answer, Effect, said, tells, learns, addition, removal}
 use Rattle.actuator_commands.specs.declared.orders.Order.{Order}
 use Rattle.actuator_commands.specs.declared.orders.OrderFault.{OrderFault}
 use Rattle.actuator_commands.specs.Orders.{order_of}
 use Rattle.gateway_core.specs.Step.{order_effect, line_effect, longest_line}
 use Rattle.gateway_core.specs.Step.{reading_effect, case_effect, data_case, effect, change_of, needs, with_change}
-use Rattle.gateway_core.specs.Step.{state_after}
+use Rattle.gateway_core.specs.Step.{state_after, with_mode, plan_effect, taught, radio_of, reply_of, refused_line, if_supported, opens, denied}
+use Rattle.gateway_core.specs.Step.{answer_by}
 use Rattle.gateway_core.specs.Profiles.{readings_of}
 use Rattle.gateway_core.specs.Refusals.{cause_of}
 use Rattle.gateway_core.specs.Run.{cause_text, Cause, Taken, Refused, RefusedAtWrite, refused}
 use Rattle.gateway_core.specs.Stops.{nothing_left, told, pending, Safe}
 use Rattle.gateway_core.specs.Handling.{HandlerValue, Went, Handles}
-use Rattle.gateway_core.specs.Tries.{state_of, Gives, IsMade, IsPending, Comes, Tries, answer_from, counts_from}
-use Rattle.gateway_core.proofs.EffectLemmas.{mode-stays}
+use Rattle.gateway_core.specs.Tries.{state_of, Gives, IsMade, IsPending, Comes, Tries, answer_from, counts_from, mode_from}
+use Rattle.gateway_core.specs.Tries.{IsEntering, Enters}
 
 -- ---- what is kept
 
@@ -101,26 +113,59 @@ keeps-full old new it devices full pends = record {
 
 -- ---- what takes the store
 
-pub data-need : (mode : Mode) (t : Telegram) (known : Option Device)
-    → IsTrue (case_effect mode t (data_case known)).need
-data-need mode t None = refl
-data-need mode t (Some known) = one (readings_of known.eep t)
+pub addition-need : (devices : Devices) (known : Device) (full done : Effect) → IsTrue full.need → IsTrue done.need
+    → IsTrue (addition devices known full done).need
+addition-need devices known full done first second =
+    either (λ (e : Effect). IsTrue e.need) (is_full devices known.id) full done first second
+
+pub plan-need : (state : State) (t : Telegram) → IsTrue (plan_effect state t true (plan_of t state.mode false)).need
+plan-need state t =
+    of_plan (λ plan. IsTrue (plan_effect state t true plan).need) t refl
+    (λ eep maker. addition-need state.devices (record { id = t.sender; eep = eep; maker = maker }) _ _ refl refl)
+    state.mode false (λ outcome is. refl)
+
+pub data-need : (state : State) (t : Telegram) (known : Option Device)
+    → IsTrue (case_effect state t (data_case known)).need
+data-need state t None = plan-need state t
+data-need state t (Some known) = one (readings_of known.eep t)
   where
-    one : (readings : Option (List Entry)) → IsTrue (reading_effect mode t known.eep readings).need
+    one : (readings : Option (List Entry)) → IsTrue (reading_effect t known.eep readings).need
     one None = refl
     one (Some readings) = refl
 
-pub addition-need : (state : State) (known : Device) → IsTrue (addition state known).need
-addition-need state known = one (is_full state.devices known.id)
-  where
-    one : (full : Bool) → IsTrue
-        (if full then tells state.mode (Error error.Full ∷ []) else learns state.mode known).need
-    one true = refl
-    one false = refl
+pub removal-need : (known : Option Device) → IsTrue (removal known).need
+removal-need None = refl
+removal-need (Some known) = refl
 
-pub removal-need : (mode : Mode) (known : Option Device) → IsTrue (removal mode known).need
-removal-need mode None = refl
-removal-need mode (Some known) = refl
+-- what is told and replied of a sender
+pub taught-answer : (state : State) (kind : Teach) (line : TeachLine) (answer : Answer) (outcome : Outcome)
+    (desk : List ℕ)
+    → outcome ≡ line.outcome → desk ≡ text (TeachOf line)
+    → answer ≡ record { radio = radio_of (reply_of state.base state.mode kind outcome); desk = desk }
+    → answer ≡ answer_by (taught state kind line)
+taught-answer state kind line answer outcome desk is says e =
+    e ∙ ap (λ o. let a : Answer = record { radio = radio_of (reply_of state.base state.mode kind o); desk = desk } in a) is
+    ∙ ap (λ d. let a : Answer =
+    record { radio = radio_of (reply_of state.base state.mode kind line.outcome); desk = d } in a)
+    (says ∙ sym (append-nil _))
+
+-- a sender is refused with the line of its telegram
+pub refused-gives : (done : Done) (state : State) (t : Telegram) (kind : Teach) (id : ℕ) (line : TeachLine)
+    (outcome : Outcome) → kind ≡ teach_in_of t → id ≡ t.sender → refused_line id kind outcome ≡ line
+    → Gives done (taught state kind line)
+    → Gives done (plan_effect state t true (Refuse outcome))
+refused-gives done state t kind id line outcome is sent_by told =
+    subst (Gives done)
+    (ap (taught state kind) (sym told)
+    ∙ ap (λ i. taught state kind (refused_line i kind outcome)) sent_by
+    ∙ ap (λ k. taught state k (refused_line t.sender k outcome)) is)
+
+-- what comes of a device that is to be learned: where the registry is full, and where it is not
+pub record Adds (known : Device) (full done : Effect) : Type 0 where
+  pub full_needs : IsTrue full.need
+  pub stays : full.change ≡ None
+  pub done_needs : IsTrue done.need
+  pub learns : done.change ≡ Some (learned known)
 
 module _ {S : Type 0} (g : Ghosts S) where
   -- ---- an effect that comes behind a look
@@ -224,30 +269,94 @@ module _ {S : Type 0} (g : Ghosts S) where
             (over.comes honest devices f.1.now));
       }
 
-  -- data gives a line or none, and changes nothing
-  pub data-comes : (old new : Held S) (devices : Devices) (mode : Mode) (t : Telegram) (known : Option Device)
-      (done : Done) → Gives done (case_effect mode t (data_case known)) → Keeps (state g old) (state g new) devices
-      → Comes g old new devices (case_effect mode t (data_case known)) (Ok done)
-  data-comes old new devices mode t None done gives keeps = (gives, keeps)
-  data-comes old new devices mode t (Some known) done gives keeps = one (readings_of known.eep t) gives
-    where
-      one : (readings : Option (List Entry)) → Gives done (reading_effect mode t known.eep readings)
-          → Comes g old new devices (reading_effect mode t known.eep readings) (Ok done)
-      one None gives = (gives, keeps)
-      one (Some readings) gives = (gives, keeps)
+  -- a telegram that is read gives a line or none, and changes nothing
+  pub reading-comes : (old new : Held S) (devices : Devices) (t : Telegram) (eep : Eep)
+      (readings : Option (List Entry)) (done : Done) → Gives done (reading_effect t eep readings)
+      → Keeps (state g old) (state g new) devices → Comes g old new devices (reading_effect t eep readings) (Ok done)
+  reading-comes old new devices t eep None done gives keeps = (gives, keeps)
+  reading-comes old new devices t eep (Some readings) done gives keeps = (gives, keeps)
+
+  -- ---- a device that is entered
 
   -- a device is not learned: the write was tried, though the registry is full perhaps
-  pub addition-pending : (old new : Held S) (now : State) (known : Device)
-      → Pends (state g old) (state g new) (learned known) now.devices
-      → IsPending g old new now.devices (addition now known).need (addition now known).change
-  addition-pending old new now known pends = one (is_full now.devices known.id) refl
+  addition-pending : (old new : Held S) (devices : Devices) (known : Device) (full done : Effect) → Adds known full done
+      → Pends (state g old) (state g new) (learned known) devices
+      → IsPending g old new devices (addition devices known full done).need (addition devices known full done).change
+  addition-pending old new devices known full done adds pends = one (is_full devices known.id) refl
     where
-      one : (full : Bool) → is_full now.devices known.id ≡ full
-          → let e : Effect =
-          if full then tells now.mode (Error error.Full ∷ []) else learns now.mode known in
-          IsPending g old new now.devices e.need e.change
-      one true full = (refl, keeps-full (state g old) (state g new) known now.devices full pends)
-      one false full = pends
+      one : (b : Bool) → is_full devices known.id ≡ b
+          → let e : Effect = if b then full else done in IsPending g old new devices e.need e.change
+      one true is =
+          rw adds.stays (adds.full_needs, keeps-full (state g old) (state g new) known devices is pends)
+      one false is = rw adds.learns pends
+
+  -- the device is entered or not, and what comes of it is answered so
+  pub tries-entering : (old new : HandlerValue S) (known : Device) (result : Result (Option Entered) Refusal)
+      (effect : State → Effect) (r : Result Done Refusal) → Enters g old known result new
+      → ((devices : Devices) → IsEntering g old.registry new.registry known devices result
+      → Comes g old.registry new.registry devices (effect (state_of old devices)) r)
+      → Tries g old effect r new
+  tries-entering old new known result effect r enters comes =
+      record {
+        base = ap (λ (v : HandlerValue S). v.base) enters.same;
+        mode = ap (λ (v : HandlerValue S). v.mode) enters.same;
+        counts = ap (λ (v : HandlerValue S). v.counts) enters.same;
+        clean = enters.clean;
+        registries = enters.registries;
+        comes = λ honest devices has. comes devices (enters.entering honest devices has);
+      }
+
+  module _ (old new : HandlerValue S) (known : Device) (full done : State → Effect)
+      (adds : (devices : Devices) → Adds known (full (state_of old devices)) (done (state_of old devices))) where
+    pub tries-refused : (refusal : Refusal) → Enters g old known (Err refusal) new
+        → Tries g old (λ state. addition state.devices known (full state) (done state)) (Err refusal) new
+    tries-refused (Before cause) enters =
+        tries-entering old new known _ _ _ enters
+        (λ devices keeps.
+        let all = adds devices in (addition-need devices known _ _ all.full_needs all.done_needs, keeps))
+    tries-refused (AtWrite cause) enters =
+        tries-entering old new known _ _ _ enters
+        (λ devices pends.
+        addition-pending old.registry new.registry devices known (full (state_of old devices))
+        (done (state_of old devices)) (adds devices) pends)
+
+    pub tries-full : (told : Done) → Enters g old known (Ok None) new
+        → ((devices : Devices) → Gives told (full (state_of new devices)))
+        → Tries g old (λ state. addition state.devices known (full state) (done state)) (Ok told) new
+    tries-full told enters gives =
+        tries-entering old new known _ _ _ enters
+        (λ devices (is, keeps).
+        let here = subst (λ s. Gives told (full s)) (ap (λ v. state_of v devices) enters.same) (gives devices) in
+        rw (is, (adds devices).stays) (here, keeps))
+
+    -- there is no memory to tell it
+    pub tries-untold : (cause : told.Cause) → Enters g old known (Ok None) new
+        → Tries g old (λ state. addition state.devices known (full state) (done state)) (Err (Before cause)) new
+    tries-untold cause enters =
+        tries-entering old new known _ _ _ enters
+        (λ devices (is, keeps).
+        let all = adds devices in (addition-need devices known _ _ all.full_needs all.done_needs, keeps))
+
+    pub tries-entered : (entered : Entered) (told : Done) → Enters g old known (Ok (Some entered)) new
+        → ((devices : Devices) → Gives told (done (state_of new devices)))
+        → Tries g old (λ state. addition state.devices known (full state) (done state)) (Ok told) new
+    tries-entered entered told enters gives =
+        tries-entering old new known _ _ _ enters
+        (λ devices (is, commits).
+        let here = subst (λ s. Gives told (done s)) (ap (λ v. state_of v devices) enters.same) (gives devices) in
+        rw (is, (adds devices).learns) (here, commits))
+
+  -- the window is opened, or the profile is not supported
+  pub opens-comes : (old new : Held S) (devices : Devices) (eep : Eep) (done : Done)
+      → Gives done (if_supported eep (opens (LearnAs eep))) → Keeps (state g old) (state g new) devices
+      → Comes g old new devices (if_supported eep (opens (LearnAs eep))) (Ok done)
+  opens-comes old new devices eep done gives keeps =
+      one (supported eep) gives
+    where
+      one : (b : Bool) → let e : Effect = if b then opens (LearnAs eep) else denied error.UnsupportedProfile in
+          Gives done e → Comes g old new devices e (Ok done)
+      one true gives = (gives, keeps)
+      one false gives = (gives, keeps)
 
   -- an order behind a line
   pub tries-order : (old new : HandlerValue S) (line : List ℕ) (r : Result Done Refusal)
@@ -296,17 +405,17 @@ module _ {S : Type 0} (g : Ghosts S) where
 
   comes-went : (old new : HandlerValue S) (start : State) (item : Item) (r : Result Done Refusal)
       → new.base ≡ start.base
-      → new.mode ≡ start.mode
+      → new.mode ≡ mode_from start.mode r
       → new.counts ≡ counts_from start.counts r
       → Comes g old.registry new.registry start.devices (effect start item) r
       → Went g old start (item ∷ []) (answer_from r ∷ []) new
-  comes-went old new start item (Ok done) base mode counts ((says, counted), made) = record {
+  comes-went old new start item (Ok done) base mode counts ((says, counted, sets), made) = record {
     fates = Taken ∷ [];
     last = state_after start item;
     run = (tt, says, refl);
     at = (
       base,
-      mode ∙ sym (mode-stays start item),
+      mode ∙ ap (with_mode start.mode) sets,
       made-now old.registry new.registry start.devices (change_of start item) made,
       counts
           ∙ ap (raised start.counts) counted,
@@ -328,7 +437,7 @@ module _ {S : Type 0} (g : Ghosts S) where
       (new : HandlerValue S) : Type 0 where
     pub answer_is : answer ≡ answer_from r
     pub base : new.base ≡ mid.base
-    pub mode : new.mode ≡ mid.mode
+    pub mode : new.mode ≡ mode_from mid.mode r
     pub counts : new.counts ≡ counts_from mid.counts r
     pub registry : new.registry ≡ mid.registry
 
@@ -349,7 +458,7 @@ module _ {S : Type 0} (g : Ghosts S) where
             let Here = λ (s : State). Comes g old.registry new.registry start.devices (effect s item) r in
             let here : Here start = subst Here (same old start at.0 at.1 at.3) come in
             subst (λ a. Went g old start (item ∷ []) (a ∷ []) new) (sym settles.answer_is)
-            (comes-went old new start item r (settles.base ∙ tried.base ∙ at.0) (settles.mode ∙ tried.mode ∙ at.1)
+            (comes-went old new start item r (settles.base ∙ tried.base ∙ at.0) (settles.mode ∙ ap (λ m. mode_from m r) (tried.mode ∙ at.1))
             (settles.counts ∙ ap (λ c. counts_from c r) (tried.counts ∙ at.3)) here);
       }
     where

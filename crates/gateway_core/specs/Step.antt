@@ -1,23 +1,32 @@
 -- What the gateway does with one item: its effect, and so its answer and what is known afterwards.
 use Rattle.std.specs.Prelude.{ℕ, Bool, true, false, nat_lt, length, if◌then◌else◌, List, [], ◌∷◌, Option, Some, None}
+use Rattle.std.specs.Prelude.{option_map, unwrap_or}
 use Rattle.std.specs.Prelude.{Result, Ok, Err}
-use Rattle.esp3_frames.specs.Packet.{Packet}
+use Rattle.esp3_frames.specs.Packet.{Packet, spelling}
 use Rattle.erp1_telegrams.specs.declared.eep.Eep.{Eep}
 use Rattle.erp1_telegrams.specs.declared.telegram.TelegramFault.{TelegramFault}
 use Rattle.erp1_telegrams.specs.Address.{is_passed_over}
-use Rattle.erp1_telegrams.specs.Telegram.{Telegram, telegram_of}
+use Rattle.erp1_telegrams.specs.Telegram.{Telegram, telegram_of, sent}
 use Rattle.profiles_rps.specs.Reading.{Entry}
 use Rattle.device_registry.specs.declared.device.Device.{Device}
 use Rattle.device_registry.specs.Devices.{Devices, device_of, all_of, is_full, Change, learned, forgotten, changed}
 use Rattle.teach_in.specs.declared.mode.Mode.{Mode}
+use Rattle.teach_in.specs.declared.mode.Mode.TheVariants.{Closed, Learn, LearnAnswer, LearnAs}
 use Rattle.teach_in.specs.declared.outcome.Outcome.{Outcome}
 use Rattle.teach_in.specs.declared.outcome.Outcome.TheVariants.{Accepted, Deleted}
+use Rattle.teach_in.specs.declared.outcome.Outcome.TheVariants as outcome
+use Rattle.teach_in.specs.declared.plans.Plan.{Plan}
+use Rattle.teach_in.specs.declared.plans.Plan.TheVariants.{Silent, Add, Refuse}
 use Rattle.teach_in.specs.declared.telegrams.Teach.{Teach}
 use Rattle.teach_in.specs.declared.telegrams.Teach.TheVariants as teach
+use Rattle.teach_in.specs.FourByte.{eep_in, maker_in, four_byte_reply}
 use Rattle.teach_in.specs.Profiles.{supported}
 use Rattle.teach_in.specs.Telegrams.{teach_in_of}
+use Rattle.teach_in.specs.Verdicts.{plan_of}
 use Rattle.actuator_commands.specs.declared.orders.Order.{Order}
-use Rattle.actuator_commands.specs.declared.orders.Order.TheVariants.{Add, Remove, List as ListAll, Status}
+use Rattle.actuator_commands.specs.declared.orders.Order.TheVariants.{LearnOn, LearnOnAnswer, LearnOff, Remove}
+use Rattle.actuator_commands.specs.declared.orders.Order.TheVariants.{List as ListAll, Status}
+use Rattle.actuator_commands.specs.declared.orders.Order.TheVariants as order
 use Rattle.actuator_commands.specs.declared.orders.OrderFault.{OrderFault}
 use Rattle.actuator_commands.specs.declared.orders.OrderFault.TheVariants.{Syntax, Range}
 use Rattle.actuator_commands.specs.Orders.{order_of}
@@ -27,7 +36,7 @@ use Rattle.json_lines.specs.declared.counts.Counts.{Counts}
 use Rattle.json_lines.specs.declared.fixed.ErrorName.{ErrorName}
 use Rattle.json_lines.specs.declared.fixed.ErrorName.TheVariants as error
 use Rattle.json_lines.specs.Counts.{raised}
-use Rattle.json_lines.specs.Lines.{DeskLine, Reading, Teach as TeachOf, StatusLine, ResponseLine, Error}
+use Rattle.json_lines.specs.Lines.{DeskLine, Reading, Teach as TeachOf, StatusLine, ResponseLine, Done, Error}
 use Rattle.json_lines.specs.Lines.{TeachLine, Response, listing, texts}
 use Rattle.gateway_core.specs.Profiles.{readings_of}
 use Rattle.gateway_core.specs.Responses.{response_in}
@@ -46,33 +55,44 @@ pub data Item : Type 0 where
   Ordered : (line : List ℕ) → Item
 
 -- what comes of an item that is taken: what is sent by radio, if anything, the lines that the desk is told, the count
--- that is raised and the change of what is learned, if any, the mode afterwards, and whether it needs memory or the
+-- that is raised, the change of what is learned and the mode that is set, if any, and whether it needs memory or the
 -- store
 pub record Effect : Type 0 where
   pub radio : Option (List ℕ)
   pub desk : List DeskLine
   pub count : Option Count
   pub change : Option Change
-  pub mode : Mode
+  pub mode : Option Mode
   pub need : Bool
 
 -- nothing comes of it
-abbrev pub nothing : Mode → Effect
-nothing mode = record { radio = None; desk = []; count = None; change = None; mode = mode; need = false }
+abbrev pub nothing : Effect
+nothing = record { radio = None; desk = []; count = None; change = None; mode = None; need = false }
+
+-- a device is learned, which is told as the second, unless as many others are as can be: then as the first
+abbrev pub addition : Devices → Device → Effect → Effect → Effect
+addition devices known full done = if is_full devices known.id then full else done
+
+-- the line that tells what came of a device
+abbrev pub told_of : Device → Outcome → TeachLine
+told_of known outcome = record { eep = Some known.eep; id = known.id; maker = known.maker; outcome = outcome }
 
 -- ---- a packet
 
--- The counts are own choice: a packet raises just one. The desk is told nothing of this one.
-abbrev pub ignored : Mode → Effect
-ignored mode = record (nothing mode) { count = Some count.Ignored }
+-- The counts are own choice: a packet raises just one. The desk is told nothing of this one, for which the store was
+-- asked or not.
+abbrev pub unsaid : Bool → Effect
+unsaid asked = record nothing { count = Some count.Ignored; need = asked }
 
--- nor is it where the store was asked for the sender
-abbrev pub unread : Mode → Effect
-unread mode = record (ignored mode) { need = true }
+abbrev pub ignored : Effect
+ignored = unsaid false
+
+abbrev pub unread : Effect
+unread = unsaid true
 
 -- the desk is told a line
-abbrev pub counted_line : Mode → Count → DeskLine → Effect
-counted_line mode count line = record (nothing mode) { desk = line ∷ []; count = Some count; need = true }
+abbrev pub counted_line : Count → DeskLine → Effect
+counted_line count line = record nothing { desk = line ∷ []; count = Some count; need = true }
 
 -- what a telegram is: the first of these five cases. Own choice
 pub data Case : Type 0 where
@@ -95,7 +115,7 @@ abbrev pub kind_case : Teach → Option Device → Case
 kind_case teach.Answer known = Replies
 kind_case teach.Contact known = Teaches
 kind_case teach.Bare known = Teaches
-kind_case teach.FourByte known = Teaches
+kind_case (teach.FourByte query) known = Teaches
 kind_case teach.Ute known = Teaches
 kind_case teach.Plain known = data_case known
 
@@ -104,28 +124,72 @@ case_of state t =
     if is_passed_over state.base t then PassedOver else kind_case (teach_in_of t) (device_of state.devices t.sender)
 
 -- the line of what a telegram tells, if its sender's profile can read it
-abbrev pub reading_effect : Mode → Telegram → Eep → Option (List Entry) → Effect
-reading_effect mode t eep None = unread mode
-reading_effect mode t eep (Some readings) =
-    counted_line mode count.Reading
+abbrev pub reading_effect : Telegram → Eep → Option (List Entry) → Effect
+reading_effect t eep None = unread
+reading_effect t eep (Some readings) =
+    counted_line count.Reading
     (Reading (record { dbm = t.dbm; eep = eep; id = t.sender; readings = readings }))
 
--- own choice as yet: the gateway does not learn by telegrams
-abbrev pub case_effect : Mode → Telegram → Case → Effect
-case_effect mode t PassedOver = ignored mode
-case_effect mode t Replies = ignored mode
-case_effect mode t Teaches = ignored mode
-case_effect mode t (OfLearned known) = reading_effect mode t known.eep (readings_of known.eep t)
-case_effect mode t OfOther = unread mode
+-- the reply that is sent by radio where this comes of a telegram's sender, if it gets one: a 4BS query does, in the mode
+-- that answers. Own choice
+abbrev pub reply_of : ℕ → Mode → Teach → Outcome → Option Telegram
+reply_of base LearnAnswer (teach.FourByte query) outcome = four_byte_reply query outcome base
+reply_of base mode kind outcome = None
+
+-- the bytes of the packet that a telegram is sent in, if there is one
+abbrev pub radio_of : Option Telegram → Option (List ℕ)
+radio_of = option_map (λ t. spelling (sent t))
+
+-- what comes of a telegram's sender is told and replied
+abbrev pub taught : State → Teach → TeachLine → Effect
+taught state kind line =
+    record (counted_line count.Teach (TeachOf line)) {
+      radio = radio_of (reply_of state.base state.mode kind line.outcome)
+    }
+
+-- the mode that learns with the desk's profile is for one sender. Own choice
+abbrev pub mode_after_one : Mode → Option Mode
+mode_after_one (LearnAs eep) = Some Closed
+mode_after_one mode = None
+
+-- the sender is learned
+abbrev pub accepts : State → Teach → Device → Effect
+accepts state kind known =
+    record (taught state kind (told_of known Accepted)) {
+      change = Some (learned known);
+      mode = mode_after_one state.mode;
+    }
+
+-- the line of a sender that is refused: with the profile and the maker of its query, if it told them
+abbrev pub refused_line : ℕ → Teach → Outcome → TeachLine
+refused_line id (teach.FourByte query) outcome =
+    record { eep = Some (eep_in query); id = id; maker = Some (maker_in query); outcome = outcome }
+refused_line id kind outcome = record { eep = None; id = id; maker = None; outcome = outcome }
+
+-- what comes of what is planned about the sender of a telegram, for which the store was asked or not
+abbrev pub plan_effect : State → Telegram → Bool → Plan → Effect
+plan_effect state t asked Silent = unsaid asked
+plan_effect state t asked (Add known) =
+    addition state.devices known (taught state (teach_in_of t) (told_of known outcome.Full))
+    (accepts state (teach_in_of t) known)
+plan_effect state t asked (Refuse outcome) = taught state (teach_in_of t) (refused_line t.sender (teach_in_of t) outcome)
+
+-- What is planned hangs on whether the sender is learned for data alone, and that of a learned sender is read.
+abbrev pub case_effect : State → Telegram → Case → Effect
+case_effect state t PassedOver = ignored
+case_effect state t Replies = ignored
+case_effect state t Teaches = plan_effect state t false (plan_of t state.mode false)
+case_effect state t (OfLearned known) = reading_effect t known.eep (readings_of known.eep t)
+case_effect state t OfOther = plan_effect state t true (plan_of t state.mode false)
 
 abbrev pub telegram_effect : State → Telegram → Effect
-telegram_effect state t = case_effect state.mode t (case_of state t)
+telegram_effect state t = case_effect state t (case_of state t)
 
 -- a packet is a response, or has a telegram, or is ignored. Own choice
 abbrev pub packet_by : State → Option Response → Result Telegram TelegramFault → Effect
-packet_by state (Some response) telegram = counted_line state.mode count.Response (ResponseLine response)
+packet_by state (Some response) telegram = counted_line count.Response (ResponseLine response)
 packet_by state None (Ok t) = telegram_effect state t
-packet_by state None (Err fault) = ignored state.mode
+packet_by state None (Err fault) = ignored
 
 abbrev pub packet_effect : State → Packet → Effect
 packet_effect state packet = packet_by state (response_in packet) (telegram_of packet)
@@ -133,44 +197,45 @@ packet_effect state packet = packet_by state (response_in packet) (telegram_of p
 -- ---- a line
 
 -- the line alone is told to be wrong
-abbrev pub denied : Mode → ErrorName → Effect
-denied mode name = record (nothing mode) { desk = Error name ∷ [] }
+abbrev pub denied : ErrorName → Effect
+denied name = record nothing { desk = Error name ∷ [] }
+
+-- the mode is set
+abbrev pub opens : Mode → Effect
+opens mode = record nothing { desk = Done ∷ []; mode = Some mode }
 
 -- the desk is told some lines, and nothing else comes of it
-abbrev pub tells : Mode → List DeskLine → Effect
-tells mode lines = record (nothing mode) { desk = lines; need = true }
+abbrev pub tells : List DeskLine → Effect
+tells lines = record nothing { desk = lines; need = true }
 
--- the line that tells what came of a device
-abbrev pub told_of : Device → Outcome → TeachLine
-told_of known outcome = record { eep = Some known.eep; id = known.id; maker = known.maker; outcome = outcome }
+abbrev pub learns : Device → Effect
+learns known = record (tells (TeachOf (told_of known Accepted) ∷ [])) { change = Some (learned known) }
 
-abbrev pub learns : Mode → Device → Effect
-learns mode known =
-    record (tells mode (TeachOf (told_of known Accepted) ∷ [])) { change = Some (learned known) }
+abbrev pub forgets : Device → Effect
+forgets known = record (tells (TeachOf (told_of known Deleted) ∷ [])) { change = Some (forgotten known.id) }
 
-abbrev pub forgets : Mode → Device → Effect
-forgets mode known =
-    record (tells mode (TeachOf (told_of known Deleted) ∷ [])) { change = Some (forgotten known.id) }
+abbrev pub removal : Option Device → Effect
+removal None = tells (Error error.UnknownDevice ∷ [])
+removal (Some known) = forgets known
 
--- a device is learned unless as many others are as can be
-abbrev pub addition : State → Device → Effect
-addition state known =
-    if is_full state.devices known.id then tells state.mode (Error error.Full ∷ []) else learns state.mode known
-
-abbrev pub removal : Mode → Option Device → Effect
-removal mode None = tells mode (Error error.UnknownDevice ∷ [])
-removal mode (Some known) = forgets mode known
+-- the effect of an order that names a profile, where that is supported
+abbrev pub if_supported : Eep → Effect → Effect
+if_supported eep effect = if supported eep then effect else denied error.UnsupportedProfile
 
 -- own choice: of several errors the first is told, and before all of them that the line is too long
 abbrev pub order_effect : State → Result Order OrderFault → Effect
-order_effect state (Err Syntax) = denied state.mode error.Syntax
-order_effect state (Err Range) = denied state.mode error.Range
-order_effect state (Ok (Add id eep)) =
-    if supported eep then addition state (record { id = id; eep = eep; maker = None })
-    else denied state.mode error.UnsupportedProfile
-order_effect state (Ok (Remove id)) = removal state.mode (device_of state.devices id)
-order_effect state (Ok ListAll) = tells state.mode (listing (all_of state.devices))
-order_effect state (Ok Status) = tells state.mode (StatusLine state.counts state.mode ∷ [])
+order_effect state (Err Syntax) = denied error.Syntax
+order_effect state (Err Range) = denied error.Range
+order_effect state (Ok LearnOn) = opens Learn
+order_effect state (Ok LearnOnAnswer) = opens LearnAnswer
+order_effect state (Ok (order.LearnAs eep)) = if_supported eep (opens (LearnAs eep))
+order_effect state (Ok LearnOff) = opens Closed
+order_effect state (Ok (order.Add id eep)) =
+    let known : Device = record { id = id; eep = eep; maker = None } in
+    if_supported eep (addition state.devices known (tells (Error error.Full ∷ [])) (learns known))
+order_effect state (Ok (Remove id)) = removal (device_of state.devices id)
+order_effect state (Ok ListAll) = tells (listing (all_of state.devices))
+order_effect state (Ok Status) = tells (StatusLine state.counts state.mode ∷ [])
 
 -- the longest line of the desk, in bytes. Own choice
 abbrev pub longest_line : ℕ
@@ -178,7 +243,7 @@ longest_line = 200
 
 abbrev pub line_effect : State → List ℕ → Effect
 line_effect state line =
-    if nat_lt longest_line (length line) then denied state.mode error.TooLong else order_effect state (order_of line)
+    if nat_lt longest_line (length line) then denied error.TooLong else order_effect state (order_of line)
 
 -- ---- an item
 
@@ -209,6 +274,10 @@ count_of state item = (effect state item).count
 abbrev pub change_of : State → Item → Option Change
 change_of state item = (effect state item).change
 
+-- the mode that an item sets, if it sets one
+abbrev pub mode_set : State → Item → Option Mode
+mode_set state item = (effect state item).mode
+
 -- the items that need memory or the store
 abbrev pub needs : State → Item → Bool
 needs state item = (effect state item).need
@@ -217,12 +286,16 @@ abbrev pub with_change : Devices → Option Change → Devices
 with_change devices None = devices
 with_change devices (Some change) = changed devices change
 
+-- the mode with what is set, if any
+abbrev pub with_mode : Mode → Option Mode → Mode
+with_mode mode set = unwrap_or set mode
+
 -- what is known after an item that is taken
 abbrev pub state_after : State → Item → State
 state_after state item =
     record {
       base = state.base;
-      mode = (effect state item).mode;
+      mode = with_mode state.mode (mode_set state item);
       counts = raised state.counts (count_of state item);
       devices = with_change state.devices (change_of state item);
     }

@@ -1,25 +1,35 @@
 -- For private clauses: what comes of an item that is tried.
-use Rattle.std.specs.Prelude.{◌≡◌, Bool, IsTrue, Option, Some, None, Result, Ok, Err}
+use Rattle.std.specs.Prelude.{◌≡◌, ℕ, Bool, true, false, IsTrue, IsSome, Option, Some, None, Result, Ok, Err}
 use Rattle.sqlite.specs.Held.{Held, state}
 use Rattle.sqlite.specs.State.{HasCleanDisk}
 use Rattle.sqlite_trees.specs.declared.store.Store.{Ghosts}
-use Rattle.device_registry.specs.Devices.{Devices, Change}
+use Rattle.device_registry.specs.declared.device.Device.{Device}
+use Rattle.device_registry.specs.Devices.{Devices, Change, is_full, learned}
 use Rattle.device_registry.specs.Holding.{HasDevices, AreRegistries, Keeps, Commits, Pends}
+use Rattle.teach_in.specs.declared.mode.Mode.{Mode}
+use Rattle.teach_in.specs.declared.outcome.Outcome.{Outcome}
+use Rattle.teach_in.specs.declared.outcome.Outcome.TheVariants.{Accepted}
+use Rattle.teach_in.specs.declared.telegrams.Teach.{Teach}
+use Rattle.teach_in.specs.declared.telegrams.Teach.TheVariants.{FourByte}
+use Rattle.teach_in.specs.FourByte.{four_byte_code}
 use Rattle.json_lines.specs.declared.counts.Count.TheVariants as count
 use Rattle.json_lines.specs.declared.counts.Counts.{Counts}
 use Rattle.gateway_core.specs.declared.handler.done.Done.{Done}
+use Rattle.gateway_core.specs.declared.handler.changes.Entered.{Entered}
 use Rattle.gateway_core.specs.declared.refusal.Refusal.{Refusal}
 use Rattle.gateway_core.specs.declared.refusal.Refusal.TheVariants.{Before, AtWrite}
 use Rattle.json_lines.specs.Counts.{counted, raised}
-use Rattle.gateway_core.specs.Step.{State, Answer, said, Effect, answer_by}
+use Rattle.json_lines.specs.Lines.{Teach as TeachOf, text}
+use Rattle.gateway_core.specs.Step.{State, Answer, said, Effect, answer_by, told_of, with_mode}
 use Rattle.gateway_core.specs.Refusals.{cause_in}
 use Rattle.gateway_core.specs.Run.{cause_text}
 use Rattle.gateway_core.specs.Replies.{answer_of}
 use Rattle.gateway_core.specs.Handling.{HandlerValue}
 
--- what is done gives the answer of the effect, and raises its count
+-- what is done gives the answer of the effect, raises its count, and sets its mode
 abbrev pub Gives : Done → Effect → Type 0
-Gives done effect = (answer_of done.reply ≡ answer_by effect) × (done.count ≡ effect.count)
+Gives done effect =
+    (answer_of done.reply ≡ answer_by effect) × (done.count ≡ effect.count) × (done.mode ≡ effect.mode)
 
 -- what the handler knows, where these are the devices
 abbrev pub state_of : {S : Type 0} → HandlerValue S → Devices → State
@@ -42,7 +52,7 @@ module _ {S : Type 0} (g : Ghosts S) (old new : Held S) (devices : Devices) wher
   Comes effect (Err (Before cause)) = IsTrue effect.need × Keeps (state g old) (state g new) devices
   Comes effect (Err (AtWrite cause)) = IsPending effect.need effect.change
 
--- the effect, by what the handler knows, comes or is refused; it is not counted yet
+-- the effect, by what the handler knows, comes or is refused; it is not counted yet, nor is its mode set
 pub record Tries {S : Type 0} (g : Ghosts S) (old : HandlerValue S) (effect : State → Effect)
     (result : Result Done Refusal) (new : HandlerValue S) : Type 0 where
   pub base : new.base ≡ old.base
@@ -54,6 +64,44 @@ pub record Tries {S : Type 0} (g : Ghosts S) (old : HandlerValue S) (effect : St
   pub comes : HasCleanDisk (state g new.registry) → (devices : Devices) → HasDevices (state g old.registry) devices
       → Comes g old.registry new.registry devices (effect (state_of old devices)) result
 
+-- ---- a device that is entered
+
+-- a reply to the telegram, if it may get one, can be made where this comes of this sender
+abbrev pub MayReply : Teach → ℕ → Outcome → Type 0
+MayReply (FourByte query) id outcome = (id ≡ query.id) × IsSome (four_byte_code outcome)
+MayReply kind id outcome = Unit {0}
+
+-- it is told accepted
+abbrev pub IsEntered : Device → Entered → Type 0
+IsEntered known entered =
+    (entered.verdict.id ≡ known.id) × (entered.verdict.outcome ≡ Accepted)
+    × (entered.line ≡ text (TeachOf (told_of known Accepted)))
+
+abbrev pub WasEntered : Device → Result (Option Entered) Refusal → Type 0
+WasEntered known (Ok (Some entered)) = IsEntered known entered
+WasEntered known result = Unit {0}
+
+module _ {S : Type 0} (g : Ghosts S) (old new : Held S) (known : Device) (devices : Devices) where
+  -- it is committed, or there is no room, or it is refused
+  abbrev pub IsEntering : Result (Option Entered) Refusal → Type 0
+  IsEntering (Ok (Some entered)) = (is_full devices known.id ≡ false) × Commits (state g new) (learned known) devices
+  IsEntering (Ok None) = (is_full devices known.id ≡ true) × Keeps (state g old) (state g new) devices
+  IsEntering (Err (Before cause)) = Keeps (state g old) (state g new) devices
+  IsEntering (Err (AtWrite cause)) = Pends (state g old) (state g new) (learned known) devices
+
+-- a device is entered in the registry, and nothing else changes
+pub record Enters {S : Type 0} (g : Ghosts S) (old : HandlerValue S) (known : Device)
+    (result : Result (Option Entered) Refusal) (new : HandlerValue S) : Type 0 where
+  pub same : new ≡ record old { registry = new.registry }
+  pub told : WasEntered known result
+  pub clean : HasCleanDisk (state g new.registry) → HasCleanDisk (state g old.registry)
+  pub registries : HasCleanDisk (state g new.registry) → AreRegistries (state g old.registry).may_leave
+      → AreRegistries (state g new.registry).may_leave
+  pub entering : HasCleanDisk (state g new.registry) → (devices : Devices) → HasDevices (state g old.registry) devices
+      → IsEntering g old.registry new.registry known devices result
+
+-- ---- what is answered and known
+
 -- the answer to what is done, or refused
 abbrev pub answer_from : Result Done Refusal → Answer
 answer_from (Ok done) = answer_of done.reply
@@ -63,3 +111,8 @@ answer_from (Err refusal) = said (cause_text (cause_in refusal))
 abbrev pub counts_from : Counts → Result Done Refusal → Counts
 counts_from counts (Ok done) = raised counts done.count
 counts_from counts (Err refusal) = counted counts count.Refused
+
+-- the mode after what is done, or refused
+abbrev pub mode_from : Mode → Result Done Refusal → Mode
+mode_from mode (Ok done) = with_mode mode done.mode
+mode_from mode (Err refusal) = mode

@@ -1,18 +1,20 @@
 //! What the gateway knows, and how it handles one item.
-ghost use Rattle.std.specs.Prelude.{◌≡◌, ◌≤◌, [], ◌∷◌};
+ghost use Rattle.std.specs.Prelude.{◌≡◌, true, [], ◌∷◌};
 ghost use Rattle.sqlite.specs.Held.{state};
+ghost use Rattle.erp1_telegrams.specs.Address.{is_base};
 ghost use Rattle.esp3_frames.specs.Outcome.{packet_of};
 ghost use Rattle.device_registry.specs.Holding.{HandsOn};
 ghost use Rattle.gateway_core.specs.Calls.{new_handler};
 ghost use Rattle.gateway_core.specs.Handling.{Handles};
 ghost use Rattle.gateway_core.specs.Replies.{answer_of};
 ghost use Rattle.gateway_core.specs.Step.{Ordered, Received};
-ghost use Rattle.gateway_core.specs.Tries.{answer_from, counts_from};
+ghost use Rattle.gateway_core.specs.Tries.{answer_from, counts_from, mode_from};
 
 mod changes;
 mod done;
 pub mod lines;
 mod packets;
+mod teaching;
 
 use crate::handler::done::{Done, refused};
 use crate::refusal::Refusal;
@@ -37,7 +39,8 @@ pub struct Handler<S: Alter> {
 }
 
 impl<S: Alter> Model for Handler<S> {
-    ghost use Rattle.std.specs.Prelude.{◌≤◌};
+    ghost use Rattle.std.specs.Prelude.{◌≡◌, true};
+    ghost use Rattle.erp1_telegrams.specs.Address.{is_base};
     ghost use Rattle.gateway_core.specs.Codes.{handler_code};
     ghost use Rattle.gateway_core.specs.Handling.{HandlerValue};
 
@@ -52,13 +55,13 @@ impl<S: Alter> Model for Handler<S> {
       registry = handler.registry;
     } };
 
-    ghost invariant = { λ handler. handler.base ≤ 0xFFFF_FF80 };
+    ghost invariant = { λ handler. is_base handler.base ≡ true };
 }
 
 impl<S: Alter> Handler<S> {
     /// Knows what the registry holds, learns from nobody, and has counted nothing.
     pub fn new(alloc: Global, registry: Registry<S>, base: u32) -> Handler<S>
-        requires { base ≤ 0xFFFF_FF80 }
+        requires { is_base base ≡ true }
         ensures { result ≡ new_handler base registry }
     {
         Handler {
@@ -79,18 +82,21 @@ impl<S: Alter> Handler<S> {
         registry.close()
     }
 
-    // Counts what is done or refused, and answers it.
+    // Counts what is done or refused, sets its mode, and answers it.
     fn reply_to(&mut self, tried: Result<Done, Refusal>) -> Reply
         ensures answer { answer_of result ≡ answer_from tried }
         ensures base { self.new.base ≡ self.old.base }
-        ensures mode { self.new.mode ≡ self.old.mode }
+        ensures mode { self.new.mode ≡ mode_from self.old.mode tried }
         ensures counts { self.new.counts ≡ counts_from self.old.counts tried }
         ensures registry { self.new.registry ≡ self.old.registry }
     {
         match tried {
-            Ok(Done { count, reply }) => {
+            Ok(Done { count, mode, reply }) => {
                 if let Some(count) = count {
                     self.counts.raise(count);
+                }
+                if let Some(mode) = mode {
+                    self.mode = mode;
                 }
                 reply
             }

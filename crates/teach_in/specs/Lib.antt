@@ -1,2 +1,4 @@
+pub mod FourByte
 pub mod Profiles
 pub mod Telegrams
+pub mod Verdicts

@@ -11,11 +11,11 @@ one_byte_kind payload = if field payload 4 1 == 0 then Contact else Plain
 
 -- 4BS: the learn bit DB0.3 is 0 at teach-in, DB0.7 is 1 where a profile and a maker are told, and DB0.4 is 1 in a reply
 -- ("4BS Telegram")
-abbrev pub four_byte_kind : List ℕ → Teach
-four_byte_kind payload =
+abbrev pub four_byte_kind : ℕ → List ℕ → Teach
+four_byte_kind sender payload =
     if field payload 28 1 == 1 then Plain
     else if field payload 24 1 == 0 then Bare
-    else if field payload 27 1 == 0 then FourByte
+    else if field payload 27 1 == 0 then FourByte (record { id = sender; payload = payload })
     else Answer
 
 -- UTE: a query has the command 0 in DB6.3 to DB6.0, and any other is a reply ("UTE Telegram")
@@ -26,6 +26,6 @@ ute_kind payload = if field payload 4 4 == 0 then Ute else Answer
 abbrev pub teach_in_of : Telegram → Teach
 teach_in_of t =
     if t.rorg == 0xD5 then one_byte_kind t.payload
-    else if t.rorg == 0xA5 then four_byte_kind t.payload
+    else if t.rorg == 0xA5 then four_byte_kind t.sender t.payload
     else if t.rorg == 0xD4 then ute_kind t.payload
     else Plain

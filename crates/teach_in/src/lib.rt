@@ -2,17 +2,23 @@
 //! learns, and what came of a sender. Nothing here takes memory.
 #![tactic(auto)]
 
+mod four_byte;
 mod mode;
 mod outcome;
+mod plans;
 mod profiles;
 mod telegrams;
 mod verdict;
+mod verdicts;
 
+pub use four_byte::{FourByteQuery, four_byte_reply};
 pub use mode::Mode;
 pub use outcome::Outcome;
+pub use plans::Plan;
 pub use profiles::supported;
 pub use telegrams::{Teach, classify};
 pub use verdict::Verdict;
+pub use verdicts::plan;
 
 #[cfg(test)]
 mod tests;

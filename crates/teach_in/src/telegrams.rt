@@ -2,6 +2,7 @@
 ghost use Rattle.std.specs.Prelude.{◌≡◌, length};
 ghost use Rattle.teach_in.specs.Telegrams.{four_byte_kind, one_byte_kind, teach_in_of, ute_kind};
 
+use crate::four_byte::FourByteQuery;
 use bit_fields::get;
 use erp1_telegrams::Telegram;
 
@@ -17,7 +18,7 @@ pub enum Teach {
     /// A 4BS telegram of teach-in without a profile.
     Bare,
     /// A 4BS telegram of teach-in that tells its profile and its maker.
-    FourByte,
+    FourByte(FourByteQuery),
     /// A query of universal teach-in.
     Ute,
     /// A reply to a telegram of teach-in.
@@ -25,7 +26,7 @@ pub enum Teach {
 }
 
 // A payload of a known length.
-fn bytes_of<const N: usize>(payload: &[u8]) -> &[u8; N]
+pub(crate) fn bytes_of<const N: usize>(payload: &[u8]) -> &[u8; N]
     requires { length payload.now ≡ N }
     ensures { result.now ≡ payload.now }
 {
@@ -45,9 +46,9 @@ fn one_byte_kind(bytes: &[u8; 1]) -> Teach
     }
 }
 
-// What the bytes of a 4BS telegram say.
-fn four_byte_kind(bytes: &[u8; 4]) -> Teach
-    ensures { result ≡ four_byte_kind bytes.now }
+// What the bytes of a 4BS telegram of this sender say.
+fn four_byte_kind(id: u32, bytes: &[u8; 4]) -> Teach
+    ensures { result ≡ four_byte_kind id bytes.now }
 {
     match (
         get::<4, 28, 1>(bytes),
@@ -56,7 +57,10 @@ fn four_byte_kind(bytes: &[u8; 4]) -> Teach
     ) {
         (1, _, _) => Teach::Plain,
         (_, 0, _) => Teach::Bare,
-        (_, _, 0) => Teach::FourByte,
+        (_, _, 0) => Teach::FourByte(FourByteQuery {
+            id,
+            payload: *bytes,
+        }),
         _ => Teach::Answer,
     }
 }
@@ -78,7 +82,7 @@ pub fn classify(telegram: &Telegram) -> Teach
     let payload = telegram.payload();
     match telegram.rorg() {
         0xD5 => one_byte_kind(bytes_of(payload)),
-        0xA5 => four_byte_kind(bytes_of(payload)),
+        0xA5 => four_byte_kind(telegram.sender(), bytes_of(payload)),
         0xD4 => ute_kind(bytes_of(payload)),
         _ => Teach::Plain,
     }

@@ -1,10 +1,11 @@
 //! The verdict on a sender.
-ghost use Rattle.std.specs.Prelude.{◌≡◌, MatchBool};
+ghost use Rattle.std.specs.Prelude.{◌≡◌, ◌≢◌, MatchBool};
 
 use crate::outcome::Outcome;
 use device_registry::Receipt;
 
-/// That a sender was learned or forgotten. It is made of the receipt of the change alone, so what it says is committed.
+/// What came of a sender. That it was learned or forgotten is said of the receipt of the change alone, so it is
+/// committed.
 #[derive(Drop)]
 pub struct Verdict {
     id: u32,
@@ -24,6 +25,17 @@ impl Verdict {
         } else {
             Outcome::Deleted
         };
+        Verdict { id, outcome }
+    }
+
+    /// The verdict where nothing changes: the outcome is neither `Accepted` nor `Deleted`.
+    pub fn refused(id: u32, outcome: Outcome) -> Verdict
+        requires accepted { outcome ≢ Outcome.Accepted }
+        requires deleted { outcome ≢ Outcome.Deleted }
+        ensures id { result.id ≡ id }
+        ensures outcome { result.outcome ≡ outcome }
+    {
+        prove!(outcome != Outcome::Accepted && outcome != Outcome::Deleted);
         Verdict { id, outcome }
     }
 

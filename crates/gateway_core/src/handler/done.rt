@@ -6,17 +6,18 @@ ghost use Rattle.gateway_core.specs.Replies.{answer_of};
 ghost use Rattle.gateway_core.specs.Run.{cause_text};
 ghost use Rattle.gateway_core.specs.Step;
 ghost use Rattle.gateway_core.specs.Step.{said};
-ghost use Rattle.teach_in.specs.declared.mode.Mode.{Mode};
 ghost use Rattle.gateway_core.specs.Tries.{Gives};
 
 use crate::refusal::Refusal;
 use crate::reply::{Desk, Reply};
-use json_lines::{Count, ErrorName};
+use json_lines::{Count, ErrorName, done_line};
+use teach_in::Mode;
 
-// What the item is counted as, if it is counted, and the answer to it.
+// What the item is counted as, if it is counted, the mode that is set, if any, and the answer to it.
 #[derive(Drop)]
 pub(crate) struct Done {
     pub(crate) count: Option<Count>,
+    pub(crate) mode: Option<Mode>,
     pub(crate) reply: Reply,
 }
 
@@ -29,34 +30,48 @@ fn reply_with(desk: Desk) -> Reply
 
 pub(crate) fn told(desk: Desk) -> Done
     ensures count { result.count ≡ None }
+    ensures mode { result.mode ≡ None }
     ensures answer { answer_of result.reply ≡ said (desk_bytes desk) }
 {
     Done {
         count: None,
+        mode: None,
         reply: reply_with(desk),
     }
 }
 
 pub(crate) fn counted(count: Count, desk: Desk) -> Done
     ensures count { result.count ≡ Some count }
+    ensures mode { result.mode ≡ None }
     ensures answer { answer_of result.reply ≡ said (desk_bytes desk) }
 {
     Done {
         count: Some(count),
+        mode: None,
         reply: reply_with(desk),
     }
 }
 
 pub(crate) fn ignored() -> Done
-    ensures { (mode : Mode) → Gives result (Step.ignored mode) }
+    ensures { Gives result Step.ignored }
 {
     counted(Count::Ignored, Desk::Nothing)
 }
 
 pub(crate) fn denied(name: ErrorName) -> Done
-    ensures { (mode : Mode) → Gives result (Step.denied mode name) }
+    ensures { Gives result (Step.denied name) }
 {
     told(Desk::Fixed(name.line()))
+}
+
+pub(crate) fn opened(mode: Mode) -> Done
+    ensures { Gives result (Step.opens mode) }
+{
+    Done {
+        count: None,
+        mode: Some(mode),
+        reply: reply_with(Desk::Fixed(done_line())),
+    }
 }
 
 // The answer to what is refused.

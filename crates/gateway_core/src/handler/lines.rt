@@ -1,10 +1,11 @@
 //! How a line of the desk is handled.
 ghost use Rattle.std.specs.Prelude.{◌≡◌, Ok};
-ghost use Rattle.gateway_core.specs.Step.{line_effect, order_effect};
-ghost use Rattle.gateway_core.specs.Tries.{Tries};
+ghost use Rattle.teach_in.specs.declared.mode.Mode.TheVariants.{LearnAs};
+ghost use Rattle.gateway_core.specs.Step.{if_supported, line_effect, opens, order_effect};
+ghost use Rattle.gateway_core.specs.Tries.{Gives, Tries};
 
 use crate::handler::Handler;
-use crate::handler::done::{Done, denied, told};
+use crate::handler::done::{Done, denied, opened, told};
 use crate::refusal::Refusal;
 use crate::reply::Desk;
 use actuator_commands::{Order, OrderFault, parse};
@@ -12,10 +13,21 @@ use device_registry::Device;
 use erp1_telegrams::Eep;
 use json_lines::{ErrorName, device_lines, status_line};
 use sqlite::Alter;
-use teach_in::supported;
+use teach_in::{Mode, supported};
 
 /// The longest line of the desk, in bytes. Own choice.
 pub const LONGEST_LINE: usize = 200;
+
+// Opens the mode that learns with this profile.
+fn open_as(eep: Eep) -> Done
+    ensures { Gives result (if_supported eep (opens (LearnAs eep))) }
+{
+    if supported(eep) {
+        opened(Mode::LearnAs(eep))
+    } else {
+        denied(ErrorName::UnsupportedProfile)
+    }
+}
 
 impl<S: Alter> Handler<S> {
     // Learns a device that the desk names.
@@ -67,6 +79,10 @@ impl<S: Alter> Handler<S> {
             return Ok(denied(ErrorName::TooLong));
         }
         match parse(line) {
+            Ok(Order::LearnOn) => Ok(opened(Mode::Learn)),
+            Ok(Order::LearnOnAnswer) => Ok(opened(Mode::LearnAnswer)),
+            Ok(Order::LearnAs(eep)) => Ok(open_as(eep)),
+            Ok(Order::LearnOff) => Ok(opened(Mode::Closed)),
             Ok(Order::Add(id, eep)) => self.try_add(id, eep),
             Ok(Order::Remove(id)) => self.try_remove(id),
             Ok(Order::List) => self.try_list(),

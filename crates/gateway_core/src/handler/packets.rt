@@ -2,8 +2,8 @@
 ghost use Rattle.std.specs.Prelude.{◌≡◌, IfOk, Some};
 ghost use Rattle.esp3_frames.specs.Outcome.{packet_of};
 ghost use Rattle.device_registry.specs.Devices.{device_of};
-ghost use Rattle.teach_in.specs.declared.mode.Mode.{Mode};
-ghost use Rattle.gateway_core.specs.Step.{case_effect, data_case, packet_effect, telegram_effect};
+ghost use Rattle.gateway_core.specs.Profiles.{readings_of};
+ghost use Rattle.gateway_core.specs.Step.{case_effect, data_case, packet_effect, reading_effect, telegram_effect};
 ghost use Rattle.gateway_core.specs.Tries.{Gives, Tries};
 
 use crate::handler::Handler;
@@ -22,8 +22,8 @@ use teach_in::{Teach, classify};
 
 // The line of what a telegram tells, if the profile of its sender can read it.
 fn reading(alloc: Global, telegram: &Telegram, device: Device) -> Result<Done, AllocError>
-    ensures { IfOk result (λ done. (mode : Mode) →
-        Gives done (case_effect mode telegram.now (data_case (Some device)))) }
+    ensures { IfOk result (λ done. Gives done (reading_effect telegram.now device.eep
+        (readings_of device.eep telegram.now))) }
 {
     let Some(readings) = profiles::read(device.eep, telegram) else {
         return Ok(ignored());
@@ -33,13 +33,13 @@ fn reading(alloc: Global, telegram: &Telegram, device: Device) -> Result<Done, A
 }
 
 impl<S: Alter> Handler<S> {
-    // Tells what a data telegram says, if its sender is learned.
+    // Tells what a data telegram of a learned sender says. Another sender is learned by it, where that is planned.
     fn try_data(&mut self, telegram: &Telegram) -> Result<Done, Refusal>
-        ensures { Tries S.Store self.old (λ state. case_effect state.mode telegram.now
+        ensures { Tries S.Store self.old (λ state. case_effect state telegram.now
             (data_case (device_of state.devices telegram.now.sender))) result self.new }
     {
         let Some(device) = self.registry.find(telegram.sender())? else {
-            return Ok(ignored());
+            return self.try_plan(telegram);
         };
         let done = reading(self.alloc, telegram, device)?;
         Ok(done)
@@ -55,7 +55,7 @@ impl<S: Alter> Handler<S> {
         }
         match classify(telegram) {
             Teach::Answer => Ok(ignored()),
-            Teach::Contact | Teach::Bare | Teach::FourByte | Teach::Ute => Ok(ignored()),
+            Teach::Contact | Teach::Bare | Teach::FourByte(_) | Teach::Ute => self.try_plan(telegram),
             Teach::Plain => self.try_data(telegram),
         }
     }

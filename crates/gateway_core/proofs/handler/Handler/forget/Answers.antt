@@ -21,6 +21,7 @@ returns g c =
       (
         c.told.ensures.answer ∙ ap said (c.tell-line.ensures ∙ c.in_ok-draft.ensures.line ∙ sym (append-nil _)),
         c.told.ensures.count,
+        c.told.ensures.mode,
       ),
       c.in-Ok.ensures.devices honest devices has,
     )))

@@ -1,56 +1,40 @@
-use Rattle.std.proofs.Common.{sym, ap, subst, ◌∙◌, append-nil}
+use Rattle.std.proofs.Common.{List, [], ◌∷◌, Ok, refl, sym, ap, subst, ◌∙◌, append-nil}
 use Rattle.std.proofs.lemmas.Result.{err_from_is_err_and}
-use Rattle.device_registry.specs.declared.fault.LearnFault.{LearnFault}
-use Rattle.device_registry.specs.declared.fault.LearnFault.TheVariants as fault
-use Rattle.device_registry.specs.Holding.{RefusesToLearn}
-use Rattle.sqlite.specs.Held.{state}
-use Rattle.gateway_core.specs.Step.{State, said}
-use Rattle.gateway_core.specs.Tries.{state_of}
-use Rattle.gateway_core.proofs.TryLemmas.{tries, tries-alone, addition-need, addition-pending}
+use Rattle.json_lines.specs.Lines.{Error}
+use Rattle.json_lines.specs.declared.fixed.ErrorName.TheVariants as name
+use Rattle.gateway_core.specs.Step.{State, Effect, said, learns, tells}
+use Rattle.gateway_core.specs.Tries.{Enters}
+use Rattle.gateway_core.proofs.TryLemmas.{tries-entered, tries-full, tries-refused}
 use Rattle.gateway_core.proofs.handler.Handler.learn.Goals as goal
 
-pub returns-in_err-draft : goal.returns-in_err-draft
-returns-in_err-draft g c =
+pub returns-in_err-entered : goal.returns-in_err-entered
+returns-in_err-entered g c =
     let error = err_from_is_err_and c.from_residual.result c.from_residual.ensures.1 in
     rw (error.1, error.2)
-    (tries-alone g.S.Store _ _ _
-    (λ devices keeps. (addition-need (state_of c.args.self.now devices) c.args.device, keeps)))
+    (tries-refused g.S.Store _ _ c.args.device (λ state. tells (Error name.Full ∷ []))
+    (λ state. learns c.args.device)
+    (λ devices. record { full_needs = refl; stays = refl; done_needs = refl; learns = refl })
+    c.in_err-entered.field-0.0 c.in_err-entered.ensures)
 
-pub returns-in-Err-Full : goal.returns-in-Err-Full
-returns-in-Err-Full g c =
-    rw (← c.self.view_is) (tries g.S.Store _ _ _ _ _ _ _ c.learn.ensures.clean c.learn.ensures.registries
-    (λ honest devices has.
-    let Why = λ (why : LearnFault). RefusesToLearn (state g.S.Store c.self.inside.registry)
-    (state g.S.Store c.learn.new.self) c.args.device devices why in
-    let full : Why fault.Full = subst Why c.in-Err-Full.field-0-is
-    (c.in-Err-Full.ensures.devices honest devices has) in
-    rw full.0 (c.denied.ensures c.self.inside.mode, full.1)))
+pub returns-in-Some : goal.returns-in-Some
+returns-in-Some g c =
+    let entered =
+    subst (λ o. Enters g.S.Store c.args.self.now c.args.device (Ok o) c.enter.new.self) c.in-Some.is
+    c.in_ok-entered.ensures in
+    tries-entered g.S.Store _ _ c.args.device (λ state. tells (Error name.Full ∷ [])) (λ state. learns c.args.device)
+    (λ devices. record { full_needs = refl; stays = refl; done_needs = refl; learns = refl })
+    c.in-Some.entered _ entered
+    (λ devices. (
+      c.told.ensures.answer ∙ ap said (entered.told.2 ∙ sym (append-nil _)),
+      c.told.ensures.count,
+      c.told.ensures.mode,
+    ))
 
-pub returns-in-Err-Refused : goal.returns-in-Err-Refused
-returns-in-Err-Refused g c =
-    rw (← c.self.view_is) (tries g.S.Store _ _ _ _ _ _ _ c.learn.ensures.clean c.learn.ensures.registries
-    (λ honest devices has.
-    let Why = λ (why : LearnFault). RefusesToLearn (state g.S.Store c.self.inside.registry)
-    (state g.S.Store c.learn.new.self) c.args.device devices why in
-    let pends : Why (fault.Refused c.in-Err-Refused.fault) = subst Why c.in-Err-Refused.field-0-is
-    (c.in-Err-Refused.ensures.devices honest devices has) in
-    let now : State = record {
-      base = c.self.inside.base;
-      mode = c.self.inside.mode;
-      counts = c.self.inside.counts;
-      devices = devices;
-    } in
-    addition-pending g.S.Store c.self.inside.registry c.learn.new.self now c.args.device pends))
-
-pub returns : goal.returns
-returns g c =
-    rw (← c.self.view_is) (tries g.S.Store _ _ _ _ _ _ _ c.learn.ensures.clean c.learn.ensures.registries
-    (λ honest devices has.
-    let done = c.in-Ok.ensures.devices honest devices has in
-    rw done.0 (
-      (
-        c.told.ensures.answer ∙ ap said (c.tell-line.ensures ∙ c.in_ok-draft.ensures.line ∙ sym (append-nil _)),
-        c.told.ensures.count,
-      ),
-      done.1,
-    )))
+pub returns-in-None : goal.returns-in-None
+returns-in-None g c =
+    let none =
+    subst (λ o. Enters g.S.Store c.args.self.now c.args.device (Ok o) c.enter.new.self) c.in-None.is
+    c.in_ok-entered.ensures in
+    tries-full g.S.Store _ _ c.args.device (λ state. tells (Error name.Full ∷ [])) (λ state. learns c.args.device)
+    (λ devices. record { full_needs = refl; stays = refl; done_needs = refl; learns = refl }) _ none
+    (λ devices. c.denied.ensures)

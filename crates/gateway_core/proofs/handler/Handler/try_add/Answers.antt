@@ -6,7 +6,7 @@ use Rattle.gateway_core.proofs.handler.Handler.try_add.Goals as goal
 pub returns-then-not-supported : goal.returns-then-not-supported
 returns-then-not-supported g c =
     let is : supported c.args.eep ≡ false = cc in
-    tries-alone g.S.Store _ _ _ (λ devices keeps. rw is (c.denied.ensures c.args.self.now.mode, keeps))
+    tries-alone g.S.Store _ _ _ (λ devices keeps. rw is (c.denied.ensures, keeps))
 
 pub returns : goal.returns
 returns g c =

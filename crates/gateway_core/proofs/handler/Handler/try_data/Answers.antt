@@ -1,7 +1,10 @@
-use Rattle.std.proofs.Common.{Some, sym, ap, ◌∙◌}
+use Rattle.std.proofs.Common.{Some, true, refl, sym, ap, ◌∙◌}
 use Rattle.std.proofs.lemmas.Result.{err_from_is_err_and}
 use Rattle.device_registry.specs.Devices.{device_of}
-use Rattle.gateway_core.proofs.TryLemmas.{tries, data-need, data-comes}
+use Rattle.gateway_core.specs.Profiles.{readings_of}
+use Rattle.gateway_core.specs.Step.{case_effect, data_case}
+use Rattle.gateway_core.specs.Tries.{state_of}
+use Rattle.gateway_core.proofs.TryLemmas.{tries, tries-behind, data-need, reading-comes}
 use Rattle.gateway_core.proofs.handler.Handler.try_data.Goals as goal
 
 pub returns-in_err-device : goal.returns-in_err-device
@@ -9,26 +12,28 @@ returns-in_err-device g c =
     let error = err_from_is_err_and c.from_residual.result c.from_residual.ensures.1 in
     rw (← c.self.view_is, error.1, error.2)
     (tries g.S.Store _ _ _ _ _ _ _ c.find.ensures.clean c.find.ensures.registries
-    (λ honest devices has.
-    let known = device_of devices c.args.telegram.now.sender in
-    (data-need c.self.inside.mode c.args.telegram.now known, c.in_err-device.ensures.devices honest devices has)))
+    (λ honest devices has. (
+      data-need (record { base = c.self.inside.base; mode = c.self.inside.mode; counts = c.self.inside.counts; devices = devices }) c.args.telegram.now (device_of devices c.args.telegram.now.sender),
+      c.in_err-device.ensures.devices honest devices has,
+    )))
 
 pub returns-in_default : goal.returns-in_default
 returns-in_default g c =
-    rw (← c.self.view_is) (tries g.S.Store _ _ _ _ _ _ _ c.find.ensures.clean c.find.ensures.registries
+    rw (← c.self.view_is) (tries-behind g.S.Store _ _ _ c.find.new.self _ _ _ refl c.find.ensures.clean
+    c.find.ensures.registries
     (λ honest devices has.
     let found = c.in_ok-device.ensures.devices honest devices has in
     let known = sym c.in_default.is ∙ found.0 ∙ ap (device_of devices) c.sender.ensures in
-    rw (← known) (c.ignored.ensures c.self.inside.mode, found.1)))
+    (ap (λ k. case_effect (record { base = c.self.inside.base; mode = c.self.inside.mode; counts = c.self.inside.counts; devices = devices }) c.args.telegram.now (data_case k)) (sym known), found.1))
+    (c.try_plan.ensures true))
 
 pub returns-in_err-done : goal.returns-in_err-done
 returns-in_err-done g c =
     let error = err_from_is_err_and c.from_residual-in_err-done.result c.from_residual-in_err-done.ensures.1 in
     rw (← c.self.view_is, error.1, error.2)
     (tries g.S.Store _ _ _ _ _ _ _ c.find.ensures.clean c.find.ensures.registries
-    (λ honest devices has.
-    let known = device_of devices c.args.telegram.now.sender in (
-      data-need c.self.inside.mode c.args.telegram.now known,
+    (λ honest devices has. (
+      data-need (record { base = c.self.inside.base; mode = c.self.inside.mode; counts = c.self.inside.counts; devices = devices }) c.args.telegram.now (device_of devices c.args.telegram.now.sender),
       (c.in_ok-device.ensures.devices honest devices has).1,
     )))
 
@@ -39,5 +44,6 @@ returns g c =
     let found = c.in_ok-device.ensures.devices honest devices has in
     let known = sym c.in-Some.is ∙ found.0 ∙ ap (device_of devices) c.sender.ensures in
     rw (← known)
-    (data-comes g.S.Store c.self.inside.registry c.find.new.self devices c.self.inside.mode c.args.telegram.now
-    (Some c.in-Some.device) c.in_ok-done.done (c.in_ok-done.ensures c.self.inside.mode) found.1)))
+    (reading-comes g.S.Store c.self.inside.registry c.find.new.self devices c.args.telegram.now
+    c.in-Some.device.eep (readings_of c.in-Some.device.eep c.args.telegram.now) c.in_ok-done.done c.in_ok-done.ensures
+    found.1)))

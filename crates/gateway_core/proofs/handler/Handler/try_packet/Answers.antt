@@ -18,7 +18,8 @@ returns-in-Some g c =
     tries-alone g.S.Store _ _ _
     (λ devices keeps.
     rw found
-    ((c.counted.ensures.answer ∙ ap said (c.in_ok-line.ensures ∙ sym (append-nil _)), c.counted.ensures.count), keeps))
+    ((c.counted.ensures.answer ∙ ap said (c.in_ok-line.ensures ∙ sym (append-nil _)), c.counted.ensures.count,
+    c.counted.ensures.mode), keeps))
 
 pub returns-in-Ok : goal.returns-in-Ok
 returns-in-Ok g c =
@@ -31,4 +32,4 @@ returns-in-Err g c =
     let silent = sym c.response_in.ensures ∙ ap (option_map response_of) c.in_default.is in
     let none = sym c.read.ensures ∙ c.in-Err.is in
     tries-alone g.S.Store _ _ _
-    (λ devices keeps. rw (silent, none) (c.ignored.ensures c.args.self.now.mode, keeps))
+    (λ devices keeps. rw (silent, none) (c.ignored.ensures, keeps))

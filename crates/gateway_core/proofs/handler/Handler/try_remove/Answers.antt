@@ -11,7 +11,7 @@ returns-in_err-device g c =
     rw (← c.self.view_is, error.1, error.2)
     (tries g.S.Store _ _ _ _ _ _ _ c.find.ensures.clean c.find.ensures.registries
     (λ honest devices has. (
-      removal-need c.self.inside.mode (device_of devices c.args.id),
+      removal-need (device_of devices c.args.id),
       c.in_err-device.ensures.devices honest devices has,
     )))
 
@@ -21,7 +21,7 @@ returns-in-Some g c =
     c.find.ensures.registries
     (λ honest devices has.
     let found = c.in_ok-device.ensures.devices honest devices has in
-    (ap (removal c.self.inside.mode) (sym (sym c.in-Some.is ∙ found.0)), found.1))
+    (ap removal (sym (sym c.in-Some.is ∙ found.0)), found.1))
     c.forget.ensures)
 
 pub returns-in-None : goal.returns-in-None
@@ -29,4 +29,4 @@ returns-in-None g c =
     rw (← c.self.view_is) (tries g.S.Store _ _ _ _ _ _ _ c.find.ensures.clean c.find.ensures.registries
     (λ honest devices has.
     let found = c.in_ok-device.ensures.devices honest devices has in
-    rw (← (sym c.in-None.is ∙ found.0)) (c.denied.ensures c.self.inside.mode, found.1)))
+    rw (← (sym c.in-None.is ∙ found.0)) (c.denied.ensures, found.1)))

@@ -1,6 +1,7 @@
-use Rattle.std.proofs.Common.{◌≡◌, false, refl, sym, ◌∙◌}
+use Rattle.std.proofs.Common.{◌≡◌, false, refl, sym, ap, ◌∙◌}
 use Rattle.erp1_telegrams.specs.Address.{is_passed_over}
 use Rattle.device_registry.specs.Devices.{device_of}
+use Rattle.gateway_core.specs.Step.{kind_case}
 use Rattle.gateway_core.proofs.EffectLemmas.{teaches}
 use Rattle.gateway_core.proofs.TryLemmas.{tries-alone, tries-same}
 use Rattle.gateway_core.proofs.handler.Handler.try_telegram.Goals as goal
@@ -9,7 +10,7 @@ pub returns-then-is_passed_over : goal.returns-then-is_passed_over
 returns-then-is_passed_over g c =
     let over = sym c.is_passed_over.ensures ∙ c.if-is_passed_over.true in
     rw (← c.self.view_is)
-    (tries-alone g.S.Store _ _ _ (λ devices keeps. rw over (c.ignored.ensures c.self.inside.mode, keeps)))
+    (tries-alone g.S.Store _ _ _ (λ devices keeps. rw over (c.ignored.ensures, keeps)))
 
 pub returns-in-Answer : goal.returns-in-Answer
 returns-in-Answer g c =
@@ -17,17 +18,19 @@ returns-in-Answer g c =
     let kind = sym c.classify.ensures ∙ c.in-Answer.is in
     rw (← c.self.view_is)
     (tries-alone g.S.Store _ _ _
-    (λ devices keeps. rw (over, kind) (c.ignored-in-Answer.ensures c.self.inside.mode, keeps)))
+    (λ devices keeps. rw (over, kind) (c.ignored-in-Answer.ensures, keeps)))
 
 pub returns-in-Contact : goal.returns-in-Contact
 returns-in-Contact g c =
-    let over = sym c.is_passed_over.ensures ∙ c.if-is_passed_over.false in
-    rw (← c.self.view_is)
-    (tries-alone g.S.Store _ _ _
-    (λ devices keeps.
+    let over : is_passed_over c.args.self.now.base c.args.telegram.now ≡ false =
+    rw (← c.self.view_is) (sym c.is_passed_over.ensures ∙ c.if-is_passed_over.false) in
+    tries-same g.S.Store _ _ _ _ _
+    (λ devices.
     let known = device_of devices c.args.telegram.now.sender in
-    let case = teaches c.classify.result known c.in-Contact.is in
-    rw (over, ← c.classify.ensures, case) (c.ignored-in-Contact.ensures c.self.inside.mode, keeps)))
+    let case = ap (λ kind. kind_case kind known) (sym c.classify.ensures)
+    ∙ teaches c.classify.result known c.in-Contact.is in
+    rw (over, case) refl)
+    (c.try_plan.ensures false)
 
 pub returns-in-Plain : goal.returns-in-Plain
 returns-in-Plain g c =

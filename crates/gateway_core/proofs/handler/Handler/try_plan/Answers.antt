@@ -1,0 +1,40 @@
+use Rattle.std.proofs.Common.{◌≡◌, false, refl, sym, ◌∙◌}
+use Rattle.std.proofs.lemmas.Result.{err_from_is_err_and}
+use Rattle.teach_in.specs.declared.plans.Plan.TheVariants.{Add, Refuse}
+use Rattle.teach_in.specs.Verdicts.{plan_of}
+use Rattle.gateway_core.specs.Tries.{state_of}
+use Rattle.gateway_core.proofs.TryLemmas.{refused-gives, tries-alone, tries-same}
+use Rattle.gateway_core.proofs.handler.Handler.try_plan.Goals as goal
+
+pub returns-in_err-refused-in-Refuse : goal.returns-in_err-refused-in-Refuse
+returns-in_err-refused-in-Refuse g c =
+    let error =
+    err_from_is_err_and c.from_residual.result c.from_residual.ensures.1 in
+    let plan = sym c.plan.ensures ∙ c.in-Refuse.is in
+    λ asked.
+    rw (← c.self.view_is, error.1, error.2) (tries-alone g.S.Store _ _ _ (λ devices keeps. rw plan (refl, keeps)))
+
+pub returns-in-Silent : goal.returns-in-Silent
+returns-in-Silent g c =
+    let plan = sym c.plan.ensures ∙ c.in-Silent.is in
+    λ asked.
+    rw (← c.self.view_is) (tries-alone g.S.Store _ _ _ (λ devices keeps. rw plan (c.ignored.ensures, keeps)))
+
+pub returns-in-Add : goal.returns-in-Add
+returns-in-Add g c =
+    let plan : plan_of c.args.telegram.now c.args.self.now.mode false ≡ Add c.in-Add.device =
+    rw (← c.self.view_is) (sym c.plan.ensures ∙ c.in-Add.is) in
+    λ asked.
+    tries-same g.S.Store _ _ _ _ _ (λ devices. rw (plan, ← c.classify-teach.ensures) refl) c.try_accept.ensures
+
+pub returns-in_ok-refused-in-Refuse : goal.returns-in_ok-refused-in-Refuse
+returns-in_ok-refused-in-Refuse g c =
+    let plan : plan_of c.args.telegram.now c.args.self.now.mode false ≡ Refuse c.in-Refuse.outcome =
+    rw (← c.self.view_is) (sym c.plan.ensures ∙ c.in-Refuse.is) in
+    λ asked.
+    tries-alone g.S.Store _ _ _
+    (λ devices keeps.
+    rw plan
+    (refused-gives c.in_ok-refused-in-Refuse.refused (state_of c.args.self.now devices) c.args.telegram.now
+    c.classify-teach.result c.sender.result _ c.in-Refuse.outcome c.classify-teach.ensures c.sender.ensures
+    (c.told_by-eep.ensures c.sender.result c.in-Refuse.outcome) (c.in_ok-refused-in-Refuse.ensures devices), keeps))

@@ -1,0 +1,147 @@
+//! How the sender of a telegram is learned, or told why it is not, and what it is replied.
+ghost use Rattle.std.specs.Prelude.{◌≡◌, ◌≢◌, ℕ, Bool, false, None, Some, IfOk, option_map};
+ghost use Rattle.esp3_frames.specs.Packet.{spelling};
+ghost use Rattle.erp1_telegrams.specs.Telegram.{sent};
+ghost use Rattle.device_registry.specs.Devices.{Devices};
+ghost use Rattle.teach_in.specs.declared.outcome.Outcome as spec;
+ghost use Rattle.teach_in.specs.declared.outcome.Outcome.TheVariants as outcome;
+ghost use Rattle.teach_in.specs.Verdicts.{plan_of};
+ghost use Rattle.gateway_core.specs.Replies.{answer_of};
+ghost use Rattle.gateway_core.specs.Step;
+ghost use Rattle.gateway_core.specs.Step.{accepts, addition, plan_effect, radio_of, refused_line, reply_of, told_of};
+ghost use Rattle.gateway_core.specs.Tries.{Gives, MayReply, Tries, state_of};
+
+use crate::handler::Handler;
+use crate::handler::changes::Entered;
+use crate::handler::done::{Done, ignored};
+use crate::refusal::Refusal;
+use crate::reply::{Desk, Reply};
+use arrayvec::ArrayVec;
+use device_registry::Device;
+use erp1_telegrams::{Eep, Telegram, write};
+use json_lines::{Count, Line, teach_line};
+use sqlite::Alter;
+use std::alloc::AllocError;
+use teach_in::{Mode, Outcome, Plan, Teach, Verdict, classify, four_byte_reply, plan};
+
+// The packet that a reply is sent in. It has room for each telegram.
+fn packet_with(reply: &Telegram) -> ArrayVec<u8, 64>
+    ensures { result.items ≡ spelling (sent reply.now) }
+{
+    let mut packet = ArrayVec::new();
+    match write(reply, &mut packet) {
+        Ok(()) => packet,
+        Err(_) => unreachable!(),
+    }
+}
+
+// The profile and the maker that a telegram of teach-in tells, if it does.
+fn told_by(teach: &Teach) -> (Option<Eep>, Option<u16>)
+    ensures { (id : ℕ) (outcome : spec.Outcome) → refused_line id teach.now outcome
+        ≡ record { eep = result.0; id = id; maker = result.1; outcome = outcome } }
+{
+    match teach {
+        Teach::FourByte(query) => (Some(query.eep()), Some(query.maker())),
+        _ => (None, None),
+    }
+}
+
+// The mode that learns with the desk's profile is for one sender.
+fn mode_after_one(mode: Mode) -> Option<Mode>
+    ensures { result ≡ Step.mode_after_one mode }
+{
+    match mode {
+        Mode::LearnAs(_) => Some(Mode::Closed),
+        _ => None,
+    }
+}
+
+impl<S: Alter> Handler<S> {
+    // The packet that replies to a telegram of teach-in, if it gets one: a 4BS query does, in the mode that answers.
+    fn reply_packet(&self, teach: &Teach, verdict: &Verdict) -> Option<ArrayVec<u8, 64>>
+        requires { MayReply teach.now verdict.now.id verdict.now.outcome }
+        ensures { option_map (λ bytes. bytes.items) result
+            ≡ radio_of (reply_of self.now.base self.now.mode teach.now verdict.now.outcome) }
+    {
+        match (self.mode, teach) {
+            (Mode::LearnAnswer, Teach::FourByte(query)) => {
+                Some(packet_with(&four_byte_reply(query, verdict, self.base)))
+            }
+            _ => None,
+        }
+    }
+
+    // Tells what came of a sender, and replies it.
+    fn taught(&self, teach: &Teach, verdict: &Verdict, line: Line) -> Done
+        requires { MayReply teach.now verdict.now.id verdict.now.outcome }
+        ensures count { result.count ≡ Some Count.Teach }
+        ensures mode { result.mode ≡ None }
+        ensures answer { answer_of result.reply ≡ record {
+          radio = radio_of (reply_of self.now.base self.now.mode teach.now verdict.now.outcome);
+          desk = line;
+        } }
+    {
+        Done {
+            count: Some(Count::Teach),
+            mode: None,
+            reply: Reply {
+                radio: self.reply_packet(teach, verdict),
+                desk: Desk::Owned(line),
+            },
+        }
+    }
+
+    // Tells why a sender is not learned, and replies it.
+    fn refuse(
+        &self,
+        teach: &Teach,
+        id: u32,
+        eep: Option<Eep>,
+        maker: Option<u16>,
+        outcome: Outcome,
+    ) -> Result<Done, AllocError>
+        requires accepted { outcome ≢ Outcome.Accepted }
+        requires deleted { outcome ≢ Outcome.Deleted }
+        requires reply { MayReply teach.now id outcome }
+        ensures { IfOk result (λ done. (devices : Devices) → Gives done (Step.taught (state_of self.now devices) teach.now
+            (record { eep = eep; id = id; maker = maker; outcome = outcome }))) }
+    {
+        let draft = teach_line(self.alloc, id, eep, maker, outcome)?;
+        let verdict = Verdict::refused(id, outcome);
+        let line = draft.tell(&verdict);
+        Ok(self.taught(teach, &verdict, line))
+    }
+
+    // Learns the sender of a telegram.
+    fn try_accept(&mut self, teach: &Teach, device: Device) -> Result<Done, Refusal>
+        requires accepted { MayReply teach.now device.id outcome.Accepted }
+        requires full { MayReply teach.now device.id outcome.Full }
+        ensures { Tries S.Store self.old (λ state. addition state.devices device
+            (Step.taught state teach.now (told_of device outcome.Full)) (accepts state teach.now device)) result self.new }
+    {
+        let Some(Entered { verdict, line }) = self.enter(device)? else {
+            let full = self.refuse(teach, device.id, Some(device.eep), device.maker, Outcome::Full)?;
+            return Ok(full);
+        };
+        let mut done = self.taught(teach, &verdict, line);
+        done.mode = mode_after_one(self.mode);
+        Ok(done)
+    }
+
+    // Does what is planned about the sender of a telegram that is not learned by what it says already.
+    pub(crate) fn try_plan(&mut self, telegram: &Telegram) -> Result<Done, Refusal>
+        ensures { (asked : Bool) → Tries S.Store self.old (λ state. plan_effect state telegram.now asked
+            (plan_of telegram.now state.mode false)) result self.new }
+    {
+        let teach = classify(telegram);
+        match plan(telegram, self.mode, false) {
+            Plan::Silent => Ok(ignored()),
+            Plan::Add(device) => self.try_accept(&teach, device),
+            Plan::Refuse(outcome) => {
+                let (eep, maker) = told_by(&teach);
+                let refused = self.refuse(&teach, telegram.sender(), eep, maker, outcome)?;
+                Ok(refused)
+            }
+        }
+    }
+}

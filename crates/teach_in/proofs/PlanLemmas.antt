@@ -1,0 +1,89 @@
+-- What holds of every plan, and of the query that a telegram is.
+use Rattle.std.proofs.Common.{◌≡◌, ℕ, Bool, true, false, Option, Some, None, refl, sym, ap, ◌∙◌}
+use Rattle.std.specs.Prelude.{if◌then◌else◌, ◌==◌, ◌&&◌, not}
+use Rattle.bit_fields.specs.Bits.{field}
+use Rattle.erp1_telegrams.specs.declared.eep.Eep.{Eep}
+use Rattle.erp1_telegrams.specs.Telegram.{Telegram}
+use Rattle.teach_in.specs.declared.four_byte.FourByteQuery.{FourByteQuery}
+use Rattle.teach_in.specs.declared.mode.Mode.{Mode}
+use Rattle.teach_in.specs.declared.mode.Mode.TheVariants.{Closed, Learn, LearnAnswer, LearnAs}
+use Rattle.teach_in.specs.declared.outcome.Outcome.{Outcome}
+use Rattle.teach_in.specs.declared.outcome.Outcome.TheVariants.{Unsupported, NoProfile}
+use Rattle.teach_in.specs.declared.plans.Plan.{Plan}
+use Rattle.teach_in.specs.declared.plans.Plan.TheVariants.{Silent, Refuse}
+use Rattle.teach_in.specs.declared.telegrams.Teach.{Teach}
+use Rattle.teach_in.specs.declared.telegrams.Teach.TheVariants.{Plain, Contact, Bare, FourByte, Ute, Answer}
+use Rattle.teach_in.specs.FourByte.{eep_in}
+use Rattle.teach_in.specs.Profiles.{supported}
+use Rattle.teach_in.specs.Telegrams.{teach_in_of, one_byte_kind, four_byte_kind, ute_kind}
+use Rattle.teach_in.specs.Verdicts.{Row, add, is_learned_by, row_of, in_mode, plan_of}
+
+-- what holds of both holds of the one that is chosen
+pub either : {A : Type 0} (P : A → Type 0) (b : Bool) (one other : A) → P one → P other
+    → P (if b then one else other)
+either P true one other holds may = holds
+either P false one other holds may = may
+
+-- ---- a plan
+
+-- the outcomes that a telegram is refused with: it tells no profile, or one that is not supported
+abbrev pub Refuses : Teach → Outcome → Type 0
+Refuses Bare NoProfile = Unit {0}
+Refuses (FourByte query) Unsupported = Unit {0}
+Refuses kind outcome = ⊥
+
+module _ (P : Plan → Type 0) (t : Telegram) (silent : P Silent)
+    (adds : (eep : Eep) (maker : Option ℕ) → P (add t eep maker)) where
+  of-row : (known : Bool) (kind : Teach) (mode : Mode)
+      → ((outcome : Outcome) → Refuses kind outcome → P (Refuse outcome)) → P (in_mode (row_of t known kind) mode)
+  of-row known kind Closed refuses = silent
+  of-row known Contact Learn refuses = adds _ _
+  of-row known Contact LearnAnswer refuses = adds _ _
+  of-row known Contact (LearnAs eep) refuses = either P (eep.rorg == 0xD5) _ _ (adds _ _) silent
+  of-row known Bare Learn refuses = refuses NoProfile tt
+  of-row known Bare LearnAnswer refuses = refuses NoProfile tt
+  of-row known Bare (LearnAs eep) refuses = either P (eep.rorg == 0xA5) _ _ (adds _ _) silent
+  of-row known (FourByte query) Learn refuses =
+      either P (supported (eep_in query)) _ _ (adds _ _) (refuses Unsupported tt)
+  of-row known (FourByte query) LearnAnswer refuses =
+      either P (supported (eep_in query)) _ _ (adds _ _) (refuses Unsupported tt)
+  of-row known (FourByte query) (LearnAs eep) refuses = either P (eep.rorg == 0xA5) _ _ (adds _ _) silent
+  of-row known Plain Learn refuses = silent
+  of-row known Plain LearnAnswer refuses = silent
+  of-row known Plain (LearnAs eep) refuses =
+      either P (not known && is_learned_by t) _ _ (either P (eep.rorg == t.rorg) _ _ (adds _ _) silent) silent
+  of-row known Ute Learn refuses = silent
+  of-row known Ute LearnAnswer refuses = silent
+  of-row known Ute (LearnAs eep) refuses = silent
+  of-row known Answer Learn refuses = silent
+  of-row known Answer LearnAnswer refuses = silent
+  of-row known Answer (LearnAs eep) refuses = silent
+
+  -- it holds of each plan that there is, so it holds of this one
+  pub of_plan : (mode : Mode) (known : Bool)
+      → ((outcome : Outcome) → Refuses (teach_in_of t) outcome → P (Refuse outcome)) → P (plan_of t mode known)
+  of_plan mode known refuses = of-row known (teach_in_of t) mode refuses
+
+-- ---- a query
+
+-- the sender of a query, and of all else this one
+abbrev sender_in : ℕ → Teach → ℕ
+sender_in sender (FourByte query) = query.id
+sender_in sender kind = sender
+
+sender-in : (t : Telegram) → sender_in t.sender (teach_in_of t) ≡ t.sender
+sender-in t =
+    let P = λ (kind : Teach). sender_in t.sender kind ≡ t.sender in
+    either P (t.rorg == 0xD5) (one_byte_kind t.payload) _
+    (either P (field t.payload 4 1 == 0) Contact Plain refl refl)
+    (either P (t.rorg == 0xA5) (four_byte_kind t.sender t.payload) _
+    (either P (field t.payload 28 1 == 1) Plain _ refl
+    (either P (field t.payload 24 1 == 0) Bare _ refl
+    (either P (field t.payload 27 1 == 0) (FourByte (record { id = t.sender; payload = t.payload })) Answer refl
+    refl)))
+    (either P (t.rorg == 0xD4) (ute_kind t.payload) Plain
+    (either P (field t.payload 4 4 == 0) Ute Answer refl refl) refl))
+
+-- a query is of the telegram's sender
+pub query-sender : (t : Telegram) (query : FourByteQuery) → teach_in_of t ≡ FourByte query → query.id ≡ t.sender
+query-sender t query is = sym (ap (sender_in t.sender) is) ∙ sender-in t

@@ -1,0 +1,70 @@
+-- The table of verdicts: what is planned about the sender of a telegram. Own choice: the modes and the verdicts.
+use Rattle.std.specs.Prelude.{ℕ, Bool, ◌==◌, ◌&&◌, ◌||◌, not, Option, Some, None, if◌then◌else◌}
+use Rattle.bit_fields.specs.Bits.{field}
+use Rattle.erp1_telegrams.specs.declared.eep.Eep.{Eep}
+use Rattle.erp1_telegrams.specs.Telegram.{Telegram}
+use Rattle.device_registry.specs.declared.device.Device.{Device}
+use Rattle.teach_in.specs.declared.four_byte.FourByteQuery.{FourByteQuery}
+use Rattle.teach_in.specs.declared.mode.Mode.{Mode}
+use Rattle.teach_in.specs.declared.mode.Mode.TheVariants.{Closed, Learn, LearnAnswer, LearnAs}
+use Rattle.teach_in.specs.declared.outcome.Outcome.TheVariants.{Unsupported, NoProfile}
+use Rattle.teach_in.specs.declared.plans.Plan.{Plan}
+use Rattle.teach_in.specs.declared.plans.Plan.TheVariants.{Silent, Add, Refuse}
+use Rattle.teach_in.specs.declared.telegrams.Teach.{Teach}
+use Rattle.teach_in.specs.declared.telegrams.Teach.TheVariants.{Plain, Contact, Bare, FourByte, Ute, Answer}
+use Rattle.teach_in.specs.FourByte.{eep_in, maker_in}
+use Rattle.teach_in.specs.Profiles.{supported}
+use Rattle.teach_in.specs.Telegrams.{teach_in_of}
+
+-- the sender is learned with this profile and this maker
+abbrev pub add : Telegram → Eep → Option ℕ → Plan
+add t eep maker = Add (record { id = t.sender; eep = eep; maker = maker })
+
+-- it is so where the profile has this RORG
+abbrev pub add_kind : ℕ → Telegram → Eep → Option ℕ → Plan
+add_kind rorg t eep maker = if eep.rorg == rorg then add t eep maker else Silent
+
+-- the profile of contacts (EnOcean Equipment Profiles 2.6, D5-00-01)
+abbrev pub contact : Eep
+contact = record { rorg = 0xD5; func = 0x00; typ = 0x01 }
+
+-- the profile that a query tells, where it is supported
+abbrev pub add_told : Telegram → FourByteQuery → Plan
+add_told t query =
+    if supported (eep_in query) then add t (eep_in query) (Some (maker_in query)) else Refuse Unsupported
+
+-- whether a telegram of data is one that its sender can be learned by: of RPS where a button is pressed, the bit (3,1),
+-- and each of VLD
+abbrev pub is_learned_by : Telegram → Bool
+is_learned_by t = (t.rorg == 0xF6 && field t.payload 3 1 == 1) || t.rorg == 0xD2
+
+-- a row of the table: what is planned by the profile that the telegram told, in the modes Learn and LearnAnswer, and by
+-- the profile that the desk has given, in the mode LearnAs
+pub record Row : Type 0 where
+  pub told : Plan
+  pub given : Eep → Plan
+
+-- The table: a row for each thing that a telegram may be at teach-in, which for data hangs on whether its sender is known
+-- already. As yet nothing is planned for universal teach-in.
+abbrev pub row_of : Telegram → Bool → Teach → Row
+row_of t known Contact = record { told = add t contact None; given = λ eep. add_kind 0xD5 t eep None }
+row_of t known Bare = record { told = Refuse NoProfile; given = λ eep. add_kind 0xA5 t eep None }
+row_of t known (FourByte query) =
+    record { told = add_told t query; given = λ eep. add_kind 0xA5 t eep (Some (maker_in query)) }
+row_of t known Plain = record {
+  told = Silent;
+  given = λ eep. if not known && is_learned_by t then add_kind t.rorg t eep None else Silent;
+}
+row_of t known Ute = record { told = Silent; given = λ eep. Silent }
+row_of t known Answer = record { told = Silent; given = λ eep. Silent }
+
+-- what a row says in each mode
+abbrev pub in_mode : Row → Mode → Plan
+in_mode row Closed = Silent
+in_mode row Learn = row.told
+in_mode row LearnAnswer = row.told
+in_mode row (LearnAs eep) = row.given eep
+
+-- what is planned about the sender of a telegram, by the mode and by whether it is known
+abbrev pub plan_of : Telegram → Mode → Bool → Plan
+plan_of t mode known = in_mode (row_of t known (teach_in_of t)) mode

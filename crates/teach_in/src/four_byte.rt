@@ -1,0 +1,77 @@
+//! Teach-in by 4BS telegrams that tell a profile, and the replies to them.
+ghost use Rattle.std.specs.Prelude.{◌≡◌, true, Some, IsSome};
+ghost use Rattle.erp1_telegrams.specs.Address.{is_base};
+ghost use Rattle.teach_in.specs.FourByte.{eep_in, four_byte_code, four_byte_reply, maker_in};
+
+use crate::outcome::Outcome;
+use crate::verdict::Verdict;
+use bit_fields::get;
+use erp1_telegrams::{Eep, Telegram, is_base};
+
+/// A 4BS telegram of teach-in that tells its sender's profile and maker.
+///
+/// EnOcean Equipment Profiles 2.6, "4BS Telegram", variations 2 and 3.
+#[derive(Clone, Copy, Debug, PartialEq, Eq)]
+pub struct FourByteQuery {
+    pub(crate) id: u32,
+    pub(crate) payload: [u8; 4],
+}
+
+impl FourByteQuery {
+    /// The sender.
+    pub fn id(&self) -> u32
+        ensures { result ≡ self.now.id }
+    {
+        self.id
+    }
+
+    /// The profile that it tells, of the RORG A5.
+    pub fn eep(&self) -> Eep
+        ensures { result ≡ eep_in self.now }
+    {
+        Eep {
+            rorg: 0xA5,
+            func: get::<4, 0, 6>(&self.payload) as u8,
+            typ: get::<4, 6, 7>(&self.payload) as u8,
+        }
+    }
+
+    /// The number of its maker, 0 to 2047.
+    pub fn maker(&self) -> u16
+        ensures { result ≡ maker_in self.now }
+    {
+        get::<4, 13, 11>(&self.payload) as u16
+    }
+}
+
+// What DB0 of a reply says of this outcome.
+fn four_byte_code(outcome: Outcome) -> u8
+    requires { IsSome (four_byte_code outcome) }
+    ensures { Some result ≡ four_byte_code outcome }
+{
+    match outcome {
+        Outcome::Accepted => 0xF0,
+        Outcome::Unsupported => 0x90,
+        Outcome::Full => 0xD0,
+        _ => unreachable!(),
+    }
+}
+
+/// The reply to a query, on the verdict on its sender: for that sender alone, from the base ID, with the query's own
+/// bytes but for DB0. `base` is a base ID, and the outcome is `Accepted`, `Unsupported` or `Full`.
+///
+/// EnOcean Equipment Profiles 2.6, "4BS Telegram", variation 3.
+pub fn four_byte_reply(query: &FourByteQuery, verdict: &Verdict, base: u32) -> Telegram
+    requires id { verdict.now.id ≡ query.now.id }
+    requires outcome { IsSome (four_byte_code verdict.now.outcome) }
+    requires base { is_base base ≡ true }
+    ensures { Some result ≡ four_byte_reply query.now verdict.now.outcome base }
+{
+    prove!(verdict.id() == query.id() && is_base(base));
+    let [db3, db2, db1, _] = query.payload;
+    let payload = [db3, db2, db1, four_byte_code(verdict.outcome())];
+    match Telegram::new(0xA5, &payload, base, 0, query.id(), None) {
+        Ok(reply) => reply,
+        Err(_) => unreachable!(),
+    }
+}

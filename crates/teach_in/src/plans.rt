@@ -1,0 +1,14 @@
+//! What may be planned about a sender.
+use crate::outcome::Outcome;
+use device_registry::Device;
+
+/// What is planned about the sender of a telegram, before the registry is asked.
+#[derive(Clone, Copy, Debug, PartialEq, Eq)]
+pub enum Plan {
+    /// Nothing is done, and nothing told.
+    Silent,
+    /// This device is learned, unless as many others are as can be.
+    Add(Device),
+    /// Nothing is done, and this is told.
+    Refuse(Outcome),
+}

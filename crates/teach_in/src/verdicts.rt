@@ -1,0 +1,82 @@
+//! The table of verdicts: what is planned about the sender of a telegram.
+ghost use Rattle.std.specs.Prelude.{◌≡◌, Bool};
+ghost use Rattle.teach_in.specs.Telegrams.{teach_in_of};
+ghost use Rattle.teach_in.specs.Verdicts.{add, is_learned_by, plan_of, row_of};
+
+use crate::mode::Mode;
+use crate::outcome::Outcome;
+use crate::plans::Plan;
+use crate::profiles::supported;
+use crate::telegrams::{Teach, bytes_of, classify};
+use bit_fields::get;
+use device_registry::Device;
+use erp1_telegrams::{Eep, Telegram};
+
+/// The profile of a contact, which its teach-in does not tell (EnOcean Equipment Profiles 2.6, "1BS Telegram").
+const CONTACT: Eep = Eep {
+    rorg: 0xD5,
+    func: 0x00,
+    typ: 0x01,
+};
+
+// The sender of a telegram is learned with this profile and this maker.
+fn add(telegram: &Telegram, eep: Eep, maker: Option<u16>) -> Plan
+    ensures { result ≡ add telegram.now eep maker }
+{
+    Plan::Add(Device {
+        id: telegram.sender(),
+        eep,
+        maker,
+    })
+}
+
+// What is planned in the modes that learn by what a telegram tells.
+fn plan_told(telegram: &Telegram) -> Plan
+    ensures { (known : Bool) → result ≡ (row_of telegram.now known (teach_in_of telegram.now)).told }
+{
+    match classify(telegram) {
+        Teach::Contact => add(telegram, CONTACT, None),
+        Teach::Bare => Plan::Refuse(Outcome::NoProfile),
+        Teach::FourByte(query) if supported(query.eep()) => {
+            add(telegram, query.eep(), Some(query.maker()))
+        }
+        Teach::FourByte(_) => Plan::Refuse(Outcome::Unsupported),
+        Teach::Ute | Teach::Plain | Teach::Answer => Plan::Silent,
+    }
+}
+
+// Whether a telegram of data is one that its sender can be learned by.
+fn is_learned_by(telegram: &Telegram) -> bool
+    ensures { result ≡ is_learned_by telegram.now }
+{
+    match telegram.rorg() {
+        0xF6 => get::<1, 3, 1>(bytes_of(telegram.payload())) == 1,
+        0xD2 => true,
+        _ => false,
+    }
+}
+
+// What is planned in the mode that learns with this profile.
+fn plan_as(telegram: &Telegram, eep: Eep, known: bool) -> Plan
+    ensures { result ≡ (row_of telegram.now known (teach_in_of telegram.now)).given eep }
+{
+    match (classify(telegram), eep.rorg) {
+        (Teach::Contact, 0xD5) | (Teach::Bare, 0xA5) => add(telegram, eep, None),
+        (Teach::FourByte(query), 0xA5) => add(telegram, eep, Some(query.maker())),
+        (Teach::Plain, rorg) if !known && rorg == telegram.rorg() && is_learned_by(telegram) => {
+            add(telegram, eep, None)
+        }
+        _ => Plan::Silent,
+    }
+}
+
+/// What is planned about the sender of a telegram, by the mode and by whether the sender is learned already.
+pub fn plan(telegram: &Telegram, mode: Mode, known: bool) -> Plan
+    ensures { result ≡ plan_of telegram.now mode known }
+{
+    match mode {
+        Mode::Closed => Plan::Silent,
+        Mode::Learn | Mode::LearnAnswer => plan_told(telegram),
+        Mode::LearnAs(eep) => plan_as(telegram, eep, known),
+    }
+}
