@@ -25,7 +25,6 @@ pub(crate) fn readings_of(payload: &[u8]) -> Result<Readings, Unreadable>
 }
 
 /// The command of a message. A payload of no bytes has none, and 0 stands for it.
-#[tactic(auto, unfolding(bit_fields::specs::Bits::field, bit_fields::specs::Bits::bits, bit_fields::specs::Bits::byte_bits, bit_fields::specs::Bits::number))]
 fn command(payload: &[u8]) -> u32
     ensures { result ≡ field payload.now 4 4 }
 {
