@@ -1,6 +1,6 @@
 -- Hexadecimal digits, and so the texts of IDs, profiles and bytes, are ASCII and need no escape in a JSON string.
-use Rattle.std.proofs.Common.{◌≡◌, ℕ, zero, suc, ◌<◌, ◌/◌, ◌%◌, ◌++◌, List, [], ◌∷◌, Bool, true, codes, ◌&&◌, ◌==◌}
-use Rattle.std.proofs.Common.{map, slice_index, inl, inr, IsAscii, refl, ap₂, ◌∙◌, arith}
+use Rattle.std.proofs.Common.{◌≡◌, ℕ, zero, suc, ◌<◌, ◌/◌, ◌%◌, ◌++◌, List, [], ◌∷◌, Bool, true, codes}
+use Rattle.std.proofs.Common.{◌&&◌, ◌==◌, map, slice_index, inl, inr, IsAscii, refl, ap₂, ◌∙◌, arith}
 use Rattle.std.specs.Char.{to_ascii_uppercase}
 use Rattle.std.specs.List.{AllByRecursion}
 use Rattle.std.specs.Prelude.{nat_lt}
@@ -107,6 +107,15 @@ all_below limit [] positive h i = positive
 all_below limit (n ∷ ns) positive h zero = h.0
 all_below limit (n ∷ ns) positive h (suc i) = all_below limit ns positive h.1 i
 
+-- what holds of the texts of bytes and of a dash, and so of two texts behind one another, holds of a profile's text
+on_eep : (P : List ℕ → Type 0) → ((a b : List ℕ) → P a → P b → P (a ++ b)) → P (codes "-")
+    → ((byte : ℕ) → P (byte_text byte)) → (eep : Eep) → P (eep_text eep)
+on_eep P append dash of_byte eep =
+    let rorg = append (byte_text eep.rorg) (codes "-") (of_byte eep.rorg) dash in
+    let func = append (byte_text eep.rorg ++ codes "-") (byte_text eep.func) rorg (of_byte eep.func) in
+    append (byte_text eep.rorg ++ codes "-" ++ byte_text eep.func ++ codes "-") (byte_text eep.typ)
+    (append (byte_text eep.rorg ++ codes "-" ++ byte_text eep.func) (codes "-") func dash) (of_byte eep.typ)
+
 plain-append : (a b : List ℕ) → IsPlain a → IsPlain b → IsPlain (a ++ b)
 plain-append a b ha hb = flat_map-append escape_byte a b ∙ ap₂ (λ x y. x ++ y) ha hb
 
@@ -127,12 +136,7 @@ unfolding escape_byte
 plain-as = refl
 
 pub plain-eep : (eep : Eep) → IsPlain (eep_text eep)
-plain-eep eep =
-    let rorg = plain-append (byte_text eep.rorg) (codes "-") (plain-byte eep.rorg) plain-dash in
-    let func = plain-append (byte_text eep.rorg ++ codes "-") (byte_text eep.func) rorg (plain-byte eep.func) in
-    plain-append (byte_text eep.rorg ++ codes "-" ++ byte_text eep.func ++ codes "-") (byte_text eep.typ)
-    (plain-append (byte_text eep.rorg ++ codes "-" ++ byte_text eep.func) (codes "-") func plain-dash)
-    (plain-byte eep.typ)
+plain-eep eep = on_eep IsPlain plain-append plain-dash plain-byte eep
 
 pub plain-as_text : (eep : Eep) → IsPlain (as_text eep)
 plain-as_text eep = plain-append (codes "as ") (eep_text eep) plain-as (plain-eep eep)
@@ -147,12 +151,7 @@ ascii-byte : (byte : ℕ) → IsAscii (byte_text byte)
 ascii-byte byte = ascii-encode_upper _
 
 pub ascii-eep : (eep : Eep) → IsAscii (eep_text eep)
-ascii-eep eep =
-    let rorg = IsAscii-append (byte_text eep.rorg) (codes "-") (ascii-byte eep.rorg) ascii-dash in
-    let func = IsAscii-append (byte_text eep.rorg ++ codes "-") (byte_text eep.func) rorg (ascii-byte eep.func) in
-    IsAscii-append (byte_text eep.rorg ++ codes "-" ++ byte_text eep.func ++ codes "-") (byte_text eep.typ)
-    (IsAscii-append (byte_text eep.rorg ++ codes "-" ++ byte_text eep.func) (codes "-") func ascii-dash)
-    (ascii-byte eep.typ)
+ascii-eep eep = on_eep IsAscii IsAscii-append ascii-dash ascii-byte eep
 
 pub ascii-as_text : (eep : Eep) → IsAscii (as_text eep)
 ascii-as_text eep = IsAscii-append (codes "as ") (eep_text eep) ascii-as (ascii-eep eep)
