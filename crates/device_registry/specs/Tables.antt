@@ -1,5 +1,5 @@
 -- The two tables of the registry.
-use Rattle.std.specs.Prelude.{ℕ, true, false, List, [], ◌∷◌, Some, codes, pos, negsuc}
+use Rattle.std.specs.Prelude.{ℕ, true, false, List, [], ◌∷◌, ◌++◌, Some, codes, pos, negsuc}
 use Rattle.sqlite.specs.Collation.TheVariants.{Binary}
 use Rattle.sqlite.specs.declared.types.Value.TheVariants.{Null, Int}
 use Rattle.sqlite.specs.Table.{Table}
@@ -20,7 +20,9 @@ meta_text = codes "CREATE TABLE enogate_meta (k INTEGER PRIMARY KEY CHECK (k = 1
 
 abbrev pub device_text : List ℕ
 device_text =
-    codes "CREATE TABLE enogate_device (id INTEGER PRIMARY KEY CHECK (id >= 0 AND id <= 4294967294), eep INTEGER NOT NULL CHECK (eep >= 0 AND eep <= 16777215), maker INTEGER NOT NULL CHECK (maker >= -1 AND maker <= 2047)) STRICT"
+    codes "CREATE TABLE enogate_device (id INTEGER PRIMARY KEY CHECK (id >= 0 AND id <= 4294967294), "
+    ++ codes "eep INTEGER NOT NULL CHECK (eep >= 0 AND eep <= 16777215), "
+    ++ codes "maker INTEGER NOT NULL CHECK (maker >= -1 AND maker <= 2047)) STRICT"
 
 abbrev pub key_column : List ℕ → Column
 key_column name =
