@@ -1,6 +1,6 @@
 -- A number with new bits in its middle.
-use Rattle.std.proofs.Common.{◌≡◌, ℕ, ◌+◌, ◌-◌, ◌*◌, ◌/◌, ◌%◌, ◌^◌, ◌<◌, ◌≤◌, List, ◌++◌, length, take, drop, sym, ap}
-use Rattle.std.proofs.Common.{◌∙◌, arith, add_comm, length-drop, bit_and, bit_or}
+use Rattle.std.proofs.Common.{◌≡◌, ℕ, ◌+◌, ◌-◌, ◌*◌, ◌/◌, ◌%◌, ◌^◌, ◌<◌, ◌≤◌, List, ◌++◌}
+use Rattle.std.proofs.Common.{length, take, drop, sym, ap, ◌∙◌, arith, add_comm, length-drop, bit_and, bit_or}
 use Rattle.std.proofs.lemmas.Nat.{pow-add, pow_pos, shr_high, mod_low, shr_split, shr-shr, same_from_place, and_mask}
 use Rattle.std.proofs.lemmas.Nat.{or_shifted, mul-add-lt, mod_below, shl_whole, one_shl, shr_below}
 use Rattle.std.proofs.lemmas.List.{drop-append-le, take-append-le}

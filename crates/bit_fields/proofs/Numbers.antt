@@ -1,6 +1,6 @@
 -- Lists of bits, and the numbers that they spell.
-use Rattle.std.proofs.Common.{◌≡◌, ℕ, ◌+◌, ◌*◌, ◌^◌, ◌<◌, ◌≤◌, List, [], ◌∷◌, ◌++◌, length, refl, sym, ap, ◌∙◌, arith}
-use Rattle.std.proofs.Common.{length-append, append_assoc, suc, lit<}
+use Rattle.std.proofs.Common.{◌≡◌, ℕ, ◌+◌, ◌*◌, ◌^◌, ◌<◌, ◌≤◌, List, [], ◌∷◌, ◌++◌, length, refl}
+use Rattle.std.proofs.Common.{sym, ap, ◌∙◌, arith, length-append, append_assoc, suc, lit<}
 use Rattle.std.proofs.lemmas.Nat.{pow-add, mul-le, same_from_place}
 use Rattle.std.proofs.Math.Nat.{pow-suc}
 use Rattle.bit_fields.specs.Bits.{number}

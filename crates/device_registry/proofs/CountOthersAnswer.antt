@@ -1,6 +1,6 @@
 -- What the query that counts the other senders shows.
-use Rattle.std.proofs.Common.{nat_le, ◌≤◌, min, get_or, arith, ◌≡◌, ℕ, pos, List, [], ◌∷◌, ◌++◌, map, filter, length}
-use Rattle.std.proofs.Common.{suc, Bool, true, false, not, cond, Some, refl, sym, ap, subst, ◌∙◌, codes, is_eq}
+use Rattle.std.proofs.Common.{nat_le, ◌≤◌, min, get_or, arith, ◌≡◌, ℕ, pos, List, [], ◌∷◌, ◌++◌, map, filter}
+use Rattle.std.proofs.Common.{length, suc, Bool, true, false, not, cond, Some, refl, sym, ap, subst, ◌∙◌, codes, is_eq}
 use Rattle.std.proofs.Common.{Ordering, Less, Equal, Greater, Result, IfOk, IfErr}
 use Rattle.std.specs.Ordering.{is_ne}
 use Rattle.std.specs.List.{AllByRecursion, list_all, flat_map, AllZip}

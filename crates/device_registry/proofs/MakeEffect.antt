@@ -1,6 +1,6 @@
 -- From the statements that make the two tables to a registry of no devices.
-use Rattle.std.proofs.Common.{◌≡◌, ℕ, List, [], ◌∷◌, length, ◌≤◌, ◌<◌, ◌≢◌, ◌++◌, false, None, Option, Ok, Err, OnOk}
-use Rattle.std.proofs.Common.{Result, arith, IsTrue, MatchBool, refl, sym, ap, subst, ◌∙◌}
+use Rattle.std.proofs.Common.{◌≡◌, ℕ, List, [], ◌∷◌, length, ◌≤◌, ◌<◌, ◌≢◌, ◌++◌, false, None, Option, Ok}
+use Rattle.std.proofs.Common.{Err, OnOk, Result, arith, IsTrue, MatchBool, refl, sym, ap, subst, ◌∙◌}
 use Rattle.std.specs.List.{AllByRecursion}
 use Rattle.std.specs.FinMap.{empty}
 use Rattle.sqlite.specs.Schema.{Schema}

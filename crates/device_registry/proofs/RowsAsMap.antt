@@ -1,7 +1,7 @@
 -- What an edit of the rows does to the devices.
-use Rattle.std.proofs.Common.{◌/◌, ◌%◌, ◌+◌, ◌*◌, ap₂, ◌≡◌, ◌≢◌, ◌<◌, ◌⊎◌, inl, inr, ℕ, ℤ, pos, Bool, true, false}
-use Rattle.std.proofs.Common.{not, cond, List, [], ◌∷◌, map, Some, None, Option, refl, sym, ap, ◌∙◌, arith, is_eq}
-use Rattle.std.proofs.Common.{Ordering, Less, Equal, Greater, nat_cmp}
+use Rattle.std.proofs.Common.{◌/◌, ◌%◌, ◌+◌, ◌*◌, ap₂, ◌≡◌, ◌≢◌, ◌<◌, ◌⊎◌, inl, inr, ℕ, ℤ, pos}
+use Rattle.std.proofs.Common.{Bool, true, false, not, cond, List, [], ◌∷◌, map, Some, None, Option, refl, sym, ap, ◌∙◌}
+use Rattle.std.proofs.Common.{arith, is_eq, Ordering, Less, Equal, Greater, nat_cmp}
 use Rattle.std.specs.List.{AllByRecursion}
 use Rattle.std.specs.Ordering.{match_ordering, eq_by_cmp}
 use Rattle.std.proofs.lemmas.Cmp.{nat_cmp_total}

@@ -1,7 +1,7 @@
 -- What the two queries show that read a whole table.
 use Rattle.sqlite.specs.declared.error.Error.{Error}
-use Rattle.std.proofs.Common.{◌≡◌, ◌≢◌, ◌<◌, ℕ, ℤ, true, false, ◌≤ℤ◌, negsuc, Less, Result, Ok, Err, IfOk, ◌≤◌, suc}
-use Rattle.std.proofs.Common.{pos, List, [], ◌∷◌, map, length, refl, sym, ap, subst, ◌∙◌, arith, codes}
+use Rattle.std.proofs.Common.{◌≡◌, ◌≢◌, ◌<◌, ℕ, ℤ, true, false, ◌≤ℤ◌, negsuc, Less, Result, Ok, Err, IfOk}
+use Rattle.std.proofs.Common.{◌≤◌, suc, pos, List, [], ◌∷◌, map, length, refl, sym, ap, subst, ◌∙◌, arith, codes}
 use Rattle.std.proofs.lemmas.Bool.{not-true}
 use Rattle.std.specs.List.{flat_map}
 use Rattle.std.specs.List.Sorted.{IsPermutation}

@@ -1,7 +1,7 @@
 -- What the tests of a schema tell.
-use Rattle.std.proofs.Common.{inl, inr, suc, ◌≡◌, ◌≢◌, ℕ, ◌+◌, ◌==◌, List, [], ◌∷◌, Bool, true, false, not, ◌&&◌, ◌||◌}
-use Rattle.std.proofs.Common.{Some, None, Option, if◌then◌else◌, subst, refl, sym, ap, ◌∙◌, arith, IsTrue, is_some}
-use Rattle.std.proofs.Common.{is_none, slice_get, option_map, option_and_then, codes}
+use Rattle.std.proofs.Common.{inl, inr, suc, ◌≡◌, ◌≢◌, ℕ, ◌+◌, ◌==◌, List, [], ◌∷◌, Bool, true, false, not}
+use Rattle.std.proofs.Common.{◌&&◌, ◌||◌, Some, None, Option, if◌then◌else◌, subst, refl, sym, ap, ◌∙◌, arith, IsTrue}
+use Rattle.std.proofs.Common.{is_some, is_none, slice_get, option_map, option_and_then, codes}
 use Rattle.std.proofs.lemmas.Bool.Decides.{nat_tests}
 use Rattle.std.proofs.lemmas.Bool.{cases_Bool, not-true}
 use Rattle.std.specs.List.{AllByRecursion, list_any, list_all, position_from}

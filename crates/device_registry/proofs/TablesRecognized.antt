@@ -1,6 +1,7 @@
 -- A database that lists the registry's texts in the trees of its two names has the registry's tables.
-use Rattle.std.proofs.Common.{◌≡◌, inl, inr, ℕ, ◌<◌, ◌==◌, ◌^◌, nat_le, List, [], ◌∷◌, ◌++◌, map, Bool, true, false}
-use Rattle.std.proofs.Common.{◌&&◌, ◌||◌, Some, option_map, Ok, refl, sym, ap, subst, ◌∙◌, arith, IsTrue, Less, is_eq}
+use Rattle.std.proofs.Common.{◌≡◌, inl, inr, ℕ, ◌<◌, ◌==◌, ◌^◌, nat_le, List, [], ◌∷◌, ◌++◌, map, Bool, true}
+use Rattle.std.proofs.Common.{false, ◌&&◌, ◌||◌, Some, option_map, Ok, refl, sym, ap, subst, ◌∙◌, arith, IsTrue, Less}
+use Rattle.std.proofs.Common.{is_eq}
 use Rattle.std.proofs.lemmas.Bool.Decides.{nat_tests}
 use Rattle.std.proofs.lemmas.Slice.Eq.{bytes_eq-Decides}
 use Rattle.std.proofs.lemmas.List.Sorted.{list_any-IsPermutation}

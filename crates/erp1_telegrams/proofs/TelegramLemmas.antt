@@ -1,8 +1,8 @@
 -- Packets and the telegrams that they carry.
-use Rattle.std.proofs.Common.{◌≡◌, ℕ, suc, ◌+◌, ◌-◌, ◌<◌, ◌≤◌, ◌^◌, Bool, true, false, not, ◌||◌, ◌&&◌, ◌==◌, nat_le}
-use Rattle.std.proofs.Common.{List, [], ◌∷◌, ◌++◌, length, get_or, take, drop, Option, Some, Result, Ok, Err, IfOk, ◌↔◌}
-use Rattle.std.proofs.Common.{refl, sym, ap, subst, ◌∙◌, append_assoc, add-one, arith, length-append, length-take}
-use Rattle.std.proofs.Common.{length-drop}
+use Rattle.std.proofs.Common.{◌≡◌, ℕ, suc, ◌+◌, ◌-◌, ◌<◌, ◌≤◌, ◌^◌, Bool, true, false, not, ◌||◌}
+use Rattle.std.proofs.Common.{◌&&◌, ◌==◌, nat_le, List, [], ◌∷◌, ◌++◌, length, get_or, take, drop, Option, Some, Result}
+use Rattle.std.proofs.Common.{Ok, Err, IfOk, ◌↔◌, refl, sym, ap, subst, ◌∙◌, append_assoc, add-one, arith}
+use Rattle.std.proofs.Common.{length-append, length-take, length-drop}
 use Rattle.std.specs.Prelude.{slice_range, if◌then◌else◌}
 use Rattle.std.specs.Int.{w32, from_be_bytes, to_be_bytes}
 use Rattle.std.proofs.lemmas.Bool.{eqb-true, eq-eqb, ne_eqb, leb-true}
@@ -216,7 +216,8 @@ sent_of t fit sender dest =
 
 -- what `new` answers, as a decision list
 made_is : (r : Result Telegram TelegramFault) (t : Telegram) (k f : Bool) → IfOk r (λ x. x ≡ t)
-    → ((r ≡ Err OtherKind) ↔ (k ≡ false)) → ((r ≡ Err BadLength) ↔ ((k ≡ true) × (f ≡ false))) → (r ≡ Err NotRadio → ⊥)
+    → ((r ≡ Err OtherKind) ↔ (k ≡ false)) → ((r ≡ Err BadLength) ↔ ((k ≡ true) × (f ≡ false)))
+    → (r ≡ Err NotRadio → ⊥)
     → r ≡ (if not k then Err OtherKind else if not f then Err BadLength else Ok t)
 made_is r t false f o a b n = a.1 refl
 made_is r t true false o a b n = b.1 (refl, refl)

@@ -1,6 +1,6 @@
 -- What a framer knows of what stands at the front of its bytes.
-use Rattle.std.specs.Prelude.{◌≡◌, ◌≢◌, ℕ, ◌+◌, ◌<◌, ◌≤◌, List, [], ◌⊎◌, length, take, drop, slice_index, Option, Some}
-use Rattle.std.specs.Prelude.{None, Ok}
+use Rattle.std.specs.Prelude.{◌≡◌, ◌≢◌, ℕ, ◌+◌, ◌<◌, ◌≤◌, List, [], ◌⊎◌, length, take, drop, slice_index}
+use Rattle.std.specs.Prelude.{Option, Some, None, Ok}
 use Rattle.esp3_frames.specs.Packet.{Packet}
 use Rattle.esp3_frames.specs.Frames.{front_of}
 use Rattle.esp3_frames.specs.Frames.Front.{Never}

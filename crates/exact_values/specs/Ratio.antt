@@ -1,5 +1,6 @@
 -- Fractions in lowest terms. They are an own choice: no standard says how a value is written.
-use Rattle.std.specs.Prelude.{ℕ, ◌/◌, ◌%◌, ◌<◌, ◌==◌, ◌&&◌, if◌then◌else◌, suc, zero, ℤ, pos, int_div, unsigned_abs}
+use Rattle.std.specs.Prelude.{ℕ, ◌/◌, ◌%◌, ◌<◌, ◌==◌, ◌&&◌, if◌then◌else◌, suc, zero, ℤ, pos, int_div}
+use Rattle.std.specs.Prelude.{unsigned_abs}
 use Rattle.std.specs.Int.{IsGcd}
 
 -- a fraction: a numerator with its sign, and a denominator

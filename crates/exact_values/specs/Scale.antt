@@ -1,8 +1,8 @@
 -- What a raw number stands for: the columns "Valid Range" and "Scale" of a row give two raw numbers a and b, in either
 -- order, and the values x and y that they stand for; what lies between them is linear (EnOcean Equipment Profiles 2.6).
 -- Own choice: x and y are given in tenths of the unit, and what lies outside the raw bounds stands for nothing.
-use Rattle.std.specs.Prelude.{◌≡◌, ℕ, ◌+◌, ◌-◌, ◌*◌, ◌≤◌, ◌&&◌, nat_le, min, max, if◌then◌else◌, ℤ, pos, ◌+ℤ◌, ◌-ℤ◌}
-use Rattle.std.specs.Prelude.{◌*ℤ◌, Option, Some, None}
+use Rattle.std.specs.Prelude.{◌≡◌, ℕ, ◌+◌, ◌-◌, ◌*◌, ◌≤◌, ◌&&◌, nat_le, min, max, if◌then◌else◌, ℤ}
+use Rattle.std.specs.Prelude.{pos, ◌+ℤ◌, ◌-ℤ◌, ◌*ℤ◌, Option, Some, None}
 use Rattle.exact_values.specs.Ratio.{Ratio, lowest}
 
 -- r is one of a and b or lies between them, whichever is greater

@@ -1,5 +1,6 @@
 //! What a raw number stands for on a line between two bounds.
-ghost use Rattle.std.specs.Prelude.{◌≡◌, ◌≢◌, ◌^◌, ◌≤◌, ◌↔◌, ℤ, pos, negsuc, ◌≤ℤ◌, ◌*ℤ◌, IsSome, IfSome, option_map};
+ghost use Rattle.std.specs.Prelude.{◌≡◌, ◌≢◌, ◌^◌, ◌≤◌, ◌↔◌, ℤ, pos, negsuc, ◌≤ℤ◌, ◌*ℤ◌};
+ghost use Rattle.std.specs.Prelude.{IsSome, IfSome, option_map};
 ghost use Rattle.exact_values.specs.Ratio.{IsLowest};
 ghost use Rattle.exact_values.specs.Fraction.{ratio};
 ghost use Rattle.exact_values.specs.Scale.{IsBetween, StandsFor, interpolated, scaled};

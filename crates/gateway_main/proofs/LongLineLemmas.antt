@@ -1,7 +1,7 @@
 -- All lines that are too long are treated alike.
 use Rattle.gateway_core.specs.Step.{longest_line}
-use Rattle.std.proofs.Common.{◌≡◌, ℕ, ◌+◌, ◌-◌, ◌<◌, ◌≤◌, List, [], ◌∷◌, ◌++◌, length, take, drop, refl, ap, sym, subst}
-use Rattle.std.proofs.Common.{◌∙◌, arith, true, false, inl, inr, map}
+use Rattle.std.proofs.Common.{◌≡◌, ℕ, ◌+◌, ◌-◌, ◌<◌, ◌≤◌, List, [], ◌∷◌, ◌++◌, length, take, drop, refl}
+use Rattle.std.proofs.Common.{ap, sym, subst, ◌∙◌, arith, true, false, inl, inr, map}
 use Rattle.std.specs.Prelude.{Result, ◌==◌, ◌&&◌, if◌then◌else◌, nat_eq, codes, slice_index}
 use Rattle.std.specs.List.{starts_with}
 use Rattle.std.specs.Str.Lines.{strip_carriage_return}

@@ -1,6 +1,6 @@
 -- How packets, pieces and orders are taken.
-use Rattle.std.proofs.Common.{◌≡◌, ℕ, ◌^◌, ◌<◌, List, [], ◌∷◌, ◌++◌, length, refl, ap, sym, subst, ◌∙◌, append_assoc}
-use Rattle.std.proofs.Common.{append-nil, arith, length-append, map, Some}
+use Rattle.std.proofs.Common.{◌≡◌, ℕ, ◌^◌, ◌<◌, List, [], ◌∷◌, ◌++◌, length, refl, ap, sym, subst, ◌∙◌}
+use Rattle.std.proofs.Common.{append_assoc, append-nil, arith, length-append, map, Some}
 use Rattle.std.proofs.lemmas.List.{map-append, length-map}
 use Rattle.esp3_frames.specs.Packet.{Packet}
 use Rattle.esp3_frames.specs.Frames.{packets_in, rest_of}

@@ -1,5 +1,6 @@
 -- How the calls of a source or of a sink went.
-use Rattle.std.specs.Prelude.{◌≡◌, ℕ, ◌+◌, ◌^◌, ◌==◌, ◌<◌, ◌⊎◌, if◌then◌else◌, Result, Ok, Err, MatchResult}
+use Rattle.std.specs.Prelude.{◌≡◌, ℕ, ◌+◌, ◌^◌, ◌==◌, ◌<◌, ◌⊎◌, if◌then◌else◌, Result, Ok, Err}
+use Rattle.std.specs.Prelude.{MatchResult}
 use Rattle.json_lines.specs.Counts.{count_with, one_more}
 
 -- how many calls were made, how many of them failed, and how many answered 0 bytes; each stays at its greatest value

@@ -1,7 +1,7 @@
 -- The rows of a profile's table (EnOcean Equipment Profiles 2.6, the tables "Offset, Size, Data, ShortCut, .., Valid
 -- Range, Scale, Unit"): where a field stands, when it is read, and what its number means.
-use Rattle.std.specs.Prelude.{ℕ, ◌^◌, ℤ, pos, Bool, true, List, [], ◌∷◌, codes, Option, Some, None, ◌==◌, ◌&&◌, nat_lt}
-use Rattle.std.specs.Prelude.{if◌then◌else◌}
+use Rattle.std.specs.Prelude.{ℕ, ◌^◌, ℤ, pos, Bool, true, List, [], ◌∷◌, codes, Option, Some, None, ◌==◌, ◌&&◌}
+use Rattle.std.specs.Prelude.{nat_lt, if◌then◌else◌}
 use Rattle.std.specs.List.{find, flat_map}
 use Rattle.exact_values.specs.Ratio.{Ratio, lowest}
 use Rattle.exact_values.specs.Scale.{scaled}

@@ -1,5 +1,5 @@
-use Rattle.std.proofs.Common.{◌≡◌, ℕ, ◌+◌, ◌-◌, ◌≤◌, true, List, vec_len, ◌++◌, length, take, ap, ◌∙◌, arith}
-use Rattle.std.proofs.Common.{length-take}
+use Rattle.std.proofs.Common.{◌≡◌, ℕ, ◌+◌, ◌-◌, ◌≤◌, true, List, vec_len, ◌++◌, length, take, ap, ◌∙◌}
+use Rattle.std.proofs.Common.{arith, length-take}
 use Rattle.std.specs.Result.{is_ok}
 use Rattle.std.proofs.lemmas.Bool.{cond-true}
 use Rattle.esp3_resync.proofs.RunningLemmas.{two_takes}
