@@ -12,12 +12,15 @@ count_on a b c n m is on = omega (arith, is, on)
 unrefused : (state : State) (item : Item) → (raised state.counts (count_of state item)).refused ≡ state.counts.refused
 unrefused state =
     of_effect (λ e. (raised state.counts e.count).refused ≡ state.counts.refused) state (record {
-      ignores = refl;
-      looks = refl;
-      reads = λ line. refl;
+      telegrams = λ t. record {
+        ignores = refl;
+        looks = refl;
+        reads = λ line. refl;
+        admits = λ learning eep maker. refl;
+        refuses = λ line is. refl;
+      };
+      passes = refl;
       hears = λ response. refl;
-      admits = λ kind known. refl;
-      refuses = λ kind line is. refl;
       denies = λ name. refl;
       finds = λ name. refl;
       sets = λ mode. refl;

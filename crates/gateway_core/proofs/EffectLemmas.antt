@@ -17,7 +17,7 @@ use Rattle.teach_in.specs.declared.telegrams.Teach.TheVariants as teach
 use Rattle.teach_in.specs.Profiles.{supported}
 use Rattle.teach_in.specs.Telegrams.{teach_in_of}
 use Rattle.teach_in.specs.Verdicts.{plan_of}
-use Rattle.teach_in.proofs.ForCallers.{either, Refuses, of_plan}
+use Rattle.teach_in.proofs.ForCallers.{either, IsOpen, Refuses, of_plan}
 use Rattle.json_lines.specs.declared.counts.Count.TheVariants as count
 use Rattle.json_lines.specs.declared.fixed.ErrorName.{ErrorName}
 use Rattle.json_lines.specs.declared.fixed.ErrorName.TheVariants as error
@@ -34,6 +34,7 @@ use Rattle.gateway_core.specs.Step.{State, Item, Received, Ordered, Effect, igno
 use Rattle.gateway_core.specs.Step.{counted_line, denied}
 use Rattle.gateway_core.specs.Step.{tells, opens, learns, forgets, taught, accepts, refused_line, plan_effect}
 use Rattle.gateway_core.specs.Step.{PassedOver, Teaches, data_case, kind_case, reading_effect, case_effect}
+use Rattle.gateway_core.specs.Step.{telegram_effect}
 use Rattle.gateway_core.specs.Step.{packet_by, addition, removal, if_supported, order_effect, longest_line, effect}
 use Rattle.gateway_core.proofs.DeviceLemmas.{device_of-known}
 
@@ -67,14 +68,55 @@ is-refusal id kind outcome is = absurd is
 
 -- ---- all effects
 
--- it holds of each effect that there is
-pub record OfEach (P : Effect → Type 0) (state : State) : Type 0 where
+-- it holds of each effect that a telegram may have
+pub record OfTelegram (P : Effect → Type 0) (state : State) (t : Telegram) : Type 0 where
   pub ignores : P ignored
   pub looks : P unread
   pub reads : (line : ReadingLine) → P (counted_line count.Reading (Reading line))
+  pub admits : IsOpen state.mode → (eep : Eep) (maker : Option ℕ)
+      → P (accepts state (teach_in_of t) (record { id = t.sender; eep = eep; maker = maker }))
+  pub refuses : (line : TeachLine) → IsRefusal line.outcome → P (taught state (teach_in_of t) line)
+
+module _ (P : Effect → Type 0) (state : State) (t : Telegram) (each : OfTelegram P state t) where
+  of-reading : (eep : Eep) (readings : Option (List Entry)) → P (reading_effect t eep readings)
+  of-reading eep None = each.looks
+  of-reading eep (Some readings) = each.reads _
+
+  of-plan : (asked : Bool) → P (unsaid asked) → P (plan_effect state t asked (plan_of t state.mode false))
+  of-plan asked holds =
+      of_plan (λ plan. P (plan_effect state t asked plan)) t holds state.mode false
+      (λ learning eep maker.
+      either P (is_full state.devices t.sender) _ _ (each.refuses _ tt) (each.admits learning eep maker))
+      (λ outcome is.
+      each.refuses (refused_line t.sender (teach_in_of t) outcome) (is-refusal t.sender (teach_in_of t) outcome is))
+
+  of-data : (known : Option Device) → P (case_effect state t (data_case known))
+  of-data None = of-plan true each.looks
+  of-data (Some known) = of-reading known.eep (readings_of known.eep t)
+
+  of-kind : (kind : Teach) (known : Option Device) → P (case_effect state t (kind_case kind known))
+  of-kind teach.Answer known = each.ignores
+  of-kind teach.Contact known = of-plan false each.ignores
+  of-kind teach.Bare known = of-plan false each.ignores
+  of-kind (teach.FourByte query) known = of-plan false each.ignores
+  of-kind teach.Ute known = of-plan false each.ignores
+  of-kind teach.Plain known = of-data known
+
+  of-case : (over : Bool)
+      → P (case_effect state t
+      (if over then PassedOver else kind_case (teach_in_of t) (device_of state.devices t.sender)))
+  of-case true = each.ignores
+  of-case false = of-kind (teach_in_of t) (device_of state.devices t.sender)
+
+  -- so it holds of the effect of this one
+  pub of_telegram : P (telegram_effect state t)
+  of_telegram = of-case (is_passed_over state.base t)
+
+-- it holds of each effect that there is
+pub record OfEach (P : Effect → Type 0) (state : State) : Type 0 where
+  pub telegrams : (t : Telegram) → OfTelegram P state t
+  pub passes : P ignored
   pub hears : (response : Response) → P (counted_line count.Response (ResponseLine response))
-  pub admits : (kind : Teach) (known : Device) → P (accepts state kind known)
-  pub refuses : (kind : Teach) (line : TeachLine) → IsRefusal line.outcome → P (taught state kind line)
   pub denies : (name : ErrorName) → P (denied name)
   pub finds : (name : ErrorName) → P (tells (Error name ∷ []))
   pub sets : (mode : Mode) → P (opens mode)
@@ -84,45 +126,11 @@ pub record OfEach (P : Effect → Type 0) (state : State) : Type 0 where
   pub drops : (known : Device) → device_of state.devices known.id ≡ Some known → P (forgets known)
 
 module _ (P : Effect → Type 0) (state : State) (each : OfEach P state) where
-  of-reading : (t : Telegram) (eep : Eep) (readings : Option (List Entry)) → P (reading_effect t eep readings)
-  of-reading t eep None = each.looks
-  of-reading t eep (Some readings) = each.reads _
-
-  of-plan : (t : Telegram) (asked : Bool) → P (unsaid asked)
-      → P (plan_effect state t asked (plan_of t state.mode false))
-  of-plan t asked holds =
-      of_plan (λ plan. P (plan_effect state t asked plan)) t holds
-      (λ eep maker.
-      either P (is_full state.devices t.sender) _ _ (each.refuses (teach_in_of t) _ tt)
-      (each.admits (teach_in_of t) _))
-      state.mode false
-      (λ outcome is.
-      each.refuses (teach_in_of t) (refused_line t.sender (teach_in_of t) outcome)
-      (is-refusal t.sender (teach_in_of t) outcome is))
-
-  of-data : (t : Telegram) (known : Option Device) → P (case_effect state t (data_case known))
-  of-data t None = of-plan t true each.looks
-  of-data t (Some known) = of-reading t known.eep (readings_of known.eep t)
-
-  of-kind : (t : Telegram) (kind : Teach) (known : Option Device) → P (case_effect state t (kind_case kind known))
-  of-kind t teach.Answer known = each.ignores
-  of-kind t teach.Contact known = of-plan t false each.ignores
-  of-kind t teach.Bare known = of-plan t false each.ignores
-  of-kind t (teach.FourByte query) known = of-plan t false each.ignores
-  of-kind t teach.Ute known = of-plan t false each.ignores
-  of-kind t teach.Plain known = of-data t known
-
-  of-telegram : (t : Telegram) (over : Bool)
-      → P (case_effect state t
-      (if over then PassedOver else kind_case (teach_in_of t) (device_of state.devices t.sender)))
-  of-telegram t true = each.ignores
-  of-telegram t false = of-kind t (teach_in_of t) (device_of state.devices t.sender)
-
   of-packet : (response : Option Response) (telegram : Result Telegram TelegramFault)
       → P (packet_by state response telegram)
   of-packet (Some response) telegram = each.hears response
-  of-packet None (Ok t) = of-telegram t (is_passed_over state.base t)
-  of-packet None (Err fault) = each.ignores
+  of-packet None (Ok t) = of_telegram P state t (each.telegrams t)
+  of-packet None (Err fault) = each.passes
 
   of-supported : (eep : Eep) (effect : Effect) → P effect → P (if_supported eep effect)
   of-supported eep effect holds = either P (supported eep) _ _ holds (each.denies error.UnsupportedProfile)

@@ -13,3 +13,4 @@ pub mod RunLemmas
 pub mod StopLemmas
 pub mod TellingLemmas
 pub mod TryLemmas
+pub mod WindowLemmas

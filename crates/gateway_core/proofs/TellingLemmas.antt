@@ -6,6 +6,7 @@ use Rattle.teach_in.specs.declared.outcome.Outcome.{Outcome}
 use Rattle.teach_in.specs.declared.outcome.Outcome.TheVariants.{Accepted, Deleted, Unsupported, General, NoProfile}
 use Rattle.teach_in.specs.declared.outcome.Outcome.TheVariants as outcome
 use Rattle.teach_in.specs.declared.telegrams.Teach.{Teach as Kind}
+use Rattle.teach_in.specs.Telegrams.{teach_in_of}
 use Rattle.json_lines.specs.declared.fixed.ErrorName.TheVariants as error
 use Rattle.json_lines.specs.Lines.{DeskLine, Reading, Teach, ListEnd, StatusLine, ResponseLine, Done, Error}
 use Rattle.json_lines.specs.Lines.{TeachLine, text, texts, listing}
@@ -75,14 +76,19 @@ effects-tell : (state : State) (line : TeachLine) (item : Item)
     → texts (effect state item).desk ≡ text (Teach line) → Tells state (effect state item) line line.outcome
 effects-tell state line =
     of_effect (λ e. texts e.desk ≡ text (Teach line) → Tells state e line line.outcome) state (record {
-      ignores = λ e. absurd (no_line line e);
-      looks = λ e. absurd (no_line line e);
-      reads = λ read e. absurd (other-line (Reading read) line (λ never. never) e);
+      telegrams = λ t. record {
+        ignores = λ e. absurd (no_line line e);
+        looks = λ e. absurd (no_line line e);
+        reads = λ read e. absurd (other-line (Reading read) line (λ never. never) e);
+        admits = λ learning eep maker e.
+            let known : Device = record { id = t.sender; eep = eep; maker = maker } in
+            told state line (accepts state (teach_in_of t) known) known Accepted e (λ is. (known, is, refl));
+        refuses = λ other is e.
+            subst (Tells state (taught state (teach_in_of t) other) line) (same-outcome other line e)
+            (refused-tells state (teach_in_of t) other line other.outcome is);
+      };
+      passes = λ e. absurd (no_line line e);
       hears = λ response e. absurd (other-line (ResponseLine response) line (λ never. never) e);
-      admits = λ kind known e. told state line (accepts state kind known) known Accepted e (λ is. (known, is, refl));
-      refuses = λ kind other is e.
-          subst (Tells state (taught state kind other) line) (same-outcome other line e)
-          (refused-tells state kind other line other.outcome is);
       denies = λ name e. absurd (other-line (Error name) line (λ never. never) e);
       finds = λ name e. absurd (other-line (Error name) line (λ never. never) e);
       sets = λ mode e. absurd (other-line Done line (λ never. never) e);
@@ -108,12 +114,17 @@ Answers state e = (change : Change) → e.change ≡ Some change
 effects-answer : (state : State) (item : Item) → Answers state (effect state item)
 effects-answer state =
     of_effect (Answers state) state (record {
-      ignores = λ change e. absurd cc;
-      looks = λ change e. absurd cc;
-      reads = λ line change e. absurd cc;
+      telegrams = λ t. record {
+        ignores = λ change e. absurd cc;
+        looks = λ change e. absurd cc;
+        reads = λ line change e. absurd cc;
+        admits = λ learning eep maker change e.
+            let known : Device = record { id = t.sender; eep = eep; maker = maker } in
+            (told_of known Accepted, append-nil _, (known, refl, refl));
+        refuses = λ line is change e. absurd cc;
+      };
+      passes = λ change e. absurd cc;
       hears = λ response change e. absurd cc;
-      admits = λ kind known change e. (told_of known Accepted, append-nil _, (known, refl, refl));
-      refuses = λ kind line is change e. absurd cc;
       denies = λ name change e. absurd cc;
       finds = λ name change e. absurd cc;
       sets = λ mode change e. absurd cc;

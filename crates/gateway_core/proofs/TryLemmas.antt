@@ -120,9 +120,9 @@ addition-need devices known full done first second =
 
 pub plan-need : (state : State) (t : Telegram) → IsTrue (plan_effect state t true (plan_of t state.mode false)).need
 plan-need state t =
-    of_plan (λ plan. IsTrue (plan_effect state t true plan).need) t refl
-    (λ eep maker. addition-need state.devices (record { id = t.sender; eep = eep; maker = maker }) _ _ refl refl)
-    state.mode false (λ outcome is. refl)
+    of_plan (λ plan. IsTrue (plan_effect state t true plan).need) t refl state.mode false
+    (λ learning eep maker. addition-need state.devices (record { id = t.sender; eep = eep; maker = maker }) _ _ refl refl)
+    (λ outcome is. refl)
 
 pub data-need : (state : State) (t : Telegram) (known : Option Device)
     → IsTrue (case_effect state t (data_case known)).need

@@ -15,3 +15,4 @@ pub mod Calls
 pub mod Codes
 pub mod Desks
 pub mod Replies
+pub mod Windows

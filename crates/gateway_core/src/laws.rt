@@ -13,6 +13,7 @@ ghost use Rattle.gateway_core.specs.Run.{RefusalsAreCounted, SameRefusals};
 ghost use Rattle.gateway_core.specs.Step.{Answer, Item};
 ghost use Rattle.gateway_core.specs.Stops.{SafeJoins};
 ghost use Rattle.gateway_core.specs.Telling.{ChangesAreTold, TeachLinesAreTold};
+ghost use Rattle.gateway_core.specs.Windows.{PacketsLearnInWindows};
 
 use crate::gateway::Gateway;
 use device_registry::laws::devices_are_held;
@@ -86,8 +87,9 @@ pub fn left_is_prefix()
     ensures { LeftIsPrefix }
 {}
 
-/// A teach line is answered only where an item is taken that learns the device of which the line tells, where it tells
-/// `accepted`, or forgets it, where it tells `deleted`.
+/// A teach line is answered only where an item is taken. Where it tells `accepted`, the item learns the device of which
+/// the line tells, and where it tells `deleted` it forgets it. Where it tells another outcome, the item changes neither
+/// what is learned nor the mode.
 pub fn teach_lines_are_told()
     ensures { TeachLinesAreTold }
 {}
@@ -96,6 +98,12 @@ pub fn teach_lines_are_told()
 /// device that it learns, `deleted` of the one that it forgets.
 pub fn changes_are_told()
     ensures { ChangesAreTold }
+{}
+
+/// A packet changes what is learned only in an open window, and only by learning the sender of its telegram. It changes
+/// the mode only then, and only where the window is for one sender: that is closed.
+pub fn packets_learn_in_windows()
+    ensures { PacketsLearnInWindows }
 {}
 
 /// What a stop leaves after the calls of a life is what a life may leave.

@@ -32,37 +32,42 @@ Refuses Bare NoProfile = Unit {0}
 Refuses (FourByte query) Unsupported = Unit {0}
 Refuses kind outcome = ⊥
 
-module _ (P : Plan → Type 0) (t : Telegram) (silent : P Silent)
-    (adds : (eep : Eep) (maker : Option ℕ) → P (add t eep maker)) where
+-- the gateway learns in this mode
+abbrev pub IsOpen : Mode → Type 0
+IsOpen Closed = ⊥
+IsOpen mode = Unit {0}
+
+module _ (P : Plan → Type 0) (t : Telegram) (silent : P Silent) where
   of-row : (known : Bool) (kind : Teach) (mode : Mode)
+      → (IsOpen mode → (eep : Eep) (maker : Option ℕ) → P (add t eep maker))
       → ((outcome : Outcome) → Refuses kind outcome → P (Refuse outcome)) → P (in_mode (row_of t known kind) mode)
-  of-row known kind Closed refuses = silent
-  of-row known Contact Learn refuses = adds _ _
-  of-row known Contact LearnAnswer refuses = adds _ _
-  of-row known Contact (LearnAs eep) refuses = either P (eep.rorg == 0xD5) _ _ (adds _ _) silent
-  of-row known Bare Learn refuses = refuses NoProfile tt
-  of-row known Bare LearnAnswer refuses = refuses NoProfile tt
-  of-row known Bare (LearnAs eep) refuses = either P (eep.rorg == 0xA5) _ _ (adds _ _) silent
-  of-row known (FourByte query) Learn refuses =
-      either P (supported (eep_in query)) _ _ (adds _ _) (refuses Unsupported tt)
-  of-row known (FourByte query) LearnAnswer refuses =
-      either P (supported (eep_in query)) _ _ (adds _ _) (refuses Unsupported tt)
-  of-row known (FourByte query) (LearnAs eep) refuses = either P (eep.rorg == 0xA5) _ _ (adds _ _) silent
-  of-row known Plain Learn refuses = silent
-  of-row known Plain LearnAnswer refuses = silent
-  of-row known Plain (LearnAs eep) refuses =
-      either P (not known && is_learned_by t) _ _ (either P (eep.rorg == t.rorg) _ _ (adds _ _) silent) silent
-  of-row known Ute Learn refuses = silent
-  of-row known Ute LearnAnswer refuses = silent
-  of-row known Ute (LearnAs eep) refuses = silent
-  of-row known Answer Learn refuses = silent
-  of-row known Answer LearnAnswer refuses = silent
-  of-row known Answer (LearnAs eep) refuses = silent
+  of-row known kind Closed adds refuses = silent
+  of-row known Contact Learn adds refuses = adds tt _ _
+  of-row known Contact LearnAnswer adds refuses = adds tt _ _
+  of-row known Contact (LearnAs eep) adds refuses = either P (eep.rorg == 0xD5) _ _ (adds tt _ _) silent
+  of-row known Bare Learn adds refuses = refuses NoProfile tt
+  of-row known Bare LearnAnswer adds refuses = refuses NoProfile tt
+  of-row known Bare (LearnAs eep) adds refuses = either P (eep.rorg == 0xA5) _ _ (adds tt _ _) silent
+  of-row known (FourByte query) Learn adds refuses =
+      either P (supported (eep_in query)) _ _ (adds tt _ _) (refuses Unsupported tt)
+  of-row known (FourByte query) LearnAnswer adds refuses =
+      either P (supported (eep_in query)) _ _ (adds tt _ _) (refuses Unsupported tt)
+  of-row known (FourByte query) (LearnAs eep) adds refuses = either P (eep.rorg == 0xA5) _ _ (adds tt _ _) silent
+  of-row known Plain Learn adds refuses = silent
+  of-row known Plain LearnAnswer adds refuses = silent
+  of-row known Plain (LearnAs eep) adds refuses =
+      either P (not known && is_learned_by t) _ _ (either P (eep.rorg == t.rorg) _ _ (adds tt _ _) silent) silent
+  of-row known Ute Learn adds refuses = silent
+  of-row known Ute LearnAnswer adds refuses = silent
+  of-row known Ute (LearnAs eep) adds refuses = silent
+  of-row known Answer Learn adds refuses = silent
+  of-row known Answer LearnAnswer adds refuses = silent
+  of-row known Answer (LearnAs eep) adds refuses = silent
 
   -- it holds of each plan that there is, so it holds of this one
-  pub of_plan : (mode : Mode) (known : Bool)
+  pub of_plan : (mode : Mode) (known : Bool) → (IsOpen mode → (eep : Eep) (maker : Option ℕ) → P (add t eep maker))
       → ((outcome : Outcome) → Refuses (teach_in_of t) outcome → P (Refuse outcome)) → P (plan_of t mode known)
-  of_plan mode known refuses = of-row known (teach_in_of t) mode refuses
+  of_plan mode known adds refuses = of-row known (teach_in_of t) mode adds refuses
 
 -- ---- a query
 
