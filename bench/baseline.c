@@ -1,12 +1,9 @@
 /* What `enogate replay --base ID` does, in plain C: a yardstick for speed, of which nothing is proved. The devices lie
  * in memory, and each line of output is one write(). `bench/same` compares what the two write.
  *
- * It reads the profiles D5-00-01, F6-02-01, F6-02-02, A5-02-05, A5-04-01, A5-08-01 and D2-01-00 to D2-01-12.
- *
- * Left out: the other profiles (`add` answers unsupported_profile), `--db` and with it the answers `store` and
- * `memory`, other ways to write the command line and the texts of usage, `bad base` instead of `an argument is not
- * text`, and the end after 4,000,000,000 reads. The table of devices takes IDs as they come in practice; who chooses
- * them can make it slow.
+ * Left out: `--db` and with it the answers `store` and `memory`, other ways to write the command line and the texts of
+ * usage, `bad base` instead of `an argument is not text`, and the end after 4,000,000,000 reads. The table of devices
+ * takes IDs as they come in practice; who chooses them can make it slow.
  */
 #define _POSIX_C_SOURCE 200809L
 #include <errno.h>
@@ -28,9 +25,14 @@ enum {
     SLOTS = 4096,     /* places of the hash table, a power of two */
     SLOT_BITS = 12,
     PERIOD = 127,     /* x has this order modulo the polynomial of the check */
+    UNKNOWN = -1,     /* the maker of a device that did not tell it */
 };
 
+/* The RORGs of the telegrams that are not always ignored. */
+enum { RPS = 0xF6, ONE_BYTE = 0xD5, FOUR_BYTE = 0xA5, VLD = 0xD2 };
+
 static const uint32_t ALL = 0xFFFFFFFF; /* the ID of all: of no device, and so the mark of a free slot */
+static const uint32_t CONTACT = 0xD50001; /* the profile of a 1BS device that is taught in */
 
 /* The line of output. The longest is that of a response with 1,023 bytes of data. */
 
@@ -48,7 +50,7 @@ static void put_word(const char *word) {
     put(word, strlen(word));
 }
 
-static void put_number(uint64_t number) {
+static inline void put_number(uint64_t number) {
     char digits[20];
     size_t at = sizeof digits;
     do
@@ -68,12 +70,25 @@ static void put_id(uint32_t id) {
         put_byte((uint8_t)(id >> shift));
 }
 
+static void put_lower_case(uint8_t byte) {
+    static const char DIGITS[] = "0123456789abcdef";
+    text[length++] = DIGITS[byte >> 4];
+    text[length++] = DIGITS[byte & 15];
+}
+
 static void put_eep(uint32_t eep) {
     put_byte((uint8_t)(eep >> 16));
     TEXT("-");
     put_byte((uint8_t)(eep >> 8));
     TEXT("-");
     put_byte((uint8_t)eep);
+}
+
+static void put_maker(int maker) {
+    if (maker == UNKNOWN)
+        TEXT("null");
+    else
+        put_number((uint64_t)maker);
 }
 
 static void stop(const char *cause) {
@@ -100,11 +115,16 @@ static void write_error(const char *name) {
     write_line();
 }
 
+static void write_ok(void) {
+    TEXT("{\"type\":\"ok\"}");
+    write_line();
+}
+
 /* The readings. Each ends with a comma, and whoever closes the list puts the bracket over the last one. */
 
-/* A value of num/den. None of these profiles has one below 0. */
-static void fraction(const char *name, const char *unit, uint32_t num, uint32_t den) {
-    uint32_t one = den, other = num;
+/* A value of num/den. */
+static void fraction(const char *name, const char *unit, int64_t num, uint32_t den) {
+    uint32_t size = (uint32_t)(num < 0 ? -num : num), one = den, other = size;
     while (other != 0) {
         uint32_t rest = one % other;
         one = other;
@@ -115,7 +135,9 @@ static void fraction(const char *name, const char *unit, uint32_t num, uint32_t 
     TEXT(",\"name\":\"");
     put_word(name);
     TEXT("\",\"num\":");
-    put_number(num / one);
+    if (num < 0)
+        TEXT("-");
+    put_number(size / one);
     TEXT(",\"unit\":\"");
     put_word(unit);
     TEXT("\"},");
@@ -149,31 +171,55 @@ static uint32_t number(const uint8_t *bytes) {
     return (uint32_t)bytes[0] << 24 | (uint32_t)bytes[1] << 16 | (uint32_t)bytes[2] << 8 | bytes[3];
 }
 
-static void contact(const uint8_t *payload, size_t size, uint8_t status) {
-    (void)size, (void)status;
-    if (payload[0] & 0x08)
-        word("CO", payload[0] & 1 ? "closed" : "open");
+/* A number from 0 to `most` that stands for `low` to `high`. */
+static void scaled(const char *name, const char *unit, int value, int most, int low, int high) {
+    if (value <= most)
+        fraction(name, unit, low * most + value * (high - low), (uint32_t)most);
+    else
+        out_of_range(name, (uint32_t)value);
 }
 
-static void rocker(const uint8_t *payload, size_t size, uint8_t status) {
-    static const char *const BUTTONS[] = {"AI", "A0", "BI", "B0"};
-    unsigned first = payload[0] >> 5, second = payload[0] >> 1 & 7;
+static void percent(const char *name, unsigned value, const char *at_127) {
+    if (value == 127)
+        word(name, at_127);
+    else
+        scaled(name, "%", (int)value, 100, 0, 100);
+}
+
+/* What a telegram says by a profile. Telegrams of teach-in do not come here. */
+
+static void contact(uint32_t eep, const uint8_t *payload, size_t size, uint8_t status) {
+    (void)eep, (void)size, (void)status;
+    word("CO", payload[0] & 1 ? "closed" : "open");
+}
+
+static void button(uint32_t eep, const uint8_t *payload, size_t size, uint8_t status) {
+    (void)eep, (void)size, (void)status;
+    word("PB", payload[0] & 0x10 ? "pressed" : "released");
+}
+
+static void action(const char *name, unsigned number, unsigned buttons) {
+    static const char *const BUTTONS[] = {"AI", "A0", "BI", "B0", "CI", "C0", "DI", "D0"};
+    if (number < buttons)
+        word(name, BUTTONS[number]);
+    else
+        out_of_range(name, number);
+}
+
+/* F6-02 with 4 buttons, and F6-03 with 8. */
+static void rocker(uint32_t eep, const uint8_t *payload, size_t size, uint8_t status) {
+    unsigned first = payload[0] >> 5, buttons = eep < 0xF60300 ? 4 : 8;
     const char *bow = payload[0] & 0x10 ? "pressed" : "released";
     (void)size;
     if (status & 0x10) {
-        if (first < 4)
-            word("R1", BUTTONS[first]);
-        else
-            out_of_range("R1", first);
+        action("R1", first, buttons);
         word("EB", bow);
-        if (payload[0] & 1) {
-            if (second < 4)
-                word("R2", BUTTONS[second]);
-            else
-                out_of_range("R2", second);
-        }
+        if (payload[0] & 1)
+            action("R2", payload[0] >> 1 & 7, buttons);
     } else {
-        if (first == 0 || first == 3)
+        if (buttons == 8)
+            raw("buttons", first);
+        else if (first == 0 || first == 3)
             word("buttons", first ? "three_or_four" : "none");
         else
             out_of_range("buttons", first);
@@ -181,57 +227,94 @@ static void rocker(const uint8_t *payload, size_t size, uint8_t status) {
     }
 }
 
-static void temperature(const uint8_t *payload, size_t size, uint8_t status) {
+static void temperature(uint32_t eep, const uint8_t *payload, size_t size, uint8_t status) {
+    int type = eep & 255, low = 10 * type - (type < 0x10 ? 50 : 220), width = type < 0x10 ? 40 : 80;
     (void)size, (void)status;
-    if (payload[3] & 0x08)
-        fraction("TMP", "C", 40u * (255u - payload[2]), 255);
+    scaled("TMP", "C", 255 - payload[2], 255, low, low + width);
 }
 
-static void humidity(const uint8_t *payload, size_t size, uint8_t status) {
+/* Ten bits, and ends in tenths of a degree. */
+static void fine_temperature(uint32_t eep, const uint8_t *payload, size_t size, uint8_t status) {
+    int value = 1023 - ((payload[1] & 3) << 8 | payload[2]);
     (void)size, (void)status;
-    if (!(payload[3] & 0x08))
-        return;
-    if (payload[1] <= 250)
-        fraction("HUM", "%", 100u * payload[1], 250);
+    if (eep == 0xA50220)
+        fraction("TMP", "C", value * 512 - 100 * 1023, 10 * 1023);
     else
-        out_of_range("HUM", payload[1]);
-    if (!(payload[3] & 0x02))
-        return;
-    if (payload[2] <= 250)
-        fraction("TMP", "C", 40u * payload[2], 250);
-    else
-        out_of_range("TMP", payload[2]);
+        fraction("TMP", "C", value * 1023 - 400 * 1023, 10 * 1023);
 }
 
-static void occupancy(const uint8_t *payload, size_t size, uint8_t status) {
+static void humidity(uint32_t eep, const uint8_t *payload, size_t size, uint8_t status) {
     (void)size, (void)status;
-    if (!(payload[3] & 0x08))
-        return;
-    fraction("SVC", "V", 51u * payload[0], 2550);
-    fraction("ILL", "lx", 510u * payload[1], 255);
-    fraction("TMP", "C", 51u * payload[2], 255);
+    scaled("HUM", "%", payload[1], 250, 0, 100);
+    if (payload[3] & 0x02)
+        scaled("TMP", "C", payload[2], 250, eep == 0xA50401 ? 0 : -20, eep == 0xA50401 ? 40 : 60);
+}
+
+static void light(uint32_t eep, const uint8_t *payload, size_t size, uint8_t status) {
+    bool bright = eep == 0xA50601;
+    (void)size, (void)status;
+    fraction("SVC", "V", 51 * payload[0], 2550);
+    if (payload[3] & 0x01)
+        scaled("ILL2", "lx", payload[1], 255, bright ? 300 : 0, bright ? 30000 : 510);
+    else
+        scaled("ILL1", "lx", payload[2], 255, bright ? 600 : 0, bright ? 60000 : 1020);
+}
+
+static void presence(uint32_t eep, const uint8_t *payload, size_t size, uint8_t status) {
+    (void)eep, (void)size, (void)status;
+    if (payload[3] & 0x01)
+        scaled("SVC", "V", payload[0], 250, 0, 5);
+    word("PIRS", payload[2] < 128 ? "off" : "on");
+}
+
+static void occupancy(uint32_t eep, const uint8_t *payload, size_t size, uint8_t status) {
+    int type = eep & 255;
+    (void)size, (void)status;
+    fraction("SVC", "V", 51 * payload[0], 2550);
+    fraction("ILL", "lx", 510 * type * payload[1], 255);
+    fraction("TMP", "C", type < 3 ? 51 * payload[2] : 80 * payload[2] - 30 * 255, 255);
     word("PIRS", payload[3] & 2 ? "off" : "on");
     word("OCC", payload[3] & 1 ? "released" : "pressed");
 }
 
-static void actuator(const uint8_t *payload, size_t size, uint8_t status) {
+static void carbon_dioxide(uint32_t eep, const uint8_t *payload, size_t size, uint8_t status) {
+    (void)eep, (void)size, (void)status;
+    if (payload[3] & 0x04)
+        scaled("HUM", "%", payload[0], 200, 0, 100);
+    scaled("CONC", "ppm", payload[1], 255, 0, 2550);
+    if (payload[3] & 0x02)
+        scaled("TMP", "C", payload[2], 255, 0, 51);
+}
+
+static void panel(uint32_t eep, const uint8_t *payload, size_t size, uint8_t status) {
+    (void)size, (void)status;
+    raw("SP", payload[1]);
+    scaled("TMP", "C", 255 - payload[2], 255, 0, 40);
+    if (eep == 0xA51005)
+        word("OCC", payload[3] & 1 ? "released" : "pressed");
+}
+
+static void meter(uint32_t eep, const uint8_t *payload, size_t size, uint8_t status) {
+    static const uint32_t TENS[] = {1, 10, 100, 1000};
+    bool now = payload[3] & 0x04;
+    const char *unit = eep == 0xA51201 ? (now ? "W" : "kWh") : now ? "l/s" : "m3";
+    (void)size, (void)status;
+    fraction("MR", unit, number(payload) >> 8, TENS[payload[3] & 3]);
+    raw("TI", payload[3] >> 4);
+}
+
+static void actuator(uint32_t eep, const uint8_t *payload, size_t size, uint8_t status) {
     static const char *const LEVELS[] = {"ok", "warning", "failure", "not_supported"};
     static const char *const UNITS[] = {"Ws", "Wh", "kWh", "W", "kW"};
-    (void)status;
+    (void)eep, (void)status;
     if (size == 3 && (payload[0] & 15) == 4) {
-        unsigned output = payload[2] & 0x7F;
         raw("PF", payload[0] >> 7);
         raw("PFD", payload[0] >> 6 & 1);
         raw("OC", payload[1] >> 7);
         word("EL", LEVELS[payload[1] >> 5 & 3]);
         raw("IO", payload[1] & 0x1F);
         raw("LC", payload[2] >> 7);
-        if (output <= 100)
-            fraction("OV", "%", output, 1);
-        else if (output == 127)
-            word("OV", "not_applicable");
-        else
-            out_of_range("OV", output);
+        percent("OV", payload[2] & 0x7F, "not_applicable");
     } else if (size == 6 && (payload[0] & 15) == 7) {
         unsigned unit = payload[1] >> 5;
         uint32_t value = number(payload + 2);
@@ -245,21 +328,42 @@ static void actuator(const uint8_t *payload, size_t size, uint8_t status) {
     }
 }
 
-/* The profiles that are read, by their first and last number, and the sizes of their payloads. */
+static void blinds(uint32_t eep, const uint8_t *payload, size_t size, uint8_t status) {
+    (void)eep, (void)status;
+    if (size != 4 || (payload[3] & 15) != 4)
+        return;
+    percent("POS", payload[0] & 0x7F, "unknown");
+    percent("ANG", payload[1] & 0x7F, "unknown");
+    raw("LOCK", payload[2] & 7);
+    raw("CHN", payload[3] >> 4);
+}
+
+/* The profiles that are read, by their first and last number. */
 
 struct profile {
     uint32_t first, last;
-    uint8_t least, most;
-    void (*tell)(const uint8_t *payload, size_t size, uint8_t status);
+    void (*tell)(uint32_t eep, const uint8_t *payload, size_t size, uint8_t status);
 };
 
 static const struct profile PROFILES[] = {
-    {0xD50001, 0xD50001, 1, 1, contact},
-    {0xF60201, 0xF60202, 1, 1, rocker},
-    {0xA50205, 0xA50205, 4, 4, temperature},
-    {0xA50401, 0xA50401, 4, 4, humidity},
-    {0xA50801, 0xA50801, 4, 4, occupancy},
-    {0xD20100, 0xD20112, 1, 14, actuator},
+    {0xD50001, 0xD50001, contact},
+    {0xF60101, 0xF60101, button},
+    {0xF60201, 0xF60202, rocker},
+    {0xF60301, 0xF60302, rocker},
+    {0xA50201, 0xA5020B, temperature},
+    {0xA50210, 0xA5021B, temperature},
+    {0xA50220, 0xA50220, fine_temperature},
+    {0xA50230, 0xA50230, fine_temperature},
+    {0xA50401, 0xA50402, humidity},
+    {0xA50601, 0xA50602, light},
+    {0xA50701, 0xA50701, presence},
+    {0xA50801, 0xA50803, occupancy},
+    {0xA50904, 0xA50904, carbon_dioxide},
+    {0xA51003, 0xA51003, panel},
+    {0xA51005, 0xA51005, panel},
+    {0xA51201, 0xA51203, meter},
+    {0xD20100, 0xD20112, actuator},
+    {0xD20500, 0xD20500, blinds},
 };
 
 static const struct profile *profile_of(uint32_t eep) {
@@ -273,6 +377,7 @@ static const struct profile *profile_of(uint32_t eep) {
 
 struct device {
     uint32_t id, eep;
+    int maker;
     const struct profile *profile;
 };
 
@@ -289,6 +394,18 @@ static struct device *find(uint32_t id) {
     while (devices[at].id != id && devices[at].id != ALL)
         at = (at + 1) % SLOTS;
     return &devices[at];
+}
+
+/* Learns a device, or tells that 1,000 others are learned. */
+static bool learn(uint32_t id, uint32_t eep, int maker) {
+    struct device *device = find(id);
+    if (device->id == ALL) {
+        if (learned == DEVICES)
+            return false;
+        learned++;
+    }
+    *device = (struct device){id, eep, maker, profile_of(eep)};
+    return true;
 }
 
 /* Frees a slot, and fills it from those behind it that would not be found any more. */
@@ -309,37 +426,39 @@ static int by_id(const void *one, const void *other) {
     return (a > b) - (a < b);
 }
 
+static void write_teach(uint32_t id, uint32_t eep, int maker, const char *result) {
+    TEXT("{\"eep\":\"");
+    put_eep(eep);
+    TEXT("\",\"id\":\"");
+    put_id(id);
+    TEXT("\",\"maker\":");
+    put_maker(maker);
+    TEXT(",\"result\":\"");
+    put_word(result);
+    TEXT("\",\"type\":\"teach\"}");
+    write_line();
+}
+
 /* What was counted. */
 
-static uint64_t readings, responses, ignored;
+static uint64_t readings, responses, taught, ignored;
 
 /* A packet of the radio module. */
 
 static uint32_t base;
+static uint8_t step[256]; /* the check of one byte, see the serial line below */
 
-/* Tells a telegram: RORG, payload, sender and status. The first seven bytes of the optional data, where there are so
- * many, are the number of subtelegrams, the destination, the signal strength and the security. */
-static bool telegram(const uint8_t *data, size_t size, const uint8_t *optional, size_t more) {
-    if (size < 7)
-        return false;
-    if (more >= 7) {
-        uint32_t destination = number(optional + 1);
-        if (destination != ALL && (destination & ~(uint32_t)127) != base)
-            return false;
-    }
-    const struct device *device = find(number(data + size - 5));
-    if (device->id == ALL || data[0] != device->eep >> 16)
-        return false;
-    size_t payload = size - 6;
-    if (payload < device->profile->least || payload > device->profile->most)
+/* Tells what a telegram of a learned device says, if its profile can read it. */
+static bool reading(const struct device *device, const uint8_t *data, size_t size, int dbm) {
+    if (data[0] != device->eep >> 16)
         return false;
     TEXT("{\"dbm\":");
-    if (more >= 7) {
-        if (optional[5] != 0)
-            TEXT("-");
-        put_number(optional[5]);
-    } else {
+    if (dbm < 0) {
         TEXT("null");
+    } else {
+        if (dbm != 0)
+            TEXT("-");
+        put_number((uint64_t)dbm);
     }
     TEXT(",\"eep\":\"");
     put_eep(device->eep);
@@ -347,7 +466,7 @@ static bool telegram(const uint8_t *data, size_t size, const uint8_t *optional, 
     put_id(device->id);
     TEXT("\",\"readings\":[");
     size_t before = length;
-    device->profile->tell(data + 1, payload, data[size - 1]);
+    device->profile->tell(device->eep, data + 1, size - 6, data[size - 1]);
     if (length == before) {
         length = 0;
         return false;
@@ -355,7 +474,136 @@ static bool telegram(const uint8_t *data, size_t size, const uint8_t *optional, 
     length--;
     TEXT("],\"type\":\"reading\"}");
     write_line();
+    readings++;
     return true;
+}
+
+/* Teaching in. What tells a line about the packet returns true. */
+
+enum mode { CLOSED, ON, ANSWER, AS };
+
+static enum mode mode;
+static uint32_t wanted_eep; /* of the mode AS */
+
+/* Sends the reply to a 4BS query, which has the bytes of the query but the last one. */
+static void reply(uint32_t id, const uint8_t *query, uint8_t last) {
+    uint8_t whole[] = {
+        0x55, 0, 10, 7, 1, 0xEB,
+        FOUR_BYTE, query[0], query[1], query[2], last, 0, 0, 0, 0, 0, /* with the base ID */
+        3, 0, 0, 0, 0, 0xFF, 0,                                       /* with the ID of the sender */
+        0,                                                            /* the check */
+    };
+    uint8_t check = 0;
+    for (int k = 0; k < 4; k++) {
+        whole[11 + k] = (uint8_t)(base >> (24 - 8 * k));
+        whole[17 + k] = (uint8_t)(id >> (24 - 8 * k));
+    }
+    for (size_t k = 6; k < sizeof whole - 1; k++)
+        check = step[check ^ whole[k]];
+    whole[sizeof whole - 1] = check;
+    TEXT("S ");
+    for (size_t k = 0; k < sizeof whole; k++)
+        put_lower_case(whole[k]);
+    write_line();
+}
+
+/* Teaches in the sender of a telegram. */
+static bool teach(uint32_t id, uint32_t eep, int maker) {
+    bool full = !learn(id, eep, maker);
+    write_teach(id, eep, maker, full ? "full" : "accepted");
+    if (mode == AS && !full)
+        mode = CLOSED;
+    taught++;
+    return true;
+}
+
+/* The same, if the mode takes telegrams of this RORG. */
+static bool teach_wanted(uint8_t rorg, uint32_t id, int maker) {
+    return mode == AS && wanted_eep >> 16 == rorg && teach(id, wanted_eep, maker);
+}
+
+/* A 4BS query: 6 bits of FUNC, 7 of TYPE and 11 of the maker. */
+static bool take_query(uint32_t id, const uint8_t *query) {
+    uint32_t func = query[0] >> 2, type = (query[0] & 3u) << 5 | query[1] >> 3;
+    uint32_t eep = (uint32_t)FOUR_BYTE << 16 | func << 8 | type;
+    int maker = (query[1] & 7) << 8 | query[2];
+    if (mode == CLOSED || mode == AS)
+        return teach_wanted(FOUR_BYTE, id, maker);
+    bool full = learned == DEVICES && find(id)->id == ALL, supported = profile_of(eep) != NULL;
+    if (mode == ANSWER)
+        reply(id, query, supported ? (full ? 0xD0 : 0xF0) : 0x90);
+    if (supported)
+        return teach(id, eep, maker);
+    write_teach(id, eep, maker, "unsupported");
+    taught++;
+    return true;
+}
+
+/* A 4BS telegram of teach-in: a reply to another gateway, a query, or one without a profile. */
+static bool four_byte_teach(uint32_t id, const uint8_t *payload) {
+    if (payload[3] & 0x80)
+        return !(payload[3] & 0x10) && take_query(id, payload);
+    if (mode == CLOSED || mode == AS)
+        return teach_wanted(FOUR_BYTE, id, UNKNOWN);
+    TEXT("{\"eep\":null,\"id\":\"");
+    put_id(id);
+    TEXT("\",\"maker\":null,\"result\":\"no_profile\",\"type\":\"teach\"}");
+    write_line();
+    taught++;
+    return true;
+}
+
+static bool contact_teach(uint32_t id) {
+    if (mode == CLOSED || mode == AS)
+        return teach_wanted(ONE_BYTE, id, UNKNOWN);
+    return teach(id, CONTACT, UNKNOWN);
+}
+
+/* Tells a telegram: RORG, payload, sender and status. The first seven bytes of the optional data, where there are so
+ * many, are the number of subtelegrams, the destination, the signal strength and the security. */
+static bool telegram(const uint8_t *data, size_t size, const uint8_t *optional, size_t more) {
+    int dbm = -1;
+    if (size < 7)
+        return false;
+    if (more >= 7) {
+        uint32_t destination = number(optional + 1);
+        if (destination != ALL && (destination & ~(uint32_t)127) != base)
+            return false;
+        dbm = optional[5];
+    }
+    uint32_t sender = number(data + size - 5);
+    if (sender == ALL)
+        return false;
+    const struct device *device = find(sender);
+    bool known = device->id != ALL;
+    switch (data[0]) {
+    case RPS:
+        if (size != 7)
+            return false;
+        if (known)
+            return reading(device, data, size, dbm);
+        return data[1] & 0x10 && teach_wanted(RPS, sender, UNKNOWN);
+    case ONE_BYTE:
+        if (size != 7)
+            return false;
+        if (data[1] & 0x08)
+            return known && reading(device, data, size, dbm);
+        return contact_teach(sender);
+    case FOUR_BYTE:
+        if (size != 10)
+            return false;
+        if (data[4] & 0x08)
+            return known && reading(device, data, size, dbm);
+        return four_byte_teach(sender, data + 1);
+    case VLD:
+        if (size > 20)
+            return false;
+        if (known)
+            return reading(device, data, size, dbm);
+        return teach_wanted(VLD, sender, UNKNOWN);
+    default:
+        return false;
+    }
 }
 
 static bool response(const uint8_t *data, size_t size) {
@@ -377,15 +625,12 @@ static bool response(const uint8_t *data, size_t size) {
         TEXT("\",\"name\":null,\"type\":\"response\"}");
     }
     write_line();
+    responses++;
     return true;
 }
 
 static void handle(uint8_t type, const uint8_t *data, size_t size, size_t more) {
-    if (type == 1 && telegram(data, size, data + size, more))
-        readings++;
-    else if (type == 2 && response(data, size))
-        responses++;
-    else
+    if (!(type == 1 && telegram(data, size, data + size, more)) && !(type == 2 && response(data, size)))
         ignored++;
 }
 
@@ -397,7 +642,7 @@ static void handle(uint8_t type, const uint8_t *data, size_t size, size_t more) 
 
 static uint8_t held[HELD], checks[HELD];
 static size_t start, end, wanted, known;
-static uint8_t step[256], powers[PERIOD][256];
+static uint8_t powers[PERIOD][256];
 
 static void make_tables(void) {
     for (int byte = 0; byte < 256; byte++) {
@@ -496,31 +741,21 @@ static bool digits(const char *from, int count, uint32_t *value) {
     return true;
 }
 
+/* Reads a profile, as D5-00-01. */
+static bool eep_digits(const char *from, uint32_t *eep) {
+    return digits(from, 2, eep) && from[2] == '-' && digits(from + 3, 2, eep) && from[5] == '-'
+        && digits(from + 6, 2, eep);
+}
+
 static void add(uint32_t id, uint32_t eep) {
-    const struct profile *profile = profile_of(eep);
-    struct device *device = find(id);
-    if (id == ALL) {
+    if (id == ALL)
         write_error("range");
-        return;
-    }
-    if (profile == NULL) {
+    else if (profile_of(eep) == NULL)
         write_error("unsupported_profile");
-        return;
-    }
-    if (device->id == ALL) {
-        if (learned == DEVICES) {
-            write_error("full");
-            return;
-        }
-        learned++;
-    }
-    *device = (struct device){id, eep, profile};
-    TEXT("{\"eep\":\"");
-    put_eep(eep);
-    TEXT("\",\"id\":\"");
-    put_id(id);
-    TEXT("\",\"maker\":null,\"result\":\"accepted\",\"type\":\"teach\"}");
-    write_line();
+    else if (!learn(id, eep, UNKNOWN))
+        write_error("full");
+    else
+        write_teach(id, eep, UNKNOWN, "accepted");
 }
 
 static void remove_device(uint32_t id) {
@@ -533,13 +768,22 @@ static void remove_device(uint32_t id) {
         write_error("unknown_device");
         return;
     }
-    TEXT("{\"eep\":\"");
-    put_eep(device->eep);
-    TEXT("\",\"id\":\"");
-    put_id(id);
-    TEXT("\",\"maker\":null,\"result\":\"deleted\",\"type\":\"teach\"}");
+    write_teach(id, device->eep, device->maker, "deleted");
     forget(device);
-    write_line();
+}
+
+static void set_mode(enum mode other) {
+    mode = other;
+    write_ok();
+}
+
+static void learn_as(uint32_t eep) {
+    if (profile_of(eep) == NULL) {
+        write_error("unsupported_profile");
+        return;
+    }
+    wanted_eep = eep;
+    set_mode(AS);
 }
 
 static void list(void) {
@@ -554,7 +798,9 @@ static void list(void) {
         put_eep(sorted[k]->eep);
         TEXT("\",\"id\":\"");
         put_id(sorted[k]->id);
-        TEXT("\",\"maker\":null,\"type\":\"device\"}");
+        TEXT("\",\"maker\":");
+        put_maker(sorted[k]->maker);
+        TEXT(",\"type\":\"device\"}");
         write_line();
     }
     TEXT("{\"count\":");
@@ -564,13 +810,20 @@ static void list(void) {
 }
 
 static void status(void) {
+    static const char *const MODES[] = {"closed", "on", "answer", "as "};
     TEXT("{\"ignored\":");
     put_number(ignored);
-    TEXT(",\"mode\":\"closed\",\"readings\":");
+    TEXT(",\"mode\":\"");
+    put_word(MODES[mode]);
+    if (mode == AS)
+        put_eep(wanted_eep);
+    TEXT("\",\"readings\":");
     put_number(readings);
     TEXT(",\"refused\":0,\"responses\":");
     put_number(responses);
-    TEXT(",\"teach\":0,\"type\":\"status\"}");
+    TEXT(",\"teach\":");
+    put_number(taught);
+    TEXT(",\"type\":\"status\"}");
     write_line();
 }
 
@@ -581,11 +834,18 @@ static bool is(const char *line, size_t size, const char *order) {
 static void order(const char *line, size_t size) {
     uint32_t id = 0, eep = 0;
     if (size == 21 && memcmp(line, "add ", 4) == 0 && digits(line + 4, 8, &id) && line[12] == ' '
-        && digits(line + 13, 2, &eep) && line[15] == '-' && digits(line + 16, 2, &eep) && line[18] == '-'
-        && digits(line + 19, 2, &eep))
+        && eep_digits(line + 13, &eep))
         add(id, eep);
     else if (size == 15 && memcmp(line, "remove ", 7) == 0 && digits(line + 7, 8, &id))
         remove_device(id);
+    else if (is(line, size, "learn on"))
+        set_mode(ON);
+    else if (is(line, size, "learn on answer"))
+        set_mode(ANSWER);
+    else if (size == 17 && memcmp(line, "learn as ", 9) == 0 && eep_digits(line + 9, &eep))
+        learn_as(eep);
+    else if (is(line, size, "learn off"))
+        set_mode(CLOSED);
     else if (is(line, size, "list"))
         list();
     else if (is(line, size, "status"))
