@@ -1,5 +1,6 @@
 -- The calls of a gateway are a run.
-use Rattle.std.proofs.Common.{◌≡◌, ℕ, List, [], ◌∷◌, ◌++◌, refl, ap, sym, subst, ◌∙◌, append_assoc, append-nil, Some}
+use Rattle.std.proofs.Common.{◌≡◌, ℕ, List, [], ◌∷◌, ◌++◌, refl, ap, sym, subst, ◌∙◌, append_assoc}
+use Rattle.std.proofs.Common.{append-nil, Some}
 use Rattle.std.proofs.Common.{None}
 use Rattle.sqlite_trees.specs.declared.store.Store.{Ghosts}
 use Rattle.esp3_frames.specs.Packet.{Packet}

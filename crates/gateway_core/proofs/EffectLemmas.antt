@@ -41,7 +41,8 @@ use Rattle.gateway_core.proofs.DeviceLemmas.{device_of-known}
 -- ---- a telegram of teach-in is one, whatever it tells
 
 pub teaches : (kind : Teach) (known : Option Device)
-    → (kind ≡ teach.Contact) ⊎ ((kind ≡ teach.Bare) ⊎ ((((query : FourByteQuery) × (kind ≡ teach.FourByte query)) ⊎ (kind ≡ teach.Ute))))
+    → (kind ≡ teach.Contact)
+    ⊎ ((kind ≡ teach.Bare) ⊎ (((query : FourByteQuery) × (kind ≡ teach.FourByte query)) ⊎ (kind ≡ teach.Ute)))
     → kind_case kind known ≡ Teaches
 teaches kind known (inl is) = ap (λ k. kind_case k known) is
 teaches kind known (inr (inl is)) = ap (λ k. kind_case k known) is

@@ -1,5 +1,6 @@
 -- What is safe is what was known after a first part of the items.
-use Rattle.std.proofs.Common.{◌≡◌, ◌<◌, ◌⊎◌, inl, inr, IsSome, length, List, [], ◌∷◌, ◌++◌, Option, Some, None, refl}
+use Rattle.std.proofs.Common.{◌≡◌, ◌<◌, ◌⊎◌, inl, inr, IsSome, length, List, [], ◌∷◌, ◌++◌, Option}
+use Rattle.std.proofs.Common.{Some, None, refl}
 use Rattle.std.proofs.Common.{sym, ap, subst, ◌∙◌, arith}
 use Rattle.device_registry.specs.Devices.{Devices, Change}
 use Rattle.gateway_core.specs.Step.{State, Item, Answer, change_of, with_change}

@@ -1,6 +1,8 @@
 -- One item, done or refused.
-use Rattle.std.proofs.Common.{◌<◌, ◌≡◌, inl, inr, ℕ, ◌≤◌, ◌+◌, ◌-◌, Bool, true, false, cond, IsTrue, IsSome, List, []}
-use Rattle.std.proofs.Common.{◌∷◌, length, Option, Some, None, Result, Ok, Err, refl, sym, ap, subst, ◌∙◌, arith, append-nil}
+use Rattle.std.proofs.Common.{◌<◌, ◌≡◌, inl, inr, ℕ, ◌≤◌, ◌+◌, ◌-◌, Bool, true, false, cond, IsTrue}
+use Rattle.std.proofs.Common.{IsSome, List, []}
+use Rattle.std.proofs.Common.{◌∷◌, length, Option, Some, None, Result, Ok, Err, refl, sym, ap, subst, ◌∙◌, arith}
+use Rattle.std.proofs.Common.{append-nil}
 use Rattle.std.specs.Prelude.{if◌then◌else◌}
 use Rattle.std.specs.Ordering.{nat_cmp}
 use Rattle.std.specs.Cmp.{nat_cmp_total}
@@ -40,14 +42,16 @@ use Rattle.actuator_commands.specs.declared.orders.OrderFault.{OrderFault}
 use Rattle.actuator_commands.specs.Orders.{order_of}
 use Rattle.gateway_core.specs.Step.{order_effect, line_effect, longest_line}
 use Rattle.gateway_core.specs.Step.{reading_effect, case_effect, data_case, effect, change_of, needs, with_change}
-use Rattle.gateway_core.specs.Step.{state_after, with_mode, plan_effect, taught, radio_of, reply_of, refused_line, if_supported, opens, denied}
+use Rattle.gateway_core.specs.Step.{state_after, with_mode, plan_effect, taught, radio_of, reply_of, refused_line}
+use Rattle.gateway_core.specs.Step.{if_supported, opens, denied}
 use Rattle.gateway_core.specs.Step.{answer_by}
 use Rattle.gateway_core.specs.Profiles.{readings_of}
 use Rattle.gateway_core.specs.Refusals.{cause_of}
 use Rattle.gateway_core.specs.Run.{cause_text, Cause, Taken, Refused, RefusedAtWrite, refused}
 use Rattle.gateway_core.specs.Stops.{nothing_left, told, pending, Safe}
 use Rattle.gateway_core.specs.Handling.{HandlerValue, Went, Handles}
-use Rattle.gateway_core.specs.Tries.{state_of, Gives, IsMade, IsPending, Comes, Tries, answer_from, counts_from, mode_from}
+use Rattle.gateway_core.specs.Tries.{state_of, Gives, IsMade, IsPending, Comes, Tries, answer_from, counts_from}
+use Rattle.gateway_core.specs.Tries.{mode_from}
 use Rattle.gateway_core.specs.Tries.{IsEntering, Enters}
 
 -- ---- what is kept
@@ -458,7 +462,8 @@ module _ {S : Type 0} (g : Ghosts S) where
             let Here = λ (s : State). Comes g old.registry new.registry start.devices (effect s item) r in
             let here : Here start = subst Here (same old start at.0 at.1 at.3) come in
             subst (λ a. Went g old start (item ∷ []) (a ∷ []) new) (sym settles.answer_is)
-            (comes-went old new start item r (settles.base ∙ tried.base ∙ at.0) (settles.mode ∙ ap (λ m. mode_from m r) (tried.mode ∙ at.1))
+            (comes-went old new start item r (settles.base ∙ tried.base ∙ at.0)
+            (settles.mode ∙ ap (λ m. mode_from m r) (tried.mode ∙ at.1))
             (settles.counts ∙ ap (λ c. counts_from c r) (tried.counts ∙ at.3)) here);
       }
     where

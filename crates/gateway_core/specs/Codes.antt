@@ -12,7 +12,8 @@ use Rattle.gateway_core.specs.Calls.{Value}
 
 abbrev counts_code : Coded Counts
 counts_code =
-    code_by (ℕ × (ℕ × (ℕ × (ℕ × ℕ)))) (coded× coded_ℕ (coded× coded_ℕ (coded× coded_ℕ (coded× coded_ℕ coded_ℕ))))
+    code_by (ℕ × (ℕ × (ℕ × (ℕ × ℕ))))
+    (coded× coded_ℕ (coded× coded_ℕ (coded× coded_ℕ (coded× coded_ℕ coded_ℕ))))
     (λ c. (c.ignored, (c.readings, (c.refused, (c.responses, c.teach)))))
     (λ p. record { ignored = p.0; readings = p.1.0; refused = p.1.1.0; responses = p.1.1.1.0; teach = p.1.1.1.1 })
     (λ _. refl)

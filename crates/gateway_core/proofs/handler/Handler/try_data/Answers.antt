@@ -2,8 +2,7 @@ use Rattle.std.proofs.Common.{Some, true, refl, sym, ap, ◌∙◌}
 use Rattle.std.proofs.lemmas.Result.{err_from_is_err_and}
 use Rattle.device_registry.specs.Devices.{device_of}
 use Rattle.gateway_core.specs.Profiles.{readings_of}
-use Rattle.gateway_core.specs.Step.{case_effect, data_case}
-use Rattle.gateway_core.specs.Tries.{state_of}
+use Rattle.gateway_core.specs.Step.{State, case_effect, data_case}
 use Rattle.gateway_core.proofs.TryLemmas.{tries, tries-behind, data-need, reading-comes}
 use Rattle.gateway_core.proofs.handler.Handler.try_data.Goals as goal
 
@@ -12,8 +11,14 @@ returns-in_err-device g c =
     let error = err_from_is_err_and c.from_residual.result c.from_residual.ensures.1 in
     rw (← c.self.view_is, error.1, error.2)
     (tries g.S.Store _ _ _ _ _ _ _ c.find.ensures.clean c.find.ensures.registries
-    (λ honest devices has. (
-      data-need (record { base = c.self.inside.base; mode = c.self.inside.mode; counts = c.self.inside.counts; devices = devices }) c.args.telegram.now (device_of devices c.args.telegram.now.sender),
+    (λ honest devices has.
+    let now : State = record {
+      base = c.self.inside.base;
+      mode = c.self.inside.mode;
+      counts = c.self.inside.counts;
+      devices = devices;
+    } in (
+      data-need now c.args.telegram.now (device_of devices c.args.telegram.now.sender),
       c.in_err-device.ensures.devices honest devices has,
     )))
 
@@ -24,7 +29,13 @@ returns-in_default g c =
     (λ honest devices has.
     let found = c.in_ok-device.ensures.devices honest devices has in
     let known = sym c.in_default.is ∙ found.0 ∙ ap (device_of devices) c.sender.ensures in
-    (ap (λ k. case_effect (record { base = c.self.inside.base; mode = c.self.inside.mode; counts = c.self.inside.counts; devices = devices }) c.args.telegram.now (data_case k)) (sym known), found.1))
+    let now : State = record {
+      base = c.self.inside.base;
+      mode = c.self.inside.mode;
+      counts = c.self.inside.counts;
+      devices = devices;
+    } in
+    (ap (λ k. case_effect now c.args.telegram.now (data_case k)) (sym known), found.1))
     (c.try_plan.ensures true))
 
 pub returns-in_err-done : goal.returns-in_err-done
@@ -32,8 +43,14 @@ returns-in_err-done g c =
     let error = err_from_is_err_and c.from_residual-in_err-done.result c.from_residual-in_err-done.ensures.1 in
     rw (← c.self.view_is, error.1, error.2)
     (tries g.S.Store _ _ _ _ _ _ _ c.find.ensures.clean c.find.ensures.registries
-    (λ honest devices has. (
-      data-need (record { base = c.self.inside.base; mode = c.self.inside.mode; counts = c.self.inside.counts; devices = devices }) c.args.telegram.now (device_of devices c.args.telegram.now.sender),
+    (λ honest devices has.
+    let now : State = record {
+      base = c.self.inside.base;
+      mode = c.self.inside.mode;
+      counts = c.self.inside.counts;
+      devices = devices;
+    } in (
+      data-need now c.args.telegram.now (device_of devices c.args.telegram.now.sender),
       (c.in_ok-device.ensures.devices honest devices has).1,
     )))
 

@@ -32,7 +32,10 @@ returns-in-Ok-LearnAs g c =
     tries-order g.S.Store _ _ c.args.line.now _ (Ok (LearnAs c.in-Ok-LearnAs.eep))
     c.if-line-gt-LONGEST_LINE.false
     (sym c.parse.ensures ∙ c.in-Ok-LearnAs.is ∙ ap Ok c.in-Ok-LearnAs.field-0-is)
-    (tries-alone g.S.Store _ _ _ (λ devices keeps. opens-comes g.S.Store c.args.self.now.registry c.args.self.now.registry devices c.in-Ok-LearnAs.eep c.open_as.result c.open_as.ensures keeps))
+    (tries-alone g.S.Store _ _ _
+    (λ devices keeps.
+    opens-comes g.S.Store c.args.self.now.registry c.args.self.now.registry devices c.in-Ok-LearnAs.eep
+    c.open_as.result c.open_as.ensures keeps))
 
 pub returns-in-Ok-LearnOff : goal.returns-in-Ok-LearnOff
 returns-in-Ok-LearnOff g c =
