@@ -1,5 +1,5 @@
 -- What holds of every plan, and of the query that a telegram is.
-use Rattle.std.proofs.Common.{◌≡◌, ℕ, Bool, true, false, Option, Some, None, refl, sym, ap, ◌∙◌}
+use Rattle.std.proofs.Common.{◌≡◌, ℕ, Bool, true, false, Option, refl, sym, ap, ◌∙◌}
 use Rattle.std.specs.Prelude.{if◌then◌else◌, ◌==◌, ◌&&◌, not}
 use Rattle.bit_fields.specs.Bits.{field}
 use Rattle.erp1_telegrams.specs.declared.eep.Eep.{Eep}
@@ -16,13 +16,13 @@ use Rattle.teach_in.specs.declared.telegrams.Teach.TheVariants.{Plain, Contact, 
 use Rattle.teach_in.specs.FourByte.{eep_in}
 use Rattle.teach_in.specs.Profiles.{supported}
 use Rattle.teach_in.specs.Telegrams.{teach_in_of, one_byte_kind, four_byte_kind, ute_kind}
-use Rattle.teach_in.specs.Verdicts.{Row, add, is_learned_by, row_of, in_mode, plan_of}
+use Rattle.teach_in.specs.Verdicts.{add, is_learned_by, row_of, in_mode, plan_of}
 
 -- what holds of both holds of the one that is chosen
 pub either : {A : Type 0} (P : A → Type 0) (b : Bool) (one other : A) → P one → P other
     → P (if b then one else other)
-either P true one other holds may = holds
-either P false one other holds may = may
+either P true one other of_one of_other = of_one
+either P false one other of_one of_other = of_other
 
 -- ---- a plan
 

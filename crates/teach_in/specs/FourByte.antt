@@ -1,6 +1,6 @@
--- Teach-in by 4BS telegrams that tell a profile, and the replies to them (EnOcean Equipment Profiles 2.6, "4BS Telegram",
--- variation 3).
-use Rattle.std.specs.Prelude.{ℕ, List, [], ◌∷◌, ◌++◌, take, Option, Some, None, option_map}
+-- Teach-in by 4BS telegrams that tell a profile, and the replies to them (EnOcean Equipment Profiles 2.6, "4BS
+-- Telegram", variation 3).
+use Rattle.std.specs.Prelude.{ℕ, [], ◌∷◌, ◌++◌, take, Option, Some, None, option_map}
 use Rattle.bit_fields.specs.Bits.{field}
 use Rattle.erp1_telegrams.specs.declared.eep.Eep.{Eep}
 use Rattle.erp1_telegrams.specs.Telegram.{Telegram}

@@ -3,7 +3,6 @@ use Rattle.std.specs.Prelude.{ℕ, Bool, ◌==◌, ◌&&◌, ◌||◌, not, Opti
 use Rattle.bit_fields.specs.Bits.{field}
 use Rattle.erp1_telegrams.specs.declared.eep.Eep.{Eep}
 use Rattle.erp1_telegrams.specs.Telegram.{Telegram}
-use Rattle.device_registry.specs.declared.device.Device.{Device}
 use Rattle.teach_in.specs.declared.four_byte.FourByteQuery.{FourByteQuery}
 use Rattle.teach_in.specs.declared.mode.Mode.{Mode}
 use Rattle.teach_in.specs.declared.mode.Mode.TheVariants.{Closed, Learn, LearnAnswer, LearnAs}
@@ -20,7 +19,7 @@ use Rattle.teach_in.specs.Telegrams.{teach_in_of}
 abbrev pub add : Telegram → Eep → Option ℕ → Plan
 add t eep maker = Add (record { id = t.sender; eep = eep; maker = maker })
 
--- it is so where the profile has this RORG
+-- the same where the profile has this RORG, and nothing where it has another
 abbrev pub add_kind : ℕ → Telegram → Eep → Option ℕ → Plan
 add_kind rorg t eep maker = if eep.rorg == rorg then add t eep maker else Silent
 
@@ -33,8 +32,8 @@ abbrev pub add_told : Telegram → FourByteQuery → Plan
 add_told t query =
     if supported (eep_in query) then add t (eep_in query) (Some (maker_in query)) else Refuse Unsupported
 
--- whether a telegram of data is one that its sender can be learned by: of RPS where a button is pressed, the bit (3,1),
--- and each of VLD
+-- whether a telegram of data is one that its sender can be learned by: of RPS where a button is pressed (the bit at
+-- offset 3), and each of VLD
 abbrev pub is_learned_by : Telegram → Bool
 is_learned_by t = (t.rorg == 0xF6 && field t.payload 3 1 == 1) || t.rorg == 0xD2
 
@@ -44,8 +43,8 @@ pub record Row : Type 0 where
   pub told : Plan
   pub given : Eep → Plan
 
--- The table: a row for each thing that a telegram may be at teach-in, which for data hangs on whether its sender is known
--- already. As yet nothing is planned for universal teach-in.
+-- The table: a row for each thing that a telegram may be at teach-in, which for data hangs on whether its sender is
+-- known already. As yet nothing is planned for universal teach-in.
 abbrev pub row_of : Telegram → Bool → Teach → Row
 row_of t known Contact = record { told = add t contact None; given = λ eep. add_kind 0xD5 t eep None }
 row_of t known Bare = record { told = Refuse NoProfile; given = λ eep. add_kind 0xA5 t eep None }

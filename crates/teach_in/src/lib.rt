@@ -1,5 +1,5 @@
-//! Teach-in: what a telegram is to a gateway that learns, which profiles can be learned, in which mode the gateway
-//! learns, and what came of a sender. Nothing here takes memory.
+//! Teach-in: what a telegram is to a gateway that learns, which profiles can be learned, what is planned about a sender
+//! in each mode, what came of the sender, and the reply to a query. Nothing here takes memory.
 #![tactic(auto)]
 
 mod four_byte;

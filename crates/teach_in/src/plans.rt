@@ -7,7 +7,7 @@ use device_registry::Device;
 pub enum Plan {
     /// Nothing is done, and nothing told.
     Silent,
-    /// This device is learned, unless as many others are as can be.
+    /// This device is learned, unless as many others are learned as can be.
     Add(Device),
     /// Nothing is done, and this is told.
     Refuse(Outcome),

@@ -1,4 +1,5 @@
-//! What telegrams are at teach-in, which profiles can be learned, what is planned of a sender, and what a query is replied.
+//! What telegrams are at teach-in, which profiles can be learned, what is planned about a sender, and the reply to a
+//! query.
 use crate::{
     FourByteQuery, Mode, Outcome, Plan, Teach, Verdict, classify, four_byte_reply, plan, supported,
 };
@@ -15,9 +16,7 @@ fn eep(rorg: u8, func: u8, typ: u8) -> Eep {
 }
 
 fn from(rorg: u8, payload: &[u8]) -> Result<Telegram, Fail> {
-    Ok(Telegram::new(
-        rorg, payload, SENDER, 0, BROADCAST, None,
-    )?)
+    Ok(Telegram::new(rorg, payload, SENDER, 0, BROADCAST, None)?)
 }
 
 fn kind(rorg: u8, payload: &[u8]) -> Result<Teach, Fail> {
@@ -147,11 +146,11 @@ fn queries(rt: HostRuntime) -> Result<(), Fail> {
     Ok(())
 }
 
-// An unsupported profile, and a full registry. The reply to what is accepted wants a receipt.
+// An unsupported profile, and a full registry. The reply of `Accepted` needs a receipt, and so a database.
 #[test]
 fn replies(rt: HostRuntime) -> Result<(), Fail> {
     let asked = query(0x50, 0x08, 0x46)?;
-    let verdict = Verdict::refused(SENDER, Outcome::Unsupported);
+    let verdict = Verdict::refused(asked.id(), Outcome::Unsupported);
     let reply = four_byte_reply(&asked, &verdict, BASE);
     assert_eq!(rt; reply.rorg(), 0xA5);
     assert_eq!(rt; reply.payload(), [0x50, 0x08, 0x46, 0x90].as_slice());
@@ -160,7 +159,7 @@ fn replies(rt: HostRuntime) -> Result<(), Fail> {
     assert_eq!(rt; reply.status(), 0);
     assert_eq!(rt; reply.dbm(), None);
     let asked = query(0xFF, 0xFF, 0xFF)?;
-    let verdict = Verdict::refused(SENDER, Outcome::Full);
+    let verdict = Verdict::refused(asked.id(), Outcome::Full);
     let reply = four_byte_reply(&asked, &verdict, 0xFFFF_FF80);
     assert_eq!(rt; reply.payload(), [0xFF, 0xFF, 0xFF, 0xD0].as_slice());
     assert_eq!(rt; reply.sender(), 0xFFFF_FF80);
@@ -175,7 +174,10 @@ fn plans_by_the_telegram(rt: HostRuntime) -> Result<(), Fail> {
             let planned = |rorg: u8, payload: &[u8]| planned(rorg, payload, mode, known);
             assert_eq!(rt; planned(0xD5, &[0x00])?, add(eep(0xD5, 0x00, 0x01), None));
             assert_eq!(rt; planned(0xD5, &[0x08])?, Plan::Silent);
-            assert_eq!(rt; planned(0xA5, &[0, 0, 0, 0])?, Plan::Refuse(Outcome::NoProfile));
+            assert_eq!(rt;
+                planned(0xA5, &[0, 0, 0, 0])?,
+                Plan::Refuse(Outcome::NoProfile)
+            );
             assert_eq!(rt;
                 planned(0xA5, &[0x08, 0x28, 0x46, 0x80])?,
                 add(eep(0xA5, 0x02, 0x05), Some(70))
@@ -197,7 +199,8 @@ fn plans_by_the_telegram(rt: HostRuntime) -> Result<(), Fail> {
     Ok(())
 }
 
-// By the profile of the desk, each telegram of the profile's kind, a query's maker is kept, and data is for new senders.
+// By the profile that the desk gives: a sender is learned by telegrams of that profile's RORG alone, with the maker
+// that a query tells, and by data only while it is not known.
 #[test]
 fn plans_by_the_desk(rt: HostRuntime) -> Result<(), Fail> {
     let cases: [(u8, &[u8], bool, Option<u16>); 11] = [
@@ -222,7 +225,11 @@ fn plans_by_the_desk(rt: HostRuntime) -> Result<(), Fail> {
     for (rorg, payload, teaches, maker) in cases {
         for profile in profiles {
             let fits = teaches && profile.rorg == rorg;
-            let wanted = if fits { add(profile, maker) } else { Plan::Silent };
+            let wanted = if fits {
+                add(profile, maker)
+            } else {
+                Plan::Silent
+            };
             let mode = Mode::LearnAs(profile);
             assert_eq!(rt; planned(rorg, payload, mode, false)?, wanted);
             let is_data = rorg == 0xF6 || rorg == 0xD2;

@@ -4,8 +4,8 @@ ghost use Rattle.std.specs.Prelude.{◌≡◌, ◌≢◌, MatchBool};
 use crate::outcome::Outcome;
 use device_registry::Receipt;
 
-/// What came of a sender. That it was learned or forgotten is said of the receipt of the change alone, so it is
-/// committed.
+/// What came of a sender. That it was learned or forgotten is told by the receipt of the change alone, so that change
+/// is committed.
 #[derive(Drop)]
 pub struct Verdict {
     id: u32,
