@@ -23,7 +23,7 @@ pub enum Order {
     Remove(u32),
     /// `list`: tell all devices.
     List,
-    /// `status`: tell the counts.
+    /// `status`: tell the counts and the mode.
     Status,
 }
 
