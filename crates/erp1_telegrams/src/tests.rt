@@ -152,6 +152,15 @@ fn room_for_a_packet(rt: HostRuntime) -> Result<(), Fail> {
 }
 
 #[test]
+fn longest_packet(rt: HostRuntime) -> Result<(), Fail> {
+    let telegram = Telegram::new(0xD2, &[7; 14], 0x0180_0ABC, 0, BROADCAST, None)?;
+    let mut out = ArrayVec::<u8, 64>::new();
+    assert_eq!(rt; write(&telegram, &mut out), Ok(()));
+    assert_eq!(rt; out.len(), 34);
+    Ok(())
+}
+
+#[test]
 fn base_ids(rt: HostRuntime) {
     for base in [0xFF80_0000, 0xFF80_0080, 0xFFFF_FF80] {
         assert!(rt; is_base(base));
