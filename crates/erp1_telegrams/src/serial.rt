@@ -1,5 +1,5 @@
 //! Telegrams in packets.
-ghost use Rattle.std.specs.Prelude.{◌≡◌, ◌≤◌, ◌-◌, ◌++◌, length, nat_lt, if◌then◌else◌, Ok, Err, OnOk, OnErr};
+ghost use Rattle.std.specs.Prelude.{◌≡◌, ◌≤◌, ◌+◌, ◌-◌, ◌++◌, length, nat_lt, if◌then◌else◌, Ok, Err, OnOk, OnErr};
 ghost use Rattle.arrayvec.specs.ArrayVec.{array_vec_len};
 ghost use Rattle.esp3_frames.specs.Packet.{IsPacket, spelling};
 ghost use Rattle.esp3_frames.specs.Outcome.{packet_of};
@@ -48,12 +48,13 @@ fn addressee(opt: &[u8]) -> (u32, Option<u8>)
 
 /// Appends the packet in which the telegram is sent: with 3 subtelegrams, dBm FF and security level 0, and with the
 /// telegram's own status. `NoRoom` where the packet does not fit behind what `out` holds; then `out` stays as it was.
+/// A packet has at most 34 bytes, so it fits behind 30.
 pub fn write(t: &Telegram, out: &mut ArrayVec<u8, 64>) -> Result<(), PacketFault>
     ensures outcome { result ≡ (if nat_lt (64 - array_vec_len out.old) (length (spelling (sent t.now)))
         then Err PacketFault.NoRoom else Ok tt) }
     ensures ok { OnOk result (out.new.items ≡ out.old.items ++ spelling (sent t.now)) }
     ensures packet { IsPacket (sent t.now) (spelling (sent t.now)) }
-    ensures short { length (spelling (sent t.now)) ≤ longest_sent }
+    ensures room { array_vec_len out.old + longest_sent ≤ 64 → result ≡ Ok tt }
     ensures err { OnErr result (out.new ≡ out.old) }
 {
     let mut body = ArrayVec::<u8, 20>::new();

@@ -21,9 +21,10 @@ unrefused state =
       };
       passes = refl;
       hears = λ response. refl;
+    }) (record {
       denies = λ name. refl;
       finds = λ name. refl;
-      sets = λ mode. refl;
+      opens = λ mode. refl;
       lists = refl;
       reports = refl;
       adds = λ known. refl;

@@ -1,6 +1,7 @@
 -- What holds of the effect of every item.
-use Rattle.std.proofs.Common.{◌≡◌, ◌⊎◌, inl, inr, ℕ, Bool, true, false, List, [], ◌∷◌, Option, Some, None, refl, ap}
+use Rattle.std.proofs.Common.{◌≡◌, ◌≢◌, ◌⊎◌, inl, inr, ℕ, Bool, true, false, List, [], ◌∷◌, Option, Some, None, refl, ap}
 use Rattle.std.specs.Prelude.{Result, Ok, Err, nat_lt, length, if◌then◌else◌}
+use Rattle.esp3_frames.specs.Packet.{Packet}
 use Rattle.erp1_telegrams.specs.declared.eep.Eep.{Eep}
 use Rattle.erp1_telegrams.specs.declared.telegram.TelegramFault.{TelegramFault}
 use Rattle.erp1_telegrams.specs.Address.{is_passed_over}
@@ -32,22 +33,31 @@ use Rattle.gateway_core.specs.Profiles.{readings_of}
 use Rattle.gateway_core.specs.Responses.{response_in}
 use Rattle.gateway_core.specs.Step.{State, Item, Received, Ordered, Effect, ignored, unread, unsaid}
 use Rattle.gateway_core.specs.Step.{counted_line, denied}
-use Rattle.gateway_core.specs.Step.{tells, opens, learns, forgets, taught, accepts, refused_line, plan_effect}
+use Rattle.gateway_core.specs.Step.{tells, sets, learns, forgets, tells_sender, accepts, refused_line, plan_effect}
 use Rattle.gateway_core.specs.Step.{PassedOver, Teaches, data_case, kind_case, reading_effect, case_effect}
-use Rattle.gateway_core.specs.Step.{telegram_effect}
+use Rattle.gateway_core.specs.Step.{telegram_effect, packet_effect, line_effect}
 use Rattle.gateway_core.specs.Step.{packet_by, addition, removal, if_supported, order_effect, longest_line, effect}
 use Rattle.gateway_core.proofs.DeviceLemmas.{device_of-known}
 
 -- ---- a telegram of teach-in is one, whatever it tells
 
-pub teaches : (kind : Teach) (known : Option Device)
-    → (kind ≡ teach.Contact)
+-- it is one of these
+abbrev IsTeaching : Teach → Type 0
+IsTeaching kind =
+    (kind ≡ teach.Contact)
     ⊎ ((kind ≡ teach.Bare) ⊎ (((query : FourByteQuery) × (kind ≡ teach.FourByte query)) ⊎ (kind ≡ teach.Ute)))
-    → kind_case kind known ≡ Teaches
+
+pub teaches : (kind : Teach) (known : Option Device) → IsTeaching kind → kind_case kind known ≡ Teaches
 teaches kind known (inl is) = ap (λ k. kind_case k known) is
 teaches kind known (inr (inl is)) = ap (λ k. kind_case k known) is
 teaches kind known (inr (inr (inl (query, is)))) = ap (λ k. kind_case k known) is
 teaches kind known (inr (inr (inr is))) = ap (λ k. kind_case k known) is
+
+pub not-data : (kind : Teach) → IsTeaching kind → kind ≢ teach.Plain
+not-data kind (inl is) plain = absurd cc
+not-data kind (inr (inl is)) plain = absurd cc
+not-data kind (inr (inr (inl (query, is)))) plain = absurd cc
+not-data kind (inr (inr (inr is))) plain = absurd cc
 
 -- ---- a sender that is refused
 
@@ -56,10 +66,6 @@ abbrev pub IsRefusal : Outcome → Type 0
 IsRefusal Accepted = ⊥
 IsRefusal Deleted = ⊥
 IsRefusal outcome = Unit {0}
-
-pub refused-outcome : (id : ℕ) (kind : Teach) (outcome : Outcome) → (refused_line id kind outcome).outcome ≡ outcome
-refused-outcome id (teach.FourByte query) outcome = refl
-refused-outcome id kind outcome = refl
 
 is-refusal : (id : ℕ) (kind : Teach) (outcome : Outcome) → Refuses kind outcome
     → IsRefusal (refused_line id kind outcome).outcome
@@ -76,31 +82,31 @@ pub record OfTelegram (P : Effect → Type 0) (state : State) (t : Telegram) : T
   pub reads : (line : ReadingLine) → P (counted_line count.Reading (Reading line))
   pub admits : IsOpen state.mode → (eep : Eep) (maker : Option ℕ)
       → P (accepts state (teach_in_of t) (record { id = t.sender; eep = eep; maker = maker }))
-  pub refuses : (line : TeachLine) → IsRefusal line.outcome → P (taught state (teach_in_of t) line)
+  pub refuses : (line : TeachLine) → IsRefusal line.outcome → P (tells_sender state (teach_in_of t) line)
 
 module _ (P : Effect → Type 0) (state : State) (t : Telegram) (each : OfTelegram P state t) where
   of-reading : (eep : Eep) (readings : Option (List Entry)) → P (reading_effect t eep readings)
   of-reading eep None = each.looks
   of-reading eep (Some readings) = each.reads _
 
-  of-plan : (asked : Bool) → P (unsaid asked) → P (plan_effect state t asked (plan_of t state.mode false))
-  of-plan asked holds =
-      of_plan (λ plan. P (plan_effect state t asked plan)) t holds state.mode false
+  of-plan : (asked known : Bool) → P (unsaid asked) → P (plan_effect state t asked (plan_of t state.mode known))
+  of-plan asked known holds =
+      of_plan (λ plan. P (plan_effect state t asked plan)) t holds state.mode known
       (λ learning eep maker.
       either P (is_full state.devices t.sender) _ _ (each.refuses _ tt) (each.admits learning eep maker))
       (λ outcome is.
       each.refuses (refused_line t.sender (teach_in_of t) outcome) (is-refusal t.sender (teach_in_of t) outcome is))
 
   of-data : (known : Option Device) → P (case_effect state t (data_case known))
-  of-data None = of-plan true each.looks
+  of-data None = of-plan true false each.looks
   of-data (Some known) = of-reading known.eep (readings_of known.eep t)
 
   of-kind : (kind : Teach) (known : Option Device) → P (case_effect state t (kind_case kind known))
   of-kind teach.Answer known = each.ignores
-  of-kind teach.Contact known = of-plan false each.ignores
-  of-kind teach.Bare known = of-plan false each.ignores
-  of-kind (teach.FourByte query) known = of-plan false each.ignores
-  of-kind teach.Ute known = of-plan false each.ignores
+  of-kind teach.Contact known = of-plan false _ each.ignores
+  of-kind teach.Bare known = of-plan false _ each.ignores
+  of-kind (teach.FourByte query) known = of-plan false _ each.ignores
+  of-kind teach.Ute known = of-plan false _ each.ignores
   of-kind teach.Plain known = of-data known
 
   of-case : (over : Bool)
@@ -113,48 +119,60 @@ module _ (P : Effect → Type 0) (state : State) (t : Telegram) (each : OfTelegr
   pub of_telegram : P (telegram_effect state t)
   of_telegram = of-case (is_passed_over state.base t)
 
--- it holds of each effect that there is
-pub record OfEach (P : Effect → Type 0) (state : State) : Type 0 where
+-- it holds of each effect that a packet may have
+pub record OfPacket (P : Effect → Type 0) (state : State) : Type 0 where
   pub telegrams : (t : Telegram) → OfTelegram P state t
   pub passes : P ignored
   pub hears : (response : Response) → P (counted_line count.Response (ResponseLine response))
+
+-- it holds of each effect that a line may have
+pub record OfLine (P : Effect → Type 0) (state : State) : Type 0 where
   pub denies : (name : ErrorName) → P (denied name)
   pub finds : (name : ErrorName) → P (tells (Error name ∷ []))
-  pub sets : (mode : Mode) → P (opens mode)
+  pub opens : (mode : Mode) → P (sets mode)
   pub lists : P (tells (listing (all_of state.devices)))
   pub reports : P (tells (StatusLine state.counts state.mode ∷ []))
   pub adds : (known : Device) → P (learns known)
   pub drops : (known : Device) → device_of state.devices known.id ≡ Some known → P (forgets known)
 
-module _ (P : Effect → Type 0) (state : State) (each : OfEach P state) where
-  of-packet : (response : Option Response) (telegram : Result Telegram TelegramFault)
+module _ (P : Effect → Type 0) (state : State) where
+  of-packet : OfPacket P state → (response : Option Response) (telegram : Result Telegram TelegramFault)
       → P (packet_by state response telegram)
-  of-packet (Some response) telegram = each.hears response
-  of-packet None (Ok t) = of_telegram P state t (each.telegrams t)
-  of-packet None (Err fault) = each.passes
+  of-packet each (Some response) telegram = each.hears response
+  of-packet each None (Ok t) = of_telegram P state t (each.telegrams t)
+  of-packet each None (Err fault) = each.passes
 
-  of-supported : (eep : Eep) (effect : Effect) → P effect → P (if_supported eep effect)
-  of-supported eep effect holds = either P (supported eep) _ _ holds (each.denies error.UnsupportedProfile)
+  -- so it holds of the effect of every packet
+  pub of_packet : OfPacket P state → (packet : Packet) → P (packet_effect state packet)
+  of_packet each packet = of-packet each (response_in packet) (telegram_of packet)
 
-  of-removal : (id : ℕ) (known : Option Device) → device_of state.devices id ≡ known → P (removal known)
-  of-removal id None is = each.finds error.UnknownDevice
-  of-removal id (Some known) is = each.drops known (device_of-known state.devices id known is)
+  of-supported : OfLine P state → (eep : Eep) (effect : Effect) → P effect → P (if_supported eep effect)
+  of-supported each eep effect holds = either P (supported eep) _ _ holds (each.denies error.UnsupportedProfile)
 
-  of-order : (order : Result Order OrderFault) → P (order_effect state order)
-  of-order (Err Syntax) = each.denies error.Syntax
-  of-order (Err Range) = each.denies error.Range
-  of-order (Ok LearnOn) = each.sets _
-  of-order (Ok LearnOnAnswer) = each.sets _
-  of-order (Ok (LearnAs eep)) = of-supported eep _ (each.sets _)
-  of-order (Ok LearnOff) = each.sets _
-  of-order (Ok (Add id eep)) =
-      of-supported eep _ (either P (is_full state.devices id) _ _ (each.finds error.Full) (each.adds _))
-  of-order (Ok (Remove id)) = of-removal id (device_of state.devices id) refl
-  of-order (Ok ListAll) = each.lists
-  of-order (Ok Status) = each.reports
+  of-removal : OfLine P state → (id : ℕ) (known : Option Device) → device_of state.devices id ≡ known
+      → P (removal known)
+  of-removal each id None is = each.finds error.UnknownDevice
+  of-removal each id (Some known) is = each.drops known (device_of-known state.devices id known is)
 
-  -- so it holds of the effect of every item
-  pub of_effect : (item : Item) → P (effect state item)
-  of_effect (Received packet) = of-packet (response_in packet) (telegram_of packet)
-  of_effect (Ordered line) =
-      either P (nat_lt longest_line (length line)) _ _ (each.denies error.TooLong) (of-order (order_of line))
+  of-order : OfLine P state → (order : Result Order OrderFault) → P (order_effect state order)
+  of-order each (Err Syntax) = each.denies error.Syntax
+  of-order each (Err Range) = each.denies error.Range
+  of-order each (Ok LearnOn) = each.opens _
+  of-order each (Ok LearnOnAnswer) = each.opens _
+  of-order each (Ok (LearnAs eep)) = of-supported each eep _ (each.opens _)
+  of-order each (Ok LearnOff) = each.opens _
+  of-order each (Ok (Add id eep)) =
+      of-supported each eep _ (either P (is_full state.devices id) _ _ (each.finds error.Full) (each.adds _))
+  of-order each (Ok (Remove id)) = of-removal each id (device_of state.devices id) refl
+  of-order each (Ok ListAll) = each.lists
+  of-order each (Ok Status) = each.reports
+
+  -- of every line
+  pub of_line : OfLine P state → (line : List ℕ) → P (line_effect state line)
+  of_line each line =
+      either P (nat_lt longest_line (length line)) _ _ (each.denies error.TooLong) (of-order each (order_of line))
+
+  -- and of every item
+  pub of_effect : OfPacket P state → OfLine P state → (item : Item) → P (effect state item)
+  of_effect packets lines (Received packet) = of_packet packets packet
+  of_effect packets lines (Ordered line) = of_line lines line

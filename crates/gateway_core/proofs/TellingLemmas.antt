@@ -11,7 +11,7 @@ use Rattle.json_lines.specs.declared.fixed.ErrorName.TheVariants as error
 use Rattle.json_lines.specs.Lines.{DeskLine, Reading, Teach, ListEnd, StatusLine, ResponseLine, Done, Error}
 use Rattle.json_lines.specs.Lines.{TeachLine, text, texts, listing}
 use Rattle.json_lines.proofs.ForCallers.{of_teach_lines}
-use Rattle.gateway_core.specs.Step.{State, Item, Effect, effect, told_of, taught, accepts, learns, forgets}
+use Rattle.gateway_core.specs.Step.{State, Item, Effect, effect, told_of, tells_sender, accepts, learns, forgets}
 use Rattle.gateway_core.specs.Run.{Cause, Memory, Store, Taken, Refused, RefusedAtWrite, cause_text}
 use Rattle.gateway_core.specs.Telling.{Tells, ChangesAreTold, TeachLinesAreTold}
 use Rattle.gateway_core.proofs.EffectLemmas.{IsRefusal, of_effect}
@@ -57,7 +57,7 @@ same-outcome one line e =
 
 -- what is refused changes nothing
 refused-tells : (state : State) (kind : Kind) (one line : TeachLine) (outcome : Outcome) → IsRefusal outcome
-    → Tells state (taught state kind one) line outcome
+    → Tells state (tells_sender state kind one) line outcome
 refused-tells state kind one line Accepted is = absurd is
 refused-tells state kind one line Deleted is = absurd is
 refused-tells state kind one line Unsupported is = (refl, refl)
@@ -84,14 +84,15 @@ effects-tell state line =
             let known : Device = record { id = t.sender; eep = eep; maker = maker } in
             told state line (accepts state (teach_in_of t) known) known Accepted e (λ is. (known, is, refl));
         refuses = λ other is e.
-            subst (Tells state (taught state (teach_in_of t) other) line) (same-outcome other line e)
+            subst (Tells state (tells_sender state (teach_in_of t) other) line) (same-outcome other line e)
             (refused-tells state (teach_in_of t) other line other.outcome is);
       };
       passes = λ e. absurd (no_line line e);
       hears = λ response e. absurd (other-line (ResponseLine response) line (λ never. never) e);
+    }) (record {
       denies = λ name e. absurd (other-line (Error name) line (λ never. never) e);
       finds = λ name e. absurd (other-line (Error name) line (λ never. never) e);
-      sets = λ mode e. absurd (other-line Done line (λ never. never) e);
+      opens = λ mode e. absurd (other-line Done line (λ never. never) e);
       lists = λ e. absurd (listing-other (all_of state.devices) line e);
       reports = λ e. absurd (other-line (StatusLine state.counts state.mode) line (λ never. never) e);
       adds = λ known e. told state line (learns known) known Accepted e (λ is. (known, is, refl));
@@ -125,9 +126,10 @@ effects-answer state =
       };
       passes = λ change e. absurd cc;
       hears = λ response change e. absurd cc;
+    }) (record {
       denies = λ name change e. absurd cc;
       finds = λ name change e. absurd cc;
-      sets = λ mode change e. absurd cc;
+      opens = λ mode change e. absurd cc;
       lists = λ change e. absurd cc;
       reports = λ change e. absurd cc;
       adds = λ known change e. (told_of known Accepted, append-nil _, (known, refl, refl));

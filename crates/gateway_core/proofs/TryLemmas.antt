@@ -42,8 +42,8 @@ use Rattle.actuator_commands.specs.declared.orders.OrderFault.{OrderFault}
 use Rattle.actuator_commands.specs.Orders.{order_of}
 use Rattle.gateway_core.specs.Step.{order_effect, line_effect, longest_line}
 use Rattle.gateway_core.specs.Step.{reading_effect, case_effect, data_case, effect, change_of, needs, with_change}
-use Rattle.gateway_core.specs.Step.{state_after, with_mode, plan_effect, taught, radio_of, reply_of, refused_line}
-use Rattle.gateway_core.specs.Step.{if_supported, opens, denied}
+use Rattle.gateway_core.specs.Step.{state_after, with_mode, plan_effect, tells_sender, radio_of, reply_of, refused_line}
+use Rattle.gateway_core.specs.Step.{if_supported, sets, denied}
 use Rattle.gateway_core.specs.Step.{answer_by}
 use Rattle.gateway_core.specs.Profiles.{readings_of}
 use Rattle.gateway_core.specs.Refusals.{cause_of}
@@ -146,7 +146,7 @@ pub taught-answer : (state : State) (kind : Teach) (line : TeachLine) (answer : 
     (desk : List ℕ)
     → outcome ≡ line.outcome → desk ≡ text (TeachOf line)
     → answer ≡ record { radio = radio_of (reply_of state.base state.mode kind outcome); desk = desk }
-    → answer ≡ answer_by (taught state kind line)
+    → answer ≡ answer_by (tells_sender state kind line)
 taught-answer state kind line answer outcome desk is says e =
     e ∙ ap (λ o. let a : Answer = record { radio = radio_of (reply_of state.base state.mode kind o); desk = desk } in a) is
     ∙ ap (λ d. let a : Answer =
@@ -156,13 +156,13 @@ taught-answer state kind line answer outcome desk is says e =
 -- a sender is refused with the line of its telegram
 pub refused-gives : (done : Done) (state : State) (t : Telegram) (kind : Teach) (id : ℕ) (line : TeachLine)
     (outcome : Outcome) → kind ≡ teach_in_of t → id ≡ t.sender → refused_line id kind outcome ≡ line
-    → Gives done (taught state kind line)
+    → Gives done (tells_sender state kind line)
     → Gives done (plan_effect state t true (Refuse outcome))
 refused-gives done state t kind id line outcome is sent_by told =
     subst (Gives done)
-    (ap (taught state kind) (sym told)
-    ∙ ap (λ i. taught state kind (refused_line i kind outcome)) sent_by
-    ∙ ap (λ k. taught state k (refused_line t.sender k outcome)) is)
+    (ap (tells_sender state kind) (sym told)
+    ∙ ap (λ i. tells_sender state kind (refused_line i kind outcome)) sent_by
+    ∙ ap (λ k. tells_sender state k (refused_line t.sender k outcome)) is)
 
 -- what comes of a device that is to be learned: where the registry is full, and where it is not
 pub record Adds (known : Device) (full done : Effect) : Type 0 where
@@ -352,12 +352,12 @@ module _ {S : Type 0} (g : Ghosts S) where
 
   -- the window is opened, or the profile is not supported
   pub opens-comes : (old new : Held S) (devices : Devices) (eep : Eep) (done : Done)
-      → Gives done (if_supported eep (opens (LearnAs eep))) → Keeps (state g old) (state g new) devices
-      → Comes g old new devices (if_supported eep (opens (LearnAs eep))) (Ok done)
+      → Gives done (if_supported eep (sets (LearnAs eep))) → Keeps (state g old) (state g new) devices
+      → Comes g old new devices (if_supported eep (sets (LearnAs eep))) (Ok done)
   opens-comes old new devices eep done gives keeps =
       one (supported eep) gives
     where
-      one : (b : Bool) → let e : Effect = if b then opens (LearnAs eep) else denied error.UnsupportedProfile in
+      one : (b : Bool) → let e : Effect = if b then sets (LearnAs eep) else denied error.UnsupportedProfile in
           Gives done e → Comes g old new devices e (Ok done)
       one true gives = (gives, keeps)
       one false gives = (gives, keeps)

@@ -1,6 +1,6 @@
 -- What the gateway does with one item: its effect, and so its answer and what is known afterwards.
 use Rattle.std.specs.Prelude.{ℕ, Bool, true, false, nat_lt, length, if◌then◌else◌, List, [], ◌∷◌, Option, Some, None}
-use Rattle.std.specs.Prelude.{option_map, unwrap_or}
+use Rattle.std.specs.Prelude.{option_map, is_some, unwrap_or}
 use Rattle.std.specs.Prelude.{Result, Ok, Err}
 use Rattle.esp3_frames.specs.Packet.{Packet, spelling}
 use Rattle.erp1_telegrams.specs.declared.eep.Eep.{Eep}
@@ -69,7 +69,8 @@ pub record Effect : Type 0 where
 abbrev pub nothing : Effect
 nothing = record { radio = None; desk = []; count = None; change = None; mode = None; need = false }
 
--- a device is learned, which is told as the second, unless as many others are as can be: then as the first
+-- what comes of a device that is to be learned: the first, where as many others are learned as can be, and else the
+-- second
 abbrev pub addition : Devices → Device → Effect → Effect → Effect
 addition devices known full done = if is_full devices known.id then full else done
 
@@ -79,8 +80,8 @@ told_of known outcome = record { eep = Some known.eep; id = known.id; maker = kn
 
 -- ---- a packet
 
--- The counts are own choice: a packet raises just one. The desk is told nothing of this one, for which the store was
--- asked or not.
+-- A packet of which the desk is told nothing. The counts are own choice: each packet raises just one. The store was asked
+-- for its sender, or it was not.
 abbrev pub unsaid : Bool → Effect
 unsaid asked = record nothing { count = Some count.Ignored; need = asked }
 
@@ -140,9 +141,9 @@ reply_of base mode kind outcome = None
 abbrev pub radio_of : Option Telegram → Option (List ℕ)
 radio_of = option_map (λ t. spelling (sent t))
 
--- what comes of a telegram's sender is told and replied
-abbrev pub taught : State → Teach → TeachLine → Effect
-taught state kind line =
+-- what came of a telegram's sender is told to the desk, and replied to it
+abbrev pub tells_sender : State → Teach → TeachLine → Effect
+tells_sender state kind line =
     record (counted_line count.Teach (TeachOf line)) {
       radio = radio_of (reply_of state.base state.mode kind line.outcome)
     }
@@ -155,7 +156,7 @@ mode_after_one mode = None
 -- the sender is learned
 abbrev pub accepts : State → Teach → Device → Effect
 accepts state kind known =
-    record (taught state kind (told_of known Accepted)) {
+    record (tells_sender state kind (told_of known Accepted)) {
       change = Some (learned known);
       mode = mode_after_one state.mode;
     }
@@ -170,15 +171,18 @@ refused_line id kind outcome = record { eep = None; id = id; maker = None; outco
 abbrev pub plan_effect : State → Telegram → Bool → Plan → Effect
 plan_effect state t asked Silent = unsaid asked
 plan_effect state t asked (Add known) =
-    addition state.devices known (taught state (teach_in_of t) (told_of known outcome.Full))
+    addition state.devices known (tells_sender state (teach_in_of t) (told_of known outcome.Full))
     (accepts state (teach_in_of t) known)
-plan_effect state t asked (Refuse outcome) = taught state (teach_in_of t) (refused_line t.sender (teach_in_of t) outcome)
+plan_effect state t asked (Refuse outcome) = tells_sender state (teach_in_of t) (refused_line t.sender (teach_in_of t) outcome)
 
--- What is planned hangs on whether the sender is learned for data alone, and that of a learned sender is read.
+-- whether a sender is learned
+abbrev pub is_learned : Devices → ℕ → Bool
+is_learned devices id = is_some (device_of devices id)
+
 abbrev pub case_effect : State → Telegram → Case → Effect
 case_effect state t PassedOver = ignored
 case_effect state t Replies = ignored
-case_effect state t Teaches = plan_effect state t false (plan_of t state.mode false)
+case_effect state t Teaches = plan_effect state t false (plan_of t state.mode (is_learned state.devices t.sender))
 case_effect state t (OfLearned known) = reading_effect t known.eep (readings_of known.eep t)
 case_effect state t OfOther = plan_effect state t true (plan_of t state.mode false)
 
@@ -201,8 +205,8 @@ abbrev pub denied : ErrorName → Effect
 denied name = record nothing { desk = Error name ∷ [] }
 
 -- the mode is set
-abbrev pub opens : Mode → Effect
-opens mode = record nothing { desk = Done ∷ []; mode = Some mode }
+abbrev pub sets : Mode → Effect
+sets mode = record nothing { desk = Done ∷ []; mode = Some mode }
 
 -- the desk is told some lines, and nothing else comes of it
 abbrev pub tells : List DeskLine → Effect
@@ -226,10 +230,10 @@ if_supported eep effect = if supported eep then effect else denied error.Unsuppo
 abbrev pub order_effect : State → Result Order OrderFault → Effect
 order_effect state (Err Syntax) = denied error.Syntax
 order_effect state (Err Range) = denied error.Range
-order_effect state (Ok LearnOn) = opens Learn
-order_effect state (Ok LearnOnAnswer) = opens LearnAnswer
-order_effect state (Ok (order.LearnAs eep)) = if_supported eep (opens (LearnAs eep))
-order_effect state (Ok LearnOff) = opens Closed
+order_effect state (Ok LearnOn) = sets Learn
+order_effect state (Ok LearnOnAnswer) = sets LearnAnswer
+order_effect state (Ok (order.LearnAs eep)) = if_supported eep (sets (LearnAs eep))
+order_effect state (Ok LearnOff) = sets Closed
 order_effect state (Ok (order.Add id eep)) =
     let known : Device = record { id = id; eep = eep; maker = None } in
     if_supported eep (addition state.devices known (tells (Error error.Full ∷ [])) (learns known))

@@ -1,5 +1,5 @@
 -- What holds of every plan, and of the query that a telegram is.
-use Rattle.std.proofs.Common.{◌≡◌, ℕ, Bool, true, false, Option, refl, sym, ap, ◌∙◌}
+use Rattle.std.proofs.Common.{◌≡◌, ◌≢◌, ℕ, Bool, true, false, Option, refl, sym, ap, ◌∙◌}
 use Rattle.std.specs.Prelude.{if◌then◌else◌, ◌==◌, ◌&&◌, not}
 use Rattle.bit_fields.specs.Bits.{field}
 use Rattle.erp1_telegrams.specs.declared.eep.Eep.{Eep}
@@ -68,6 +68,20 @@ module _ (P : Plan → Type 0) (t : Telegram) (silent : P Silent) where
   pub of_plan : (mode : Mode) (known : Bool) → (IsOpen mode → (eep : Eep) (maker : Option ℕ) → P (add t eep maker))
       → ((outcome : Outcome) → Refuses (teach_in_of t) outcome → P (Refuse outcome)) → P (plan_of t mode known)
   of_plan mode known adds refuses = of-row known (teach_in_of t) mode adds refuses
+
+-- of a telegram of teach-in it does not matter whether its sender is known
+pub plan-unasked : (t : Telegram) (mode : Mode) (known : Bool) (kind : Teach) → teach_in_of t ≡ kind → kind ≢ Plain
+    → plan_of t mode known ≡ plan_of t mode false
+plan-unasked t mode known kind is teaches =
+    ap (λ k. in_mode (row_of t known k) mode) is ∙ same kind teaches ∙ ap (λ k. in_mode (row_of t false k) mode) (sym is)
+  where
+    same : (kind : Teach) → kind ≢ Plain → in_mode (row_of t known kind) mode ≡ in_mode (row_of t false kind) mode
+    same Plain teaches = absurd (teaches refl)
+    same Contact teaches = refl
+    same Bare teaches = refl
+    same (FourByte query) teaches = refl
+    same Ute teaches = refl
+    same Answer teaches = refl
 
 -- ---- a query
 

@@ -2,7 +2,7 @@
 use crate::outcome::Outcome;
 use device_registry::Device;
 
-/// What is planned about the sender of a telegram, before the registry is asked.
+/// What is planned about the sender of a telegram, before anything is done.
 #[derive(Clone, Copy, Debug, PartialEq, Eq)]
 pub enum Plan {
     /// Nothing is done, and nothing told.

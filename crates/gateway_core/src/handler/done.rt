@@ -65,7 +65,7 @@ pub(crate) fn denied(name: ErrorName) -> Done
 }
 
 pub(crate) fn opened(mode: Mode) -> Done
-    ensures { Gives result (Step.opens mode) }
+    ensures { Gives result (Step.sets mode) }
 {
     Done {
         count: None,

@@ -1,7 +1,7 @@
 //! How a line of the desk is handled.
 ghost use Rattle.std.specs.Prelude.{◌≡◌, Ok};
 ghost use Rattle.teach_in.specs.declared.mode.Mode.TheVariants.{LearnAs};
-ghost use Rattle.gateway_core.specs.Step.{if_supported, line_effect, opens, order_effect};
+ghost use Rattle.gateway_core.specs.Step.{if_supported, line_effect, order_effect, sets};
 ghost use Rattle.gateway_core.specs.Tries.{Gives, Tries};
 
 use crate::handler::Handler;
@@ -20,7 +20,7 @@ pub const LONGEST_LINE: usize = 200;
 
 // Opens the mode that learns with this profile.
 fn open_as(eep: Eep) -> Done
-    ensures { Gives result (if_supported eep (opens (LearnAs eep))) }
+    ensures { Gives result (if_supported eep (sets (LearnAs eep))) }
 {
     if supported(eep) {
         opened(Mode::LearnAs(eep))

@@ -71,8 +71,8 @@ impl<S: Alter> Handler<S> {
         }
     }
 
-    // Tells what came of a sender, and replies it.
-    fn taught(&self, teach: &Teach, verdict: &Verdict, line: Line) -> Done
+    // Tells what came of a sender, and replies to it.
+    fn tell_sender(&self, teach: &Teach, verdict: &Verdict, line: Line) -> Done
         requires { MayReply teach.now verdict.now.id verdict.now.outcome }
         ensures count { result.count ≡ Some Count.Teach }
         ensures mode { result.mode ≡ None }
@@ -91,7 +91,7 @@ impl<S: Alter> Handler<S> {
         }
     }
 
-    // Tells why a sender is not learned, and replies it.
+    // Tells why a sender is not learned, and replies to it.
     fn refuse(
         &self,
         teach: &Teach,
@@ -103,13 +103,13 @@ impl<S: Alter> Handler<S> {
         requires accepted { outcome ≢ Outcome.Accepted }
         requires deleted { outcome ≢ Outcome.Deleted }
         requires reply { MayReply teach.now id outcome }
-        ensures { IfOk result (λ done. (devices : Devices) → Gives done (Step.taught (state_of self.now devices) teach.now
+        ensures { IfOk result (λ done. (devices : Devices) → Gives done (Step.tells_sender (state_of self.now devices) teach.now
             (record { eep = eep; id = id; maker = maker; outcome = outcome }))) }
     {
         let draft = teach_line(self.alloc, id, eep, maker, outcome)?;
         let verdict = Verdict::refused(id, outcome);
         let line = draft.tell(&verdict);
-        Ok(self.taught(teach, &verdict, line))
+        Ok(self.tell_sender(teach, &verdict, line))
     }
 
     // Learns the sender of a telegram.
@@ -117,18 +117,18 @@ impl<S: Alter> Handler<S> {
         requires accepted { MayReply teach.now device.id outcome.Accepted }
         requires full { MayReply teach.now device.id outcome.Full }
         ensures { Tries S.Store self.old (λ state. addition state.devices device
-            (Step.taught state teach.now (told_of device outcome.Full)) (accepts state teach.now device)) result self.new }
+            (Step.tells_sender state teach.now (told_of device outcome.Full)) (accepts state teach.now device)) result self.new }
     {
         let Some(Entered { verdict, line }) = self.enter(device)? else {
             let full = self.refuse(teach, device.id, Some(device.eep), device.maker, Outcome::Full)?;
             return Ok(full);
         };
-        let mut done = self.taught(teach, &verdict, line);
+        let mut done = self.tell_sender(teach, &verdict, line);
         done.mode = mode_after_one(self.mode);
         Ok(done)
     }
 
-    // Does what is planned about the sender of a telegram that is not learned by what it says already.
+    // Does what is planned about the sender of a telegram of teach-in, or of data whose sender is not learned.
     pub(crate) fn try_plan(&mut self, telegram: &Telegram) -> Result<Done, Refusal>
         ensures { (asked : Bool) → Tries S.Store self.old (λ state. plan_effect state telegram.now asked
             (plan_of telegram.now state.mode false)) result self.new }

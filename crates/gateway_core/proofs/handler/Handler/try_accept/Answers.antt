@@ -4,7 +4,7 @@ use Rattle.device_registry.specs.Devices.{Devices}
 use Rattle.teach_in.specs.declared.outcome.Outcome.TheVariants.{Accepted, Full}
 use Rattle.gateway_core.specs.declared.handler.changes.Entered.{Entered}
 use Rattle.gateway_core.specs.Handling.{HandlerValue}
-use Rattle.gateway_core.specs.Step.{accepts, mode_after_one, taught, told_of}
+use Rattle.gateway_core.specs.Step.{accepts, mode_after_one, tells_sender, told_of}
 use Rattle.gateway_core.specs.Tries.{Enters, state_of}
 use Rattle.gateway_core.proofs.TryLemmas.{taught-answer, tries-entered, tries-full, tries-refused, tries-untold}
 use Rattle.gateway_core.proofs.handler.Handler.try_accept.Goals as goal
@@ -13,7 +13,7 @@ pub returns-in_err-verdict : goal.returns-in_err-verdict
 returns-in_err-verdict g c =
     let error = err_from_is_err_and c.from_residual.result c.from_residual.ensures.1 in
     rw (error.1, error.2)
-    (tries-refused g.S.Store _ _ c.args.device (λ state. taught state c.args.teach.now (told_of c.args.device Full))
+    (tries-refused g.S.Store _ _ c.args.device (λ state. tells_sender state c.args.teach.now (told_of c.args.device Full))
     (λ state. accepts state c.args.teach.now c.args.device)
     (λ devices. record { full_needs = refl; stays = refl; done_needs = refl; learns = refl })
     c.in_err-verdict.field-0.0 c.in_err-verdict.ensures)
@@ -25,7 +25,7 @@ returns-in_err-full g c =
     subst (λ o. Enters g.S.Store c.args.self.now c.args.device (Ok o) c.enter.new.self) c.in_default.is
     c.in_ok-verdict.ensures in
     rw (error.1, error.2)
-    (tries-untold g.S.Store _ _ c.args.device (λ state. taught state c.args.teach.now (told_of c.args.device Full))
+    (tries-untold g.S.Store _ _ c.args.device (λ state. tells_sender state c.args.teach.now (told_of c.args.device Full))
     (λ state. accepts state c.args.teach.now c.args.device)
     (λ devices. record { full_needs = refl; stays = refl; done_needs = refl; learns = refl }) _ none)
 
@@ -34,7 +34,7 @@ returns-in_default g c =
     let none =
     subst (λ o. Enters g.S.Store c.args.self.now c.args.device (Ok o) c.enter.new.self) c.in_default.is
     c.in_ok-verdict.ensures in
-    tries-full g.S.Store _ _ c.args.device (λ state. taught state c.args.teach.now (told_of c.args.device Full))
+    tries-full g.S.Store _ _ c.args.device (λ state. tells_sender state c.args.teach.now (told_of c.args.device Full))
     (λ state. accepts state c.args.teach.now c.args.device)
     (λ devices. record { full_needs = refl; stays = refl; done_needs = refl; learns = refl }) _ none
     c.in_ok-full.ensures
@@ -44,14 +44,14 @@ returns g c =
     let entered =
     subst (λ o. Enters g.S.Store c.args.self.now c.args.device (Ok o) c.enter.new.self) c.in-Some.is
     c.in_ok-verdict.ensures in
-    tries-entered g.S.Store _ _ c.args.device (λ state. taught state c.args.teach.now (told_of c.args.device Full))
+    tries-entered g.S.Store _ _ c.args.device (λ state. tells_sender state c.args.teach.now (told_of c.args.device Full))
     (λ state. accepts state c.args.teach.now c.args.device)
     (λ devices. record { full_needs = refl; stays = refl; done_needs = refl; learns = refl })
     c.in-Some.field-0 _ entered
     (λ devices. (
       taught-answer (state_of c.enter.new.self devices) c.args.teach.now (told_of c.args.device Accepted) _ _ _
       (ap (λ (e : Entered). e.verdict.outcome) (sym c.in-Some.field-0-is) ∙ entered.told.1)
-      (ap (λ (e : Entered). e.line) (sym c.in-Some.field-0-is) ∙ entered.told.2) c.taught-done.ensures.answer,
-      c.taught-done.ensures.count,
+      (ap (λ (e : Entered). e.line) (sym c.in-Some.field-0-is) ∙ entered.told.2) c.tell_sender-done.ensures.answer,
+      c.tell_sender-done.ensures.count,
       c.mode_after_one-done.ensures ∙ ap (λ (v : HandlerValue _). mode_after_one v.mode) c.self.view_is,
     ))

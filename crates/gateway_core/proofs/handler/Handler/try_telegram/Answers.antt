@@ -1,8 +1,10 @@
 use Rattle.std.proofs.Common.{◌≡◌, false, refl, sym, ap, ◌∙◌}
 use Rattle.erp1_telegrams.specs.Address.{is_passed_over}
 use Rattle.device_registry.specs.Devices.{device_of}
-use Rattle.gateway_core.specs.Step.{kind_case}
-use Rattle.gateway_core.proofs.EffectLemmas.{teaches}
+use Rattle.gateway_core.specs.Step.{kind_case, plan_effect}
+use Rattle.gateway_core.specs.Tries.{state_of}
+use Rattle.gateway_core.proofs.EffectLemmas.{not-data, teaches}
+use Rattle.teach_in.proofs.ForCallers.{plan-unasked}
 use Rattle.gateway_core.proofs.TryLemmas.{tries-alone, tries-same}
 use Rattle.gateway_core.proofs.handler.Handler.try_telegram.Goals as goal
 
@@ -29,7 +31,10 @@ returns-in-Contact g c =
     let known = device_of devices c.args.telegram.now.sender in
     let case = ap (λ kind. kind_case kind known) (sym c.classify.ensures)
     ∙ teaches c.classify.result known c.in-Contact.is in
-    rw (over, case) refl)
+    rw (over, case)
+    (ap (plan_effect (state_of c.args.self.now devices) c.args.telegram.now false)
+    (plan-unasked c.args.telegram.now c.args.self.now.mode _ c.classify.result (sym c.classify.ensures)
+    (not-data c.classify.result c.in-Contact.is))))
     (c.try_plan.ensures false)
 
 pub returns-in-Plain : goal.returns-in-Plain
