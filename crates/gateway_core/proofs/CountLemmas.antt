@@ -1,9 +1,16 @@
 -- What is counted.
-use Rattle.std.proofs.Common.{◌≡◌, ℕ, ◌+◌, ◌^◌, ◌<◌, [], ◌∷◌, refl, ap, ◌∙◌, arith}
+use Rattle.std.proofs.Common.{◌≡◌, IsSome, ℕ, ◌+◌, ◌^◌, ◌<◌, List, [], ◌∷◌, Some, None, refl, ap, ◌∙◌, arith}
+use Rattle.std.proofs.Common.{append-nil}
+use Rattle.esp3_frames.specs.Packet.{Packet}
+use Rattle.teach_in.specs.declared.outcome.Outcome.TheVariants.{Accepted}
+use Rattle.json_lines.specs.declared.counts.Count.TheVariants as count
 use Rattle.json_lines.specs.Counts.{count_with, one_more, raised}
-use Rattle.gateway_core.specs.Step.{State, Item, count_of}
+use Rattle.json_lines.specs.Lines.{Reading, Teach, ResponseLine, TeachLine, text, texts}
+use Rattle.gateway_core.specs.Counting.{TakenAreCounted}
+use Rattle.gateway_core.specs.Step.{State, Item, Received, Ordered, count_of, packet_effect, told_of}
 use Rattle.gateway_core.specs.Run.{Taken, Refused, RefusedAtWrite, state_with, refusals, RefusalsAreCounted}
-use Rattle.gateway_core.proofs.EffectLemmas.{of_effect}
+use Rattle.gateway_core.proofs.EffectLemmas.{of_packet, of_line, of_effect}
+use Rattle.gateway_core.proofs.TellingLemmas.{no_line, other-line}
 
 pub count_on : (a b c n m : ℕ) → b ≡ count_with a n → c ≡ count_with b m → c ≡ count_with a (n + m)
 count_on a b c n m is on = omega (arith, is, on)
@@ -30,6 +37,74 @@ unrefused state =
       adds = λ known. refl;
       drops = λ known is. refl;
     })
+
+-- a packet that is taken is counted, and a line is not
+packets-counted : (state : State) (packet : Packet) → IsSome (count_of state (Received packet))
+packets-counted state =
+    of_packet (λ e. IsSome e.count) state (record {
+      telegrams = λ t. record {
+        ignores = refl;
+        looks = refl;
+        reads = λ line. refl;
+        admits = λ learning eep maker. refl;
+        refuses = λ line is. refl;
+      };
+      passes = refl;
+      hears = λ response. refl;
+    })
+
+lines-uncounted : (state : State) (line : List ℕ) → count_of state (Ordered line) ≡ None
+lines-uncounted state =
+    of_line (λ e. e.count ≡ None) state (record {
+      denies = λ name. refl;
+      finds = λ name. refl;
+      opens = λ mode. refl;
+      lists = refl;
+      reports = refl;
+      adds = λ known. refl;
+      drops = λ known is. refl;
+    })
+
+-- where it is answered with a teach line, that is counted, and only there
+teach-counted : (state : State) (line : TeachLine) (packet : Packet)
+    → texts (packet_effect state packet).desk ≡ text (Teach line)
+    → (packet_effect state packet).count ≡ Some count.Teach
+teach-counted state line =
+    of_packet (λ e. texts e.desk ≡ text (Teach line) → e.count ≡ Some count.Teach) state (record {
+      telegrams = λ t. record {
+        ignores = λ e. absurd (no_line line e);
+        looks = λ e. absurd (no_line line e);
+        reads = λ read e. absurd (other-line (Reading read) line (λ never. never) e);
+        admits = λ learning eep maker e. refl;
+        refuses = λ line is e. refl;
+      };
+      passes = λ e. absurd (no_line line e);
+      hears = λ response e. absurd (other-line (ResponseLine response) line (λ never. never) e);
+    })
+
+teach-told : (state : State) (packet : Packet) → (packet_effect state packet).count ≡ Some count.Teach
+    → (line : TeachLine) × (texts (packet_effect state packet).desk ≡ text (Teach line))
+teach-told state =
+    of_packet (λ e. e.count ≡ Some count.Teach → (line : TeachLine) × (texts e.desk ≡ text (Teach line))) state (record {
+      telegrams = λ t. record {
+        ignores = λ e. absurd cc;
+        looks = λ e. absurd cc;
+        reads = λ read e. absurd cc;
+        admits = λ learning eep maker e.
+            (told_of (record { id = t.sender; eep = eep; maker = maker }) Accepted, append-nil _);
+        refuses = λ line is e. (line, append-nil _);
+      };
+      passes = λ e. absurd cc;
+      hears = λ response e. absurd cc;
+    })
+
+pub taken_are_counted : TakenAreCounted
+taken_are_counted = record {
+  packets = packets-counted;
+  teach = λ state packet line. teach-counted state line packet;
+  taught = teach-told;
+  lines = lines-uncounted;
+}
 
 capped : (count : ℕ) → one_more count < 2 ^ 64
 capped count = omega arith

@@ -13,4 +13,5 @@ pub mod RunLemmas
 pub mod StopLemmas
 pub mod TellingLemmas
 pub mod TryLemmas
+pub mod ReplyLemmas
 pub mod WindowLemmas

@@ -26,10 +26,10 @@ alone : (one other : DeskLine) → one ∷ [] ≡ other ∷ [] → one ≡ other
 alone one other e = cc
 
 -- a text of another line, or of none, is that of no teach line
-no_line : (line : TeachLine) → texts [] ≡ text (Teach line) → ⊥
+pub no_line : (line : TeachLine) → texts [] ≡ text (Teach line) → ⊥
 no_line line e = let found = of_teach_lines [] line e in absurd (let none = found.1 in cc)
 
-other-line : (one : DeskLine) (line : TeachLine) → (¬ IsTeach one) → texts (one ∷ []) ≡ text (Teach line) → ⊥
+pub other-line : (one : DeskLine) (line : TeachLine) → (¬ IsTeach one) → texts (one ∷ []) ≡ text (Teach line) → ⊥
 other-line one line other e =
     let found = of_teach_lines (one ∷ []) line e in
     other (subst IsTeach (sym (alone one (Teach found.0) found.1)) tt)

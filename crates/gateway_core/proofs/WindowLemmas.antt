@@ -1,5 +1,6 @@
 -- Packets change what is learned in an open window alone.
-use Rattle.std.proofs.Common.{◌≡◌, ◌≢◌, ◌⊎◌, inl, inr, Option, Some, None, Result, Ok, Err, refl}
+use Rattle.std.proofs.Common.{◌≡◌, ◌≢◌, ◌⊎◌, inl, inr, Option, Some, None, Result, Ok, Err, refl, sym, ap, ◌∙◌}
+use Rattle.erp1_telegrams.specs.declared.eep.Eep.{Eep}
 use Rattle.erp1_telegrams.specs.declared.telegram.TelegramFault.{TelegramFault}
 use Rattle.erp1_telegrams.specs.Telegram.{Telegram, telegram_of}
 use Rattle.esp3_frames.specs.Packet.{Packet}
@@ -19,6 +20,13 @@ not-closed Closed learning = absurd learning
 not-closed Learn learning = λ is. absurd cc
 not-closed LearnAnswer learning = λ is. absurd cc
 not-closed (LearnAs eep) learning = λ is. absurd cc
+
+-- the mode that learns for one sender is the only one that is closed
+one-alone : (now mode : Mode) → mode_after_one now ≡ Some mode → (eep : Eep) × (now ≡ LearnAs eep)
+one-alone (LearnAs eep) mode set = (eep, refl)
+one-alone Closed mode set = absurd cc
+one-alone Learn mode set = absurd cc
+one-alone LearnAnswer mode set = absurd cc
 
 -- nothing is learned, and the mode stays
 abbrev Stays : Effect → Type 0
@@ -62,7 +70,8 @@ packets_learn_in_windows state packet =
           is_sender = sender;
           change = change;
           learning = learning;
-          closes = closes;
+          closes = λ eep is. closes ∙ ap mode_after_one is;
+          stays = λ mode set. one-alone state.mode mode (sym closes ∙ set);
         })
       | inr stays ↦ inr stays
     ]

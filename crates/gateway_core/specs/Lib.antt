@@ -15,4 +15,5 @@ pub mod Calls
 pub mod Codes
 pub mod Desks
 pub mod Replies
+pub mod Counting
 pub mod Windows

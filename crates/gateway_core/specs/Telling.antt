@@ -1,11 +1,18 @@
--- Of what a teach line tells.
-use Rattle.std.specs.Prelude.{◌≡◌, Some, None}
+-- Of what a teach line tells, and a reply by radio.
+use Rattle.std.specs.Prelude.{◌≡◌, ℕ, List, Some, None, Ok}
+use Rattle.esp3_frames.specs.Packet.{Packet, spelling}
+use Rattle.erp1_telegrams.specs.Telegram.{Telegram, telegram_of, sent}
 use Rattle.device_registry.specs.declared.device.Device.{Device}
 use Rattle.device_registry.specs.Devices.{Change, device_of, learned, forgotten}
+use Rattle.teach_in.specs.declared.four_byte.FourByteQuery.{FourByteQuery}
+use Rattle.teach_in.specs.declared.mode.Mode.TheVariants.{LearnAnswer}
 use Rattle.teach_in.specs.declared.outcome.Outcome.{Outcome}
 use Rattle.teach_in.specs.declared.outcome.Outcome.TheVariants.{Accepted, Deleted}
+use Rattle.teach_in.specs.declared.telegrams.Teach.TheVariants.{FourByte}
+use Rattle.teach_in.specs.FourByte.{four_byte_reply}
+use Rattle.teach_in.specs.Telegrams.{teach_in_of}
 use Rattle.json_lines.specs.Lines.{TeachLine, Teach, text}
-use Rattle.gateway_core.specs.Step.{State, Item, Effect, effect, told_of, change_of}
+use Rattle.gateway_core.specs.Step.{State, Item, Received, Effect, effect, told_of, answer_to, change_of}
 use Rattle.gateway_core.specs.Run.{Fate, Taken, answer_with}
 
 -- What a line with this outcome tells of an effect: that it learns a device, or forgets it as it stands, or that it
@@ -30,3 +37,24 @@ abbrev pub ChangesAreTold : Type 0
 ChangesAreTold = (state : State) (item : Item) (change : Change) → change_of state item ≡ Some change
     → (line : TeachLine) × ((answer_with state item Taken).desk ≡ text (Teach line))
     × Tells state (effect state item) line line.outcome
+
+-- The bytes are the reply to the query that a packet carries: the mode is the one that answers, the desk is told the
+-- query's teach line, and the reply says the outcome of that line.
+pub record RepliesTo (state : State) (item : Item) (bytes : List ℕ) : Type 0 where
+  pub packet : Packet
+  pub received : item ≡ Received packet
+  pub telegram : Telegram
+  pub carried : telegram_of packet ≡ Ok telegram
+  pub query : FourByteQuery
+  pub asked : teach_in_of telegram ≡ FourByte query
+  pub answering : state.mode ≡ LearnAnswer
+  pub line : TeachLine
+  pub told : (answer_to state item).desk ≡ text (Teach line)
+  pub reply : Telegram
+  pub says : four_byte_reply query line.outcome state.base ≡ Some reply
+  pub sent_as : bytes ≡ spelling (sent reply)
+
+-- bytes are sent by radio only where an item is taken, and to reply
+abbrev pub RepliesAreTold : Type 0
+RepliesAreTold = (state : State) (item : Item) (fate : Fate) (bytes : List ℕ)
+    → (answer_with state item fate).radio ≡ Some bytes → (fate ≡ Taken) × RepliesTo state item bytes

@@ -5,6 +5,7 @@ ghost use Rattle.esp3_frames.specs.Frames.{packets_in, rest_of};
 ghost use Rattle.device_registry.specs.Holding.{MayFind};
 ghost use Rattle.gateway_core.specs.Beginnings.{CallsLeaveALife, StopsLeaveALife};
 ghost use Rattle.gateway_core.specs.Calls.{CallsAreARun};
+ghost use Rattle.gateway_core.specs.Counting.{TakenAreCounted};
 ghost use Rattle.gateway_core.specs.Events.{CutsAreAnsweredAlike, CutsDoNotMatter, Event, brought, bytes_in, items_of};
 ghost use Rattle.gateway_core.specs.Handling.{Handles, KnowsState, HandlerValue};
 ghost use Rattle.gateway_core.specs.Lives.{LivesKeep};
@@ -12,7 +13,7 @@ ghost use Rattle.gateway_core.specs.Prefixes.{LeftIsPrefix, SafeIsPrefix, ToldSt
 ghost use Rattle.gateway_core.specs.Run.{RefusalsAreCounted, SameRefusals};
 ghost use Rattle.gateway_core.specs.Step.{Answer, Item};
 ghost use Rattle.gateway_core.specs.Stops.{SafeJoins};
-ghost use Rattle.gateway_core.specs.Telling.{ChangesAreTold, TeachLinesAreTold};
+ghost use Rattle.gateway_core.specs.Telling.{ChangesAreTold, RepliesAreTold, TeachLinesAreTold};
 ghost use Rattle.gateway_core.specs.Windows.{PacketsLearnInWindows};
 
 use crate::gateway::Gateway;
@@ -57,6 +58,12 @@ pub fn refusals_are_counted()
     ensures { RefusalsAreCounted }
 {}
 
+/// A packet that is taken raises one count: that of teach-in just where it is answered with a teach line. A line raises
+/// none, also where it is answered with one.
+pub fn taken_are_counted()
+    ensures { TakenAreCounted }
+{}
+
 /// Whatever is called of a new gateway, in whatever order: the packets handled, and behind them those that wait, are
 /// the packets of the bytes given, and the answers are a run on packets and lines in the order of the calls.
 pub fn calls_are_a_run<S: Alter>()
@@ -98,6 +105,12 @@ pub fn teach_lines_are_told()
 /// device that it learns, `deleted` of the one that it forgets.
 pub fn changes_are_told()
     ensures { ChangesAreTold }
+{}
+
+/// Bytes are sent by radio only where a packet is taken that carries a 4BS query, in the mode that answers: they are the
+/// reply to it, which says the outcome of the teach line that the desk is told with it.
+pub fn replies_are_told()
+    ensures { RepliesAreTold }
 {}
 
 /// A packet changes what is learned only in an open window, and only by learning the sender of its telegram. It changes
