@@ -36,7 +36,7 @@ use Rattle.gateway_core.specs.Step.{counted_line, denied}
 use Rattle.gateway_core.specs.Step.{tells, sets, learns, forgets, tells_sender, accepts, refused_line, plan_effect}
 use Rattle.gateway_core.specs.Step.{PassedOver, Teaches, data_case, kind_case, reading_effect, case_effect}
 use Rattle.gateway_core.specs.Step.{telegram_effect, packet_effect, line_effect}
-use Rattle.gateway_core.specs.Step.{packet_by, addition, removal, if_supported, order_effect, longest_line, effect}
+use Rattle.gateway_core.specs.Step.{packet_by, removal, if_supported, order_effect, longest_line, effect}
 use Rattle.gateway_core.proofs.DeviceLemmas.{device_of-known}
 
 -- ---- a telegram of teach-in is one, whatever it tells

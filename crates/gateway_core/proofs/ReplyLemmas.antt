@@ -1,6 +1,5 @@
 -- Bytes are sent by radio to reply alone.
 use Rattle.std.proofs.Common.{◌≡◌, ℕ, List, Option, Some, None, Result, Ok, Err, refl, sym, ap, append-nil}
-use Rattle.std.specs.Option.{option_map}
 use Rattle.std.specs.Prelude.{unwrap_or}
 use Rattle.esp3_frames.specs.Packet.{Packet, spelling}
 use Rattle.erp1_telegrams.specs.declared.telegram.TelegramFault.{TelegramFault}
@@ -8,7 +7,7 @@ use Rattle.erp1_telegrams.specs.Telegram.{Telegram, telegram_of, sent}
 use Rattle.device_registry.specs.declared.device.Device.{Device}
 use Rattle.teach_in.specs.declared.four_byte.FourByteQuery.{FourByteQuery}
 use Rattle.teach_in.specs.declared.mode.Mode.{Mode}
-use Rattle.teach_in.specs.declared.mode.Mode.TheVariants.{Closed, Learn, LearnAnswer, LearnAs}
+use Rattle.teach_in.specs.declared.mode.Mode.TheVariants.{LearnAnswer}
 use Rattle.teach_in.specs.declared.outcome.Outcome.{Outcome}
 use Rattle.teach_in.specs.declared.outcome.Outcome.TheVariants.{Accepted}
 use Rattle.teach_in.specs.declared.telegrams.Teach.{Teach as Kind}
@@ -87,21 +86,23 @@ line-silent state =
 pub replies_are_told : RepliesAreTold
 replies_are_told state (Received packet) Taken bytes e =
     let replies = packet-replies state packet bytes (response_in packet) (telegram_of packet) refl e in
-    let (t, carried, (line, told, (query, asked, answering, reply, says, sent_as))) = replies in
-    (refl, record {
-      packet = packet;
-      received = refl;
-      telegram = t;
-      carried = carried;
-      query = query;
-      asked = asked;
-      answering = answering;
-      line = line;
-      told = told;
-      reply = reply;
-      says = says;
-      sent_as = sent_as;
-    })
+    let (t, carried, (line, told, (query, asked, answering, reply, says, sent_as))) = replies in (
+      refl,
+      record {
+        packet = packet;
+        received = refl;
+        telegram = t;
+        carried = carried;
+        query = query;
+        asked = asked;
+        answering = answering;
+        line = line;
+        told = told;
+        reply = reply;
+        says = says;
+        sent_as = sent_as;
+      },
+    )
 replies_are_told state (Ordered line) Taken bytes e = absurd (let silent = line-silent state line in cc)
 replies_are_told state item (Refused cause) bytes e = absurd cc
 replies_are_told state item (RefusedAtWrite cause) bytes e = absurd cc

@@ -22,6 +22,7 @@ use Rattle.teach_in.specs.declared.mode.Mode.{Mode}
 use Rattle.teach_in.specs.declared.mode.Mode.TheVariants.{LearnAs}
 use Rattle.teach_in.specs.Profiles.{supported}
 use Rattle.teach_in.specs.declared.outcome.Outcome.{Outcome}
+use Rattle.teach_in.specs.declared.outcome.Outcome.TheVariants.{Full}
 use Rattle.teach_in.specs.declared.telegrams.Teach.{Teach}
 use Rattle.teach_in.specs.declared.plans.Plan.TheVariants.{Refuse}
 use Rattle.teach_in.specs.Telegrams.{teach_in_of}
@@ -43,7 +44,7 @@ use Rattle.actuator_commands.specs.Orders.{order_of}
 use Rattle.gateway_core.specs.Step.{order_effect, line_effect, longest_line}
 use Rattle.gateway_core.specs.Step.{reading_effect, case_effect, data_case, effect, change_of, needs, with_change}
 use Rattle.gateway_core.specs.Step.{state_after, with_mode, plan_effect, tells_sender, radio_of, reply_of, refused_line}
-use Rattle.gateway_core.specs.Step.{if_supported, sets, denied}
+use Rattle.gateway_core.specs.Step.{if_supported, sets, denied, accepts, told_of}
 use Rattle.gateway_core.specs.Step.{answer_by}
 use Rattle.gateway_core.specs.Profiles.{readings_of}
 use Rattle.gateway_core.specs.Refusals.{cause_of}
@@ -170,6 +171,13 @@ pub record Adds (known : Device) (full done : Effect) : Type 0 where
   pub stays : full.change ≡ None
   pub done_needs : IsTrue done.need
   pub learns : done.change ≡ Some (learned known)
+
+pub by-desk : (known : Device) → Adds known (tells (Error error.Full ∷ [])) (learns known)
+by-desk known = record { full_needs = refl; stays = refl; done_needs = refl; learns = refl }
+
+pub by-radio : (state : State) (kind : Teach) (known : Device)
+    → Adds known (tells_sender state kind (told_of known Full)) (accepts state kind known)
+by-radio state kind known = record { full_needs = refl; stays = refl; done_needs = refl; learns = refl }
 
 module _ {S : Type 0} (g : Ghosts S) where
   -- ---- an effect that comes behind a look

@@ -12,7 +12,7 @@ use Rattle.teach_in.proofs.ForCallers.{IsOpen}
 use Rattle.json_lines.specs.Lines.{Response}
 use Rattle.gateway_core.specs.Responses.{response_in}
 use Rattle.gateway_core.specs.Step.{State, Effect, telegram_effect, packet_by, mode_after_one}
-use Rattle.gateway_core.specs.Windows.{LearnsSender, PacketsLearnInWindows}
+use Rattle.gateway_core.specs.Windows.{PacketsLearnInWindows}
 use Rattle.gateway_core.proofs.EffectLemmas.{of_telegram}
 
 not-closed : (mode : Mode) → IsOpen mode → mode ≢ Closed
@@ -64,14 +64,14 @@ pub packets_learn_in_windows : PacketsLearnInWindows
 packets_learn_in_windows state packet =
     elim (packet-learns state packet (response_in packet) (telegram_of packet) refl) [
       | inl (t, is, (known, sender, change, learning, closes)) ↦ inl (record {
-          telegram = t;
-          carried = is;
-          known = known;
-          is_sender = sender;
-          change = change;
-          learning = learning;
-          closes = λ eep is. closes ∙ ap mode_after_one is;
-          stays = λ mode set. one-alone state.mode mode (sym closes ∙ set);
-        })
+        telegram = t;
+        carried = is;
+        known = known;
+        is_sender = sender;
+        change = change;
+        learning = learning;
+        closes = λ eep is. closes ∙ ap mode_after_one is;
+        stays = λ mode set. one-alone state.mode mode (sym closes ∙ set);
+      })
       | inr stays ↦ inr stays
     ]

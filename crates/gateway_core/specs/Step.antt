@@ -145,7 +145,7 @@ radio_of = option_map (λ t. spelling (sent t))
 abbrev pub tells_sender : State → Teach → TeachLine → Effect
 tells_sender state kind line =
     record (counted_line count.Teach (TeachOf line)) {
-      radio = radio_of (reply_of state.base state.mode kind line.outcome)
+      radio = radio_of (reply_of state.base state.mode kind line.outcome);
     }
 
 -- the mode that learns with the desk's profile is for one sender. Own choice

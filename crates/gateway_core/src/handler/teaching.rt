@@ -120,7 +120,13 @@ impl<S: Alter> Handler<S> {
             (Step.tells_sender state teach.now (told_of device outcome.Full)) (accepts state teach.now device)) result self.new }
     {
         let Some(Entered { verdict, line }) = self.enter(device)? else {
-            let full = self.refuse(teach, device.id, Some(device.eep), device.maker, Outcome::Full)?;
+            let full = self.refuse(
+                teach,
+                device.id,
+                Some(device.eep),
+                device.maker,
+                Outcome::Full,
+            )?;
             return Ok(full);
         };
         let mut done = self.tell_sender(teach, &verdict, line);

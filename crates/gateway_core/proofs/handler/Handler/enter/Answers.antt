@@ -55,7 +55,7 @@ returns g c =
       told = (
         c.committed-verdict.ensures.id ∙ c.in-Ok.ensures.receipt.0,
         subst (λ b. MatchBool b (c.committed-verdict.result.outcome ≡ Accepted)
-          (c.committed-verdict.result.outcome ≡ Deleted)) c.in-Ok.ensures.receipt.1 c.committed-verdict.ensures.outcome,
+            (c.committed-verdict.result.outcome ≡ Deleted)) c.in-Ok.ensures.receipt.1 c.committed-verdict.ensures.outcome,
         c.tell-line.ensures ∙ c.in_ok-draft.ensures.line,
       );
       clean = c.learn.ensures.clean;

@@ -1,10 +1,10 @@
-use Rattle.std.proofs.Common.{List, [], ◌∷◌, Ok, refl, sym, ap, subst, ◌∙◌, append-nil}
+use Rattle.std.proofs.Common.{[], ◌∷◌, Ok, sym, ap, subst, ◌∙◌, append-nil}
 use Rattle.std.proofs.lemmas.Result.{err_from_is_err_and}
 use Rattle.json_lines.specs.Lines.{Error}
 use Rattle.json_lines.specs.declared.fixed.ErrorName.TheVariants as name
-use Rattle.gateway_core.specs.Step.{State, Effect, said, learns, tells}
+use Rattle.gateway_core.specs.Step.{said, learns, tells}
 use Rattle.gateway_core.specs.Tries.{Enters}
-use Rattle.gateway_core.proofs.TryLemmas.{tries-entered, tries-full, tries-refused}
+use Rattle.gateway_core.proofs.TryLemmas.{by-desk, tries-entered, tries-full, tries-refused}
 use Rattle.gateway_core.proofs.handler.Handler.learn.Goals as goal
 
 pub returns-in_err-entered : goal.returns-in_err-entered
@@ -13,7 +13,7 @@ returns-in_err-entered g c =
     rw (error.1, error.2)
     (tries-refused g.S.Store _ _ c.args.device (λ state. tells (Error name.Full ∷ []))
     (λ state. learns c.args.device)
-    (λ devices. record { full_needs = refl; stays = refl; done_needs = refl; learns = refl })
+    (λ devices. by-desk c.args.device)
     c.in_err-entered.field-0.0 c.in_err-entered.ensures)
 
 pub returns-in-Some : goal.returns-in-Some
@@ -22,7 +22,7 @@ returns-in-Some g c =
     subst (λ o. Enters g.S.Store c.args.self.now c.args.device (Ok o) c.enter.new.self) c.in-Some.is
     c.in_ok-entered.ensures in
     tries-entered g.S.Store _ _ c.args.device (λ state. tells (Error name.Full ∷ [])) (λ state. learns c.args.device)
-    (λ devices. record { full_needs = refl; stays = refl; done_needs = refl; learns = refl })
+    (λ devices. by-desk c.args.device)
     c.in-Some.entered _ entered
     (λ devices. (
       c.told.ensures.answer ∙ ap said (entered.told.2 ∙ sym (append-nil _)),
@@ -36,5 +36,5 @@ returns-in-None g c =
     subst (λ o. Enters g.S.Store c.args.self.now c.args.device (Ok o) c.enter.new.self) c.in-None.is
     c.in_ok-entered.ensures in
     tries-full g.S.Store _ _ c.args.device (λ state. tells (Error name.Full ∷ [])) (λ state. learns c.args.device)
-    (λ devices. record { full_needs = refl; stays = refl; done_needs = refl; learns = refl }) _ none
+    (λ devices. by-desk c.args.device) _ none
     (λ devices. c.denied.ensures)

@@ -1,4 +1,4 @@
-use Rattle.std.proofs.Common.{Some, true, refl, sym, ap, ◌∙◌}
+use Rattle.std.proofs.Common.{true, refl, sym, ap, ◌∙◌}
 use Rattle.std.proofs.lemmas.Result.{err_from_is_err_and}
 use Rattle.device_registry.specs.Devices.{device_of}
 use Rattle.gateway_core.specs.Profiles.{readings_of}

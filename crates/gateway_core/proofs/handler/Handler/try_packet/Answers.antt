@@ -17,9 +17,14 @@ returns-in-Some g c =
     let found = sym c.response_in.ensures ∙ ap (option_map response_of) c.in-Some.is in
     tries-alone g.S.Store _ _ _
     (λ devices keeps.
-    rw found
-    ((c.counted.ensures.answer ∙ ap said (c.in_ok-line.ensures ∙ sym (append-nil _)), c.counted.ensures.count,
-    c.counted.ensures.mode), keeps))
+    rw found (
+      (
+        c.counted.ensures.answer ∙ ap said (c.in_ok-line.ensures ∙ sym (append-nil _)),
+        c.counted.ensures.count,
+        c.counted.ensures.mode,
+      ),
+      keeps,
+    ))
 
 pub returns-in-Ok : goal.returns-in-Ok
 returns-in-Ok g c =

@@ -34,7 +34,9 @@ returns-in_ok-refused-in-Refuse g c =
     λ asked.
     tries-alone g.S.Store _ _ _
     (λ devices keeps.
-    rw plan
-    (refused-gives c.in_ok-refused-in-Refuse.refused (state_of c.args.self.now devices) c.args.telegram.now
-    c.classify-teach.result c.sender.result _ c.in-Refuse.outcome c.classify-teach.ensures c.sender.ensures
-    (c.told_by-eep.ensures c.sender.result c.in-Refuse.outcome) (c.in_ok-refused-in-Refuse.ensures devices), keeps))
+    rw plan (
+      refused-gives c.in_ok-refused-in-Refuse.refused (state_of c.args.self.now devices) c.args.telegram.now
+          c.classify-teach.result c.sender.result _ c.in-Refuse.outcome c.classify-teach.ensures c.sender.ensures
+          (c.told_by-eep.ensures c.sender.result c.in-Refuse.outcome) (c.in_ok-refused-in-Refuse.ensures devices),
+      keeps,
+    ))

@@ -12,6 +12,11 @@ returns-in_err-line g c =
 pub returns : goal.returns
 returns g c =
     rw (← c.self.view_is) (tries-alone g.S.Store _ _ _
-    (λ devices keeps.
-    ((c.told.ensures.answer ∙ ap said (c.in_ok-line.ensures ∙ sym (append-nil _)), c.told.ensures.count,
-    c.told.ensures.mode), keeps)))
+    (λ devices keeps. (
+      (
+        c.told.ensures.answer ∙ ap said (c.in_ok-line.ensures ∙ sym (append-nil _)),
+        c.told.ensures.count,
+        c.told.ensures.mode,
+      ),
+      keeps,
+    )))
