@@ -1,4 +1,6 @@
 pub mod SpaceLemmas
 pub mod WordLemmas
+pub mod NumberLemmas
 pub mod SpellingLemmas
 pub mod OrderLemmas
+pub mod ForCallers

@@ -1,28 +1,29 @@
 -- The computed order of a line is the one that the line spells.
 use Rattle.std.proofs.Common.{◌≡◌, ℕ, Bool, true, false, cond, List, [], ◌∷◌, refl, sym, ap, ◌∙◌, subst, Option, Some}
-use Rattle.std.proofs.Common.{None, not, ◌==◌, ◌&&◌}
-use Rattle.std.specs.Prelude.{Result, Ok, Err, codes, bytes_eq, option_map}
+use Rattle.std.proofs.Common.{None, not, ◌==◌, ◌&&◌, ◌⊎◌, inl, inr}
+use Rattle.std.specs.Prelude.{Result, Ok, Err, codes, bytes_eq, nat_le, option_map}
 use Rattle.std.specs.List.{AllByRecursion, AllZip, list_all}
-use Rattle.std.proofs.lemmas.Bool.{and_parts, ne_eqb}
+use Rattle.std.proofs.lemmas.Bool.{and_parts, le-leb, leb-true, ne_eqb}
 use Rattle.std.proofs.lemmas.List.Splits.{join_with_byte-slice_split}
-use Rattle.std.proofs.lemmas.Slice.Eq.{bytes_eq-Decides}
-use Rattle.erp1_telegrams.specs.declared.eep.Eep.{Eep}
-use Rattle.actuator_commands.specs.Words.{words, Word, Says, Id, Profile, SpellsWord, IsWordInRange}
-use Rattle.actuator_commands.specs.Words.{is_word_in_range, id_in, eep_in}
+use Rattle.actuator_commands.specs.Words.{words, Word, Says, Id, Profile, Number, SpellsWord, IsWordInRange}
+use Rattle.actuator_commands.specs.Words.{is_word_in_range, id_in, eep_in, number_in, state_in, quantity_in}
+use Rattle.actuator_commands.specs.Words.{of_two, of_three}
 use Rattle.actuator_commands.specs.declared.orders.Order.{Order}
 use Rattle.actuator_commands.specs.declared.orders.Order.TheVariants.{LearnOn, LearnOnAnswer, LearnAs, LearnOff}
-use Rattle.actuator_commands.specs.declared.orders.Order.TheVariants.{Add, Remove, List as ListAll, Status}
+use Rattle.actuator_commands.specs.declared.orders.Order.TheVariants.{Add, Remove, List as ListAll, Status, Base}
+use Rattle.actuator_commands.specs.declared.orders.Order.TheVariants.{Switch, Dim, Query, Meter, Blind, Stop}
+use Rattle.actuator_commands.specs.declared.orders.Order.TheVariants.{Central, Level, Teach}
 use Rattle.actuator_commands.specs.declared.orders.OrderFault.{OrderFault}
 use Rattle.actuator_commands.specs.declared.orders.OrderFault.TheVariants.{Syntax, Range}
-use Rattle.actuator_commands.specs.Orders.{words_of, HasShape, IsInRange, Spells, is_in_range, add_of}
+use Rattle.actuator_commands.specs.Orders.{words_of, HasShape, IsInRange, Spells, is_in_range}
+use Rattle.actuator_commands.specs.Orders.{one_word, two_words, three_words, four_words}
 use Rattle.actuator_commands.specs.Orders.{order_in, result_of, order_of, OrdersAreSpelled}
+use Rattle.actuator_commands.proofs.NumberLemmas.{number_spelled, number_read}
 use Rattle.actuator_commands.proofs.SpaceLemmas.{words-joined}
-use Rattle.actuator_commands.proofs.SpellingLemmas.{id_spelled, id_read, eep_spelled, eep_read}
+use Rattle.actuator_commands.proofs.SpellingLemmas.{named, id_spelled, id_read, eep_spelled, eep_read, state_spelled}
+use Rattle.actuator_commands.proofs.SpellingLemmas.{state_read, quantity_spelled, quantity_read}
 
 -- ---- the shape
-
-named : (text name : List ℕ) → bytes_eq text name ≡ true → text ≡ name
-named text name e = (bytes_eq-Decides text name).0 e
 
 two_named : (a b first second : List ℕ) → (bytes_eq a first && bytes_eq b second) ≡ true → (a ≡ first) × (b ≡ second)
 two_named a b first second e =
@@ -33,58 +34,131 @@ Fits : List (List ℕ) → Option Order → Type 0
 Fits ws None = Unit {0}
 Fits ws (Some order) = AllZip SpellsWord ws (words_of order)
 
+-- the words that begin with the name have the shape
 fits_if : (ws : List (List ℕ)) (b : Bool) (o else' : Option Order) → (b ≡ true → Fits ws o) → Fits ws else'
     → Fits ws (cond b o else')
 fits_if ws true o else' h k = h refl
 fits_if ws false o else' h k = k
 
-fits-learn_as : (name by eep : List ℕ) (p : Option Eep) → eep_in eep ≡ p → name ≡ codes "learn" → by ≡ codes "as"
-    → Fits (name ∷ by ∷ eep ∷ []) (option_map (λ e. LearnAs e) p)
-unfolding Fits
-fits-learn_as name by eep None e is by_is = tt
-fits-learn_as name by eep (Some p) e is by_is = (is, (by_is, (eep_spelled eep p e, tt)))
+module _ {A : Type 0} where
+  fits_map : (ws : List (List ℕ)) (make : A → Order) (a : Option A)
+      → ((x : A) → a ≡ Some x → AllZip SpellsWord ws (words_of (make x))) → Fits ws (option_map make a)
+  unfolding Fits
+  fits_map ws make None h = tt
+  fits_map ws make (Some x) h = h x refl
 
-fits-remove : (name id : List ℕ) (i : Option ℕ) → id_in id ≡ i → name ≡ codes "remove"
-    → Fits (name ∷ id ∷ []) (option_map (λ n. Remove n) i)
-unfolding Fits
-fits-remove name id None e is = tt
-fits-remove name id (Some n) e is = (is, (id_spelled id n e, tt))
+module _ {A B : Type 0} where
+  fits_of_two : (ws : List (List ℕ)) (make : A → B → Order) (a : Option A) (b : Option B)
+      → ((x : A) (y : B) → a ≡ Some x → b ≡ Some y → AllZip SpellsWord ws (words_of (make x y)))
+      → Fits ws (of_two make a b)
+  unfolding Fits
+  fits_of_two ws make None b h = tt
+  fits_of_two ws make (Some x) b h = fits_map ws (make x) b (λ y e. h x y refl e)
 
-fits-add : (name id eep : List ℕ) (i : Option ℕ) (p : Option Eep) → id_in id ≡ i → eep_in eep ≡ p
-    → name ≡ codes "add" → Fits (name ∷ id ∷ eep ∷ []) (add_of i p)
+module _ {A B C : Type 0} where
+  fits_of_three : (ws : List (List ℕ)) (make : A → B → C → Order) (a : Option A) (b : Option B) (c : Option C)
+      → ((x : A) (y : B) (z : C) → a ≡ Some x → b ≡ Some y → c ≡ Some z
+      → AllZip SpellsWord ws (words_of (make x y z)))
+      → Fits ws (of_three make a b c)
+  unfolding Fits
+  fits_of_three ws make None b c h = tt
+  fits_of_three ws make (Some x) b c h = fits_of_two ws (make x) b c (λ y z e k. h x y z refl e k)
+
+fits_one_word : (name : List ℕ) → Fits (name ∷ []) (one_word name)
 unfolding Fits
-fits-add name id eep None p e k is = tt
-fits-add name id eep (Some n) None e k is = tt
-fits-add name id eep (Some n) (Some p) e k is = (is, (id_spelled id n e, (eep_spelled eep p k, tt)))
+fits_one_word name =
+    let ws : List (List ℕ) = name ∷ [] in
+    fits_if ws (bytes_eq name (codes "list")) _ _ (λ e. (named name (codes "list") e, tt))
+    (fits_if ws (bytes_eq name (codes "status")) _ _ (λ e. (named name (codes "status") e, tt))
+    (fits_if ws (bytes_eq name (codes "base")) _ None (λ e. (named name (codes "base") e, tt)) tt))
+
+fits_two_words : (name second : List ℕ) → Fits (name ∷ second ∷ []) (two_words name second)
+unfolding Fits
+fits_two_words name second =
+    let ws : List (List ℕ) = name ∷ second ∷ [] in
+    fits_if ws (bytes_eq name (codes "learn") && bytes_eq second (codes "on")) _ _
+    (λ e. let both = two_named name second (codes "learn") (codes "on") e in (both.0, (both.1, tt)))
+    (fits_if ws (bytes_eq name (codes "learn") && bytes_eq second (codes "off")) _ _
+    (λ e. let both = two_named name second (codes "learn") (codes "off") e in (both.0, (both.1, tt)))
+    (fits_if ws (bytes_eq name (codes "remove")) _ _
+    (λ e. fits_map ws (λ id. Remove id) (id_in second)
+    (λ id i. (named name (codes "remove") e, (id_spelled second id i, tt))))
+    (fits_if ws (bytes_eq name (codes "stop")) _ _
+    (λ e. fits_map ws (λ id. Stop id) (id_in second)
+    (λ id i. (named name (codes "stop") e, (id_spelled second id i, tt))))
+    (fits_if ws (bytes_eq name (codes "teach")) _ None
+    (λ e. fits_map ws (λ offset. Teach offset) (number_in second)
+    (λ offset o. (named name (codes "teach") e, (number_spelled second offset o, tt))))
+    tt))))
+
+fits_three_words : (name second third : List ℕ) → Fits (name ∷ second ∷ third ∷ []) (three_words name second third)
+unfolding Fits
+fits_three_words name second third =
+    let ws : List (List ℕ) = name ∷ second ∷ third ∷ [] in
+    fits_if ws (bytes_eq name (codes "learn") && bytes_eq second (codes "on") && bytes_eq third (codes "answer")) _ _
+    (λ e. let all = and_parts _ (bytes_eq third (codes "answer")) e in
+    let both = two_named name second (codes "learn") (codes "on") all.0 in
+    (both.0, (both.1, (named third (codes "answer") all.1, tt))))
+    (fits_if ws (bytes_eq name (codes "learn") && bytes_eq second (codes "as")) _ _
+    (λ e. let both = two_named name second (codes "learn") (codes "as") e in
+    fits_map ws (λ eep. LearnAs eep) (eep_in third)
+    (λ eep p. (both.0, (both.1, (eep_spelled third eep p, tt)))))
+    (fits_if ws (bytes_eq name (codes "add")) _ _
+    (λ e. fits_of_two ws (λ id eep. Add id eep) (id_in second) (eep_in third)
+    (λ id eep i p. (named name (codes "add") e, (id_spelled second id i, (eep_spelled third eep p, tt)))))
+    (fits_if ws (bytes_eq name (codes "query")) _ _
+    (λ e. fits_of_two ws (λ id channel. Query id channel) (id_in second) (number_in third)
+    (λ id n i k. (named name (codes "query") e, (id_spelled second id i, (number_spelled third n k, tt)))))
+    (fits_if ws (bytes_eq name (codes "blind")) _ _
+    (λ e. fits_of_two ws (λ id value. Blind id value) (id_in second) (number_in third)
+    (λ id n i k. (named name (codes "blind") e, (id_spelled second id i, (number_spelled third n k, tt)))))
+    (fits_if ws (bytes_eq name (codes "central")) _ None
+    (λ e. fits_of_two ws (λ offset on. Central offset on) (number_in second) (state_in third)
+    (λ n on k o. (named name (codes "central") e, (number_spelled second n k, (state_spelled third on o, tt)))))
+    tt)))))
+
+fits_four_words : (name second third fourth : List ℕ)
+    → Fits (name ∷ second ∷ third ∷ fourth ∷ []) (four_words name second third fourth)
+unfolding Fits
+fits_four_words name second third fourth =
+    let ws : List (List ℕ) = name ∷ second ∷ third ∷ fourth ∷ [] in
+    fits_if ws (bytes_eq name (codes "switch")) _ _
+    (λ e. fits_of_three ws (λ id channel on. Switch id channel on) (id_in second) (number_in third) (state_in fourth)
+    (λ id n on i k o. (
+      named name (codes "switch") e,
+      (id_spelled second id i, (number_spelled third n k, (state_spelled fourth on o, tt))),
+    )))
+    (fits_if ws (bytes_eq name (codes "dim")) _ _
+    (λ e. fits_of_three ws (λ id channel value. Dim id channel value) (id_in second) (number_in third)
+    (number_in fourth)
+    (λ id n v i k o. (
+      named name (codes "dim") e,
+      (id_spelled second id i, (number_spelled third n k, (number_spelled fourth v o, tt))),
+    )))
+    (fits_if ws (bytes_eq name (codes "meter")) _ _
+    (λ e. fits_of_three ws (λ id channel quantity. Meter id channel quantity) (id_in second) (number_in third)
+    (quantity_in fourth)
+    (λ id n q i k o. (
+      named name (codes "meter") e,
+      (id_spelled second id i, (number_spelled third n k, (quantity_spelled fourth q o, tt))),
+    )))
+    (fits_if ws (bytes_eq name (codes "level")) _ None
+    (λ e. fits_of_three ws (λ offset value ramp. Level offset value ramp) (number_in second) (number_in third)
+    (number_in fourth)
+    (λ n v r k o p. (
+      named name (codes "level") e,
+      (number_spelled second n k, (number_spelled third v o, (number_spelled fourth r p, tt))),
+    )))
+    tt)))
 
 fits : (ws : List (List ℕ)) → Fits ws (order_in ws)
 unfolding Fits
 fits [] = tt
-fits (name ∷ []) =
-    fits_if (name ∷ []) (bytes_eq name (codes "list")) (Some ListAll) _ (λ e. (named name (codes "list") e, tt))
-    (fits_if (name ∷ []) (bytes_eq name (codes "status")) (Some Status) None
-    (λ e. (named name (codes "status") e, tt)) tt)
-fits (name ∷ second ∷ []) =
-    fits_if (name ∷ second ∷ []) (bytes_eq name (codes "learn") && bytes_eq second (codes "on")) (Some LearnOn) _
-    (λ e. let both = two_named name second (codes "learn") (codes "on") e in (both.0, (both.1, tt)))
-    (fits_if (name ∷ second ∷ []) (bytes_eq name (codes "learn") && bytes_eq second (codes "off")) (Some LearnOff) _
-    (λ e. let both = two_named name second (codes "learn") (codes "off") e in (both.0, (both.1, tt)))
-    (fits_if (name ∷ second ∷ []) (bytes_eq name (codes "remove")) (option_map (λ n. Remove n) (id_in second)) None
-    (λ e. fits-remove name second (id_in second) refl (named name (codes "remove") e)) tt))
-fits (name ∷ second ∷ third ∷ []) =
-    fits_if (name ∷ second ∷ third ∷ [])
-    (bytes_eq name (codes "learn") && bytes_eq second (codes "on") && bytes_eq third (codes "answer"))
-    (Some LearnOnAnswer) _
-    (λ e. let all = and_parts _ (bytes_eq third (codes "answer")) e in
-    let both = two_named name second (codes "learn") (codes "on") all.0 in
-    (both.0, (both.1, (named third (codes "answer") all.1, tt))))
-    (fits_if (name ∷ second ∷ third ∷ []) (bytes_eq name (codes "learn") && bytes_eq second (codes "as"))
-    (option_map (λ eep. LearnAs eep) (eep_in third)) _
-    (λ e. let both = two_named name second (codes "learn") (codes "as") e in
-    fits-learn_as name second third (eep_in third) refl both.0 both.1)
-    (fits_if (name ∷ second ∷ third ∷ []) (bytes_eq name (codes "add")) (add_of (id_in second) (eep_in third)) None
-    (λ e. fits-add name second third (id_in second) (eep_in third) refl refl (named name (codes "add") e)) tt))
-fits (a ∷ b ∷ c ∷ d ∷ more) = tt
+fits (name ∷ []) = fits_one_word name
+fits (name ∷ second ∷ []) = fits_two_words name second
+fits (name ∷ second ∷ third ∷ []) = fits_three_words name second third
+fits (name ∷ second ∷ third ∷ fourth ∷ []) = fits_four_words name second third fourth
+fits (a ∷ b ∷ c ∷ d ∷ e ∷ more) = tt
 
 -- texts that spell words: the first of them, and the others
 record Parts (ws : List (List ℕ)) (word : Word) (more : List Word) : Type 0 where
@@ -103,59 +177,119 @@ no_more : (ws : List (List ℕ)) → AllZip SpellsWord ws [] → ws ≡ []
 no_more [] h = refl
 no_more (text ∷ texts) h = absurd h
 
+-- texts that spell a name and one word more, or two or three
+record TwoTexts (ws : List (List ℕ)) (name : List ℕ) (second : Word) : Type 0 where
+  b : List ℕ
+  whole : ws ≡ name ∷ b ∷ []
+  is_b : SpellsWord b second
+
+record ThreeTexts (ws : List (List ℕ)) (name : List ℕ) (second third : Word) : Type 0 where
+  b : List ℕ
+  c : List ℕ
+  whole : ws ≡ name ∷ b ∷ c ∷ []
+  is_b : SpellsWord b second
+  is_c : SpellsWord c third
+
+record FourTexts (ws : List (List ℕ)) (name : List ℕ) (second third fourth : Word) : Type 0 where
+  b : List ℕ
+  c : List ℕ
+  d : List ℕ
+  whole : ws ≡ name ∷ b ∷ c ∷ d ∷ []
+  is_b : SpellsWord b second
+  is_c : SpellsWord c third
+  is_d : SpellsWord d fourth
+
+one_text : (ws : List (List ℕ)) (name : List ℕ) → AllZip SpellsWord ws (Says name ∷ []) → ws ≡ name ∷ []
+one_text ws name h =
+    let p = parts ws (Says name) [] h in
+    let end = no_more p.texts p.others in
+    cc (p.whole, p.spelled, end)
+
+two_texts : (ws : List (List ℕ)) (name : List ℕ) (second : Word) → AllZip SpellsWord ws (Says name ∷ second ∷ [])
+    → TwoTexts ws name second
+two_texts ws name second h =
+    let p = parts ws (Says name) (second ∷ []) h in
+    let q = parts p.texts second [] p.others in
+    let end = no_more q.texts q.others in
+    record { b = q.text; whole = cc (p.whole, p.spelled, q.whole, end); is_b = q.spelled }
+
+three_texts : (ws : List (List ℕ)) (name : List ℕ) (second third : Word)
+    → AllZip SpellsWord ws (Says name ∷ second ∷ third ∷ []) → ThreeTexts ws name second third
+three_texts ws name second third h =
+    let p = parts ws (Says name) (second ∷ third ∷ []) h in
+    let q = parts p.texts second (third ∷ []) p.others in
+    let r = parts q.texts third [] q.others in
+    let end = no_more r.texts r.others in
+    record {
+      b = q.text;
+      c = r.text;
+      whole = cc (p.whole, p.spelled, q.whole, r.whole, end);
+      is_b = q.spelled;
+      is_c = r.spelled;
+    }
+
+four_texts : (ws : List (List ℕ)) (name : List ℕ) (second third fourth : Word)
+    → AllZip SpellsWord ws (Says name ∷ second ∷ third ∷ fourth ∷ []) → FourTexts ws name second third fourth
+four_texts ws name second third fourth h =
+    let p = parts ws (Says name) (second ∷ third ∷ fourth ∷ []) h in
+    let q = parts p.texts second (third ∷ fourth ∷ []) p.others in
+    let r = parts q.texts third (fourth ∷ []) q.others in
+    let s = parts r.texts fourth [] r.others in
+    let end = no_more s.texts s.others in
+    record {
+      b = q.text;
+      c = r.text;
+      d = s.text;
+      whole = cc (p.whole, p.spelled, q.whole, r.whole, s.whole, end);
+      is_b = q.spelled;
+      is_c = r.spelled;
+      is_d = s.spelled;
+    }
+
 -- words that spell those of an order are read as it
 read : (ws : List (List ℕ)) (order : Order) → AllZip SpellsWord ws (words_of order) → order_in ws ≡ Some order
 read ws LearnOn h =
-    let a = parts ws _ _ h in
-    let b = parts a.texts _ _ a.others in
-    let end = no_more b.texts b.others in
-    let is : ws ≡ codes "learn" ∷ codes "on" ∷ [] = cc (a.whole, a.spelled, b.whole, b.spelled, end) in
+    let t = two_texts ws _ _ h in
+    let is : ws ≡ codes "learn" ∷ codes "on" ∷ [] = cc (t.whole, t.is_b) in
     ap order_in is
 read ws LearnOnAnswer h =
-    let a = parts ws _ _ h in
-    let b = parts a.texts _ _ a.others in
-    let c = parts b.texts _ _ b.others in
-    let end = no_more c.texts c.others in
-    let is : ws ≡ codes "learn" ∷ codes "on" ∷ codes "answer" ∷ [] =
-    cc (a.whole, a.spelled, b.whole, b.spelled, c.whole, c.spelled, end) in
+    let t = three_texts ws _ _ _ h in
+    let is : ws ≡ codes "learn" ∷ codes "on" ∷ codes "answer" ∷ [] = cc (t.whole, t.is_b, t.is_c) in
     ap order_in is
 read ws (LearnAs eep) h =
-    let a = parts ws _ _ h in
-    let b = parts a.texts _ _ a.others in
-    let c = parts b.texts _ _ b.others in
-    let end = no_more c.texts c.others in
-    let is : ws ≡ codes "learn" ∷ codes "as" ∷ c.text ∷ [] =
-    cc (a.whole, a.spelled, b.whole, b.spelled, c.whole, end) in
-    rw (is, eep_read c.text eep c.spelled) refl
+    let t = three_texts ws _ _ _ h in
+    let is : ws ≡ codes "learn" ∷ codes "as" ∷ t.c ∷ [] = cc (t.whole, t.is_b) in
+    rw (is, eep_read t.c eep t.is_c) refl
 read ws LearnOff h =
-    let a = parts ws _ _ h in
-    let b = parts a.texts _ _ a.others in
-    let end = no_more b.texts b.others in
-    let is : ws ≡ codes "learn" ∷ codes "off" ∷ [] = cc (a.whole, a.spelled, b.whole, b.spelled, end) in
+    let t = two_texts ws _ _ h in
+    let is : ws ≡ codes "learn" ∷ codes "off" ∷ [] = cc (t.whole, t.is_b) in
     ap order_in is
 read ws (Add id eep) h =
-    let a = parts ws _ _ h in
-    let b = parts a.texts _ _ a.others in
-    let c = parts b.texts _ _ b.others in
-    let end = no_more c.texts c.others in
-    let is : ws ≡ codes "add" ∷ b.text ∷ c.text ∷ [] = cc (a.whole, a.spelled, b.whole, c.whole, end) in
-    rw (is, id_read b.text id b.spelled, eep_read c.text eep c.spelled) refl
-read ws (Remove id) h =
-    let a = parts ws _ _ h in
-    let b = parts a.texts _ _ a.others in
-    let end = no_more b.texts b.others in
-    let is : ws ≡ codes "remove" ∷ b.text ∷ [] = cc (a.whole, a.spelled, b.whole, end) in
-    rw (is, id_read b.text id b.spelled) refl
-read ws ListAll h =
-    let a = parts ws _ _ h in
-    let end = no_more a.texts a.others in
-    let is : ws ≡ codes "list" ∷ [] = cc (a.whole, a.spelled, end) in
-    ap order_in is
-read ws Status h =
-    let a = parts ws _ _ h in
-    let end = no_more a.texts a.others in
-    let is : ws ≡ codes "status" ∷ [] = cc (a.whole, a.spelled, end) in
-    ap order_in is
+    let t = three_texts ws _ _ _ h in rw (t.whole, id_read t.b id t.is_b, eep_read t.c eep t.is_c) refl
+read ws (Remove id) h = let t = two_texts ws _ _ h in rw (t.whole, id_read t.b id t.is_b) refl
+read ws ListAll h = ap order_in (one_text ws _ h)
+read ws Status h = ap order_in (one_text ws _ h)
+read ws Base h = ap order_in (one_text ws _ h)
+read ws (Switch id channel on) h =
+    let t = four_texts ws _ _ _ _ h in
+    rw (t.whole, id_read t.b id t.is_b, number_read t.c channel t.is_c, t.is_d, state_read on) refl
+read ws (Dim id channel value) h =
+    let t = four_texts ws _ _ _ _ h in
+    rw (t.whole, id_read t.b id t.is_b, number_read t.c channel t.is_c, number_read t.d value t.is_d) refl
+read ws (Query id channel) h =
+    let t = three_texts ws _ _ _ h in rw (t.whole, id_read t.b id t.is_b, number_read t.c channel t.is_c) refl
+read ws (Meter id channel quantity) h =
+    let t = four_texts ws _ _ _ _ h in
+    rw (t.whole, id_read t.b id t.is_b, number_read t.c channel t.is_c, t.is_d, quantity_read quantity) refl
+read ws (Blind id value) h =
+    let t = three_texts ws _ _ _ h in rw (t.whole, id_read t.b id t.is_b, number_read t.c value t.is_c) refl
+read ws (Stop id) h = let t = two_texts ws _ _ h in rw (t.whole, id_read t.b id t.is_b) refl
+read ws (Central offset on) h =
+    let t = three_texts ws _ _ _ h in rw (t.whole, number_read t.b offset t.is_b, t.is_c, state_read on) refl
+read ws (Level offset value ramp) h =
+    let t = four_texts ws _ _ _ _ h in
+    rw (t.whole, number_read t.b offset t.is_b, number_read t.c value t.is_c, number_read t.d ramp t.is_d) refl
+read ws (Teach offset) h = let t = two_texts ws _ _ h in rw (t.whole, number_read t.b offset t.is_b) refl
 
 -- ---- the range
 
@@ -169,12 +303,16 @@ in_range (Id id ∷ some) is =
     no : false ≡ true → ⊥
     no e = cc
 in_range (Profile eep ∷ some) is = (tt, in_range some is)
+in_range (Number most n ∷ some) is =
+    let parts = and_parts (nat_le n most) (list_all is_word_in_range some) is in
+    (leb-true n most parts.0, in_range some parts.1)
 
 all_tested : (some : List Word) → AllByRecursion IsWordInRange some → list_all is_word_in_range some ≡ true
 all_tested [] is = refl
 all_tested (Says name ∷ some) is = all_tested some is.1
 all_tested (Id id ∷ some) is = rw (ne_eqb id 0xFFFF_FFFF is.0) (all_tested some is.1)
 all_tested (Profile eep ∷ some) is = all_tested some is.1
+all_tested (Number most n ∷ some) is = rw (le-leb n most is.0) (all_tested some is.1)
 
 -- ---- both
 
@@ -182,7 +320,7 @@ all_tested (Profile eep ∷ some) is = all_tested some is.1
 Speaks : List ℕ → Result Order OrderFault → Type 0
 Speaks line (Ok order) = Spells line order
 Speaks line (Err Range) = (order : Order) × HasShape line order × (¬ IsInRange order)
-Speaks line (Err Syntax) = Unit {0}
+Speaks line (Err fault) = Unit {0}
 
 speaks_by_range : (line : List ℕ) (order : Order) (b : Bool) → is_in_range order ≡ b → HasShape line order
     → Speaks line (cond b (Ok order) (Err Range))
@@ -221,3 +359,23 @@ orders_are_spelled = record {
   out_of_range = λ line e. subst (Speaks line) e (speaks line);
   no_shape = λ line e order shape. no_syntax order (is_in_range order) (sym (in_shape line order shape) ∙ e);
 }
+
+-- ---- for callers
+
+-- a line's order has its numbers in range
+pub parsed-in_range : (line : List ℕ) (order : Order) → order_of line ≡ Ok order → IsInRange order
+parsed-in_range line order e = (orders_are_spelled.spelled line order e).1
+
+-- and a refused line one of two faults
+pub parsed-fault : (line : List ℕ) (fault : OrderFault) → order_of line ≡ Err fault
+    → (fault ≡ Syntax) ⊎ (fault ≡ Range)
+parsed-fault line fault e = by_order (order_in (words line)) e
+  where
+    by_range : (order : Order) (b : Bool) → cond b (Ok order) (Err Range) ≡ Err fault
+        → (fault ≡ Syntax) ⊎ (fault ≡ Range)
+    by_range order true e = absurd cc
+    by_range order false e = inr (cc)
+
+    by_order : (o : Option Order) → result_of o ≡ Err fault → (fault ≡ Syntax) ⊎ (fault ≡ Range)
+    by_order None e = inl (cc)
+    by_order (Some order) e = by_range order (is_in_range order) e

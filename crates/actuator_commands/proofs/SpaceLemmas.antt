@@ -1,17 +1,21 @@
 -- No word of an order holds a space, so a line that is joined of them has just them for its words.
-use Rattle.std.proofs.Common.{◌≡◌, ℕ, Bool, true, false, not, List, [], ◌∷◌, codes, refl, sym, ap, subst, ◌∙◌}
-use Rattle.std.proofs.Common.{◌==◌, Ok}
+use Rattle.std.proofs.Common.{◌≡◌, ℕ, ◌<◌, Bool, true, false, not, List, [], ◌∷◌, codes, refl, sym, ap, subst, ◌∙◌}
+use Rattle.std.proofs.Common.{◌==◌, Ok, arith}
+use Rattle.std.specs.Fmt.{decimal}
 use Rattle.std.specs.List.{All, AllByRecursion, AllZip, join_with_byte, list_all}
-use Rattle.std.proofs.lemmas.Bool.{and_parts, eqb-true}
+use Rattle.std.specs.Str.Parse.{AllDigits}
+use Rattle.std.proofs.lemmas.Bool.{and_parts, eqb-true, ne_eqb}
+use Rattle.std.proofs.lemmas.Fmt.{decimal_is_IsNumeral}
+use Rattle.std.proofs.lemmas.Str.Parse.{digit_from_value}
 use Rattle.std.proofs.lemmas.List.Elements.{All-append, All-cons, All-nil}
 use Rattle.std.proofs.lemmas.List.Splits.{slice_split_none, slice_split_at}
 use Rattle.hex.specs.Hex.{decode_of, is_hex_digit}
 use Rattle.hex.proofs.HexLemmas.{decode_of-ok}
 use Rattle.erp1_telegrams.specs.declared.eep.Eep.{Eep}
-use Rattle.actuator_commands.specs.Words.{words, Word, Says, Id, Profile, SpellsEep, SpellsWord}
+use Rattle.actuator_commands.specs.Words.{words, Word, Says, Id, Profile, Number, SpellsEep, SpellsWord}
 use Rattle.actuator_commands.specs.declared.orders.Order.{Order}
-use Rattle.actuator_commands.specs.declared.orders.Order.TheVariants.{LearnOn, LearnOnAnswer, LearnAs, LearnOff}
-use Rattle.actuator_commands.specs.declared.orders.Order.TheVariants.{Add, Remove, List as ListAll, Status}
+use Rattle.actuator_commands.specs.declared.orders.Order.TheVariants.{LearnOn, Switch, Meter, Central}
+use Rattle.actuator_commands.specs.declared.orders.Quantity.TheVariants.{Energy, Power}
 use Rattle.actuator_commands.specs.Orders.{words_of}
 
 abbrev IsOther : ℕ → Type 0
@@ -50,36 +54,44 @@ profile-lacks text eep spells =
     (All-append IsOther _ _ (All-append IsOther _ _ (All-append IsOther _ _ (All-append IsOther _ _ rorg dash) func)
     dash) typ)
 
--- the word's own text, where it has one
-IsPlain : Word → Type 0
-IsPlain (Says name) = LacksSpace name
-IsPlain (Id id) = Unit {0}
-IsPlain (Profile eep) = Unit {0}
+decimals-lack : (digits : List ℕ) → AllDigits 10 digits → LacksSpace digits
+decimals-lack [] are = All-nil IsOther
+decimals-lack (d ∷ digits) are =
+    let digit = digit_from_value d are.0 in
+    All-cons IsOther d digits (ne_eqb d 32 (omega arith)) (decimals-lack digits are.1)
 
-word-lacks : (text : List ℕ) (word : Word) → IsPlain word → SpellsWord text word → LacksSpace text
-unfolding IsPlain
-word-lacks text (Says name) plain is = subst LacksSpace (sym is) plain
+number-lacks : (n : ℕ) → n < 100000 → LacksSpace (decimal n)
+number-lacks n below = decimals-lack (decimal n) (decimal_is_IsNumeral n (omega arith)).0.1
+
+-- whether the word's own text, where it has one, has no space
+abbrev is_plain : Word → Bool
+is_plain (Says name) = list_all (λ b. not (b == 32)) name
+is_plain (Id id) = true
+is_plain (Profile eep) = true
+is_plain (Number most n) = true
+
+word-lacks : (text : List ℕ) (word : Word) → is_plain word ≡ true → SpellsWord text word → LacksSpace text
+word-lacks text (Says name) plain is = subst LacksSpace (sym is) (lacks name plain)
 word-lacks text (Id id) plain (bytes, four, decoded, is) = digits-lack text bytes decoded
 word-lacks text (Profile eep) plain spells = profile-lacks text eep spells
+word-lacks text (Number most n) plain (is, below) = subst LacksSpace (sym is) (number-lacks n below)
 
-words-lack : (texts : List (List ℕ)) (some : List Word) → AllByRecursion IsPlain some → AllZip SpellsWord texts some
+words-lack : (texts : List (List ℕ)) (some : List Word) → list_all is_plain some ≡ true → AllZip SpellsWord texts some
     → AllByRecursion LacksSpace texts
 words-lack [] some plain spell = tt
 words-lack (text ∷ texts) [] plain spell = absurd spell
 words-lack (text ∷ texts) (word ∷ more) plain spell =
-    (word-lacks text word plain.0 spell.0, words-lack texts more plain.1 spell.1)
+    let parts = and_parts (is_plain word) (list_all is_plain more) plain in
+    (word-lacks text word parts.0 spell.0, words-lack texts more parts.1 spell.1)
 
-plain-words : (order : Order) → AllByRecursion IsPlain (words_of order)
-unfolding IsPlain
-plain-words LearnOn = (lacks (codes "learn") refl, (lacks (codes "on") refl, tt))
-plain-words LearnOnAnswer =
-    (lacks (codes "learn") refl, (lacks (codes "on") refl, (lacks (codes "answer") refl, tt)))
-plain-words (LearnAs eep) = (lacks (codes "learn") refl, (lacks (codes "as") refl, (tt, tt)))
-plain-words LearnOff = (lacks (codes "learn") refl, (lacks (codes "off") refl, tt))
-plain-words (Add id eep) = (lacks (codes "add") refl, (tt, (tt, tt)))
-plain-words (Remove id) = (lacks (codes "remove") refl, (tt, tt))
-plain-words ListAll = (lacks (codes "list") refl, tt)
-plain-words Status = (lacks (codes "status") refl, tt)
+plain-words : (order : Order) → list_all is_plain (words_of order) ≡ true
+plain-words (Switch id channel true) = refl
+plain-words (Switch id channel false) = refl
+plain-words (Meter id channel Energy) = refl
+plain-words (Meter id channel Power) = refl
+plain-words (Central offset true) = refl
+plain-words (Central offset false) = refl
+plain-words order = refl
 
 joined : (text : List ℕ) (texts : List (List ℕ)) → LacksSpace text → AllByRecursion LacksSpace texts
     → words (join_with_byte 32 (text ∷ texts)) ≡ text ∷ texts
@@ -91,13 +103,7 @@ joined text (next ∷ texts) lack more =
 -- an order has words
 some_words : (order : Order) → AllZip SpellsWord [] (words_of order) → ⊥
 some_words LearnOn none = none
-some_words LearnOnAnswer none = none
-some_words (LearnAs eep) none = none
-some_words LearnOff none = none
-some_words (Add id eep) none = none
-some_words (Remove id) none = none
-some_words ListAll none = none
-some_words Status none = none
+some_words order none = none
 
 pub words-joined : (order : Order) (texts : List (List ℕ)) → AllZip SpellsWord texts (words_of order)
     → words (join_with_byte 32 texts) ≡ texts

@@ -1,15 +1,19 @@
--- The computed ID and profile of a text are those that the text spells.
+-- The computed ID, profile, state and quantity of a text are those that the text spells.
 use Rattle.std.proofs.Common.{◌≡◌, ℕ, Bool, true, false, cond, List, [], ◌∷◌, ◌++◌, length, refl, sym, ap}
 use Rattle.std.proofs.Common.{◌∙◌, arith}
 use Rattle.std.proofs.Common.{Option, Some, None}
-use Rattle.std.specs.Prelude.{Result, Ok, Err, codes}
+use Rattle.std.specs.Prelude.{Result, Ok, Err, bytes_eq, codes}
 use Rattle.std.specs.Int.{w32, from_be_bytes}
 use Rattle.std.proofs.lemmas.Bool.{and_parts, eqb-true}
+use Rattle.std.proofs.lemmas.Slice.Eq.{bytes_eq-Decides}
 use Rattle.hex.specs.Hex.{decode_of, decode_sized}
 use Rattle.hex.specs.declared.error.FromHexError.{FromHexError}
 use Rattle.hex.proofs.HexLemmas.{decode_of-ok, decode_sized-ok, decode_sized-twice}
 use Rattle.erp1_telegrams.specs.declared.eep.Eep.{Eep}
+use Rattle.actuator_commands.specs.declared.orders.Quantity.{Quantity}
+use Rattle.actuator_commands.specs.declared.orders.Quantity.TheVariants.{Energy, Power}
 use Rattle.actuator_commands.specs.Words.{SpellsId, SpellsEep, byte_from, byte_in, id_from, id_in, eep_from, eep_in}
+use Rattle.actuator_commands.specs.Words.{state_name, state_in, quantity_name, quantity_in}
 
 -- ---- an ID
 
@@ -110,3 +114,37 @@ eep_read text eep s =
     ∙ ap (λ (o : Option ℕ). eep_from o (byte_in (f.0 ∷ f.1 ∷ [])) (byte_in (t.0 ∷ t.1 ∷ []))) r.3
     ∙ ap (λ (o : Option ℕ). eep_from (Some eep.rorg) o (byte_in (t.0 ∷ t.1 ∷ []))) f.3
     ∙ ap (λ (o : Option ℕ). eep_from (Some eep.rorg) (Some eep.func) o) t.3
+
+-- ---- a state, and a quantity
+
+pub named : (text name : List ℕ) → bytes_eq text name ≡ true → text ≡ name
+named text name e = (bytes_eq-Decides text name).0 e
+
+pub state_spelled : (text : List ℕ) (on : Bool) → state_in text ≡ Some on → text ≡ state_name on
+state_spelled text on e = by_tests (bytes_eq text (codes "on")) (bytes_eq text (codes "off")) refl refl e
+  where
+    by_tests : (t f : Bool) → bytes_eq text (codes "on") ≡ t → bytes_eq text (codes "off") ≡ f
+        → cond t (Some true) (cond f (Some false) None) ≡ Some on → text ≡ state_name on
+    by_tests true f is other e = let same : true ≡ on = cc in named text (codes "on") is ∙ ap state_name same
+    by_tests false true is other e = let same : false ≡ on = cc in named text (codes "off") other ∙ ap state_name same
+    by_tests false false is other e = absurd cc
+
+pub state_read : (on : Bool) → state_in (state_name on) ≡ Some on
+state_read true = refl
+state_read false = refl
+
+pub quantity_spelled : (text : List ℕ) (quantity : Quantity) → quantity_in text ≡ Some quantity
+    → text ≡ quantity_name quantity
+quantity_spelled text quantity e = by_tests (bytes_eq text (codes "energy")) (bytes_eq text (codes "power")) refl refl e
+  where
+    by_tests : (t f : Bool) → bytes_eq text (codes "energy") ≡ t → bytes_eq text (codes "power") ≡ f
+        → cond t (Some Energy) (cond f (Some Power) None) ≡ Some quantity → text ≡ quantity_name quantity
+    by_tests true f is other e =
+        let same : Energy ≡ quantity = cc in named text (codes "energy") is ∙ ap quantity_name same
+    by_tests false true is other e =
+        let same : Power ≡ quantity = cc in named text (codes "power") other ∙ ap quantity_name same
+    by_tests false false is other e = absurd cc
+
+pub quantity_read : (quantity : Quantity) → quantity_in (quantity_name quantity) ≡ Some quantity
+quantity_read Energy = refl
+quantity_read Power = refl

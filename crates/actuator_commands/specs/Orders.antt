@@ -3,12 +3,14 @@
 use Rattle.std.specs.Prelude.{◌≡◌, ℕ, Bool, ◌&&◌, List, [], ◌∷◌, codes, bytes_eq, Option, Some, None, Result, Ok, Err}
 use Rattle.std.specs.Prelude.{option_map, if◌then◌else◌}
 use Rattle.std.specs.List.{AllByRecursion, AllZip, join_with_byte, list_all}
-use Rattle.erp1_telegrams.specs.declared.eep.Eep.{Eep}
-use Rattle.actuator_commands.specs.Words.{words, Word, Says, Id, Profile, SpellsWord, IsWordInRange}
-use Rattle.actuator_commands.specs.Words.{is_word_in_range, id_in, eep_in}
+use Rattle.actuator_commands.specs.Words.{words, Word, Says, Id, Profile, Number, SpellsWord, IsWordInRange}
+use Rattle.actuator_commands.specs.Words.{state_name, quantity_name, is_word_in_range, id_in, eep_in, number_in}
+use Rattle.actuator_commands.specs.Words.{state_in, quantity_in, of_two, of_three}
 use Rattle.actuator_commands.specs.declared.orders.Order.{Order}
 use Rattle.actuator_commands.specs.declared.orders.Order.TheVariants.{LearnOn, LearnOnAnswer, LearnAs, LearnOff}
-use Rattle.actuator_commands.specs.declared.orders.Order.TheVariants.{Add, Remove, List as ListAll, Status}
+use Rattle.actuator_commands.specs.declared.orders.Order.TheVariants.{Add, Remove, List as ListAll, Status, Base}
+use Rattle.actuator_commands.specs.declared.orders.Order.TheVariants.{Switch, Dim, Query, Meter, Blind, Stop}
+use Rattle.actuator_commands.specs.declared.orders.Order.TheVariants.{Central, Level, Teach}
 use Rattle.actuator_commands.specs.declared.orders.OrderFault.{OrderFault}
 use Rattle.actuator_commands.specs.declared.orders.OrderFault.TheVariants.{Syntax, Range}
 
@@ -22,6 +24,18 @@ words_of (Add id eep) = Says (codes "add") ∷ Id id ∷ Profile eep ∷ []
 words_of (Remove id) = Says (codes "remove") ∷ Id id ∷ []
 words_of ListAll = Says (codes "list") ∷ []
 words_of Status = Says (codes "status") ∷ []
+words_of Base = Says (codes "base") ∷ []
+words_of (Switch id channel on) = Says (codes "switch") ∷ Id id ∷ Number 30 channel ∷ Says (state_name on) ∷ []
+words_of (Dim id channel value) = Says (codes "dim") ∷ Id id ∷ Number 30 channel ∷ Number 100 value ∷ []
+words_of (Query id channel) = Says (codes "query") ∷ Id id ∷ Number 30 channel ∷ []
+words_of (Meter id channel quantity) =
+    Says (codes "meter") ∷ Id id ∷ Number 30 channel ∷ Says (quantity_name quantity) ∷ []
+words_of (Blind id value) = Says (codes "blind") ∷ Id id ∷ Number 100 value ∷ []
+words_of (Stop id) = Says (codes "stop") ∷ Id id ∷ []
+words_of (Central offset on) = Says (codes "central") ∷ Number 127 offset ∷ Says (state_name on) ∷ []
+words_of (Level offset value ramp) =
+    Says (codes "level") ∷ Number 127 offset ∷ Number 100 value ∷ Number 255 ramp ∷ []
+words_of (Teach offset) = Says (codes "teach") ∷ Number 127 offset ∷ []
 
 -- The line has the shape of the order, whatever its numbers: texts that spell the order's words, one by one, with one
 -- space between each two and none before or behind. Own choice.
@@ -43,28 +57,55 @@ Spells line order = HasShape line order × IsInRange order
 abbrev pub is_in_range : Order → Bool
 is_in_range order = list_all is_word_in_range (words_of order)
 
-abbrev pub add_of : Option ℕ → Option Eep → Option Order
-add_of (Some id) (Some eep) = Some (Add id eep)
-add_of id eep = None
-
 -- the order whose shape the words have
-abbrev pub order_in : List (List ℕ) → Option Order
-order_in (name ∷ []) =
+abbrev pub one_word : List ℕ → Option Order
+one_word name =
     if bytes_eq name (codes "list") then Some ListAll
     else if bytes_eq name (codes "status") then Some Status
+    else if bytes_eq name (codes "base") then Some Base
     else None
-order_in (name ∷ second ∷ []) =
+
+abbrev pub two_words : List ℕ → List ℕ → Option Order
+two_words name second =
     if bytes_eq name (codes "learn") && bytes_eq second (codes "on") then Some LearnOn
     else if bytes_eq name (codes "learn") && bytes_eq second (codes "off") then Some LearnOff
     else if bytes_eq name (codes "remove") then option_map (λ id. Remove id) (id_in second)
+    else if bytes_eq name (codes "stop") then option_map (λ id. Stop id) (id_in second)
+    else if bytes_eq name (codes "teach") then option_map (λ offset. Teach offset) (number_in second)
     else None
-order_in (name ∷ second ∷ third ∷ []) =
+
+abbrev pub three_words : List ℕ → List ℕ → List ℕ → Option Order
+three_words name second third =
     if bytes_eq name (codes "learn") && bytes_eq second (codes "on") && bytes_eq third (codes "answer")
     then Some LearnOnAnswer
     else if bytes_eq name (codes "learn") && bytes_eq second (codes "as")
     then option_map (λ eep. LearnAs eep) (eep_in third)
-    else if bytes_eq name (codes "add") then add_of (id_in second) (eep_in third)
+    else if bytes_eq name (codes "add") then of_two (λ id eep. Add id eep) (id_in second) (eep_in third)
+    else if bytes_eq name (codes "query") then of_two (λ id channel. Query id channel) (id_in second) (number_in third)
+    else if bytes_eq name (codes "blind") then of_two (λ id value. Blind id value) (id_in second) (number_in third)
+    else if bytes_eq name (codes "central")
+    then of_two (λ offset on. Central offset on) (number_in second) (state_in third)
     else None
+
+abbrev pub four_words : List ℕ → List ℕ → List ℕ → List ℕ → Option Order
+four_words name second third fourth =
+    if bytes_eq name (codes "switch")
+    then of_three (λ id channel on. Switch id channel on) (id_in second) (number_in third) (state_in fourth)
+    else if bytes_eq name (codes "dim")
+    then of_three (λ id channel value. Dim id channel value) (id_in second) (number_in third) (number_in fourth)
+    else if bytes_eq name (codes "meter")
+    then of_three (λ id channel quantity. Meter id channel quantity) (id_in second) (number_in third)
+    (quantity_in fourth)
+    else if bytes_eq name (codes "level")
+    then of_three (λ offset value ramp. Level offset value ramp) (number_in second) (number_in third)
+    (number_in fourth)
+    else None
+
+abbrev pub order_in : List (List ℕ) → Option Order
+order_in (name ∷ []) = one_word name
+order_in (name ∷ second ∷ []) = two_words name second
+order_in (name ∷ second ∷ third ∷ []) = three_words name second third
+order_in (name ∷ second ∷ third ∷ fourth ∷ []) = four_words name second third fourth
 order_in texts = None
 
 -- an order that has the shape is taken where its numbers are in range

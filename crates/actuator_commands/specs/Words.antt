@@ -1,20 +1,36 @@
 -- The words of an order, and what a text spells.
-use Rattle.std.specs.Prelude.{◌≡◌, ◌≢◌, ℕ, ◌==◌, ◌&&◌, Bool, true, not, if◌then◌else◌, List, []}
-use Rattle.std.specs.Prelude.{◌∷◌, ◌++◌, codes}
-use Rattle.std.specs.Prelude.{length, Option, Some, None, Result, Ok, Err}
+use Rattle.std.specs.Prelude.{◌≡◌, ◌≢◌, ℕ, ◌<◌, ◌≤◌, ◌==◌, ◌&&◌, Bool, true, false, not}
+use Rattle.std.specs.Prelude.{if◌then◌else◌, List, [], ◌∷◌, ◌++◌, codes, bytes_eq, nat_le, length}
+use Rattle.std.specs.Prelude.{Option, Some, None, Result, Ok, Err}
 use Rattle.std.specs.Borrow.{Bor}
+use Rattle.std.specs.Char.{is_ascii_digit}
+use Rattle.std.specs.Fmt.{decimal}
 use Rattle.std.specs.Int.{w32, from_be_bytes}
-use Rattle.std.specs.List.{slice_split}
-use Rattle.std.specs.Option.{option_map_or}
+use Rattle.std.specs.List.{list_all, slice_split}
+use Rattle.std.specs.Option.{option_and_then, option_map, option_map_or}
+use Rattle.std.specs.Str.Parse.{digits_value}
 use Rattle.hex.specs.Hex.{decode_of, decode_sized}
 use Rattle.hex.specs.declared.error.FromHexError.{FromHexError}
 use Rattle.erp1_telegrams.specs.declared.eep.Eep.{Eep}
+use Rattle.actuator_commands.specs.declared.orders.Quantity.{Quantity}
+use Rattle.actuator_commands.specs.declared.orders.Quantity.TheVariants.{Energy, Power}
 
--- A word of an order: a text that stands as it is, an ID or a profile. Own choice.
+-- A word of an order: a text that stands as it is, an ID, a profile, or a number, which is in range up to `most`. Own
+-- choice.
 pub data Word : Type 0 where
   Says : (text : List ℕ) → Word
   Id : (id : ℕ) → Word
   Profile : (eep : Eep) → Word
+  Number : (most n : ℕ) → Word
+
+-- the words for what is on and what is off, and for what is measured. Own choice.
+abbrev pub state_name : Bool → List ℕ
+state_name true = codes "on"
+state_name false = codes "off"
+
+abbrev pub quantity_name : Quantity → List ℕ
+quantity_name Energy = codes "energy"
+quantity_name Power = codes "power"
 
 -- an ID (EnOcean Serial Protocol 3, "Packet type 1: RADIO_ERP1"): its four bytes as eight hexadecimal digits, the high
 -- byte first. Own choice: of either case
@@ -33,11 +49,16 @@ pub record SpellsEep (text : List ℕ) (eep : Eep) : Type 0 where
   pub is_func : decode_of func ≡ Ok (eep.func ∷ [])
   pub is_typ : decode_of typ ≡ Ok (eep.typ ∷ [])
 
+-- a number: as it is written in decimal digits, without a sign or a zero before it. Own choice: at most five digits
+abbrev pub SpellsNumber : List ℕ → ℕ → Type 0
+SpellsNumber text n = (text ≡ decimal n) × (n < 100000)
+
 -- the text spells the word
 abbrev pub SpellsWord : List ℕ → Word → Type 0
 SpellsWord text (Says name) = text ≡ name
 SpellsWord text (Id id) = SpellsId text id
 SpellsWord text (Profile eep) = SpellsEep text eep
+SpellsWord text (Number most n) = SpellsNumber text n
 
 -- the word's number is in range: no device has the broadcast ID (EnOcean Serial Protocol 3, "Packet type 1:
 -- RADIO_ERP1")
@@ -45,6 +66,7 @@ abbrev pub IsWordInRange : Word → Type 0
 IsWordInRange (Says name) = Unit {0}
 IsWordInRange (Id id) = id ≢ 0xFFFF_FFFF
 IsWordInRange (Profile eep) = Unit {0}
+IsWordInRange (Number most n) = n ≤ most
 
 -- ---- the same, computed. That it is the same are the laws `ids_are_spelled` and `orders_are_spelled`.
 
@@ -62,6 +84,7 @@ abbrev pub is_word_in_range : Word → Bool
 is_word_in_range (Says name) = true
 is_word_in_range (Id id) = not (id == 0xFFFF_FFFF)
 is_word_in_range (Profile eep) = true
+is_word_in_range (Number most n) = nat_le n most
 
 -- the number of two hexadecimal digits
 abbrev pub byte_from : Result (List ℕ) FromHexError → Option ℕ
@@ -88,3 +111,35 @@ abbrev pub eep_in : List ℕ → Option Eep
 eep_in (a ∷ b ∷ x ∷ c ∷ d ∷ y ∷ e ∷ f ∷ []) =
     if x == 45 && y == 45 then eep_from (byte_in (a ∷ b ∷ [])) (byte_in (c ∷ d ∷ [])) (byte_in (e ∷ f ∷ [])) else None
 eep_in text = None
+
+-- the state and the quantity that a text spells
+abbrev pub state_in : List ℕ → Option Bool
+state_in text =
+    if bytes_eq text (codes "on") then Some true else if bytes_eq text (codes "off") then Some false else None
+
+abbrev pub quantity_in : List ℕ → Option Quantity
+quantity_in text =
+    if bytes_eq text (codes "energy") then Some Energy
+    else if bytes_eq text (codes "power") then Some Power
+    else None
+
+-- whether no zero stands before another digit
+abbrev pub begins_well : List ℕ → Bool
+begins_well [] = false
+begins_well (first ∷ []) = true
+begins_well (first ∷ second ∷ more) = not (first == 48)
+
+-- whether a text is `0`, or up to five digits that do not begin with 0
+abbrev pub is_number : List ℕ → Bool
+is_number text = begins_well text && nat_le (length text) 5 && list_all is_ascii_digit text
+
+-- the number that a text spells
+abbrev pub number_in : List ℕ → Option ℕ
+number_in text = if is_number text then Some (digits_value 10 text) else None
+
+-- what is made of two words or of three, where each can be read
+abbrev pub of_two : {A B C : Type 0} → (A → B → C) → Option A → Option B → Option C
+of_two make a b = option_and_then (λ x. option_map (make x) b) a
+
+abbrev pub of_three : {A B C D : Type 0} → (A → B → C → D) → Option A → Option B → Option C → Option D
+of_three make a b c = option_and_then (λ x. of_two (make x) b c) a

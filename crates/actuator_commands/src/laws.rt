@@ -1,11 +1,18 @@
 //! Laws of the definitions. Each function does nothing: its contract is the law.
-ghost use Rattle.std.specs.Prelude.{◌≡◌, ℕ, ◌↔◌, List, Some};
-ghost use Rattle.actuator_commands.specs.Orders.{OrdersAreSpelled};
+ghost use Rattle.std.specs.Prelude.{◌≡◌, ℕ, ◌↔◌, ◌⊎◌, List, Some, Err};
+ghost use Rattle.actuator_commands.specs.declared.orders.OrderFault.{OrderFault};
+ghost use Rattle.actuator_commands.specs.Orders.{OrdersAreSpelled, order_of};
 ghost use Rattle.actuator_commands.specs.Words.{SpellsId, id_in};
 
 /// The computed order of a line is the one that the line spells.
 pub fn orders_are_spelled()
     ensures { OrdersAreSpelled }
+{}
+
+/// A line is refused as `Syntax` or as `Range`, and as nothing else.
+pub fn lines_have_two_faults()
+    ensures { (line : List ℕ) (fault : OrderFault) → order_of line ≡ Err fault
+        → (fault ≡ OrderFault.Syntax) ⊎ (fault ≡ OrderFault.Range) }
 {}
 
 /// The computed ID of a text is the one that the text spells.

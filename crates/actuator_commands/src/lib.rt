@@ -1,12 +1,19 @@
-//! The orders of the desk: what a line of text asks the gateway to do. Nothing here takes memory.
+//! The orders of the desk: what a line of text asks the gateway to do, and the radio telegrams of those that go to
+//! devices. Nothing here takes memory.
 #![tactic(auto)]
 
 pub mod laws;
+mod lines;
 mod orders;
+mod packets;
 mod words;
 
-pub use orders::{Order, OrderFault, parse};
+pub use lines::parse;
+pub use orders::{Order, OrderFault, Quantity};
+pub use packets::packet_of;
 pub use words::id_of;
 
+#[cfg(test)]
+mod packet_tests;
 #[cfg(test)]
 mod tests;

@@ -1,12 +1,25 @@
-//! The orders, read from their lines.
+//! The orders, and the ranges of their numbers.
 ghost use Rattle.std.specs.Prelude.{◌≡◌};
-ghost use Rattle.actuator_commands.specs.Orders.{is_in_range, order_in, order_of};
-ghost use Rattle.actuator_commands.specs.Words.{words};
+ghost use Rattle.actuator_commands.specs.Orders.{is_in_range};
+ghost use Rattle.actuator_commands.specs.Packets.{recipient, sends};
 
-use crate::words::{eep_of, id_of, next_word};
 use erp1_telegrams::{BROADCAST, Eep};
 
-/// An order of the desk.
+/// The greatest number of a channel: 30 is all channels of a device (EnOcean Equipment Profiles 2.6, "D2-01", "I/O
+/// channel").
+const LAST_CHANNEL: u32 = 30;
+
+/// The greatest offset from the base ID (EnOcean Serial Protocol 3, "CO_WR_IDBASE").
+const LAST_OFFSET: u32 = 127;
+
+/// The greatest value, in percent.
+const MOST_VALUE: u32 = 100;
+
+/// The longest time of a ramp, in seconds (EnOcean Equipment Profiles 2.6, "A5-38-08", command 2).
+const MOST_RAMP: u32 = 255;
+
+/// An order of the desk. An ID is that of a device, 0 to FFFFFFFE. An offset, 0 to 127, is added to the base ID, for
+/// the sender that devices know. A channel is 0 to 30, and a value 0 to 100 percent.
 #[derive(Clone, Copy, Debug, PartialEq, Eq)]
 pub enum Order {
     /// `learn on`: learn by telegrams of teach-in.
@@ -25,50 +38,117 @@ pub enum Order {
     List,
     /// `status`: tell the counts and the mode.
     Status,
+    /// `base`: ask the radio module for its base ID.
+    Base,
+    /// `switch ID CHANNEL on` or `off`: switch a channel of a device.
+    Switch {
+        id: u32,
+        channel: u32,
+        on: bool,
+    },
+    /// `dim ID CHANNEL VALUE`: dim a channel of a device.
+    Dim {
+        id: u32,
+        channel: u32,
+        value: u32,
+    },
+    /// `query ID CHANNEL`: ask a device for the state of a channel.
+    Query {
+        id: u32,
+        channel: u32,
+    },
+    /// `meter ID CHANNEL energy` or `power`: ask a device what it measures at a channel.
+    Meter {
+        id: u32,
+        channel: u32,
+        quantity: Quantity,
+    },
+    /// `blind ID VALUE`: move a blind to this position.
+    Blind {
+        id: u32,
+        value: u32,
+    },
+    /// `stop ID`: stop a blind.
+    Stop {
+        id: u32,
+    },
+    /// `central OFFSET on` or `off`: switch all that was taught this sender.
+    Central {
+        offset: u32,
+        on: bool,
+    },
+    /// `level OFFSET VALUE RAMP`: dim all that was taught this sender, in 0 to 255 seconds.
+    Level {
+        offset: u32,
+        value: u32,
+        ramp: u32,
+    },
+    /// `teach OFFSET`: teach devices this sender.
+    Teach {
+        offset: u32,
+    },
 }
 
-/// Why a line is no order.
+/// What is measured.
+#[derive(Clone, Copy, Debug, PartialEq, Eq)]
+pub enum Quantity {
+    /// `energy`
+    Energy,
+    /// `power`
+    Power,
+}
+
+/// Why a line is no order, or an order has no telegram.
 #[derive(Clone, Copy, Debug, PartialEq, Eq)]
 pub enum OrderFault {
-    /// It has not the shape of an order.
+    /// The line has not the shape of an order.
     Syntax,
-    /// It has the shape of one, but a number out of range: the ID that no device has, `FFFFFFFF`.
+    /// The line has the shape of one, but a number out of range, as the ID that no device has, `FFFFFFFF`. Or the
+    /// sender of an order with an offset would have this ID.
     Range,
+    /// The order's device is not known.
+    UnknownDevice,
+    /// The profile of the order's device has no such order.
+    WrongProfile,
 }
 
-// The order whose shape a line has, whatever its numbers: an arm for each line of the table.
-fn order_in(line: &[u8]) -> Option<Order>
-    ensures { result ≡ order_in (words line.now) }
-{
-    let mut left = Some(line);
-    let name = next_word(&mut left)?;
-    let words = (
-        next_word(&mut left),
-        next_word(&mut left),
-        next_word(&mut left),
-    );
-    let is_learn = name == b"learn".as_slice();
-    match words {
-        (Some(on), None, _) if is_learn && on == b"on".as_slice() => Some(Order::LearnOn),
-        (Some(on), Some(answer), None)
-            if is_learn && on == b"on".as_slice() && answer == b"answer".as_slice() => {
-            Some(Order::LearnOnAnswer)
+impl Order {
+    /// Whether the order goes to devices: `packet_of` makes its telegram.
+    pub fn sends(&self) -> bool
+        ensures { result ≡ sends self.now }
+    {
+        matches!(
+            self,
+            Order::Switch { .. }
+                | Order::Dim { .. }
+                | Order::Query { .. }
+                | Order::Meter { .. }
+                | Order::Blind { .. }
+                | Order::Stop { .. }
+                | Order::Central { .. }
+                | Order::Level { .. }
+                | Order::Teach { .. }
+        )
+    }
+
+    /// The device that the order goes to: `packet_of` wants what is known of it. It is `None` where the order goes to
+    /// no device, or to all.
+    pub fn recipient(&self) -> Option<u32>
+        ensures { result ≡ recipient self.now }
+    {
+        match self {
+            Order::Switch { id, .. }
+            | Order::Dim { id, .. }
+            | Order::Query { id, .. }
+            | Order::Meter { id, .. }
+            | Order::Blind { id, .. }
+            | Order::Stop { id } => Some(*id),
+            _ => None,
         }
-        (Some(by), Some(eep), None) if is_learn && by == b"as".as_slice() => {
-            Some(Order::LearnAs(eep_of(eep)?))
-        }
-        (Some(off), None, _) if is_learn && off == b"off".as_slice() => Some(Order::LearnOff),
-        (Some(id), Some(eep), None) if name == b"add".as_slice() => {
-            Some(Order::Add(id_of(id)?, eep_of(eep)?))
-        }
-        (Some(id), None, _) if name == b"remove".as_slice() => Some(Order::Remove(id_of(id)?)),
-        (None, ..) if name == b"list".as_slice() => Some(Order::List),
-        (None, ..) if name == b"status".as_slice() => Some(Order::Status),
-        _ => None,
     }
 }
 
-fn is_in_range(order: &Order) -> bool
+pub(crate) fn is_in_range(order: &Order) -> bool
     ensures { result ≡ is_in_range order.now }
 {
     match order {
@@ -77,23 +157,21 @@ fn is_in_range(order: &Order) -> bool
         | Order::LearnAs(_)
         | Order::LearnOff
         | Order::List
-        | Order::Status => true,
-        Order::Add(id, _) | Order::Remove(id) => *id != BROADCAST,
+        | Order::Status
+        | Order::Base => true,
+        Order::Add(id, _) | Order::Remove(id) | Order::Stop { id } => *id != BROADCAST,
+        Order::Switch { id, channel, .. }
+        | Order::Query { id, channel }
+        | Order::Meter { id, channel, .. } => *id != BROADCAST && *channel <= LAST_CHANNEL,
+        Order::Dim { id, channel, value } => {
+            *id != BROADCAST && *channel <= LAST_CHANNEL && *value <= MOST_VALUE
+        }
+        Order::Blind { id, value } => *id != BROADCAST && *value <= MOST_VALUE,
+        Order::Central { offset, .. } | Order::Teach { offset } => *offset <= LAST_OFFSET,
+        Order::Level {
+            offset,
+            value,
+            ramp,
+        } => *offset <= LAST_OFFSET && *value <= MOST_VALUE && *ramp <= MOST_RAMP,
     }
-}
-
-/// Reads the order that a line of the desk spells: the words that `Order` shows, as they stand and with exactly one
-/// space between two of them, and nothing before or behind. `line` comes without its line end. An ID is what `id_of`
-/// reads, from `00000000` to `FFFFFFFE`, and a profile three pairs of hexadecimal digits of either case with `-`
-/// between them.
-///
-/// A line that is no order is refused as `Range` where it has the shape of one, and else as `Syntax`.
-pub fn parse(line: &[u8]) -> Result<Order, OrderFault>
-    ensures { result ≡ order_of line.now }
-{
-    let order = order_in(line).ok_or(OrderFault::Syntax)?;
-    if !is_in_range(&order) {
-        return Err(OrderFault::Range);
-    }
-    Ok(order)
 }

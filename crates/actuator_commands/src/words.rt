@@ -1,7 +1,11 @@
 //! The words of a line, and what a word spells.
 ghost use Rattle.std.specs.Prelude.{◌≡◌, ◌==◌, [], ◌∷◌, MatchOption, position};
-ghost use Rattle.actuator_commands.specs.Words.{byte_in, eep_in, id_in, words_left};
+ghost use Rattle.std.specs.Char.{is_ascii_digit};
+ghost use Rattle.std.specs.List.{list_all};
+ghost use Rattle.actuator_commands.specs.Words.{begins_well, byte_in, eep_in, id_in, is_number, number_in};
+ghost use Rattle.actuator_commands.specs.Words.{quantity_in, state_in, words_left};
 
+use crate::orders::Quantity;
 use erp1_telegrams::Eep;
 use hex::FromHex;
 
@@ -58,4 +62,64 @@ pub(crate) fn eep_of(text: &[u8]) -> Option<Eep>
     let func = byte_of(&[*c, *d])?;
     let typ = byte_of(&[*e, *f])?;
     Some(Eep { rorg, func, typ })
+}
+
+// Whether a text begins as a number may: with no zero before another digit.
+fn begins_well(text: &[u8]) -> bool
+    ensures { result ≡ begins_well text.now }
+{
+    match text {
+        [] => false,
+        [_] => true,
+        [first, ..] => *first != b'0',
+    }
+}
+
+fn are_digits(text: &[u8]) -> bool
+    ensures { result ≡ list_all is_ascii_digit text.now }
+{
+    text.iter().all(u8::is_ascii_digit)
+}
+
+// Whether a text is `0`, or up to five decimal digits that do not begin with 0.
+fn is_number(text: &[u8]) -> bool
+    ensures { result ≡ is_number text.now }
+{
+    begins_well(text) && text.len() <= 5 && are_digits(text)
+}
+
+/// Reads a number: `0`, or up to five decimal digits that do not begin with 0.
+pub(crate) fn number_of(text: &[u8]) -> Option<u32>
+    ensures { result ≡ number_in text.now }
+{
+    if !is_number(text) {
+        return None;
+    }
+    str::from_utf8(text).ok()?.parse().ok()
+}
+
+/// Reads `on` as true and `off` as false.
+pub(crate) fn state_of(text: &[u8]) -> Option<bool>
+    ensures { result ≡ state_in text.now }
+{
+    if text == b"on".as_slice() {
+        Some(true)
+    } else if text == b"off".as_slice() {
+        Some(false)
+    } else {
+        None
+    }
+}
+
+/// Reads what is to be measured.
+pub(crate) fn quantity_of(text: &[u8]) -> Option<Quantity>
+    ensures { result ≡ quantity_in text.now }
+{
+    if text == b"energy".as_slice() {
+        Some(Quantity::Energy)
+    } else if text == b"power".as_slice() {
+        Some(Quantity::Power)
+    } else {
+        None
+    }
 }

@@ -1,6 +1,6 @@
 -- What holds of the effect of every item.
 use Rattle.std.proofs.Common.{◌≡◌, ◌≢◌, ◌⊎◌, inl, inr, ℕ, Bool, true, false, List, [], ◌∷◌, Option, Some, None, refl, ap}
-use Rattle.std.specs.Prelude.{Result, Ok, Err, nat_lt, length, if◌then◌else◌}
+use Rattle.std.specs.Prelude.{is_some, Result, Ok, Err, nat_lt, length, if◌then◌else◌}
 use Rattle.esp3_frames.specs.Packet.{Packet}
 use Rattle.erp1_telegrams.specs.declared.eep.Eep.{Eep}
 use Rattle.erp1_telegrams.specs.declared.telegram.TelegramFault.{TelegramFault}
@@ -24,15 +24,18 @@ use Rattle.json_lines.specs.declared.fixed.ErrorName.{ErrorName}
 use Rattle.json_lines.specs.declared.fixed.ErrorName.TheVariants as error
 use Rattle.actuator_commands.specs.declared.orders.Order.{Order}
 use Rattle.actuator_commands.specs.declared.orders.Order.TheVariants.{LearnOn, LearnOnAnswer, LearnOff, Add, Remove}
-use Rattle.actuator_commands.specs.declared.orders.Order.TheVariants.{LearnAs, List as ListAll, Status}
+use Rattle.actuator_commands.specs.declared.orders.Order.TheVariants.{LearnAs, List as ListAll, Status, Base}
+use Rattle.actuator_commands.specs.declared.orders.Order.TheVariants.{Switch, Dim, Query, Meter, Blind, Stop}
+use Rattle.actuator_commands.specs.declared.orders.Order.TheVariants.{Central, Level, Teach as TeachAll}
 use Rattle.actuator_commands.specs.declared.orders.OrderFault.{OrderFault}
-use Rattle.actuator_commands.specs.declared.orders.OrderFault.TheVariants.{Syntax, Range}
+use Rattle.actuator_commands.specs.Packets.{packet_for, recipient, sends}
 use Rattle.actuator_commands.specs.Orders.{order_of}
 use Rattle.json_lines.specs.Lines.{Reading, StatusLine, ResponseLine, Error, ReadingLine, TeachLine, Response, listing}
 use Rattle.gateway_core.specs.Profiles.{readings_of}
 use Rattle.gateway_core.specs.Responses.{response_in}
 use Rattle.gateway_core.specs.Step.{State, Item, Received, Ordered, Effect, ignored, unread, unsaid}
-use Rattle.gateway_core.specs.Step.{counted_line, denied}
+use Rattle.gateway_core.specs.Step.{counted_line, denied, nothing, sends_packet, telegram_sent, error_of, known_of}
+use Rattle.gateway_core.specs.Step.{sending_effect}
 use Rattle.gateway_core.specs.Step.{tells, sets, learns, forgets, tells_sender, accepts, refused_line, plan_effect}
 use Rattle.gateway_core.specs.Step.{PassedOver, Teaches, data_case, kind_case, reading_effect, case_effect}
 use Rattle.gateway_core.specs.Step.{telegram_effect, packet_effect, line_effect}
@@ -125,11 +128,27 @@ pub record OfPacket (P : Effect → Type 0) (state : State) : Type 0 where
   pub passes : P ignored
   pub hears : (response : Response) → P (counted_line count.Response (ResponseLine response))
 
+-- an order that goes to devices has no other effect
+pub sends-effect : (state : State) (order : Order) → sends order ≡ true
+    → order_effect state (Ok order) ≡ sending_effect state order
+sends-effect state (Switch id channel on) is = refl
+sends-effect state (Dim id channel value) is = refl
+sends-effect state (Query id channel) is = refl
+sends-effect state (Meter id channel quantity) is = refl
+sends-effect state (Blind id value) is = refl
+sends-effect state (Stop id) is = refl
+sends-effect state (Central offset on) is = refl
+sends-effect state (Level offset value ramp) is = refl
+sends-effect state (TeachAll offset) is = refl
+sends-effect state order is = absurd cc
+
 -- it holds of each effect that a line may have
 pub record OfLine (P : Effect → Type 0) (state : State) : Type 0 where
   pub denies : (name : ErrorName) → P (denied name)
   pub finds : (name : ErrorName) → P (tells (Error name ∷ []))
   pub opens : (mode : Mode) → P (sets mode)
+  pub sends : (asked : Bool) (bytes : List ℕ) → P (sends_packet asked bytes)
+  pub keeps : (asked : Bool) → P (record nothing { need = asked })
   pub lists : P (tells (listing (all_of state.devices)))
   pub reports : P (tells (StatusLine state.counts state.mode ∷ []))
   pub adds : (known : Device) → P (learns known)
@@ -154,9 +173,15 @@ module _ (P : Effect → Type 0) (state : State) where
   of-removal each id None is = each.finds error.UnknownDevice
   of-removal each id (Some known) is = each.drops known (device_of-known state.devices id known is)
 
+  of-sending : OfLine P state → (asked : Bool) (telegram : Option (Result Telegram OrderFault))
+      → P (telegram_sent asked telegram)
+  of-sending each asked (Some (Ok t)) = each.sends asked _
+  of-sending each true (Some (Err fault)) = each.finds (error_of fault)
+  of-sending each false (Some (Err fault)) = each.denies (error_of fault)
+  of-sending each asked None = each.keeps asked
+
   of-order : OfLine P state → (order : Result Order OrderFault) → P (order_effect state order)
-  of-order each (Err Syntax) = each.denies error.Syntax
-  of-order each (Err Range) = each.denies error.Range
+  of-order each (Err fault) = each.denies (error_of fault)
   of-order each (Ok LearnOn) = each.opens _
   of-order each (Ok LearnOnAnswer) = each.opens _
   of-order each (Ok (LearnAs eep)) = of-supported each eep _ (each.opens _)
@@ -166,6 +191,10 @@ module _ (P : Effect → Type 0) (state : State) where
   of-order each (Ok (Remove id)) = of-removal each id (device_of state.devices id) refl
   of-order each (Ok ListAll) = each.lists
   of-order each (Ok Status) = each.reports
+  of-order each (Ok Base) = each.sends false _
+  of-order each (Ok order) =
+      of-sending each (is_some (recipient order))
+      (packet_for order (known_of state.devices (recipient order)) state.base)
 
   -- of every line
   pub of_line : OfLine P state → (line : List ℕ) → P (line_effect state line)

@@ -1,5 +1,5 @@
--- Bytes are sent by radio to reply alone.
-use Rattle.std.proofs.Common.{◌≡◌, ℕ, List, Option, Some, None, Result, Ok, Err, refl, sym, ap, append-nil}
+-- What is sent by radio is told.
+use Rattle.std.proofs.Common.{◌≡◌, inl, inr, ℕ, List, Option, Some, None, Result, Ok, Err, refl, sym, ap, append-nil}
 use Rattle.std.specs.Prelude.{unwrap_or}
 use Rattle.esp3_frames.specs.Packet.{Packet, spelling}
 use Rattle.erp1_telegrams.specs.declared.telegram.TelegramFault.{TelegramFault}
@@ -14,12 +14,12 @@ use Rattle.teach_in.specs.declared.telegrams.Teach.{Teach as Kind}
 use Rattle.teach_in.specs.declared.telegrams.Teach.TheVariants.{FourByte}
 use Rattle.teach_in.specs.FourByte.{four_byte_reply}
 use Rattle.teach_in.specs.Telegrams.{teach_in_of}
-use Rattle.json_lines.specs.Lines.{TeachLine, Teach, Response, text, texts}
+use Rattle.json_lines.specs.Lines.{TeachLine, Teach, Done, Response, text, texts}
 use Rattle.gateway_core.specs.Responses.{response_in}
 use Rattle.gateway_core.specs.Run.{Taken, Refused, RefusedAtWrite}
 use Rattle.gateway_core.specs.Step.{State, Received, Ordered, Effect, told_of, radio_of, reply_of, telegram_effect}
 use Rattle.gateway_core.specs.Step.{packet_by, line_effect}
-use Rattle.gateway_core.specs.Telling.{RepliesAreTold}
+use Rattle.gateway_core.specs.Telling.{RadioIsTold}
 use Rattle.gateway_core.proofs.EffectLemmas.{of_telegram, of_line}
 
 -- the bytes are those of this reply, in the mode that answers, to a telegram that is this query
@@ -71,38 +71,41 @@ packet-replies state packet bytes (Some response) telegram is e = absurd cc
 packet-replies state packet bytes None (Ok t) is e = (t, is, telegram-replies state t bytes e)
 packet-replies state packet bytes None (Err fault) is e = absurd cc
 
-line-silent : (state : State) (line : List ℕ) → (line_effect state line).radio ≡ None
-line-silent state =
-    of_line (λ e. e.radio ≡ None) state (record {
-      denies = λ name. refl;
-      finds = λ name. refl;
-      opens = λ mode. refl;
-      lists = refl;
-      reports = refl;
-      adds = λ known. refl;
-      drops = λ known is. refl;
+-- a line's effect that has bytes tells that it is done
+line-sends : (state : State) (bytes : List ℕ) (line : List ℕ) → (line_effect state line).radio ≡ Some bytes
+    → texts (line_effect state line).desk ≡ text Done
+line-sends state bytes =
+    of_line (λ e. e.radio ≡ Some bytes → texts e.desk ≡ text Done) state (record {
+      denies = λ name e. absurd cc;
+      finds = λ name e. absurd cc;
+      opens = λ mode e. absurd cc;
+      sends = λ asked sent_as e. append-nil _;
+      keeps = λ asked e. absurd cc;
+      lists = λ e. absurd cc;
+      reports = λ e. absurd cc;
+      adds = λ known e. absurd cc;
+      drops = λ known is e. absurd cc;
     })
 
-pub replies_are_told : RepliesAreTold
-replies_are_told state (Received packet) Taken bytes e =
+pub radio_is_told : RadioIsTold
+radio_is_told state (Received packet) Taken bytes e =
     let replies = packet-replies state packet bytes (response_in packet) (telegram_of packet) refl e in
-    let (t, carried, (line, told, (query, asked, answering, reply, says, sent_as))) = replies in (
-      refl,
-      record {
-        packet = packet;
-        received = refl;
-        telegram = t;
-        carried = carried;
-        query = query;
-        asked = asked;
-        answering = answering;
-        line = line;
-        told = told;
-        reply = reply;
-        says = says;
-        sent_as = sent_as;
-      },
-    )
-replies_are_told state (Ordered line) Taken bytes e = absurd (let silent = line-silent state line in cc)
-replies_are_told state item (Refused cause) bytes e = absurd cc
-replies_are_told state item (RefusedAtWrite cause) bytes e = absurd cc
+    let (t, carried, (line, told, (query, asked, answering, reply, says, sent_as))) = replies in
+    (refl, inl (record {
+      packet = packet;
+      received = refl;
+      telegram = t;
+      carried = carried;
+      query = query;
+      asked = asked;
+      answering = answering;
+      line = line;
+      told = told;
+      reply = reply;
+      says = says;
+      sent_as = sent_as;
+    }))
+radio_is_told state (Ordered line) Taken bytes e =
+    (refl, inr (record { line = line; ordered = refl; told = line-sends state bytes line e }))
+radio_is_told state item (Refused cause) bytes e = absurd cc
+radio_is_told state item (RefusedAtWrite cause) bytes e = absurd cc

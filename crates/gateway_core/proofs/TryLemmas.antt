@@ -45,7 +45,7 @@ use Rattle.gateway_core.specs.Step.{order_effect, line_effect, longest_line}
 use Rattle.gateway_core.specs.Step.{reading_effect, case_effect, data_case, effect, change_of, needs, with_change}
 use Rattle.gateway_core.specs.Step.{state_after, with_mode, plan_effect, tells_sender, radio_of, reply_of, refused_line}
 use Rattle.gateway_core.specs.Step.{if_supported, sets, denied, accepts, told_of}
-use Rattle.gateway_core.specs.Step.{answer_by}
+use Rattle.gateway_core.specs.Step.{answer_by, telegram_sent}
 use Rattle.gateway_core.specs.Profiles.{readings_of}
 use Rattle.gateway_core.specs.Refusals.{cause_of}
 use Rattle.gateway_core.specs.Run.{cause_text, Cause, Taken, Refused, RefusedAtWrite, refused}
@@ -137,6 +137,11 @@ data-need state t (Some known) = one (readings_of known.eep t)
     one : (readings : Option (List Entry)) → IsTrue (reading_effect t known.eep readings).need
     one None = refl
     one (Some readings) = refl
+
+pub telegram-need : (telegram : Option (Result Telegram OrderFault)) → IsTrue (telegram_sent true telegram).need
+telegram-need (Some (Ok t)) = refl
+telegram-need (Some (Err fault)) = refl
+telegram-need None = refl
 
 pub removal-need : (known : Option Device) → IsTrue (removal known).need
 removal-need None = refl
@@ -357,6 +362,14 @@ module _ {S : Type 0} (g : Ghosts S) where
         (λ devices (is, commits).
         let here = subst (λ s. Gives told (done s)) (ap (λ v. state_of v devices) enters.same) (gives devices) in
         rw (is, (adds devices).learns) (here, commits))
+
+  -- an order's telegram is sent, or it is told why there is none
+  pub telegram-comes : (old new : Held S) (devices : Devices) (asked : Bool)
+      (telegram : Option (Result Telegram OrderFault)) (done : Done) → Gives done (telegram_sent asked telegram)
+      → Keeps (state g old) (state g new) devices → Comes g old new devices (telegram_sent asked telegram) (Ok done)
+  telegram-comes old new devices asked (Some (Ok t)) done gives keeps = (gives, keeps)
+  telegram-comes old new devices asked (Some (Err fault)) done gives keeps = (gives, keeps)
+  telegram-comes old new devices asked None done gives keeps = (gives, keeps)
 
   -- the window is opened, or the profile is not supported
   pub opens-comes : (old new : Held S) (devices : Devices) (eep : Eep) (done : Done)

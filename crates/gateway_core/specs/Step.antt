@@ -25,11 +25,12 @@ use Rattle.teach_in.specs.Telegrams.{teach_in_of}
 use Rattle.teach_in.specs.Verdicts.{plan_of}
 use Rattle.actuator_commands.specs.declared.orders.Order.{Order}
 use Rattle.actuator_commands.specs.declared.orders.Order.TheVariants.{LearnOn, LearnOnAnswer, LearnOff, Remove}
-use Rattle.actuator_commands.specs.declared.orders.Order.TheVariants.{List as ListAll, Status}
+use Rattle.actuator_commands.specs.declared.orders.Order.TheVariants.{List as ListAll, Status, Base}
 use Rattle.actuator_commands.specs.declared.orders.Order.TheVariants as order
 use Rattle.actuator_commands.specs.declared.orders.OrderFault.{OrderFault}
-use Rattle.actuator_commands.specs.declared.orders.OrderFault.TheVariants.{Syntax, Range}
+use Rattle.actuator_commands.specs.declared.orders.OrderFault.TheVariants.{Syntax, Range, UnknownDevice, WrongProfile}
 use Rattle.actuator_commands.specs.Orders.{order_of}
+use Rattle.actuator_commands.specs.Packets.{packet_for, recipient}
 use Rattle.json_lines.specs.declared.counts.Count.{Count}
 use Rattle.json_lines.specs.declared.counts.Count.TheVariants as count
 use Rattle.json_lines.specs.declared.counts.Counts.{Counts}
@@ -204,6 +205,10 @@ packet_effect state packet = packet_by state (response_in packet) (telegram_of p
 abbrev pub denied : ErrorName → Effect
 denied name = record nothing { desk = Error name ∷ [] }
 
+-- a packet is sent; the store was asked for a device, or it was not
+abbrev pub sends_packet : Bool → List ℕ → Effect
+sends_packet asked bytes = record nothing { radio = Some bytes; desk = Done ∷ []; need = asked }
+
 -- the mode is set
 abbrev pub sets : Mode → Effect
 sets mode = record nothing { desk = Done ∷ []; mode = Some mode }
@@ -226,10 +231,35 @@ removal (Some known) = forgets known
 abbrev pub if_supported : Eep → Effect → Effect
 if_supported eep effect = if supported eep then effect else denied error.UnsupportedProfile
 
+abbrev pub error_of : OrderFault → ErrorName
+error_of Syntax = error.Syntax
+error_of Range = error.Range
+error_of UnknownDevice = error.UnknownDevice
+error_of WrongProfile = error.WrongProfile
+
+-- what comes of an order that goes to devices: its telegram is sent, or it is told why there is none
+abbrev pub telegram_sent : Bool → Option (Result Telegram OrderFault) → Effect
+telegram_sent asked (Some (Ok t)) = sends_packet asked (spelling (sent t))
+telegram_sent asked (Some (Err fault)) = record (denied (error_of fault)) { need = asked }
+telegram_sent asked None = record nothing { need = asked }
+
+-- what is known of the device that an order goes to
+abbrev pub known_of : Devices → Option ℕ → Option Device
+known_of devices None = None
+known_of devices (Some id) = device_of devices id
+
+abbrev pub sending_effect : State → Order → Effect
+sending_effect state order =
+    telegram_sent (is_some (recipient order))
+    (packet_for order (known_of state.devices (recipient order)) state.base)
+
+-- the packet that asks the radio module for its base ID (EnOcean Serial Protocol 3, "CO_RD_IDBASE")
+abbrev pub base_query : Packet
+base_query = record { kind = 5; body = 0x08 ∷ []; opt = [] }
+
 -- own choice: of several errors the first is told, and before all of them that the line is too long
 abbrev pub order_effect : State → Result Order OrderFault → Effect
-order_effect state (Err Syntax) = denied error.Syntax
-order_effect state (Err Range) = denied error.Range
+order_effect state (Err fault) = denied (error_of fault)
 order_effect state (Ok LearnOn) = sets Learn
 order_effect state (Ok LearnOnAnswer) = sets LearnAnswer
 order_effect state (Ok (order.LearnAs eep)) = if_supported eep (sets (LearnAs eep))
@@ -240,6 +270,8 @@ order_effect state (Ok (order.Add id eep)) =
 order_effect state (Ok (Remove id)) = removal (device_of state.devices id)
 order_effect state (Ok ListAll) = tells (listing (all_of state.devices))
 order_effect state (Ok Status) = tells (StatusLine state.counts state.mode ∷ [])
+order_effect state (Ok Base) = sends_packet false (spelling base_query)
+order_effect state (Ok order) = sending_effect state order
 
 -- the longest line of the desk, in bytes. Own choice
 abbrev pub longest_line : ℕ

@@ -1,5 +1,5 @@
--- Of what a teach line tells, and a reply by radio.
-use Rattle.std.specs.Prelude.{◌≡◌, ℕ, List, Some, None, Ok}
+-- Of what a teach line tells, and what is told where bytes are sent by radio.
+use Rattle.std.specs.Prelude.{◌≡◌, ◌⊎◌, ℕ, List, Some, None, Ok}
 use Rattle.esp3_frames.specs.Packet.{Packet, spelling}
 use Rattle.erp1_telegrams.specs.Telegram.{Telegram, telegram_of, sent}
 use Rattle.device_registry.specs.declared.device.Device.{Device}
@@ -11,8 +11,8 @@ use Rattle.teach_in.specs.declared.outcome.Outcome.TheVariants.{Accepted, Delete
 use Rattle.teach_in.specs.declared.telegrams.Teach.TheVariants.{FourByte}
 use Rattle.teach_in.specs.FourByte.{four_byte_reply}
 use Rattle.teach_in.specs.Telegrams.{teach_in_of}
-use Rattle.json_lines.specs.Lines.{TeachLine, Teach, text}
-use Rattle.gateway_core.specs.Step.{State, Item, Received, Effect, effect, told_of, answer_to, change_of}
+use Rattle.json_lines.specs.Lines.{TeachLine, Teach, Done, text}
+use Rattle.gateway_core.specs.Step.{State, Item, Received, Ordered, Effect, effect, told_of, answer_to, change_of}
 use Rattle.gateway_core.specs.Run.{Fate, Taken, answer_with}
 
 -- What a line with this outcome tells of an effect: that it learns a device, or forgets it as it stands, or that it
@@ -54,7 +54,14 @@ pub record RepliesTo (state : State) (item : Item) (bytes : List ℕ) : Type 0 w
   pub says : four_byte_reply query line.outcome state.base ≡ Some reply
   pub sent_as : bytes ≡ spelling (sent reply)
 
--- bytes are sent by radio only where an item is taken, and to reply
-abbrev pub RepliesAreTold : Type 0
-RepliesAreTold = (state : State) (item : Item) (fate : Fate) (bytes : List ℕ)
-    → (answer_with state item fate).radio ≡ Some bytes → (fate ≡ Taken) × RepliesTo state item bytes
+-- The bytes are the packet of an order of the desk, which is told that it is done.
+pub record SendsAsOrdered (state : State) (item : Item) : Type 0 where
+  pub line : List ℕ
+  pub ordered : item ≡ Ordered line
+  pub told : (answer_to state item).desk ≡ text Done
+
+-- bytes are sent by radio only where an item is taken, to reply or as the desk has ordered
+abbrev pub RadioIsTold : Type 0
+RadioIsTold = (state : State) (item : Item) (fate : Fate) (bytes : List ℕ)
+    → (answer_with state item fate).radio ≡ Some bytes
+    → (fate ≡ Taken) × (RepliesTo state item bytes ⊎ SendsAsOrdered state item)

@@ -14,6 +14,7 @@ mod changes;
 mod done;
 pub mod lines;
 mod packets;
+mod sending;
 mod teaching;
 
 use crate::handler::done::{Done, refused};

@@ -13,7 +13,7 @@ ghost use Rattle.gateway_core.specs.Prefixes.{LeftIsPrefix, SafeIsPrefix, ToldSt
 ghost use Rattle.gateway_core.specs.Run.{RefusalsAreCounted, SameRefusals};
 ghost use Rattle.gateway_core.specs.Step.{Answer, Item};
 ghost use Rattle.gateway_core.specs.Stops.{SafeJoins};
-ghost use Rattle.gateway_core.specs.Telling.{ChangesAreTold, RepliesAreTold, TeachLinesAreTold};
+ghost use Rattle.gateway_core.specs.Telling.{ChangesAreTold, RadioIsTold, TeachLinesAreTold};
 ghost use Rattle.gateway_core.specs.Windows.{PacketsLearnInWindows};
 
 use crate::gateway::Gateway;
@@ -107,10 +107,11 @@ pub fn changes_are_told()
     ensures { ChangesAreTold }
 {}
 
-/// Bytes are sent by radio only where a packet is taken that carries a 4BS query, in the mode that answers: they are the
-/// reply to it, which says the outcome of the teach line that the desk is told with it.
-pub fn replies_are_told()
-    ensures { RepliesAreTold }
+/// Bytes are sent by radio only where an item is taken. With those of a packet, which carries a 4BS query, in the mode
+/// that answers, the desk is told a teach line, and they are the reply with its outcome. With those of a line the desk
+/// is told that it is done.
+pub fn radio_is_told()
+    ensures { RadioIsTold }
 {}
 
 /// A packet changes what is learned only in an open window, and only by learning the sender of its telegram. It changes

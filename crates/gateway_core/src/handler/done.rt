@@ -1,5 +1,5 @@
 //! What is done for an item that is taken.
-ghost use Rattle.std.specs.Prelude.{◌≡◌, None, Some};
+ghost use Rattle.std.specs.Prelude.{◌≡◌, Bool, None, Some};
 ghost use Rattle.gateway_core.specs.Desks.{desk_bytes};
 ghost use Rattle.gateway_core.specs.Refusals.{cause_in};
 ghost use Rattle.gateway_core.specs.Replies.{answer_of};
@@ -10,6 +10,7 @@ ghost use Rattle.gateway_core.specs.Tries.{Gives};
 
 use crate::refusal::Refusal;
 use crate::reply::{Desk, Reply};
+use arrayvec::ArrayVec;
 use json_lines::{Count, ErrorName, done_line};
 use teach_in::Mode;
 
@@ -71,6 +72,19 @@ pub(crate) fn opened(mode: Mode) -> Done
         count: None,
         mode: Some(mode),
         reply: reply_with(Desk::Fixed(done_line())),
+    }
+}
+
+pub(crate) fn sent(packet: ArrayVec<u8, 64>) -> Done
+    ensures { (asked : Bool) → Gives result (Step.sends_packet asked packet.items) }
+{
+    Done {
+        count: None,
+        mode: None,
+        reply: Reply {
+            radio: Some(packet),
+            desk: Desk::Fixed(done_line()),
+        },
     }
 }
 

@@ -1,14 +1,16 @@
 //! How a line of the desk is handled.
 ghost use Rattle.std.specs.Prelude.{◌≡◌, Ok};
 ghost use Rattle.teach_in.specs.declared.mode.Mode.TheVariants.{LearnAs};
+ghost use Rattle.actuator_commands.specs.Orders.{IsInRange};
 ghost use Rattle.gateway_core.specs.Step.{if_supported, line_effect, order_effect, sets};
 ghost use Rattle.gateway_core.specs.Tries.{Gives, Tries};
 
 use crate::handler::Handler;
 use crate::handler::done::{Done, denied, opened, told};
+use crate::handler::sending::{ask_base, error_of};
 use crate::refusal::Refusal;
 use crate::reply::Desk;
-use actuator_commands::{Order, OrderFault, parse};
+use actuator_commands::{Order, parse};
 use device_registry::Device;
 use erp1_telegrams::Eep;
 use json_lines::{ErrorName, device_lines, status_line};
@@ -71,6 +73,33 @@ impl<S: Alter> Handler<S> {
         Ok(told(Desk::Owned(line)))
     }
 
+    // Does an order.
+    fn try_order(&mut self, order: Order) -> Result<Done, Refusal>
+        requires { IsInRange order }
+        ensures { Tries S.Store self.old (λ state. order_effect state (Ok order)) result self.new }
+    {
+        match order {
+            Order::LearnOn => Ok(opened(Mode::Learn)),
+            Order::LearnOnAnswer => Ok(opened(Mode::LearnAnswer)),
+            Order::LearnAs(eep) => Ok(open_as(eep)),
+            Order::LearnOff => Ok(opened(Mode::Closed)),
+            Order::Add(id, eep) => self.try_add(id, eep),
+            Order::Remove(id) => self.try_remove(id),
+            Order::List => self.try_list(),
+            Order::Status => self.try_status(),
+            Order::Base => Ok(ask_base()),
+            Order::Switch { .. }
+            | Order::Dim { .. }
+            | Order::Query { .. }
+            | Order::Meter { .. }
+            | Order::Blind { .. }
+            | Order::Stop { .. }
+            | Order::Central { .. }
+            | Order::Level { .. }
+            | Order::Teach { .. } => self.try_send(&order),
+        }
+    }
+
     // Handles a line, or refuses it.
     pub(crate) fn try_line(&mut self, line: &[u8]) -> Result<Done, Refusal>
         ensures { Tries S.Store self.old (λ state. line_effect state line.now) result self.new }
@@ -79,16 +108,8 @@ impl<S: Alter> Handler<S> {
             return Ok(denied(ErrorName::TooLong));
         }
         match parse(line) {
-            Ok(Order::LearnOn) => Ok(opened(Mode::Learn)),
-            Ok(Order::LearnOnAnswer) => Ok(opened(Mode::LearnAnswer)),
-            Ok(Order::LearnAs(eep)) => Ok(open_as(eep)),
-            Ok(Order::LearnOff) => Ok(opened(Mode::Closed)),
-            Ok(Order::Add(id, eep)) => self.try_add(id, eep),
-            Ok(Order::Remove(id)) => self.try_remove(id),
-            Ok(Order::List) => self.try_list(),
-            Ok(Order::Status) => self.try_status(),
-            Err(OrderFault::Syntax) => Ok(denied(ErrorName::Syntax)),
-            Err(OrderFault::Range) => Ok(denied(ErrorName::Range)),
+            Ok(order) => self.try_order(order),
+            Err(fault) => Ok(denied(error_of(fault))),
         }
     }
 }

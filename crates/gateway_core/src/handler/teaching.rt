@@ -1,7 +1,5 @@
 //! How the sender of a telegram is learned, or told why it is not, and what it is replied.
 ghost use Rattle.std.specs.Prelude.{◌≡◌, ◌≢◌, ℕ, Bool, false, None, Some, IfOk, option_map};
-ghost use Rattle.esp3_frames.specs.Packet.{spelling};
-ghost use Rattle.erp1_telegrams.specs.Telegram.{sent};
 ghost use Rattle.device_registry.specs.Devices.{Devices};
 ghost use Rattle.teach_in.specs.declared.outcome.Outcome as spec;
 ghost use Rattle.teach_in.specs.declared.outcome.Outcome.TheVariants as outcome;
@@ -14,26 +12,16 @@ ghost use Rattle.gateway_core.specs.Tries.{Gives, MayReply, Tries, state_of};
 use crate::handler::Handler;
 use crate::handler::changes::Entered;
 use crate::handler::done::{Done, ignored};
+use crate::handler::sending::packet_with;
 use crate::refusal::Refusal;
 use crate::reply::{Desk, Reply};
 use arrayvec::ArrayVec;
 use device_registry::Device;
-use erp1_telegrams::{Eep, Telegram, write};
+use erp1_telegrams::{Eep, Telegram};
 use json_lines::{Count, Line, teach_line};
 use sqlite::Alter;
 use std::alloc::AllocError;
 use teach_in::{Mode, Outcome, Plan, Teach, Verdict, classify, four_byte_reply, plan};
-
-// The packet that a reply is sent in. It has room for each telegram.
-fn packet_with(reply: &Telegram) -> ArrayVec<u8, 64>
-    ensures { result.items ≡ spelling (sent reply.now) }
-{
-    let mut packet = ArrayVec::new();
-    match write(reply, &mut packet) {
-        Ok(()) => packet,
-        Err(_) => unreachable!(),
-    }
-}
 
 // The profile and the maker that a telegram of teach-in tells, if it does.
 fn told_by(teach: &Teach) -> (Option<Eep>, Option<u16>)

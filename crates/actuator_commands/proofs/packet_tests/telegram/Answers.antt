@@ -1,0 +1,7 @@
+use Rattle.std.proofs.Common.{sym, ◌∙◌}
+use Rattle.actuator_commands.proofs.OrderLemmas.{parsed-in_range}
+use Rattle.actuator_commands.proofs.packet_tests.telegram.Goals as goal
+
+pub packet_of-requires-clause-in_range : goal.packet_of-requires-clause-in_range
+packet_of-requires-clause-in_range c =
+    parsed-in_range c.args.line.now c.in_ok-order.order (sym c.parse.ensures ∙ c.in_ok-order.was)

@@ -1,0 +1,112 @@
+-- What the orders that go to devices say by radio (EnOcean Equipment Profiles 2.6). Own choice: the orders.
+use Rattle.std.specs.Prelude.{ℕ, ◌+◌, ◌==◌, ◌&&◌, Bool, if◌then◌else◌, List, [], ◌∷◌, Option, Some, None}
+use Rattle.std.specs.Prelude.{Result, Ok, Err, is_some, option_map}
+use Rattle.erp1_telegrams.specs.declared.eep.Eep.{Eep}
+use Rattle.erp1_telegrams.specs.Telegram.{Telegram}
+use Rattle.device_registry.specs.declared.device.Device.{Device}
+use Rattle.actuator_commands.specs.declared.orders.Order.{Order}
+use Rattle.actuator_commands.specs.declared.orders.Order.TheVariants.{Switch, Dim, Query, Meter, Blind, Stop}
+use Rattle.actuator_commands.specs.declared.orders.Order.TheVariants.{Central, Level, Teach}
+use Rattle.actuator_commands.specs.declared.orders.OrderFault.{OrderFault}
+use Rattle.actuator_commands.specs.declared.orders.OrderFault.TheVariants.{Range, UnknownDevice, WrongProfile}
+use Rattle.actuator_commands.specs.declared.orders.Quantity.{Quantity}
+use Rattle.actuator_commands.specs.declared.orders.Quantity.TheVariants.{Energy, Power}
+
+-- the profiles of switches and dimmers ("D2-01", with any TYPE)
+abbrev pub is_switch : Eep → Bool
+is_switch eep = eep.rorg == 0xD2 && eep.func == 0x01
+
+-- the profile of a blind ("D2-05-00")
+abbrev pub is_blind : Eep → Bool
+is_blind eep = eep.rorg == 0xD2 && eep.func == 0x05 && eep.typ == 0x00
+
+-- What an order says: to the device with an ID, a payload by the device's profile, or none where that has no such
+-- order; or to all, as the sender that has this offset from the base ID.
+pub data Message : Type 0 where
+  ToOne : (id : ℕ) → (payload_of : Eep → Option (List ℕ)) → Message
+  ToAll : (offset : ℕ) → (payload : List ℕ) → Message
+
+abbrev pub for_switch : List ℕ → Eep → Option (List ℕ)
+for_switch payload eep = if is_switch eep then Some payload else None
+
+abbrev pub for_blind : List ℕ → Eep → Option (List ℕ)
+for_blind payload eep = if is_blind eep then Some payload else None
+
+-- "D2-01", command 3, asks for the channel's state; "D2-05-00", command 3, for that of its channel 0, which is no byte
+-- of it
+abbrev pub for_query : ℕ → Eep → Option (List ℕ)
+for_query channel eep =
+    if is_switch eep then Some (0x03 ∷ channel ∷ [])
+    else if is_blind eep && channel == 0 then Some (0x03 ∷ [])
+    else None
+
+-- "D2-01", command 6, has the channel in the low bits, and asks for power by the highest bit
+abbrev pub metered : ℕ → Quantity → ℕ
+metered channel Energy = channel
+metered channel Power = channel + 128
+
+-- The table: what each order says, if it goes to devices.
+abbrev pub message_of : Order → Option Message
+-- "D2-01", command 1: the channel, and the value in percent. The bits DV are 0: at once
+message_of (Switch id channel on) =
+    Some (ToOne id (for_switch (0x01 ∷ channel ∷ (if on then 0x64 else 0x00) ∷ [])))
+message_of (Dim id channel value) = Some (ToOne id (for_switch (0x01 ∷ channel ∷ value ∷ [])))
+message_of (Query id channel) = Some (ToOne id (for_query channel))
+-- "D2-01", command 6
+message_of (Meter id channel quantity) = Some (ToOne id (for_switch (0x06 ∷ metered channel quantity ∷ [])))
+-- "D2-05-00", command 1: the position in percent, the angle, where 127 leaves it as it is, REPO and LOCK, which are 0,
+-- and the channel 0
+message_of (Blind id value) = Some (ToOne id (for_blind (value ∷ 0x7F ∷ 0x00 ∷ 0x01 ∷ [])))
+-- "D2-05-00", command 2
+message_of (Stop id) = Some (ToOne id (for_blind (0x02 ∷ [])))
+-- "A5-38-08", command 1, without a time: bit 3 of DB0 says that it is no teach-in, and bit 0 is on
+message_of (Central offset on) = Some (ToAll offset (0x01 ∷ 0x00 ∷ 0x00 ∷ (if on then 0x09 else 0x08) ∷ []))
+-- "A5-38-08", command 2: the value and the ramp; bit 2 of DB0 says that the value is in percent, and bit 0 is on. Own
+-- choice: it is off at the value 0
+message_of (Level offset value ramp) =
+    Some (ToAll offset (0x02 ∷ value ∷ ramp ∷ (if value == 0 then 0x0C else 0x0D) ∷ []))
+-- "4BS Telegram", variation 2: teach-in of the profile A5-38-08, of the maker 7FF, which is any
+message_of (Teach offset) = Some (ToAll offset (0xE0 ∷ 0x47 ∷ 0xFF ∷ 0x80 ∷ []))
+message_of order = None
+
+-- the device that a message goes to, if it goes to one
+abbrev pub recipient_of : Option Message → Option ℕ
+recipient_of (Some (ToOne id payload_of)) = Some id
+recipient_of message = None
+
+-- the device that an order goes to, if it goes to one
+abbrev pub recipient : Order → Option ℕ
+recipient order = recipient_of (message_of order)
+
+-- whether the order goes to devices
+abbrev pub sends : Order → Bool
+sends order = is_some (message_of order)
+
+-- A message to one is a VLD telegram from the base ID, and one to all a 4BS telegram from the base ID and its offset.
+-- No sender has the broadcast ID (EnOcean Serial Protocol 3, "Packet type 1: RADIO_ERP1").
+abbrev pub telegram_to_one : ℕ → ℕ → Option (List ℕ) → Result Telegram OrderFault
+telegram_to_one base id (Some payload) =
+    Ok (record { rorg = 0xD2; payload = payload; sender = base; status = 0; dest = id; dbm = None })
+telegram_to_one base id None = Err WrongProfile
+
+abbrev pub telegram_to_all : ℕ → ℕ → List ℕ → Result Telegram OrderFault
+telegram_to_all base offset payload =
+    if base + offset == 0xFFFF_FFFF then Err Range
+    else Ok (record {
+      rorg = 0xA5;
+      payload = payload;
+      sender = base + offset;
+      status = 0;
+      dest = 0xFFFF_FFFF;
+      dbm = None;
+    })
+
+abbrev pub telegram_of : Message → Option Device → ℕ → Result Telegram OrderFault
+telegram_of (ToOne id payload_of) None base = Err UnknownDevice
+telegram_of (ToOne id payload_of) (Some device) base = telegram_to_one base id (payload_of device.eep)
+telegram_of (ToAll offset payload) device base = telegram_to_all base offset payload
+
+-- the telegram of an order that goes to devices, or why there is none, with what is known of its device, from this
+-- base ID
+abbrev pub packet_for : Order → Option Device → ℕ → Option (Result Telegram OrderFault)
+packet_for order device base = option_map (λ message. telegram_of message device base) (message_of order)

@@ -1,0 +1,160 @@
+//! The telegrams of the orders that go to devices.
+ghost use Rattle.std.specs.Prelude.{◌≡◌, ◌+◌, ◌^◌, ◌<◌, ◌≤◌, IsTrue, Ok, Some, length, true};
+ghost use Rattle.std.specs.Option.{option_copied};
+ghost use Rattle.erp1_telegrams.specs.Address.{is_base};
+ghost use Rattle.erp1_telegrams.specs.Telegram.{fits};
+ghost use Rattle.actuator_commands.specs.Orders.{IsInRange};
+ghost use Rattle.actuator_commands.specs.Packets.{ToOne, for_blind, for_query, for_switch, is_blind, is_switch};
+ghost use Rattle.actuator_commands.specs.Packets.{metered, packet_for, sends, telegram_of, telegram_to_all};
+ghost use Rattle.actuator_commands.specs.Packets.{telegram_to_one};
+
+use crate::orders::{Order, OrderFault, Quantity};
+use device_registry::Device;
+use erp1_telegrams::{BROADCAST, Eep, Telegram};
+
+fn is_switch(eep: Eep) -> bool
+    ensures { result ≡ is_switch eep }
+{
+    eep.rorg == 0xD2 && eep.func == 0x01
+}
+
+fn is_blind(eep: Eep) -> bool
+    ensures { result ≡ is_blind eep }
+{
+    eep.rorg == 0xD2 && eep.func == 0x05 && eep.typ == 0x00
+}
+
+// A VLD telegram from the base ID to a device.
+fn to_one(id: u32, payload: &[u8], base: u32) -> Telegram
+    requires { IsTrue (fits 0xD2 (length payload.now)) }
+    ensures { Ok result ≡ telegram_to_one base id (Some payload.now) }
+{
+    match Telegram::new(0xD2, payload, base, 0, id, None) {
+        Ok(telegram) => telegram,
+        Err(_) => unreachable!(),
+    }
+}
+
+// A telegram to a switch or a dimmer.
+fn to_switch(
+    id: u32,
+    payload: &[u8],
+    device: Option<&Device>,
+    base: u32,
+) -> Result<Telegram, OrderFault>
+    requires { IsTrue (fits 0xD2 (length payload.now)) }
+    ensures { result ≡ telegram_of (ToOne id (for_switch payload.now)) (option_copied device.entry) base }
+{
+    let device = device.ok_or(OrderFault::UnknownDevice)?;
+    if !is_switch(device.eep) {
+        return Err(OrderFault::WrongProfile);
+    }
+    Ok(to_one(id, payload, base))
+}
+
+// A telegram to a blind.
+fn to_blind(
+    id: u32,
+    payload: &[u8],
+    device: Option<&Device>,
+    base: u32,
+) -> Result<Telegram, OrderFault>
+    requires { IsTrue (fits 0xD2 (length payload.now)) }
+    ensures { result ≡ telegram_of (ToOne id (for_blind payload.now)) (option_copied device.entry) base }
+{
+    let device = device.ok_or(OrderFault::UnknownDevice)?;
+    if !is_blind(device.eep) {
+        return Err(OrderFault::WrongProfile);
+    }
+    Ok(to_one(id, payload, base))
+}
+
+// A query of a channel, of a switch or of a blind.
+fn query(id: u32, channel: u32, device: Option<&Device>, base: u32) -> Result<Telegram, OrderFault>
+    requires { channel ≤ 30 }
+    ensures { result ≡ telegram_of (ToOne id (for_query channel)) (option_copied device.entry) base }
+{
+    let device = device.ok_or(OrderFault::UnknownDevice)?;
+    if is_switch(device.eep) {
+        Ok(to_one(id, &[0x03, channel as u8], base))
+    } else if is_blind(device.eep) && channel == 0 {
+        Ok(to_one(id, &[0x03], base))
+    } else {
+        Err(OrderFault::WrongProfile)
+    }
+}
+
+// The byte that asks for what a channel measures.
+fn metered(channel: u32, quantity: Quantity) -> u8
+    requires { channel ≤ 30 }
+    ensures { result ≡ metered channel quantity }
+{
+    match quantity {
+        Quantity::Energy => channel as u8,
+        Quantity::Power => channel as u8 + 0x80,
+    }
+}
+
+// A 4BS telegram to all.
+fn to_all(offset: u32, payload: [u8; 4], base: u32) -> Result<Telegram, OrderFault>
+    requires { base + offset < 2 ^ 32 }
+    ensures { result ≡ telegram_to_all base offset payload }
+{
+    let sender = base + offset;
+    if sender == BROADCAST {
+        return Err(OrderFault::Range);
+    }
+    match Telegram::new(0xA5, &payload, sender, 0, BROADCAST, None) {
+        Ok(telegram) => Ok(telegram),
+        Err(_) => unreachable!(),
+    }
+}
+
+/// The telegram that an order goes to devices in, for the orders that `Order::sends` tells of. `device` is what is
+/// known of the order's device, and `base` is a base ID. The order's numbers are in range, as `parse` gives them.
+///
+/// An order that names a device is a VLD telegram to it, from the base ID: of "D2-01" to its profiles, of "D2-05-00" to
+/// blinds. An order with an offset is a 4BS telegram of "A5-38-08" to all, from the base ID and the offset (EnOcean
+/// Equipment Profiles 2.6).
+///
+/// `UnknownDevice` where the order names a device and there is none, else `WrongProfile` where the device's profile has
+/// no such order: a query of a blind is of channel 0. `Range` where the base ID and the offset are `FFFFFFFF`, the ID
+/// that no sender has.
+pub fn packet_of(order: &Order, device: Option<&Device>, base: u32) -> Result<Telegram, OrderFault>
+    requires sends { sends order.now ≡ true }
+    requires in_range { IsInRange order.now }
+    requires base { is_base base ≡ true }
+    ensures { Some result ≡ packet_for order.now (option_copied device.entry) base }
+{
+    match *order {
+        Order::Switch { id, channel, on } => {
+            let value = if on { 0x64 } else { 0x00 };
+            to_switch(id, &[0x01, channel as u8, value], device, base)
+        }
+        Order::Dim { id, channel, value } => {
+            to_switch(id, &[0x01, channel as u8, value as u8], device, base)
+        }
+        Order::Query { id, channel } => query(id, channel, device, base),
+        Order::Meter {
+            id,
+            channel,
+            quantity,
+        } => to_switch(id, &[0x06, metered(channel, quantity)], device, base),
+        Order::Blind { id, value } => to_blind(id, &[value as u8, 0x7F, 0x00, 0x01], device, base),
+        Order::Stop { id } => to_blind(id, &[0x02], device, base),
+        Order::Central { offset, on } => {
+            let switch = if on { 0x09 } else { 0x08 };
+            to_all(offset, [0x01, 0x00, 0x00, switch], base)
+        }
+        Order::Level {
+            offset,
+            value,
+            ramp,
+        } => {
+            let switch = if value == 0 { 0x0C } else { 0x0D };
+            to_all(offset, [0x02, value as u8, ramp as u8, switch], base)
+        }
+        Order::Teach { offset } => to_all(offset, [0xE0, 0x47, 0xFF, 0x80], base),
+        _ => unreachable!(),
+    }
+}

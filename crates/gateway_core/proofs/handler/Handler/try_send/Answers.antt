@@ -1,0 +1,68 @@
+use Rattle.std.proofs.Common.{◌≡◌, true, false, IsTrue, Some, None, Ok, sym, ap, subst, ◌∙◌}
+use Rattle.std.specs.Prelude.{is_some}
+use Rattle.std.proofs.lemmas.Result.{err_from_is_err_and}
+use Rattle.actuator_commands.specs.Packets.{packet_for, recipient}
+use Rattle.std.specs.Option.{option_copied}
+use Rattle.device_registry.specs.Devices.{device_of}
+use Rattle.gateway_core.specs.Step.{State, Effect, known_of, telegram_sent}
+use Rattle.gateway_core.specs.Tries.{Comes, Gives, state_of}
+use Rattle.gateway_core.proofs.EffectLemmas.{sends-effect}
+use Rattle.gateway_core.proofs.TryLemmas.{telegram-comes, telegram-need, tries-alone, tries}
+use Rattle.gateway_core.proofs.handler.Handler.try_send.Goals as goal
+
+pub returns-in_default : goal.returns-in_default
+returns-in_default g c =
+    let none : recipient c.args.order.now ≡ None = sym c.recipient.ensures ∙ c.in_default.is in
+    let gives : Gives c.send.result (telegram_sent false (packet_for c.args.order.now None c.args.self.now.base)) =
+    rw (← c.self.view_is) (c.send.ensures false) in
+    tries-alone g.S.Store _ _ _
+    (λ devices keeps.
+    let now = state_of c.args.self.now devices in
+    let effect = sends-effect now c.args.order.now c.requires.sends
+    ∙ ap (λ id. telegram_sent (is_some id) (packet_for c.args.order.now (known_of devices id) now.base)) none in
+    subst (λ e. Comes g.S.Store c.args.self.now.registry c.args.self.now.registry devices e (Ok c.send.result))
+    (sym effect)
+    (telegram-comes g.S.Store c.args.self.now.registry c.args.self.now.registry devices false
+    (packet_for c.args.order.now None now.base) c.send.result gives keeps))
+
+pub returns-in_err-device : goal.returns-in_err-device
+returns-in_err-device g c =
+    let error = err_from_is_err_and c.from_residual.result c.from_residual.ensures.1 in
+    let some : recipient c.args.order.now ≡ Some c.in-Some.id = sym c.recipient.ensures ∙ c.in-Some.is in
+    rw (← c.self.view_is, error.1, error.2)
+    (tries g.S.Store _ _ _ _ _ _ _ c.find.ensures.clean c.find.ensures.registries
+    (λ honest devices has.
+    let now : State = record {
+      base = c.self.inside.base;
+      mode = c.self.inside.mode;
+      counts = c.self.inside.counts;
+      devices = devices;
+    } in
+    let effect = sends-effect now c.args.order.now c.requires.sends
+    ∙ ap (λ id. telegram_sent (is_some id) (packet_for c.args.order.now (known_of devices id) now.base)) some in (
+      subst (λ (e : Effect). IsTrue e.need) (sym effect)
+      (telegram-need (packet_for c.args.order.now (device_of devices c.in-Some.id) now.base)),
+      c.in_err-device.ensures.devices honest devices has,
+    )))
+
+pub returns : goal.returns
+returns g c =
+    let some : recipient c.args.order.now ≡ Some c.in-Some.id = sym c.recipient.ensures ∙ c.in-Some.is in
+    rw (← c.self.view_is)
+    (tries g.S.Store _ _ _ _ _ _ _ c.find.ensures.clean c.find.ensures.registries
+    (λ honest devices has.
+    let found = c.in_ok-device.ensures.devices honest devices has in
+    let now : State = record {
+      base = c.self.inside.base;
+      mode = c.self.inside.mode;
+      counts = c.self.inside.counts;
+      devices = devices;
+    } in
+    let effect = sends-effect now c.args.order.now c.requires.sends
+    ∙ ap (λ id. telegram_sent (is_some id) (packet_for c.args.order.now (known_of devices id) now.base)) some
+    ∙ ap (λ known. telegram_sent true (packet_for c.args.order.now known now.base))
+    (sym (c.as_ref.ensures.value ∙ found.0)) in
+    subst (λ e. Comes g.S.Store c.self.inside.registry c.find.new.self devices e (Ok c.send-2.result)) (sym effect)
+    (telegram-comes g.S.Store c.self.inside.registry c.find.new.self devices true
+    (packet_for c.args.order.now (option_copied c.as_ref.result) now.base) c.send-2.result (c.send-2.ensures true)
+    found.1)))

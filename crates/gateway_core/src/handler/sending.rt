@@ -1,0 +1,90 @@
+//! How packets are sent: the telegrams of orders that go to devices, and the question for the base ID.
+ghost use Rattle.std.specs.Prelude.{◌≡◌, Bool, Ok, true};
+ghost use Rattle.std.specs.Option.{option_copied};
+ghost use Rattle.esp3_frames.specs.Packet.{spelling};
+ghost use Rattle.erp1_telegrams.specs.Address.{is_base};
+ghost use Rattle.erp1_telegrams.specs.Telegram.{sent};
+ghost use Rattle.actuator_commands.specs.Orders.{IsInRange};
+ghost use Rattle.actuator_commands.specs.Packets.{packet_for, sends};
+ghost use Rattle.gateway_core.specs.Step;
+ghost use Rattle.gateway_core.specs.Step.{order_effect, telegram_sent};
+ghost use Rattle.gateway_core.specs.Tries.{Gives, Tries};
+
+use crate::handler::Handler;
+use crate::handler::done::{Done, denied, sent};
+use crate::refusal::Refusal;
+use actuator_commands::{Order, OrderFault, packet_of};
+use arrayvec::ArrayVec;
+use device_registry::Device;
+use erp1_telegrams::{Telegram, write};
+use esp3_frames::write_packet;
+use json_lines::ErrorName;
+use sqlite::Alter;
+
+/// The packet type COMMON_COMMAND (EnOcean Serial Protocol 3, "Packet types").
+const COMMON_COMMAND: u8 = 5;
+
+/// The command CO_RD_IDBASE (EnOcean Serial Protocol 3, "CO_RD_IDBASE").
+const READ_BASE_ID: u8 = 8;
+
+// The packet that a telegram is sent in. It has room for each telegram.
+pub(crate) fn packet_with(telegram: &Telegram) -> ArrayVec<u8, 64>
+    ensures { result.items ≡ spelling (sent telegram.now) }
+{
+    let mut packet = ArrayVec::new();
+    match write(telegram, &mut packet) {
+        Ok(()) => packet,
+        Err(_) => unreachable!(),
+    }
+}
+
+pub(crate) fn error_of(fault: OrderFault) -> ErrorName
+    ensures { result ≡ Step.error_of fault }
+{
+    match fault {
+        OrderFault::Syntax => ErrorName::Syntax,
+        OrderFault::Range => ErrorName::Range,
+        OrderFault::UnknownDevice => ErrorName::UnknownDevice,
+        OrderFault::WrongProfile => ErrorName::WrongProfile,
+    }
+}
+
+// Asks the radio module for its base ID.
+pub(crate) fn ask_base() -> Done
+    ensures { (asked : Bool) → Gives result (Step.sends_packet asked (spelling Step.base_query)) }
+{
+    let mut packet = ArrayVec::new();
+    match write_packet(COMMON_COMMAND, &[READ_BASE_ID], &[], &mut packet) {
+        Ok(()) => sent(packet),
+        Err(_) => unreachable!(),
+    }
+}
+
+// Sends the telegram of an order, by what is known of its device, or tells why there is none.
+fn send(order: &Order, device: Option<&Device>, base: u32) -> Done
+    requires sends { sends order.now ≡ true }
+    requires in_range { IsInRange order.now }
+    requires base { is_base base ≡ true }
+    ensures { (asked : Bool)
+        → Gives result (telegram_sent asked (packet_for order.now (option_copied device.entry) base)) }
+{
+    match packet_of(order, device, base) {
+        Ok(telegram) => sent(packet_with(&telegram)),
+        Err(fault) => denied(error_of(fault)),
+    }
+}
+
+impl<S: Alter> Handler<S> {
+    // Does an order that goes to devices.
+    pub(crate) fn try_send(&mut self, order: &Order) -> Result<Done, Refusal>
+        requires sends { sends order.now ≡ true }
+        requires in_range { IsInRange order.now }
+        ensures { Tries S.Store self.old (λ state. order_effect state (Ok order.now)) result self.new }
+    {
+        let Some(id) = order.recipient() else {
+            return Ok(send(order, None, self.base));
+        };
+        let device = self.registry.find(id)?;
+        Ok(send(order, device.as_ref(), self.base))
+    }
+}
