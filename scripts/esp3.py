@@ -32,6 +32,11 @@ def telegram(rorg, payload, sender, status=0, optional=radio()):
     return packet(1, data, optional)
 
 
+def sent(rorg, payload, sender, destination=ALL):
+    """The packet of a telegram that the gateway sends: three subtelegrams, no strength of a signal, status 0."""
+    return telegram(rorg, payload, sender, 0, radio(3, destination, 255))
+
+
 def pieces(stream, size=99):
     """The lines `S ` of a script that bring these bytes, so many at a time. A line takes 99 bytes at most."""
     return "".join(f"S {stream[k : k + size].hex().upper()}\n" for k in range(0, len(stream), size))
