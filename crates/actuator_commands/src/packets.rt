@@ -45,8 +45,8 @@ fn to_switch(
     requires { IsTrue (fits 0xD2 (length payload.now)) }
     ensures { result ≡ telegram_of (ToOne id (for_switch payload.now)) (option_copied device.entry) base }
 {
-    let device = device.ok_or(OrderFault::UnknownDevice)?;
-    if !is_switch(device.eep) {
+    let switch = device.ok_or(OrderFault::UnknownDevice)?;
+    if !is_switch(switch.eep) {
         return Err(OrderFault::WrongProfile);
     }
     Ok(to_one(id, payload, base))
@@ -62,8 +62,8 @@ fn to_blind(
     requires { IsTrue (fits 0xD2 (length payload.now)) }
     ensures { result ≡ telegram_of (ToOne id (for_blind payload.now)) (option_copied device.entry) base }
 {
-    let device = device.ok_or(OrderFault::UnknownDevice)?;
-    if !is_blind(device.eep) {
+    let blind = device.ok_or(OrderFault::UnknownDevice)?;
+    if !is_blind(blind.eep) {
         return Err(OrderFault::WrongProfile);
     }
     Ok(to_one(id, payload, base))
@@ -143,16 +143,16 @@ pub fn packet_of(order: &Order, device: Option<&Device>, base: u32) -> Result<Te
         Order::Blind { id, value } => to_blind(id, &[value as u8, 0x7F, 0x00, 0x01], device, base),
         Order::Stop { id } => to_blind(id, &[0x02], device, base),
         Order::Central { offset, on } => {
-            let switch = if on { 0x09 } else { 0x08 };
-            to_all(offset, [0x01, 0x00, 0x00, switch], base)
+            let bits = if on { 0x09 } else { 0x08 };
+            to_all(offset, [0x01, 0x00, 0x00, bits], base)
         }
         Order::Level {
             offset,
             value,
             ramp,
         } => {
-            let switch = if value == 0 { 0x0C } else { 0x0D };
-            to_all(offset, [0x02, value as u8, ramp as u8, switch], base)
+            let bits = if value == 0 { 0x0C } else { 0x0D };
+            to_all(offset, [0x02, value as u8, ramp as u8, bits], base)
         }
         Order::Teach { offset } => to_all(offset, [0xE0, 0x47, 0xFF, 0x80], base),
         _ => unreachable!(),
