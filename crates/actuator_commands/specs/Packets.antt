@@ -32,8 +32,8 @@ for_switch payload eep = if is_switch eep then Some payload else None
 abbrev pub for_blind : List ℕ → Eep → Option (List ℕ)
 for_blind payload eep = if is_blind eep then Some payload else None
 
--- "D2-01", command 3, asks for the channel's state; "D2-05-00", command 3, for that of its channel 0, which is no byte
--- of it
+-- "D2-01", command 3, is followed by the channel; in "D2-05-00", command 3, the high bits of the command's own byte are
+-- the channel, which is 0
 abbrev pub for_query : ℕ → Eep → Option (List ℕ)
 for_query channel eep =
     if is_switch eep then Some (0x03 ∷ channel ∷ [])
@@ -54,8 +54,8 @@ message_of (Dim id channel value) = Some (ToOne id (for_switch (0x01 ∷ channel
 message_of (Query id channel) = Some (ToOne id (for_query channel))
 -- "D2-01", command 6
 message_of (Meter id channel quantity) = Some (ToOne id (for_switch (0x06 ∷ metered channel quantity ∷ [])))
--- "D2-05-00", command 1: the position in percent, the angle, where 127 leaves it as it is, REPO and LOCK, which are 0,
--- and the channel 0
+-- "D2-05-00", command 1: the position in percent; the angle, which 127 leaves as it is; REPO and LOCK, which are 0; and
+-- the channel 0 with the command
 message_of (Blind id value) = Some (ToOne id (for_blind (value ∷ 0x7F ∷ 0x00 ∷ 0x01 ∷ [])))
 -- "D2-05-00", command 2
 message_of (Stop id) = Some (ToOne id (for_blind (0x02 ∷ [])))
@@ -101,12 +101,12 @@ telegram_to_all base offset payload =
       dbm = None;
     })
 
-abbrev pub telegram_of : Message → Option Device → ℕ → Result Telegram OrderFault
-telegram_of (ToOne id payload_of) None base = Err UnknownDevice
-telegram_of (ToOne id payload_of) (Some device) base = telegram_to_one base id (payload_of device.eep)
-telegram_of (ToAll offset payload) device base = telegram_to_all base offset payload
+abbrev pub telegram_for : Message → Option Device → ℕ → Result Telegram OrderFault
+telegram_for (ToOne id payload_of) None base = Err UnknownDevice
+telegram_for (ToOne id payload_of) (Some device) base = telegram_to_one base id (payload_of device.eep)
+telegram_for (ToAll offset payload) device base = telegram_to_all base offset payload
 
 -- the telegram of an order that goes to devices, or why there is none, with what is known of its device, from this
 -- base ID
 abbrev pub packet_for : Order → Option Device → ℕ → Option (Result Telegram OrderFault)
-packet_for order device base = option_map (λ message. telegram_of message device base) (message_of order)
+packet_for order device base = option_map (λ message. telegram_for message device base) (message_of order)

@@ -18,8 +18,9 @@ const MOST_VALUE: u32 = 100;
 /// The longest time of a ramp, in seconds (EnOcean Equipment Profiles 2.6, "A5-38-08", command 2).
 const MOST_RAMP: u32 = 255;
 
-/// An order of the desk. An ID is that of a device, 0 to FFFFFFFE. An offset, 0 to 127, is added to the base ID, for
-/// the sender that devices know. A channel is 0 to 30, and a value 0 to 100 percent.
+/// An order of the desk. An ID is that of a device, 0 to FFFFFFFE. A channel is 0 to 29, or 30 for all channels of the
+/// device. A value is 0 to 100 percent, and a ramp 0 to 255 seconds. An offset is 0 to 127: the order goes out from the
+/// base ID and the offset, which is the sender that devices were taught.
 #[derive(Clone, Copy, Debug, PartialEq, Eq)]
 pub enum Order {
     /// `learn on`: learn by telegrams of teach-in.
@@ -40,50 +41,53 @@ pub enum Order {
     Status,
     /// `base`: ask the radio module for its base ID.
     Base,
-    /// `switch ID CHANNEL on` or `off`: switch a channel of a device.
+    /// `switch ID CHANNEL on` or `off`: switch a channel of a device (EnOcean Equipment Profiles 2.6, "D2-01", command
+    /// 1).
     Switch {
         id: u32,
         channel: u32,
         on: bool,
     },
-    /// `dim ID CHANNEL VALUE`: dim a channel of a device.
+    /// `dim ID CHANNEL VALUE`: dim a channel of a device to this value ("D2-01", command 1).
     Dim {
         id: u32,
         channel: u32,
         value: u32,
     },
-    /// `query ID CHANNEL`: ask a device for the state of a channel.
+    /// `query ID CHANNEL`: ask a device for the state of a channel ("D2-01", command 3), or a blind, whose channel is
+    /// 0, for its position ("D2-05-00", command 3).
     Query {
         id: u32,
         channel: u32,
     },
-    /// `meter ID CHANNEL energy` or `power`: ask a device what it measures at a channel.
+    /// `meter ID CHANNEL energy` or `power`: ask a device what it measures at a channel ("D2-01", command 6).
     Meter {
         id: u32,
         channel: u32,
         quantity: Quantity,
     },
-    /// `blind ID VALUE`: move a blind to this position.
+    /// `blind ID VALUE`: move a blind to this position ("D2-05-00", command 1).
     Blind {
         id: u32,
         value: u32,
     },
-    /// `stop ID`: stop a blind.
+    /// `stop ID`: stop a blind ("D2-05-00", command 2).
     Stop {
         id: u32,
     },
-    /// `central OFFSET on` or `off`: switch all that was taught this sender.
+    /// `central OFFSET on` or `off`: switch all devices that were taught this sender ("A5-38-08", command 1).
     Central {
         offset: u32,
         on: bool,
     },
-    /// `level OFFSET VALUE RAMP`: dim all that was taught this sender, in 0 to 255 seconds.
+    /// `level OFFSET VALUE RAMP`: dim all devices that were taught this sender to this value, in the time of the ramp
+    /// ("A5-38-08", command 2).
     Level {
         offset: u32,
         value: u32,
         ramp: u32,
     },
-    /// `teach OFFSET`: teach devices this sender.
+    /// `teach OFFSET`: teach this sender to devices that are ready to learn ("A5-38-08", by a 4BS teach-in).
     Teach {
         offset: u32,
     },

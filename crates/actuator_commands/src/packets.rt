@@ -5,7 +5,7 @@ ghost use Rattle.erp1_telegrams.specs.Address.{is_base};
 ghost use Rattle.erp1_telegrams.specs.Telegram.{fits};
 ghost use Rattle.actuator_commands.specs.Orders.{IsInRange};
 ghost use Rattle.actuator_commands.specs.Packets.{ToOne, for_blind, for_query, for_switch, is_blind, is_switch};
-ghost use Rattle.actuator_commands.specs.Packets.{metered, packet_for, sends, telegram_of, telegram_to_all};
+ghost use Rattle.actuator_commands.specs.Packets.{metered, packet_for, sends, telegram_for, telegram_to_all};
 ghost use Rattle.actuator_commands.specs.Packets.{telegram_to_one};
 
 use crate::orders::{Order, OrderFault, Quantity};
@@ -43,7 +43,7 @@ fn to_switch(
     base: u32,
 ) -> Result<Telegram, OrderFault>
     requires { IsTrue (fits 0xD2 (length payload.now)) }
-    ensures { result ≡ telegram_of (ToOne id (for_switch payload.now)) (option_copied device.entry) base }
+    ensures { result ≡ telegram_for (ToOne id (for_switch payload.now)) (option_copied device.entry) base }
 {
     let switch = device.ok_or(OrderFault::UnknownDevice)?;
     if !is_switch(switch.eep) {
@@ -60,7 +60,7 @@ fn to_blind(
     base: u32,
 ) -> Result<Telegram, OrderFault>
     requires { IsTrue (fits 0xD2 (length payload.now)) }
-    ensures { result ≡ telegram_of (ToOne id (for_blind payload.now)) (option_copied device.entry) base }
+    ensures { result ≡ telegram_for (ToOne id (for_blind payload.now)) (option_copied device.entry) base }
 {
     let blind = device.ok_or(OrderFault::UnknownDevice)?;
     if !is_blind(blind.eep) {
@@ -72,7 +72,7 @@ fn to_blind(
 // A query of a channel, of a switch or of a blind.
 fn query(id: u32, channel: u32, device: Option<&Device>, base: u32) -> Result<Telegram, OrderFault>
     requires { channel ≤ 30 }
-    ensures { result ≡ telegram_of (ToOne id (for_query channel)) (option_copied device.entry) base }
+    ensures { result ≡ telegram_for (ToOne id (for_query channel)) (option_copied device.entry) base }
 {
     let device = device.ok_or(OrderFault::UnknownDevice)?;
     if is_switch(device.eep) {
