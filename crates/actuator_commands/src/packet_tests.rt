@@ -5,7 +5,8 @@ ghost use Rattle.erp1_telegrams.specs.Address.{is_base};
 use crate::{Order, OrderFault, Quantity, packet_of, parse};
 use arrayvec::ArrayVec;
 use device_registry::Device;
-use erp1_telegrams::{BROADCAST, Eep, Telegram, write};
+use erp1_telegrams::{BROADCAST, Eep, Telegram, read, write};
+use esp3_frames::read_packet;
 use std::test::Fail;
 
 const DEVICE: u32 = 0x0180_0ABC;
@@ -38,13 +39,39 @@ fn telegram(
     Ok(packet_of(&order, device.as_ref(), base))
 }
 
+// Each packet is the one that was made by hand, and is read back as the telegram that was sent.
 #[test]
 fn packets(rt: HostRuntime) -> Result<(), Fail> {
-    let cases: [(&[u8], Option<(u8, u8, u8)>, &str); 4] = [
+    let cases: [(&[u8], Option<(u8, u8, u8)>, &str); 11] = [
         (
             b"switch 01800ABC 0 on",
             Some(SWITCH),
             "550009070156d2010064ff800000000301800abcff0024",
+        ),
+        (
+            b"dim 01800ABC 1 40",
+            Some(SWITCH),
+            "550009070156d2010128ff800000000301800abcff00d8",
+        ),
+        (
+            b"query 01800ABC 30",
+            Some(SWITCH),
+            "55000807013dd2031eff800000000301800abcff007d",
+        ),
+        (
+            b"query 01800ABC 0",
+            Some(BLIND),
+            "55000707017ad203ff800000000301800abcff0053",
+        ),
+        (
+            b"meter 01800ABC 0 energy",
+            Some(SWITCH),
+            "55000807013dd20600ff800000000301800abcff00b7",
+        ),
+        (
+            b"meter 01800ABC 2 power",
+            Some(SWITCH),
+            "55000807013dd20682ff800000000301800abcff0069",
         ),
         (
             b"blind 01800ABC 50",
@@ -52,21 +79,41 @@ fn packets(rt: HostRuntime) -> Result<(), Fail> {
             "55000a0701ebd2327f0001ff800000000301800abcff0068",
         ),
         (
-            b"teach 5",
-            None,
-            "55000a0701eba5e047ff80ff8000050003ffffffffff00ce",
+            b"stop 01800ABC",
+            Some(BLIND),
+            "55000707017ad202ff800000000301800abcff00c7",
         ),
         (
             b"central 5 on",
             None,
             "55000a0701eba501000009ff8000050003ffffffffff0063",
         ),
+        (
+            b"level 5 40 2",
+            None,
+            "55000a0701eba50228020dff8000050003ffffffffff0087",
+        ),
+        (
+            b"teach 5",
+            None,
+            "55000a0701eba5e047ff80ff8000050003ffffffffff00ce",
+        ),
     ];
     for (line, profile, packet) in cases {
         let mut out = ArrayVec::<u8, 64>::new();
-        write(&telegram(line, profile, BASE)??, &mut out)?;
+        let sent = telegram(line, profile, BASE)??;
+        write(&sent, &mut out)?;
         let digits = hex::encode(rt.alloc(), out.as_slice())?;
         assert_eq!(rt; digits.as_str(), packet);
+        let Some(whole) = read_packet(out.as_slice()) else {
+            return Err(Fail::from("no packet"));
+        };
+        let heard = read(&whole)?;
+        assert_eq!(rt; heard.rorg(), sent.rorg());
+        assert_eq!(rt; heard.payload(), sent.payload());
+        assert_eq!(rt; heard.sender(), sent.sender());
+        assert_eq!(rt; heard.status(), sent.status());
+        assert_eq!(rt; heard.dest(), sent.dest());
     }
     Ok(())
 }
@@ -234,5 +281,24 @@ fn orders_of_no_telegram(rt: HostRuntime) -> Result<(), Fail> {
         quantity: Quantity::Power,
     };
     assert!(rt; order.sends());
+    Ok(())
+}
+
+#[test]
+fn recipients(rt: HostRuntime) -> Result<(), Fail> {
+    let cases: [(&[u8], Option<u32>); 9] = [
+        (b"switch 01800ABC 0 on", Some(DEVICE)),
+        (b"dim 01800ABC 1 40", Some(DEVICE)),
+        (b"query 01800ABC 30", Some(DEVICE)),
+        (b"meter 01800ABC 2 power", Some(DEVICE)),
+        (b"blind FFFFFFFE 50", Some(0xFFFF_FFFE)),
+        (b"stop 00000000", Some(0)),
+        (b"central 5 on", None),
+        (b"remove 01800ABC", None),
+        (b"base", None),
+    ];
+    for (line, recipient) in cases {
+        assert_eq!(rt; parse(line)?.recipient(), recipient);
+    }
     Ok(())
 }
