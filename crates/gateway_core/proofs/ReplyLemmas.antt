@@ -90,21 +90,23 @@ line-sends state bytes =
 pub radio_is_told : RadioIsTold
 radio_is_told state (Received packet) Taken bytes e =
     let replies = packet-replies state packet bytes (response_in packet) (telegram_of packet) refl e in
-    let (t, carried, (line, told, (query, asked, answering, reply, says, sent_as))) = replies in
-    (refl, inl (record {
-      packet = packet;
-      received = refl;
-      telegram = t;
-      carried = carried;
-      query = query;
-      asked = asked;
-      answering = answering;
-      line = line;
-      told = told;
-      reply = reply;
-      says = says;
-      sent_as = sent_as;
-    }))
+    let (t, carried, (line, told, (query, asked, answering, reply, says, sent_as))) = replies in (
+      refl,
+      inl (record {
+        packet = packet;
+        received = refl;
+        telegram = t;
+        carried = carried;
+        query = query;
+        asked = asked;
+        answering = answering;
+        line = line;
+        told = told;
+        reply = reply;
+        says = says;
+        sent_as = sent_as;
+      }),
+    )
 radio_is_told state (Ordered line) Taken bytes e =
     (refl, inr (record { line = line; ordered = refl; told = line-sends state bytes line e }))
 radio_is_told state item (Refused cause) bytes e = absurd cc

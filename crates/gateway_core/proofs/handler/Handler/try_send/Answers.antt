@@ -41,7 +41,7 @@ returns-in_err-device g c =
     let effect = sends-effect now c.args.order.now c.requires.sends
     ∙ ap (λ id. telegram_sent (is_some id) (packet_for c.args.order.now (known_of devices id) now.base)) some in (
       subst (λ (e : Effect). IsTrue e.need) (sym effect)
-      (telegram-need (packet_for c.args.order.now (device_of devices c.in-Some.id) now.base)),
+          (telegram-need (packet_for c.args.order.now (device_of devices c.in-Some.id) now.base)),
       c.in_err-device.ensures.devices honest devices has,
     )))
 

@@ -1,4 +1,4 @@
-use Rattle.std.proofs.Common.{◌≡◌, Some, Ok, sym, ap, subst, ◌∙◌}
+use Rattle.std.proofs.Common.{Some, sym, ap, subst, ◌∙◌}
 use Rattle.gateway_core.specs.Step.{sends_packet, telegram_sent}
 use Rattle.gateway_core.specs.Tries.{Gives}
 use Rattle.gateway_core.proofs.handler.sending.send.Goals as goal
