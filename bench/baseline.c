@@ -171,6 +171,13 @@ static uint32_t number(const uint8_t *bytes) {
     return (uint32_t)bytes[0] << 24 | (uint32_t)bytes[1] << 16 | (uint32_t)bytes[2] << 8 | bytes[3];
 }
 
+/* Puts the four bytes of a number, and returns the place behind them. */
+static uint8_t *put_bytes(uint8_t *to, uint32_t number) {
+    for (int shift = 24; shift >= 0; shift -= 8)
+        *to++ = (uint8_t)(number >> shift);
+    return to;
+}
+
 /* A number from 0 to `most` that stands for `low` to `high`. */
 static void scaled(const char *name, const char *unit, int value, int most, int low, int high) {
     if (value <= most)
@@ -443,10 +450,45 @@ static void write_teach(uint32_t id, uint32_t eep, int maker, const char *result
 
 static uint64_t readings, responses, taught, ignored;
 
-/* A packet of the radio module. */
+/* The packets for the radio module. */
+
+enum { RADIO = 1, RESPONSE = 2, COMMAND = 5, READ_BASE = 8 };
 
 static uint32_t base;
 static uint8_t step[256]; /* the check of one byte, see the serial line below */
+
+static uint8_t header_check(const uint8_t *header) {
+    return step[step[step[step[header[0]] ^ header[1]] ^ header[2]] ^ header[3]];
+}
+
+/* Sends a packet of so many bytes of data, and so many of optional data behind them. */
+static void send_packet(uint8_t type, const uint8_t *bytes, uint8_t size, uint8_t more) {
+    uint8_t header[] = {0, size, more, type}, check = 0;
+    TEXT("S 55");
+    for (size_t k = 0; k < sizeof header; k++)
+        put_lower_case(header[k]);
+    put_lower_case(header_check(header));
+    for (int k = 0; k < size + more; k++) {
+        put_lower_case(bytes[k]);
+        check = step[check ^ bytes[k]];
+    }
+    put_lower_case(check);
+    write_line();
+}
+
+/* Sends a telegram with a payload of at most 4 bytes: three subtelegrams, and no signal strength. */
+static void send_telegram(uint8_t rorg, const uint8_t *payload, uint8_t size, uint32_t sender, uint32_t destination) {
+    uint8_t bytes[1 + 4 + 5 + 7] = {rorg}, *to = put_bytes(bytes + 1 + size, sender);
+    memcpy(bytes + 1, payload, size);
+    *to++ = 0;
+    *to++ = 3;
+    to = put_bytes(to, destination);
+    *to++ = 0xFF;
+    *to++ = 0;
+    send_packet(RADIO, bytes, size + 6, 7);
+}
+
+/* The packets of the radio module. */
 
 /* Tells what a telegram of a learned device says, if its profile can read it. */
 static bool reading(const struct device *device, const uint8_t *data, size_t size, int dbm) {
@@ -487,24 +529,7 @@ static uint32_t wanted_eep; /* of the mode AS */
 
 /* Sends the reply to a 4BS query, which has the bytes of the query but the last one. */
 static void reply(uint32_t id, const uint8_t *query, uint8_t last) {
-    uint8_t whole[] = {
-        0x55, 0, 10, 7, 1, 0xEB,
-        FOUR_BYTE, query[0], query[1], query[2], last, 0, 0, 0, 0, 0, /* with the base ID */
-        3, 0, 0, 0, 0, 0xFF, 0,                                       /* with the ID of the sender */
-        0,                                                            /* the check */
-    };
-    uint8_t check = 0;
-    for (int k = 0; k < 4; k++) {
-        whole[11 + k] = (uint8_t)(base >> (24 - 8 * k));
-        whole[17 + k] = (uint8_t)(id >> (24 - 8 * k));
-    }
-    for (size_t k = 6; k < sizeof whole - 1; k++)
-        check = step[check ^ whole[k]];
-    whole[sizeof whole - 1] = check;
-    TEXT("S ");
-    for (size_t k = 0; k < sizeof whole; k++)
-        put_lower_case(whole[k]);
-    write_line();
+    send_telegram(FOUR_BYTE, (uint8_t[]){query[0], query[1], query[2], last}, 4, base, id);
 }
 
 /* Teaches in the sender of a telegram. */
@@ -630,7 +655,7 @@ static bool response(const uint8_t *data, size_t size) {
 }
 
 static void handle(uint8_t type, const uint8_t *data, size_t size, size_t more) {
-    if (!(type == 1 && telegram(data, size, data + size, more)) && !(type == 2 && response(data, size)))
+    if (!(type == RADIO && telegram(data, size, data + size, more)) && !(type == RESPONSE && response(data, size)))
         ignored++;
 }
 
@@ -655,10 +680,6 @@ static void make_tables(void) {
     for (int count = 1; count < PERIOD; count++)
         for (int byte = 0; byte < 256; byte++)
             powers[count][byte] = step[powers[count - 1][byte]];
-}
-
-static uint8_t header_check(const uint8_t *header) {
-    return step[step[step[step[header[0]] ^ header[1]] ^ header[2]] ^ header[3]];
 }
 
 /* The check over the bytes from `from` to `to`. */
@@ -827,31 +848,161 @@ static void status(void) {
     write_line();
 }
 
-static bool is(const char *line, size_t size, const char *order) {
-    return size == strlen(order) && memcmp(line, order, size) == 0;
+/* The orders that have a packet. */
+
+enum { CHANNEL = 30, OFFSET = 127, PERCENT = 100 }; /* the last ones */
+
+/* A payload and its size. */
+#define PAYLOAD(...) (uint8_t[]){__VA_ARGS__}, sizeof (uint8_t[]){__VA_ARGS__}
+
+static void ask_base(void) {
+    send_packet(COMMAND, PAYLOAD(READ_BASE), 0);
+    write_ok();
+}
+
+/* Sends a telegram to a learned device, if it is one whose profile is told by this function. */
+static void to_device(uint32_t id, bool in_range, void (*tell)(uint32_t, const uint8_t *, size_t, uint8_t),
+                      const uint8_t *payload, uint8_t size) {
+    const struct device *device = find(id);
+    if (id == ALL || !in_range) {
+        write_error("range");
+    } else if (device->id == ALL) {
+        write_error("unknown_device");
+    } else if (device->profile->tell != tell) {
+        write_error("wrong_profile");
+    } else {
+        send_telegram(VLD, payload, size, base, id);
+        write_ok();
+    }
+}
+
+static void dim(uint32_t id, uint32_t channel, uint32_t value) {
+    to_device(id, channel <= CHANNEL && value <= PERCENT, actuator, PAYLOAD(1, (uint8_t)channel, (uint8_t)value));
+}
+
+static void ask(uint32_t id, uint32_t channel) {
+    const struct device *device = find(id);
+    if (channel == 0 && device->id != ALL && device->profile->tell == blinds)
+        to_device(id, true, blinds, PAYLOAD(3));
+    else
+        to_device(id, channel <= CHANNEL, actuator, PAYLOAD(3, (uint8_t)channel));
+}
+
+static void measure(uint32_t id, uint32_t channel, unsigned power) {
+    to_device(id, channel <= CHANNEL, actuator, PAYLOAD(6, (uint8_t)(channel | power)));
+}
+
+/* Sends a telegram from a sender of this gateway to all. */
+static void to_all(uint32_t offset, bool in_range, const uint8_t *payload, uint8_t size) {
+    if (offset > OFFSET || base + offset == ALL || !in_range) {
+        write_error("range");
+        return;
+    }
+    send_telegram(FOUR_BYTE, payload, size, base + offset, ALL);
+    write_ok();
+}
+
+static void dim_all(uint32_t offset, uint32_t value, uint32_t ramp) {
+    to_all(offset, value <= PERCENT && ramp <= 255,
+           PAYLOAD(2, (uint8_t)value, (uint8_t)ramp, value == 0 ? 0x0C : 0x0D));
+}
+
+/* What stands in an order. */
+
+struct words {
+    uint32_t id, eep, numbers[3];
+};
+
+/* Reads a number of one to five digits, and returns the place behind it, or NULL. */
+static const char *decimal(const char *from, const char *to, uint32_t *value) {
+    const char *at = from;
+    for (*value = 0; at < to && '0' <= *at && *at <= '9'; at++) {
+        if (at - from == 5 || (at > from && *from == '0'))
+            return NULL;
+        *value = *value * 10 + (uint32_t)(*at - '0');
+    }
+    return at == from ? NULL : at;
+}
+
+/* Reads a line of this shape, in which # stands for an ID, @ for a profile and % for a number. */
+static bool has_shape(const char *line, size_t size, const char *shape, struct words *words) {
+    const char *to = line + size;
+    uint32_t *next = words->numbers;
+    for (; *shape != '\0'; shape++) {
+        switch (*shape) {
+        case '#':
+            if (to - line < 8 || !digits(line, 8, &words->id))
+                return false;
+            line += 8;
+            break;
+        case '@':
+            words->eep = 0;
+            if (to - line < 8 || !eep_digits(line, &words->eep))
+                return false;
+            line += 8;
+            break;
+        case '%':
+            line = decimal(line, to, next++);
+            if (line == NULL)
+                return false;
+            break;
+        default:
+            if (line == to || *line++ != *shape)
+                return false;
+        }
+    }
+    return line == to;
 }
 
 static void order(const char *line, size_t size) {
-    uint32_t id = 0, eep = 0;
-    if (size == 21 && memcmp(line, "add ", 4) == 0 && digits(line + 4, 8, &id) && line[12] == ' '
-        && eep_digits(line + 13, &eep))
-        add(id, eep);
-    else if (size == 15 && memcmp(line, "remove ", 7) == 0 && digits(line + 7, 8, &id))
-        remove_device(id);
-    else if (is(line, size, "learn on"))
+    struct words words = {0};
+    const uint32_t *n = words.numbers;
+#define IS(shape) has_shape(line, size, shape, &words)
+    if (IS("add # @"))
+        add(words.id, words.eep);
+    else if (IS("remove #"))
+        remove_device(words.id);
+    else if (IS("learn on"))
         set_mode(ON);
-    else if (is(line, size, "learn on answer"))
+    else if (IS("learn on answer"))
         set_mode(ANSWER);
-    else if (size == 17 && memcmp(line, "learn as ", 9) == 0 && eep_digits(line + 9, &eep))
-        learn_as(eep);
-    else if (is(line, size, "learn off"))
+    else if (IS("learn as @"))
+        learn_as(words.eep);
+    else if (IS("learn off"))
         set_mode(CLOSED);
-    else if (is(line, size, "list"))
+    else if (IS("list"))
         list();
-    else if (is(line, size, "status"))
+    else if (IS("status"))
         status();
+    else if (IS("base"))
+        ask_base();
+    else if (IS("switch # % on"))
+        dim(words.id, n[0], PERCENT);
+    else if (IS("switch # % off"))
+        dim(words.id, n[0], 0);
+    else if (IS("dim # % %"))
+        dim(words.id, n[0], n[1]);
+    else if (IS("query # %"))
+        ask(words.id, n[0]);
+    else if (IS("meter # % energy"))
+        measure(words.id, n[0], 0);
+    else if (IS("meter # % power"))
+        measure(words.id, n[0], 0x80);
+    else if (IS("blind # %"))
+        to_device(words.id, n[0] <= PERCENT, blinds, PAYLOAD((uint8_t)n[0], 0x7F, 0, 1));
+    else if (IS("stop #"))
+        to_device(words.id, true, blinds, PAYLOAD(2));
+    else if (IS("central % on"))
+        to_all(n[0], true, PAYLOAD(1, 0, 0, 9));
+    else if (IS("central % off"))
+        to_all(n[0], true, PAYLOAD(1, 0, 0, 8));
+    else if (IS("level % % %"))
+        dim_all(n[0], n[1], n[2]);
+    else if (IS("teach %"))
+        to_all(n[0], true, PAYLOAD(0xE0, 0x47, 0xFF, 0x80));
     else
         write_error("syntax");
+#undef IS
 }
 
 /* Takes the bytes of a piece behind the held ones, or tells that the line is none. */
