@@ -1,5 +1,6 @@
 -- What is counted.
-use Rattle.std.proofs.Common.{◌≡◌, IsSome, ℕ, ◌+◌, ◌^◌, ◌<◌, List, [], ◌∷◌, Some, None, refl, ap, ◌∙◌, arith}
+use Rattle.std.proofs.Common.{◌≡◌, IsSome, ℕ, ◌+◌, ◌^◌, ◌<◌, List, [], ◌∷◌, Some, None, refl, ap}
+use Rattle.std.proofs.Common.{◌∙◌, arith}
 use Rattle.std.proofs.Common.{append-nil}
 use Rattle.esp3_frames.specs.Packet.{Packet}
 use Rattle.teach_in.specs.declared.outcome.Outcome.TheVariants.{Accepted}
