@@ -54,7 +54,7 @@ pub record RepliesTo (state : State) (item : Item) (bytes : List ℕ) : Type 0 w
   pub says : four_byte_reply query line.outcome state.base ≡ Some reply
   pub sent_as : bytes ≡ spelling (sent reply)
 
--- The bytes are the packet of an order of the desk, which is told that it is done.
+-- The desk has ordered something, and is told that it is done. Which bytes an order sends is said by its effect.
 pub record SendsAsOrdered (state : State) (item : Item) : Type 0 where
   pub line : List ℕ
   pub ordered : item ≡ Ordered line
