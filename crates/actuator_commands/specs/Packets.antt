@@ -108,5 +108,5 @@ telegram_for (ToAll offset payload) device base = telegram_to_all base offset pa
 
 -- the telegram of an order that goes to devices, or why there is none, with what is known of its device, from this
 -- base ID
-abbrev pub packet_for : Order → Option Device → ℕ → Option (Result Telegram OrderFault)
-packet_for order device base = option_map (λ message. telegram_for message device base) (message_of order)
+abbrev pub order_telegram : Order → Option Device → ℕ → Option (Result Telegram OrderFault)
+order_telegram order device base = option_map (λ message. telegram_for message device base) (message_of order)

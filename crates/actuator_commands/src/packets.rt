@@ -5,7 +5,7 @@ ghost use Rattle.erp1_telegrams.specs.Address.{is_base};
 ghost use Rattle.erp1_telegrams.specs.Telegram.{fits};
 ghost use Rattle.actuator_commands.specs.Orders.{IsInRange};
 ghost use Rattle.actuator_commands.specs.Packets.{ToOne, for_blind, for_query, for_switch, is_blind, is_switch};
-ghost use Rattle.actuator_commands.specs.Packets.{metered, packet_for, sends, telegram_for, telegram_to_all};
+ghost use Rattle.actuator_commands.specs.Packets.{metered, order_telegram, sends, telegram_for, telegram_to_all};
 ghost use Rattle.actuator_commands.specs.Packets.{telegram_to_one};
 
 use crate::orders::{Order, OrderFault, Quantity};
@@ -124,7 +124,7 @@ pub fn packet_of(order: &Order, device: Option<&Device>, base: u32) -> Result<Te
     requires sends { sends order.now ≡ true }
     requires in_range { IsInRange order.now }
     requires base { is_base base ≡ true }
-    ensures { Some result ≡ packet_for order.now (option_copied device.entry) base }
+    ensures { Some result ≡ order_telegram order.now (option_copied device.entry) base }
 {
     match *order {
         Order::Switch { id, channel, on } => {

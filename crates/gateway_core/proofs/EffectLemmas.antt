@@ -29,7 +29,7 @@ use Rattle.actuator_commands.specs.declared.orders.Order.TheVariants.{LearnAs, L
 use Rattle.actuator_commands.specs.declared.orders.Order.TheVariants.{Switch, Dim, Query, Meter, Blind, Stop}
 use Rattle.actuator_commands.specs.declared.orders.Order.TheVariants.{Central, Level, Teach as TeachAll}
 use Rattle.actuator_commands.specs.declared.orders.OrderFault.{OrderFault}
-use Rattle.actuator_commands.specs.Packets.{packet_for, recipient, sends}
+use Rattle.actuator_commands.specs.Packets.{order_telegram, recipient, sends}
 use Rattle.actuator_commands.specs.Orders.{order_of}
 use Rattle.json_lines.specs.Lines.{Reading, StatusLine, ResponseLine, Error, ReadingLine, TeachLine, Response, listing}
 use Rattle.gateway_core.specs.Profiles.{readings_of}
@@ -149,7 +149,6 @@ pub record OfLine (P : Effect → Type 0) (state : State) : Type 0 where
   pub finds : (name : ErrorName) → P (tells (Error name ∷ []))
   pub opens : (mode : Mode) → P (sets mode)
   pub sends : (asked : Bool) (bytes : List ℕ) → P (sends_packet asked bytes)
-  pub keeps : (asked : Bool) → P (record nothing { need = asked })
   pub lists : P (tells (listing (all_of state.devices)))
   pub reports : P (tells (StatusLine state.counts state.mode ∷ []))
   pub adds : (known : Device) → P (learns known)
@@ -174,12 +173,11 @@ module _ (P : Effect → Type 0) (state : State) where
   of-removal each id None is = each.finds error.UnknownDevice
   of-removal each id (Some known) is = each.drops known (device_of-known state.devices id known is)
 
-  of-sending : OfLine P state → (asked : Bool) (telegram : Option (Result Telegram OrderFault))
-      → P (telegram_sent asked telegram)
-  of-sending each asked (Some (Ok t)) = each.sends asked _
-  of-sending each true (Some (Err fault)) = each.finds (error_of fault)
-  of-sending each false (Some (Err fault)) = each.denies (error_of fault)
-  of-sending each asked None = each.keeps asked
+  of-sending : OfLine P state → (asked : Bool) (telegram : Result Telegram OrderFault)
+      → P (telegram_sent asked (Some telegram))
+  of-sending each asked (Ok t) = each.sends asked _
+  of-sending each true (Err fault) = each.finds (error_of fault)
+  of-sending each false (Err fault) = each.denies (error_of fault)
 
   of-order : OfLine P state → (order : Result Order OrderFault) → P (order_effect state order)
   of-order each (Err fault) = each.denies (error_of fault)
@@ -193,9 +191,15 @@ module _ (P : Effect → Type 0) (state : State) where
   of-order each (Ok ListAll) = each.lists
   of-order each (Ok Status) = each.reports
   of-order each (Ok Base) = each.sends false _
-  of-order each (Ok order) =
-      of-sending each (is_some (recipient order))
-      (packet_for order (known_of state.devices (recipient order)) state.base)
+  of-order each (Ok (Switch id channel on)) = of-sending each true _
+  of-order each (Ok (Dim id channel value)) = of-sending each true _
+  of-order each (Ok (Query id channel)) = of-sending each true _
+  of-order each (Ok (Meter id channel quantity)) = of-sending each true _
+  of-order each (Ok (Blind id value)) = of-sending each true _
+  of-order each (Ok (Stop id)) = of-sending each true _
+  of-order each (Ok (Central offset on)) = of-sending each false _
+  of-order each (Ok (Level offset value ramp)) = of-sending each false _
+  of-order each (Ok (TeachAll offset)) = of-sending each false _
 
   -- of every line
   pub of_line : OfLine P state → (line : List ℕ) → P (line_effect state line)

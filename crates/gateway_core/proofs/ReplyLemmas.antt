@@ -80,7 +80,6 @@ line-sends state bytes =
       finds = λ name e. absurd cc;
       opens = λ mode e. absurd cc;
       sends = λ asked sent_as e. append-nil _;
-      keeps = λ asked e. absurd cc;
       lists = λ e. absurd cc;
       reports = λ e. absurd cc;
       adds = λ known e. absurd cc;

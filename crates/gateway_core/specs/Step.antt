@@ -30,7 +30,7 @@ use Rattle.actuator_commands.specs.declared.orders.Order.TheVariants as order
 use Rattle.actuator_commands.specs.declared.orders.OrderFault.{OrderFault}
 use Rattle.actuator_commands.specs.declared.orders.OrderFault.TheVariants.{Syntax, Range, UnknownDevice, WrongProfile}
 use Rattle.actuator_commands.specs.Orders.{order_of}
-use Rattle.actuator_commands.specs.Packets.{packet_for, recipient}
+use Rattle.actuator_commands.specs.Packets.{order_telegram, recipient}
 use Rattle.json_lines.specs.declared.counts.Count.{Count}
 use Rattle.json_lines.specs.declared.counts.Count.TheVariants as count
 use Rattle.json_lines.specs.declared.counts.Counts.{Counts}
@@ -237,7 +237,8 @@ error_of Range = error.Range
 error_of UnknownDevice = error.UnknownDevice
 error_of WrongProfile = error.WrongProfile
 
--- what comes of an order that goes to devices: its telegram is sent, or it is told why there is none
+-- What comes of an order that goes to devices: its telegram is sent, or it is told why there is none. The last case is
+-- that of no order: each that comes here has a telegram or a fault.
 abbrev pub telegram_sent : Bool → Option (Result Telegram OrderFault) → Effect
 telegram_sent asked (Some (Ok t)) = sends_packet asked (spelling (sent t))
 telegram_sent asked (Some (Err fault)) = record (denied (error_of fault)) { need = asked }
@@ -251,13 +252,14 @@ known_of devices (Some id) = device_of devices id
 abbrev pub sending_effect : State → Order → Effect
 sending_effect state order =
     telegram_sent (is_some (recipient order))
-    (packet_for order (known_of state.devices (recipient order)) state.base)
+    (order_telegram order (known_of state.devices (recipient order)) state.base)
 
 -- the packet that asks the radio module for its base ID (EnOcean Serial Protocol 3, "CO_RD_IDBASE")
 abbrev pub base_query : Packet
 base_query = record { kind = 5; body = 0x08 ∷ []; opt = [] }
 
--- own choice: of several errors the first is told, and before all of them that the line is too long
+-- Own choice: of several errors the first of these is told: too long, syntax and range, which `order_of` finds, an
+-- unsupported profile, an unknown device, a wrong profile, a full registry.
 abbrev pub order_effect : State → Result Order OrderFault → Effect
 order_effect state (Err fault) = denied (error_of fault)
 order_effect state (Ok LearnOn) = sets Learn

@@ -65,7 +65,7 @@ pub(crate) fn denied(name: ErrorName) -> Done
     told(Desk::Fixed(name.line()))
 }
 
-pub(crate) fn opened(mode: Mode) -> Done
+pub(crate) fn sets(mode: Mode) -> Done
     ensures { Gives result (Step.sets mode) }
 {
     Done {
@@ -75,7 +75,7 @@ pub(crate) fn opened(mode: Mode) -> Done
     }
 }
 
-pub(crate) fn sent(packet: ArrayVec<u8, 64>) -> Done
+pub(crate) fn sends_packet(packet: ArrayVec<u8, 64>) -> Done
     ensures { (asked : Bool) → Gives result (Step.sends_packet asked packet.items) }
 {
     Done {

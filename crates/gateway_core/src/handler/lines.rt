@@ -6,7 +6,7 @@ ghost use Rattle.gateway_core.specs.Step.{if_supported, line_effect, order_effec
 ghost use Rattle.gateway_core.specs.Tries.{Gives, Tries};
 
 use crate::handler::Handler;
-use crate::handler::done::{Done, denied, opened, told};
+use crate::handler::done::{Done, denied, sets, told};
 use crate::handler::sending::{ask_base, error_of};
 use crate::refusal::Refusal;
 use crate::reply::Desk;
@@ -25,7 +25,7 @@ fn open_as(eep: Eep) -> Done
     ensures { Gives result (if_supported eep (sets (LearnAs eep))) }
 {
     if supported(eep) {
-        opened(Mode::LearnAs(eep))
+        sets(Mode::LearnAs(eep))
     } else {
         denied(ErrorName::UnsupportedProfile)
     }
@@ -79,10 +79,10 @@ impl<S: Alter> Handler<S> {
         ensures { Tries S.Store self.old (λ state. order_effect state (Ok order)) result self.new }
     {
         match order {
-            Order::LearnOn => Ok(opened(Mode::Learn)),
-            Order::LearnOnAnswer => Ok(opened(Mode::LearnAnswer)),
+            Order::LearnOn => Ok(sets(Mode::Learn)),
+            Order::LearnOnAnswer => Ok(sets(Mode::LearnAnswer)),
             Order::LearnAs(eep) => Ok(open_as(eep)),
-            Order::LearnOff => Ok(opened(Mode::Closed)),
+            Order::LearnOff => Ok(sets(Mode::Closed)),
             Order::Add(id, eep) => self.try_add(id, eep),
             Order::Remove(id) => self.try_remove(id),
             Order::List => self.try_list(),

@@ -5,13 +5,13 @@ ghost use Rattle.esp3_frames.specs.Packet.{spelling};
 ghost use Rattle.erp1_telegrams.specs.Address.{is_base};
 ghost use Rattle.erp1_telegrams.specs.Telegram.{sent};
 ghost use Rattle.actuator_commands.specs.Orders.{IsInRange};
-ghost use Rattle.actuator_commands.specs.Packets.{packet_for, sends};
+ghost use Rattle.actuator_commands.specs.Packets.{order_telegram, sends};
 ghost use Rattle.gateway_core.specs.Step;
 ghost use Rattle.gateway_core.specs.Step.{order_effect, telegram_sent};
 ghost use Rattle.gateway_core.specs.Tries.{Gives, Tries};
 
 use crate::handler::Handler;
-use crate::handler::done::{Done, denied, sent};
+use crate::handler::done::{Done, denied, sends_packet};
 use crate::refusal::Refusal;
 use actuator_commands::{Order, OrderFault, packet_of};
 use arrayvec::ArrayVec;
@@ -55,7 +55,7 @@ pub(crate) fn ask_base() -> Done
 {
     let mut packet = ArrayVec::new();
     match write_packet(COMMON_COMMAND, &[READ_BASE_ID], &[], &mut packet) {
-        Ok(()) => sent(packet),
+        Ok(()) => sends_packet(packet),
         Err(_) => unreachable!(),
     }
 }
@@ -66,10 +66,10 @@ fn send(order: &Order, device: Option<&Device>, base: u32) -> Done
     requires in_range { IsInRange order.now }
     requires base { is_base base ≡ true }
     ensures { (asked : Bool)
-        → Gives result (telegram_sent asked (packet_for order.now (option_copied device.entry) base)) }
+        → Gives result (telegram_sent asked (order_telegram order.now (option_copied device.entry) base)) }
 {
     match packet_of(order, device, base) {
-        Ok(telegram) => sent(packet_with(&telegram)),
+        Ok(telegram) => sends_packet(packet_with(&telegram)),
         Err(fault) => denied(error_of(fault)),
     }
 }

@@ -11,13 +11,13 @@ pub returns-in-LearnOn : goal.returns-in-LearnOn
 returns-in-LearnOn g c =
     tries-same g.S.Store _ _ _ (λ state. sets Learn) _
     (λ devices. ap (λ order. order_effect (state_of c.args.self.now devices) (Ok order)) c.in-LearnOn.is)
-    (tries-alone g.S.Store _ _ _ (λ devices keeps. (c.opened.ensures, keeps)))
+    (tries-alone g.S.Store _ _ _ (λ devices keeps. (c.sets.ensures, keeps)))
 
 pub returns-in-LearnOnAnswer : goal.returns-in-LearnOnAnswer
 returns-in-LearnOnAnswer g c =
     tries-same g.S.Store _ _ _ (λ state. sets LearnAnswer) _
     (λ devices. ap (λ order. order_effect (state_of c.args.self.now devices) (Ok order)) c.in-LearnOnAnswer.is)
-    (tries-alone g.S.Store _ _ _ (λ devices keeps. (c.opened-in-LearnOnAnswer.ensures, keeps)))
+    (tries-alone g.S.Store _ _ _ (λ devices keeps. (c.sets-in-LearnOnAnswer.ensures, keeps)))
 
 pub returns-in-LearnAs : goal.returns-in-LearnAs
 returns-in-LearnAs g c =
@@ -32,7 +32,7 @@ pub returns-in-LearnOff : goal.returns-in-LearnOff
 returns-in-LearnOff g c =
     tries-same g.S.Store _ _ _ (λ state. sets Closed) _
     (λ devices. ap (λ order. order_effect (state_of c.args.self.now devices) (Ok order)) c.in-LearnOff.is)
-    (tries-alone g.S.Store _ _ _ (λ devices keeps. (c.opened-in-LearnOff.ensures, keeps)))
+    (tries-alone g.S.Store _ _ _ (λ devices keeps. (c.sets-in-LearnOff.ensures, keeps)))
 
 pub returns-in-Add : goal.returns-in-Add
 returns-in-Add g c =

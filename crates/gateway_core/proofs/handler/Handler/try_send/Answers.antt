@@ -1,7 +1,7 @@
 use Rattle.std.proofs.Common.{◌≡◌, true, false, IsTrue, Some, None, Ok, sym, ap, subst, ◌∙◌}
 use Rattle.std.specs.Prelude.{is_some}
 use Rattle.std.proofs.lemmas.Result.{err_from_is_err_and}
-use Rattle.actuator_commands.specs.Packets.{packet_for, recipient}
+use Rattle.actuator_commands.specs.Packets.{order_telegram, recipient}
 use Rattle.std.specs.Option.{option_copied}
 use Rattle.device_registry.specs.Devices.{device_of}
 use Rattle.gateway_core.specs.Step.{State, Effect, known_of, telegram_sent}
@@ -13,17 +13,17 @@ use Rattle.gateway_core.proofs.handler.Handler.try_send.Goals as goal
 pub returns-in_default : goal.returns-in_default
 returns-in_default g c =
     let none : recipient c.args.order.now ≡ None = sym c.recipient.ensures ∙ c.in_default.is in
-    let gives : Gives c.send.result (telegram_sent false (packet_for c.args.order.now None c.args.self.now.base)) =
+    let gives : Gives c.send.result (telegram_sent false (order_telegram c.args.order.now None c.args.self.now.base)) =
     rw (← c.self.view_is) (c.send.ensures false) in
     tries-alone g.S.Store _ _ _
     (λ devices keeps.
     let now = state_of c.args.self.now devices in
     let effect = sends-effect now c.args.order.now c.requires.sends
-    ∙ ap (λ id. telegram_sent (is_some id) (packet_for c.args.order.now (known_of devices id) now.base)) none in
+    ∙ ap (λ id. telegram_sent (is_some id) (order_telegram c.args.order.now (known_of devices id) now.base)) none in
     subst (λ e. Comes g.S.Store c.args.self.now.registry c.args.self.now.registry devices e (Ok c.send.result))
     (sym effect)
     (telegram-comes g.S.Store c.args.self.now.registry c.args.self.now.registry devices false
-    (packet_for c.args.order.now None now.base) c.send.result gives keeps))
+    (order_telegram c.args.order.now None now.base) c.send.result gives keeps))
 
 pub returns-in_err-device : goal.returns-in_err-device
 returns-in_err-device g c =
@@ -39,9 +39,9 @@ returns-in_err-device g c =
       devices = devices;
     } in
     let effect = sends-effect now c.args.order.now c.requires.sends
-    ∙ ap (λ id. telegram_sent (is_some id) (packet_for c.args.order.now (known_of devices id) now.base)) some in (
+    ∙ ap (λ id. telegram_sent (is_some id) (order_telegram c.args.order.now (known_of devices id) now.base)) some in (
       subst (λ (e : Effect). IsTrue e.need) (sym effect)
-          (telegram-need (packet_for c.args.order.now (device_of devices c.in-Some.id) now.base)),
+          (telegram-need (order_telegram c.args.order.now (device_of devices c.in-Some.id) now.base)),
       c.in_err-device.ensures.devices honest devices has,
     )))
 
@@ -59,10 +59,10 @@ returns g c =
       devices = devices;
     } in
     let effect = sends-effect now c.args.order.now c.requires.sends
-    ∙ ap (λ id. telegram_sent (is_some id) (packet_for c.args.order.now (known_of devices id) now.base)) some
-    ∙ ap (λ known. telegram_sent true (packet_for c.args.order.now known now.base))
+    ∙ ap (λ id. telegram_sent (is_some id) (order_telegram c.args.order.now (known_of devices id) now.base)) some
+    ∙ ap (λ known. telegram_sent true (order_telegram c.args.order.now known now.base))
     (sym (c.as_ref.ensures.value ∙ found.0)) in
     subst (λ e. Comes g.S.Store c.self.inside.registry c.find.new.self devices e (Ok c.send-2.result)) (sym effect)
     (telegram-comes g.S.Store c.self.inside.registry c.find.new.self devices true
-    (packet_for c.args.order.now (option_copied c.as_ref.result) now.base) c.send-2.result (c.send-2.ensures true)
+    (order_telegram c.args.order.now (option_copied c.as_ref.result) now.base) c.send-2.result (c.send-2.ensures true)
     found.1)))

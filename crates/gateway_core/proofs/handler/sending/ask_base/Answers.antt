@@ -7,5 +7,5 @@ use Rattle.gateway_core.proofs.handler.sending.ask_base.Goals as goal
 pub returns : goal.returns
 returns c =
     λ asked.
-    subst (λ bytes. Gives c.sent.result (sends_packet asked bytes))
-    (c.in-Ok.ensures.ok ∙ ap (λ held. held ++ spelling base_query) c.new-packet.ensures) (c.sent.ensures asked)
+    subst (λ bytes. Gives c.sends_packet.result (sends_packet asked bytes))
+    (c.in-Ok.ensures.ok ∙ ap (λ held. held ++ spelling base_query) c.new-packet.ensures) (c.sends_packet.ensures asked)
