@@ -1,10 +1,14 @@
 -- What is sent by radio is told.
 use Rattle.std.proofs.Common.{◌≡◌, inl, inr, ℕ, List, Option, Some, None, Result, Ok, Err, refl, sym, ap, append-nil}
-use Rattle.std.specs.Prelude.{unwrap_or}
+use Rattle.std.specs.Prelude.{unwrap_or, is_some, nat_lt, length}
 use Rattle.esp3_frames.specs.Packet.{Packet, spelling}
 use Rattle.erp1_telegrams.specs.declared.telegram.TelegramFault.{TelegramFault}
 use Rattle.erp1_telegrams.specs.Telegram.{Telegram, telegram_of, sent}
+use Rattle.erp1_telegrams.specs.declared.eep.Eep.{Eep}
 use Rattle.device_registry.specs.declared.device.Device.{Device}
+use Rattle.device_registry.specs.Devices.{device_of, is_full}
+use Rattle.teach_in.specs.Profiles.{supported}
+use Rattle.teach_in.proofs.ForCallers.{either}
 use Rattle.teach_in.specs.declared.four_byte.FourByteQuery.{FourByteQuery}
 use Rattle.teach_in.specs.declared.mode.Mode.{Mode}
 use Rattle.teach_in.specs.declared.mode.Mode.TheVariants.{LearnAnswer}
@@ -14,12 +18,21 @@ use Rattle.teach_in.specs.declared.telegrams.Teach.{Teach as Kind}
 use Rattle.teach_in.specs.declared.telegrams.Teach.TheVariants.{FourByte}
 use Rattle.teach_in.specs.FourByte.{four_byte_reply}
 use Rattle.teach_in.specs.Telegrams.{teach_in_of}
+use Rattle.actuator_commands.specs.declared.orders.Order.{Order}
+use Rattle.actuator_commands.specs.declared.orders.Order.TheVariants.{LearnOn, LearnOnAnswer, LearnOff, Add, Remove}
+use Rattle.actuator_commands.specs.declared.orders.Order.TheVariants.{List as ListAll, Status, Base}
+use Rattle.actuator_commands.specs.declared.orders.Order.TheVariants as orders
+use Rattle.actuator_commands.specs.declared.orders.OrderFault.{OrderFault}
+use Rattle.actuator_commands.specs.Orders.{order_of}
+use Rattle.actuator_commands.specs.Packets.{order_telegram, recipient}
 use Rattle.json_lines.specs.Lines.{TeachLine, Teach, Done, Response, text, texts}
 use Rattle.gateway_core.specs.Responses.{response_in}
 use Rattle.gateway_core.specs.Run.{Taken, Refused, RefusedAtWrite}
 use Rattle.gateway_core.specs.Step.{State, Received, Ordered, Effect, told_of, radio_of, reply_of, telegram_effect}
 use Rattle.gateway_core.specs.Step.{packet_by, line_effect}
-use Rattle.gateway_core.specs.Telling.{RadioIsTold}
+use Rattle.gateway_core.specs.Step.{order_effect, sending_effect, telegram_sent, removal, if_supported, longest_line}
+use Rattle.gateway_core.specs.Step.{base_query, known_of}
+use Rattle.gateway_core.specs.Telling.{IsPacketOf, RadioIsTold}
 use Rattle.gateway_core.proofs.EffectLemmas.{of_telegram, of_line}
 
 -- the bytes are those of this reply, in the mode that answers, to a telegram that is this query
@@ -86,6 +99,73 @@ line-sends state bytes =
       drops = λ known is e. absurd cc;
     })
 
+-- ---- a line
+
+-- nothing is sent
+Silent : Effect → Type 0
+Silent e = e.radio ≡ None
+
+supported-silent : (eep : Eep) (e : Effect) → Silent e → Silent (if_supported eep e)
+unfolding Silent
+supported-silent eep e silent = either (λ (x : Effect). x.radio ≡ None) (supported eep) e _ silent refl
+
+-- the bytes are those of this order's packet
+abbrev Sends : State → Result Order OrderFault → List ℕ → Type 0
+Sends state spelled bytes =
+    (order : Order) × (spelled ≡ Ok order) × (packet : Packet) × IsPacketOf state order packet
+    × (bytes ≡ spelling packet)
+
+-- an order whose effect is silent has no bytes
+no-bytes : (state : State) (spelled : Result Order OrderFault) (bytes : List ℕ)
+    → Silent (order_effect state spelled) → (order_effect state spelled).radio ≡ Some bytes
+    → Sends state spelled bytes
+unfolding Silent
+no-bytes state spelled bytes silent e = absurd cc
+
+-- an order to devices has those of its telegram
+by-telegram : (state : State) (order : Order) (bytes : List ℕ) → (sending_effect state order).radio ≡ Some bytes
+    → Sends state (Ok order) bytes
+by-telegram state order bytes e =
+    one (order_telegram order (known_of state.devices (recipient order)) state.base) refl e
+  where
+    one : (telegram : Option (Result Telegram OrderFault))
+        → order_telegram order (known_of state.devices (recipient order)) state.base ≡ telegram
+        → (telegram_sent (is_some (recipient order)) telegram).radio ≡ Some bytes → Sends state (Ok order) bytes
+    one (Some (Ok t)) is e = (order, refl, sent t, inr (t, refl, is), ap (λ o. unwrap_or o bytes) (sym e))
+    one (Some (Err fault)) is e = absurd cc
+    one None is e = absurd cc
+
+removal-silent : (known : Option Device) → (removal known).radio ≡ None
+removal-silent None = refl
+removal-silent (Some known) = refl
+
+order-sends : (state : State) (spelled : Result Order OrderFault) (bytes : List ℕ)
+    → (order_effect state spelled).radio ≡ Some bytes → Sends state spelled bytes
+unfolding Silent
+order-sends state (Err fault) bytes e = absurd cc
+order-sends state (Ok LearnOn) bytes e = absurd cc
+order-sends state (Ok LearnOnAnswer) bytes e = absurd cc
+order-sends state (Ok (orders.LearnAs eep)) bytes e =
+    no-bytes state (Ok (orders.LearnAs eep)) bytes (supported-silent eep _ refl) e
+order-sends state (Ok LearnOff) bytes e = absurd cc
+order-sends state (Ok (Add id eep)) bytes e =
+    no-bytes state (Ok (Add id eep)) bytes
+    (supported-silent eep _ (either (λ (x : Effect). x.radio ≡ None) (is_full state.devices id) _ _ refl refl)) e
+order-sends state (Ok (Remove id)) bytes e =
+    no-bytes state (Ok (Remove id)) bytes (removal-silent (device_of state.devices id)) e
+order-sends state (Ok ListAll) bytes e = absurd cc
+order-sends state (Ok Status) bytes e = absurd cc
+order-sends state (Ok Base) bytes e =
+    (Base, refl, base_query, inl (refl, refl), ap (λ o. unwrap_or o bytes) (sym e))
+order-sends state (Ok order) bytes e = by-telegram state order bytes e
+
+-- a line that is too long has none
+line-orders : (state : State) (line : List ℕ) (bytes : List ℕ) → (line_effect state line).radio ≡ Some bytes
+    → Sends state (order_of line) bytes
+line-orders state line bytes =
+    either (λ (x : Effect). x.radio ≡ Some bytes → Sends state (order_of line) bytes)
+    (nat_lt longest_line (length line)) _ _ (λ e. absurd cc) (order-sends state (order_of line) bytes)
+
 pub radio_is_told : RadioIsTold
 radio_is_told state (Received packet) Taken bytes e =
     let replies = packet-replies state packet bytes (response_in packet) (telegram_of packet) refl e in
@@ -107,6 +187,18 @@ radio_is_told state (Received packet) Taken bytes e =
       }),
     )
 radio_is_told state (Ordered line) Taken bytes e =
-    (refl, inr (record { line = line; ordered = refl; told = line-sends state bytes line e }))
+    let (order, spelled, packet, is_packet, sent_as) = line-orders state line bytes e in (
+      refl,
+      inr (record {
+        line = line;
+        ordered = refl;
+        order = order;
+        spelled = spelled;
+        told = line-sends state bytes line e;
+        packet = packet;
+        is_packet = is_packet;
+        sent_as = sent_as;
+      }),
+    )
 radio_is_told state item (Refused cause) bytes e = absurd cc
 radio_is_told state item (RefusedAtWrite cause) bytes e = absurd cc

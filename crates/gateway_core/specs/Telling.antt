@@ -11,8 +11,13 @@ use Rattle.teach_in.specs.declared.outcome.Outcome.TheVariants.{Accepted, Delete
 use Rattle.teach_in.specs.declared.telegrams.Teach.TheVariants.{FourByte}
 use Rattle.teach_in.specs.FourByte.{four_byte_reply}
 use Rattle.teach_in.specs.Telegrams.{teach_in_of}
+use Rattle.actuator_commands.specs.declared.orders.Order.{Order}
+use Rattle.actuator_commands.specs.declared.orders.Order.TheVariants.{Base}
+use Rattle.actuator_commands.specs.Orders.{order_of}
+use Rattle.actuator_commands.specs.Packets.{order_telegram, recipient}
 use Rattle.json_lines.specs.Lines.{TeachLine, Teach, Done, text}
 use Rattle.gateway_core.specs.Step.{State, Item, Received, Ordered, Effect, effect, told_of, answer_to, change_of}
+use Rattle.gateway_core.specs.Step.{base_query, known_of}
 use Rattle.gateway_core.specs.Run.{Fate, Taken, answer_with}
 
 -- What a line with this outcome tells of an effect: that it learns a device, or forgets it as it stands, or that it
@@ -54,14 +59,26 @@ pub record RepliesTo (state : State) (item : Item) (bytes : List ℕ) : Type 0 w
   pub says : four_byte_reply query line.outcome state.base ≡ Some reply
   pub sent_as : bytes ≡ spelling (sent reply)
 
--- The desk has ordered something, and is told that it is done. Which bytes an order sends is said by its effect.
-pub record SendsAsOrdered (state : State) (item : Item) : Type 0 where
+-- the packet that an order sends: the question for the base ID, or the order's telegram
+abbrev pub IsPacketOf : State → Order → Packet → Type 0
+IsPacketOf state order packet =
+    ((order ≡ Base) × (packet ≡ base_query))
+    ⊎ ((t : Telegram) × (packet ≡ sent t)
+    × (order_telegram order (known_of state.devices (recipient order)) state.base ≡ Some (Ok t)))
+
+-- The bytes are the packet of an order that a line spells, and the desk is told that it is done.
+pub record SendsAsOrdered (state : State) (item : Item) (bytes : List ℕ) : Type 0 where
   pub line : List ℕ
   pub ordered : item ≡ Ordered line
+  pub order : Order
+  pub spelled : order_of line ≡ Ok order
   pub told : (answer_to state item).desk ≡ text Done
+  pub packet : Packet
+  pub is_packet : IsPacketOf state order packet
+  pub sent_as : bytes ≡ spelling packet
 
 -- bytes are sent by radio only where an item is taken, to reply or as the desk has ordered
 abbrev pub RadioIsTold : Type 0
 RadioIsTold = (state : State) (item : Item) (fate : Fate) (bytes : List ℕ)
     → (answer_with state item fate).radio ≡ Some bytes
-    → (fate ≡ Taken) × (RepliesTo state item bytes ⊎ SendsAsOrdered state item)
+    → (fate ≡ Taken) × (RepliesTo state item bytes ⊎ SendsAsOrdered state item bytes)

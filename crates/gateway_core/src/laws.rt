@@ -107,9 +107,9 @@ pub fn changes_are_told()
     ensures { ChangesAreTold }
 {}
 
-/// Bytes are sent by radio only where an item is taken. With those of a packet, which carries a 4BS query, in the mode
-/// that answers, the desk is told a teach line, and they are the reply with its outcome. With those of a line the desk
-/// is told that it is done.
+/// Bytes are sent by radio only where an item is taken. Those of a packet, which carries a 4BS query, in the mode that
+/// answers, are the reply with the outcome of the teach line that the desk is told. Those of a line are the packet of
+/// the order that it spells, and the desk is told that it is done.
 pub fn radio_is_told()
     ensures { RadioIsTold }
 {}
