@@ -1,2 +1,2 @@
 -- The facts about the definitions that the crates above cite.
-pub use Rattle.actuator_commands.proofs.OrderLemmas.{parsed-in_range, parsed-fault}
+pub use Rattle.actuator_commands.proofs.OrderLemmas.{parsed-in_range}

@@ -117,7 +117,8 @@ result_of None = Err Syntax
 abbrev pub order_of : List ℕ → Result Order OrderFault
 order_of line = result_of (order_in (words line))
 
--- A line that spells no order is out of range where it has the shape of one, and else no order at all.
+-- A line spells at most one order, by `only`. One that spells none is out of range where it has the shape of one, and
+-- else no order at all.
 pub record OrdersAreSpelled : Type 0 where
   pub spelled : (line : List ℕ) (order : Order) → order_of line ≡ Ok order → Spells line order
   pub only : (line : List ℕ) (order : Order) → Spells line order → order_of line ≡ Ok order

@@ -107,8 +107,8 @@ pub enum Quantity {
 pub enum OrderFault {
     /// The line has not the shape of an order.
     Syntax,
-    /// The line has the shape of one, but a number out of range, as the ID that no device has, `FFFFFFFF`. Or the
-    /// sender of an order with an offset would have this ID.
+    /// The line has the shape of one, but a number is out of its range, or the ID is `FFFFFFFF`, which no device has;
+    /// or the base ID and the offset of an order make this ID.
     Range,
     /// The order's device is not known.
     UnknownDevice,

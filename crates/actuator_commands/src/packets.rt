@@ -111,7 +111,8 @@ fn to_all(offset: u32, payload: [u8; 4], base: u32) -> Result<Telegram, OrderFau
 }
 
 /// The telegram that an order goes to devices in, for the orders that `Order::sends` tells of. `device` is what is
-/// known of the order's device, and `base` is a base ID. The order's numbers are in range, as `parse` gives them.
+/// known of the order's device (its own ID is not looked at), and `base` is a base ID. The order's numbers are in
+/// range, as `parse` gives them.
 ///
 /// An order that names a device is a VLD telegram to it, from the base ID: of "D2-01" to its profiles, of "D2-05-00" to
 /// blinds. An order with an offset is a 4BS telegram of "A5-38-08" to all, from the base ID and the offset (EnOcean

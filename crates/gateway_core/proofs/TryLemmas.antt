@@ -55,6 +55,10 @@ use Rattle.gateway_core.specs.Tries.{state_of, Gives, IsMade, IsPending, Comes, 
 use Rattle.gateway_core.specs.Tries.{mode_from}
 use Rattle.gateway_core.specs.Tries.{IsEntering, Enters}
 
+-- what is known, of its parts
+abbrev pub known_with : ℕ → Mode → Counts → Devices → State
+known_with base mode counts devices = record { base = base; mode = mode; counts = counts; devices = devices }
+
 -- ---- what is kept
 
 pub keeps-same : (s : Known) (devices : Devices) → HasDevices s devices → Keeps s s devices

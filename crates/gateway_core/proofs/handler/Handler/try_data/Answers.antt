@@ -2,8 +2,8 @@ use Rattle.std.proofs.Common.{true, refl, sym, ap, ◌∙◌}
 use Rattle.std.proofs.lemmas.Result.{err_from_is_err_and}
 use Rattle.device_registry.specs.Devices.{device_of}
 use Rattle.gateway_core.specs.Profiles.{readings_of}
-use Rattle.gateway_core.specs.Step.{State, case_effect, data_case}
-use Rattle.gateway_core.proofs.TryLemmas.{tries, tries-behind, data-need, reading-comes}
+use Rattle.gateway_core.specs.Step.{case_effect, data_case}
+use Rattle.gateway_core.proofs.TryLemmas.{known_with, tries, tries-behind, data-need, reading-comes}
 use Rattle.gateway_core.proofs.handler.Handler.try_data.Goals as goal
 
 pub returns-in_err-device : goal.returns-in_err-device
@@ -12,12 +12,7 @@ returns-in_err-device g c =
     rw (← c.self.view_is, error.1, error.2)
     (tries g.S.Store _ _ _ _ _ _ _ c.find.ensures.clean c.find.ensures.registries
     (λ honest devices has.
-    let now : State = record {
-      base = c.self.inside.base;
-      mode = c.self.inside.mode;
-      counts = c.self.inside.counts;
-      devices = devices;
-    } in (
+    let now = known_with c.self.inside.base c.self.inside.mode c.self.inside.counts devices in (
       data-need now c.args.telegram.now (device_of devices c.args.telegram.now.sender),
       c.in_err-device.ensures.devices honest devices has,
     )))
@@ -29,12 +24,7 @@ returns-in_default g c =
     (λ honest devices has.
     let found = c.in_ok-device.ensures.devices honest devices has in
     let known = sym c.in_default.is ∙ found.0 ∙ ap (device_of devices) c.sender.ensures in
-    let now : State = record {
-      base = c.self.inside.base;
-      mode = c.self.inside.mode;
-      counts = c.self.inside.counts;
-      devices = devices;
-    } in
+    let now = known_with c.self.inside.base c.self.inside.mode c.self.inside.counts devices in
     (ap (λ k. case_effect now c.args.telegram.now (data_case k)) (sym known), found.1))
     (c.try_plan.ensures true))
 
@@ -44,12 +34,7 @@ returns-in_err-done g c =
     rw (← c.self.view_is, error.1, error.2)
     (tries g.S.Store _ _ _ _ _ _ _ c.find.ensures.clean c.find.ensures.registries
     (λ honest devices has.
-    let now : State = record {
-      base = c.self.inside.base;
-      mode = c.self.inside.mode;
-      counts = c.self.inside.counts;
-      devices = devices;
-    } in (
+    let now = known_with c.self.inside.base c.self.inside.mode c.self.inside.counts devices in (
       data-need now c.args.telegram.now (device_of devices c.args.telegram.now.sender),
       (c.in_ok-device.ensures.devices honest devices has).1,
     )))

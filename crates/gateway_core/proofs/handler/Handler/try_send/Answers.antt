@@ -4,10 +4,10 @@ use Rattle.std.proofs.lemmas.Result.{err_from_is_err_and}
 use Rattle.actuator_commands.specs.Packets.{order_telegram, recipient}
 use Rattle.std.specs.Option.{option_copied}
 use Rattle.device_registry.specs.Devices.{device_of}
-use Rattle.gateway_core.specs.Step.{State, Effect, known_of, telegram_sent}
+use Rattle.gateway_core.specs.Step.{Effect, known_of, telegram_sent}
 use Rattle.gateway_core.specs.Tries.{Comes, Gives, state_of}
 use Rattle.gateway_core.proofs.EffectLemmas.{sends-effect}
-use Rattle.gateway_core.proofs.TryLemmas.{telegram-comes, telegram-need, tries-alone, tries}
+use Rattle.gateway_core.proofs.TryLemmas.{known_with, telegram-comes, telegram-need, tries-alone, tries}
 use Rattle.gateway_core.proofs.handler.Handler.try_send.Goals as goal
 
 pub returns-in_default : goal.returns-in_default
@@ -32,12 +32,7 @@ returns-in_err-device g c =
     rw (← c.self.view_is, error.1, error.2)
     (tries g.S.Store _ _ _ _ _ _ _ c.find.ensures.clean c.find.ensures.registries
     (λ honest devices has.
-    let now : State = record {
-      base = c.self.inside.base;
-      mode = c.self.inside.mode;
-      counts = c.self.inside.counts;
-      devices = devices;
-    } in
+    let now = known_with c.self.inside.base c.self.inside.mode c.self.inside.counts devices in
     let effect = sends-effect now c.args.order.now c.requires.sends
     ∙ ap (λ id. telegram_sent (is_some id) (order_telegram c.args.order.now (known_of devices id) now.base)) some in (
       subst (λ (e : Effect). IsTrue e.need) (sym effect)
@@ -52,12 +47,7 @@ returns g c =
     (tries g.S.Store _ _ _ _ _ _ _ c.find.ensures.clean c.find.ensures.registries
     (λ honest devices has.
     let found = c.in_ok-device.ensures.devices honest devices has in
-    let now : State = record {
-      base = c.self.inside.base;
-      mode = c.self.inside.mode;
-      counts = c.self.inside.counts;
-      devices = devices;
-    } in
+    let now = known_with c.self.inside.base c.self.inside.mode c.self.inside.counts devices in
     let effect = sends-effect now c.args.order.now c.requires.sends
     ∙ ap (λ id. telegram_sent (is_some id) (order_telegram c.args.order.now (known_of devices id) now.base)) some
     ∙ ap (λ known. telegram_sent true (order_telegram c.args.order.now known now.base))
