@@ -29,7 +29,7 @@ enum {
 };
 
 /* The RORGs of the telegrams that are not always ignored. */
-enum { RPS = 0xF6, ONE_BYTE = 0xD5, FOUR_BYTE = 0xA5, VLD = 0xD2 };
+enum { RPS = 0xF6, ONE_BYTE = 0xD5, FOUR_BYTE = 0xA5, VLD = 0xD2, UTE = 0xD4 };
 
 static const uint32_t ALL = 0xFFFFFFFF; /* the ID of all: of no device, and so the mark of a free slot */
 static const uint32_t CONTACT = 0xD50001; /* the profile of a 1BS device that is taught in */
@@ -476,9 +476,9 @@ static void send_packet(uint8_t type, const uint8_t *bytes, uint8_t size, uint8_
     write_line();
 }
 
-/* Sends a telegram with a payload of at most 4 bytes: three subtelegrams, and no signal strength. */
+/* Sends a telegram with a payload of at most 7 bytes: three subtelegrams, and no signal strength. */
 static void send_telegram(uint8_t rorg, const uint8_t *payload, uint8_t size, uint32_t sender, uint32_t destination) {
-    uint8_t bytes[1 + 4 + 5 + 7] = {rorg}, *to = put_bytes(bytes + 1 + size, sender);
+    uint8_t bytes[1 + 7 + 5 + 7] = {rorg}, *to = put_bytes(bytes + 1 + size, sender);
     memcpy(bytes + 1, payload, size);
     *to++ = 0;
     *to++ = 3;
@@ -527,19 +527,49 @@ enum mode { CLOSED, ON, ANSWER, AS };
 static enum mode mode;
 static uint32_t wanted_eep; /* of the mode AS */
 
-/* Sends the reply to a 4BS query, which has the bytes of the query but the last one. */
-static void reply(uint32_t id, const uint8_t *query, uint8_t last) {
-    send_telegram(FOUR_BYTE, (uint8_t[]){query[0], query[1], query[2], last}, 4, base, id);
+/* What comes of a telegram: its word in a teach line, the last byte of the reply to a 4BS query, of which DELETED and
+ * GENERAL never come, and the code in the reply to a UTE query. */
+
+enum result { ACCEPTED, DELETED, UNSUPPORTED, FULL, GENERAL };
+
+static const struct {
+    const char *word;
+    uint8_t last, code;
+} RESULTS[] = {
+    [ACCEPTED] = {"accepted", .last = 0xF0, .code = 1},
+    [DELETED] = {"deleted", .code = 2},
+    [UNSUPPORTED] = {"unsupported", .last = 0x90, .code = 3},
+    [FULL] = {"full", .last = 0xD0, .code = 0},
+    [GENERAL] = {"general", .code = 0},
+};
+
+/* Learns the sender of a telegram, if its profile can be read. */
+static enum result learn_sender(uint32_t id, uint32_t eep, int maker) {
+    if (profile_of(eep) == NULL)
+        return UNSUPPORTED;
+    return learn(id, eep, maker) ? ACCEPTED : FULL;
+}
+
+/* Forgets the sender of a telegram, which need not be learned. */
+static enum result forget_sender(uint32_t id) {
+    struct device *device = find(id);
+    if (device->id != ALL)
+        forget(device);
+    return DELETED;
+}
+
+/* Tells what came of a telegram. The mode AS ends with the first one that is accepted. */
+static bool finish(uint32_t id, uint32_t eep, int maker, enum result result) {
+    write_teach(id, eep, maker, RESULTS[result].word);
+    if (mode == AS && result == ACCEPTED)
+        mode = CLOSED;
+    taught++;
+    return true;
 }
 
 /* Teaches in the sender of a telegram. */
 static bool teach(uint32_t id, uint32_t eep, int maker) {
-    bool full = !learn(id, eep, maker);
-    write_teach(id, eep, maker, full ? "full" : "accepted");
-    if (mode == AS && !full)
-        mode = CLOSED;
-    taught++;
-    return true;
+    return finish(id, eep, maker, learn_sender(id, eep, maker));
 }
 
 /* The same, if the mode takes telegrams of this RORG. */
@@ -548,26 +578,39 @@ static bool teach_wanted(uint8_t rorg, uint32_t id, int maker) {
 }
 
 /* A 4BS query: 6 bits of FUNC, 7 of TYPE and 11 of the maker. */
-static bool take_query(uint32_t id, const uint8_t *query) {
+static bool four_byte_query(uint32_t id, const uint8_t *query) {
     uint32_t func = query[0] >> 2, type = (query[0] & 3u) << 5 | query[1] >> 3;
     uint32_t eep = (uint32_t)FOUR_BYTE << 16 | func << 8 | type;
     int maker = (query[1] & 7) << 8 | query[2];
     if (mode == CLOSED || mode == AS)
         return teach_wanted(FOUR_BYTE, id, maker);
-    bool full = learned == DEVICES && find(id)->id == ALL, supported = profile_of(eep) != NULL;
+    enum result result = learn_sender(id, eep, maker);
     if (mode == ANSWER)
-        reply(id, query, supported ? (full ? 0xD0 : 0xF0) : 0x90);
-    if (supported)
-        return teach(id, eep, maker);
-    write_teach(id, eep, maker, "unsupported");
-    taught++;
-    return true;
+        send_telegram(FOUR_BYTE, (uint8_t[]){query[0], query[1], query[2], RESULTS[result].last}, 4, base, id);
+    return finish(id, eep, maker, result);
+}
+
+/* A UTE query: what is asked for, the channels, 11 bits of the maker, and the profile, each with the low byte first. */
+static bool universal_query(uint32_t id, const uint8_t *query) {
+    uint32_t eep = (uint32_t)query[6] << 16 | (uint32_t)query[5] << 8 | query[4];
+    int maker = (query[3] & 7) << 8 | query[2];
+    bool deletion = (query[0] & 0x30) == 0x10, not_in_use = (query[0] & 0x30) == 0x30;
+    if (mode == CLOSED || mode == AS)
+        return false;
+    enum result result = deletion ? forget_sender(id) : not_in_use ? GENERAL : learn_sender(id, eep, maker);
+    if (!(query[0] & 0x40)) {
+        uint8_t reply[7];
+        memcpy(reply, query, sizeof reply);
+        reply[0] = (uint8_t)((query[0] & 0x80) | RESULTS[result].code << 4 | 1);
+        send_telegram(UTE, reply, sizeof reply, base, id);
+    }
+    return finish(id, eep, maker, result);
 }
 
 /* A 4BS telegram of teach-in: a reply to another gateway, a query, or one without a profile. */
 static bool four_byte_teach(uint32_t id, const uint8_t *payload) {
     if (payload[3] & 0x80)
-        return !(payload[3] & 0x10) && take_query(id, payload);
+        return !(payload[3] & 0x10) && four_byte_query(id, payload);
     if (mode == CLOSED || mode == AS)
         return teach_wanted(FOUR_BYTE, id, UNKNOWN);
     TEXT("{\"eep\":null,\"id\":\"");
@@ -626,6 +669,8 @@ static bool telegram(const uint8_t *data, size_t size, const uint8_t *optional, 
         if (known)
             return reading(device, data, size, dbm);
         return teach_wanted(VLD, sender, UNKNOWN);
+    case UTE:
+        return size == 13 && (data[1] & 0x0F) == 0 && universal_query(sender, data + 1);
     default:
         return false;
     }

@@ -3,12 +3,13 @@ use Rattle.std.proofs.Common.{◌≡◌, IsSome, ℕ, ◌+◌, ◌^◌, ◌<◌,
 use Rattle.std.proofs.Common.{◌∙◌, arith}
 use Rattle.std.proofs.Common.{append-nil}
 use Rattle.esp3_frames.specs.Packet.{Packet}
-use Rattle.teach_in.specs.declared.outcome.Outcome.TheVariants.{Accepted}
+use Rattle.teach_in.specs.declared.outcome.Outcome.TheVariants.{Accepted, Deleted}
+use Rattle.teach_in.specs.Telegrams.{teach_in_of}
 use Rattle.json_lines.specs.declared.counts.Count.TheVariants as count
 use Rattle.json_lines.specs.Counts.{count_with, one_more, raised}
 use Rattle.json_lines.specs.Lines.{Reading, Teach, ResponseLine, TeachLine, text, texts}
 use Rattle.gateway_core.specs.Counting.{TakenAreCounted}
-use Rattle.gateway_core.specs.Step.{State, Item, Received, Ordered, count_of, packet_effect, told_of}
+use Rattle.gateway_core.specs.Step.{State, Item, Received, Ordered, count_of, packet_effect, told_of, line_with}
 use Rattle.gateway_core.specs.Run.{Taken, Refused, RefusedAtWrite, state_with, refusals, RefusalsAreCounted}
 use Rattle.gateway_core.proofs.EffectLemmas.{of_packet, of_line, of_effect}
 use Rattle.gateway_core.proofs.TellingLemmas.{no_line, other-line}
@@ -19,13 +20,14 @@ count_on a b c n m is on = omega (arith, is, on)
 -- what is taken is not counted as refused
 unrefused : (state : State) (item : Item) → (raised state.counts (count_of state item)).refused ≡ state.counts.refused
 unrefused state =
-    of_effect (λ e. (raised state.counts e.count).refused ≡ state.counts.refused) state (record {
-      telegrams = λ t. record {
+    of_effect (λ e. (raised state.counts e.count).refused ≡ state.counts.refused) state (λ packet. record {
+      telegrams = λ t is. record {
         ignores = refl;
         looks = refl;
         reads = λ line. refl;
-        admits = λ learning eep maker. refl;
-        refuses = λ line is. refl;
+        admits = λ hears eep maker. refl;
+        deletes = λ learning asks. refl;
+        refuses = λ hears line is. refl;
       };
       passes = refl;
       hears = λ response. refl;
@@ -42,14 +44,15 @@ unrefused state =
 
 -- a packet that is taken is counted, and a line is not
 packets-counted : (state : State) (packet : Packet) → IsSome (count_of state (Received packet))
-packets-counted state =
-    of_packet (λ e. IsSome e.count) state (record {
-      telegrams = λ t. record {
+packets-counted state packet =
+    of_packet (λ e. IsSome e.count) state packet (record {
+      telegrams = λ t is. record {
         ignores = refl;
         looks = refl;
         reads = λ line. refl;
-        admits = λ learning eep maker. refl;
-        refuses = λ line is. refl;
+        admits = λ hears eep maker. refl;
+        deletes = λ learning asks. refl;
+        refuses = λ hears line is. refl;
       };
       passes = refl;
       hears = λ response. refl;
@@ -72,14 +75,15 @@ lines-uncounted state =
 teach-counted : (state : State) (line : TeachLine) (packet : Packet)
     → texts (packet_effect state packet).desk ≡ text (Teach line)
     → (packet_effect state packet).count ≡ Some count.Teach
-teach-counted state line =
-    of_packet (λ e. texts e.desk ≡ text (Teach line) → e.count ≡ Some count.Teach) state (record {
-      telegrams = λ t. record {
+teach-counted state line packet =
+    of_packet (λ e. texts e.desk ≡ text (Teach line) → e.count ≡ Some count.Teach) state packet (record {
+      telegrams = λ t is. record {
         ignores = λ e. absurd (no_line line e);
         looks = λ e. absurd (no_line line e);
         reads = λ read e. absurd (other-line (Reading read) line (λ never. never) e);
-        admits = λ learning eep maker e. refl;
-        refuses = λ line is e. refl;
+        admits = λ hears eep maker e. refl;
+        deletes = λ learning asks e. refl;
+        refuses = λ hears line is e. refl;
       };
       passes = λ e. absurd (no_line line e);
       hears = λ response e. absurd (other-line (ResponseLine response) line (λ never. never) e);
@@ -87,15 +91,17 @@ teach-counted state line =
 
 teach-told : (state : State) (packet : Packet) → (packet_effect state packet).count ≡ Some count.Teach
     → (line : TeachLine) × (texts (packet_effect state packet).desk ≡ text (Teach line))
-teach-told state =
-    of_packet (λ e. e.count ≡ Some count.Teach → (line : TeachLine) × (texts e.desk ≡ text (Teach line))) state (record {
-      telegrams = λ t. record {
+teach-told state packet =
+    of_packet (λ e. e.count ≡ Some count.Teach → (line : TeachLine) × (texts e.desk ≡ text (Teach line))) state packet
+    (record {
+      telegrams = λ t is. record {
         ignores = λ e. absurd cc;
         looks = λ e. absurd cc;
         reads = λ read e. absurd cc;
-        admits = λ learning eep maker e.
+        admits = λ hears eep maker e.
             (told_of (record { id = t.sender; eep = eep; maker = maker }) Accepted, append-nil _);
-        refuses = λ line is e. (line, append-nil _);
+        deletes = λ learning asks e. (line_with t.sender (teach_in_of t) Deleted, append-nil _);
+        refuses = λ hears line is e. (line, append-nil _);
       };
       passes = λ e. absurd cc;
       hears = λ response e. absurd cc;

@@ -1,7 +1,7 @@
 -- What holds of the effect of every item.
 use Rattle.std.proofs.Common.{◌≡◌, ◌≢◌, ◌⊎◌, inl, inr, ℕ, Bool, true, false, List, [], ◌∷◌, Option}
 use Rattle.std.proofs.Common.{Some, None, refl, ap}
-use Rattle.std.specs.Prelude.{is_some, Result, Ok, Err, nat_lt, length, if◌then◌else◌}
+use Rattle.std.specs.Prelude.{Result, Ok, Err, nat_lt, length, if◌then◌else◌}
 use Rattle.esp3_frames.specs.Packet.{Packet}
 use Rattle.erp1_telegrams.specs.declared.eep.Eep.{Eep}
 use Rattle.erp1_telegrams.specs.declared.telegram.TelegramFault.{TelegramFault}
@@ -11,15 +11,16 @@ use Rattle.profiles_rps.specs.Reading.{Entry}
 use Rattle.device_registry.specs.declared.device.Device.{Device}
 use Rattle.device_registry.specs.Devices.{device_of, all_of, is_full}
 use Rattle.teach_in.specs.declared.four_byte.FourByteQuery.{FourByteQuery}
+use Rattle.teach_in.specs.declared.ute.UteQuery.{UteQuery}
 use Rattle.teach_in.specs.declared.mode.Mode.{Mode}
 use Rattle.teach_in.specs.declared.outcome.Outcome.{Outcome}
-use Rattle.teach_in.specs.declared.outcome.Outcome.TheVariants.{Accepted, Deleted, Unsupported, NoProfile}
+use Rattle.teach_in.specs.declared.outcome.Outcome.TheVariants.{Accepted, Deleted, Unsupported, General, NoProfile}
 use Rattle.teach_in.specs.declared.telegrams.Teach.{Teach}
 use Rattle.teach_in.specs.declared.telegrams.Teach.TheVariants as teach
 use Rattle.teach_in.specs.Profiles.{supported}
 use Rattle.teach_in.specs.Telegrams.{teach_in_of}
 use Rattle.teach_in.specs.Verdicts.{plan_of}
-use Rattle.teach_in.proofs.ForCallers.{either, IsOpen, Refuses, of_plan}
+use Rattle.teach_in.proofs.ForCallers.{either, LearnsByTold, Hears, AsksDeletion, Refuses, of_plan}
 use Rattle.json_lines.specs.declared.counts.Count.TheVariants as count
 use Rattle.json_lines.specs.declared.fixed.ErrorName.{ErrorName}
 use Rattle.json_lines.specs.declared.fixed.ErrorName.TheVariants as error
@@ -29,15 +30,16 @@ use Rattle.actuator_commands.specs.declared.orders.Order.TheVariants.{LearnAs, L
 use Rattle.actuator_commands.specs.declared.orders.Order.TheVariants.{Switch, Dim, Query, Meter, Blind, Stop}
 use Rattle.actuator_commands.specs.declared.orders.Order.TheVariants.{Central, Level, Teach as TeachAll}
 use Rattle.actuator_commands.specs.declared.orders.OrderFault.{OrderFault}
-use Rattle.actuator_commands.specs.Packets.{order_telegram, recipient, sends}
+use Rattle.actuator_commands.specs.Packets.{sends}
 use Rattle.actuator_commands.specs.Orders.{order_of}
 use Rattle.json_lines.specs.Lines.{Reading, StatusLine, ResponseLine, Error, ReadingLine, TeachLine, Response, listing}
 use Rattle.gateway_core.specs.Profiles.{readings_of}
 use Rattle.gateway_core.specs.Responses.{response_in}
 use Rattle.gateway_core.specs.Step.{State, Item, Received, Ordered, Effect, ignored, unread, unsaid}
-use Rattle.gateway_core.specs.Step.{counted_line, denied, nothing, sends_packet, telegram_sent, error_of, known_of}
+use Rattle.gateway_core.specs.Step.{counted_line, denied, sends_packet, telegram_sent, error_of}
 use Rattle.gateway_core.specs.Step.{sending_effect}
-use Rattle.gateway_core.specs.Step.{tells, sets, learns, forgets, tells_sender, accepts, refused_line, plan_effect}
+use Rattle.gateway_core.specs.Step.{tells, sets, learns, forgets, tells_sender, accepts, deletes, line_with}
+use Rattle.gateway_core.specs.Step.{plan_effect}
 use Rattle.gateway_core.specs.Step.{PassedOver, Teaches, data_case, kind_case, reading_effect, case_effect}
 use Rattle.gateway_core.specs.Step.{telegram_effect, packet_effect, line_effect}
 use Rattle.gateway_core.specs.Step.{packet_by, removal, if_supported, order_effect, longest_line, effect}
@@ -49,19 +51,20 @@ use Rattle.gateway_core.proofs.DeviceLemmas.{device_of-known}
 abbrev IsTeaching : Teach → Type 0
 IsTeaching kind =
     (kind ≡ teach.Contact)
-    ⊎ ((kind ≡ teach.Bare) ⊎ (((query : FourByteQuery) × (kind ≡ teach.FourByte query)) ⊎ (kind ≡ teach.Ute)))
+    ⊎ ((kind ≡ teach.Bare)
+    ⊎ (((query : FourByteQuery) × (kind ≡ teach.FourByte query)) ⊎ ((query : UteQuery) × (kind ≡ teach.Ute query))))
 
 pub teaches : (kind : Teach) (known : Option Device) → IsTeaching kind → kind_case kind known ≡ Teaches
 teaches kind known (inl is) = ap (λ k. kind_case k known) is
 teaches kind known (inr (inl is)) = ap (λ k. kind_case k known) is
 teaches kind known (inr (inr (inl (query, is)))) = ap (λ k. kind_case k known) is
-teaches kind known (inr (inr (inr is))) = ap (λ k. kind_case k known) is
+teaches kind known (inr (inr (inr (query, is)))) = ap (λ k. kind_case k known) is
 
 pub not-data : (kind : Teach) → IsTeaching kind → kind ≢ teach.Plain
 not-data kind (inl is) plain = absurd cc
 not-data kind (inr (inl is)) plain = absurd cc
 not-data kind (inr (inr (inl (query, is)))) plain = absurd cc
-not-data kind (inr (inr (inr is))) plain = absurd cc
+not-data kind (inr (inr (inr (query, is)))) plain = absurd cc
 
 -- ---- a sender that is refused
 
@@ -72,9 +75,11 @@ IsRefusal Deleted = ⊥
 IsRefusal outcome = Unit {0}
 
 is-refusal : (id : ℕ) (kind : Teach) (outcome : Outcome) → Refuses kind outcome
-    → IsRefusal (refused_line id kind outcome).outcome
+    → IsRefusal (line_with id kind outcome).outcome
 is-refusal id teach.Bare NoProfile is = tt
 is-refusal id (teach.FourByte query) Unsupported is = tt
+is-refusal id (teach.Ute query) Unsupported is = tt
+is-refusal id (teach.Ute query) General is = tt
 is-refusal id kind outcome is = absurd is
 
 -- ---- all effects
@@ -84,9 +89,11 @@ pub record OfTelegram (P : Effect → Type 0) (state : State) (t : Telegram) : T
   pub ignores : P ignored
   pub looks : P unread
   pub reads : (line : ReadingLine) → P (counted_line count.Reading (Reading line))
-  pub admits : IsOpen state.mode → (eep : Eep) (maker : Option ℕ)
+  pub admits : Hears state.mode (teach_in_of t) → (eep : Eep) (maker : Option ℕ)
       → P (accepts state (teach_in_of t) (record { id = t.sender; eep = eep; maker = maker }))
-  pub refuses : (line : TeachLine) → IsRefusal line.outcome → P (tells_sender state (teach_in_of t) line)
+  pub deletes : LearnsByTold state.mode → AsksDeletion (teach_in_of t) → P (deletes state (teach_in_of t) t.sender)
+  pub refuses : Hears state.mode (teach_in_of t) → (line : TeachLine) → IsRefusal line.outcome
+      → P (tells_sender state (teach_in_of t) line)
 
 module _ (P : Effect → Type 0) (state : State) (t : Telegram) (each : OfTelegram P state t) where
   of-reading : (eep : Eep) (readings : Option (List Entry)) → P (reading_effect t eep readings)
@@ -95,11 +102,15 @@ module _ (P : Effect → Type 0) (state : State) (t : Telegram) (each : OfTelegr
 
   of-plan : (asked known : Bool) → P (unsaid asked) → P (plan_effect state t asked (plan_of t state.mode known))
   of-plan asked known holds =
-      of_plan (λ plan. P (plan_effect state t asked plan)) t holds state.mode known
-      (λ learning eep maker.
-      either P (is_full state.devices t.sender) _ _ (each.refuses _ tt) (each.admits learning eep maker))
-      (λ outcome is.
-      each.refuses (refused_line t.sender (teach_in_of t) outcome) (is-refusal t.sender (teach_in_of t) outcome is))
+      of_plan (λ plan. P (plan_effect state t asked plan)) t state.mode known (record {
+        silent = holds;
+        adds = λ hears eep maker.
+            either P (is_full state.devices t.sender) _ _ (each.refuses hears _ tt) (each.admits hears eep maker);
+        forgets = λ told asks. each.deletes told asks;
+        refuses = λ hears outcome is.
+            each.refuses hears (line_with t.sender (teach_in_of t) outcome)
+            (is-refusal t.sender (teach_in_of t) outcome is);
+      })
 
   of-data : (known : Option Device) → P (case_effect state t (data_case known))
   of-data None = of-plan true false each.looks
@@ -110,7 +121,7 @@ module _ (P : Effect → Type 0) (state : State) (t : Telegram) (each : OfTelegr
   of-kind teach.Contact known = of-plan false _ each.ignores
   of-kind teach.Bare known = of-plan false _ each.ignores
   of-kind (teach.FourByte query) known = of-plan false _ each.ignores
-  of-kind teach.Ute known = of-plan false _ each.ignores
+  of-kind (teach.Ute query) known = of-plan false _ each.ignores
   of-kind teach.Plain known = of-data known
 
   of-case : (over : Bool)
@@ -124,8 +135,8 @@ module _ (P : Effect → Type 0) (state : State) (t : Telegram) (each : OfTelegr
   of_telegram = of-case (is_passed_over state.base t)
 
 -- it holds of each effect that a packet may have
-pub record OfPacket (P : Effect → Type 0) (state : State) : Type 0 where
-  pub telegrams : (t : Telegram) → OfTelegram P state t
+pub record OfPacket (P : Effect → Type 0) (state : State) (packet : Packet) : Type 0 where
+  pub telegrams : (t : Telegram) → telegram_of packet ≡ Ok t → OfTelegram P state t
   pub passes : P ignored
   pub hears : (response : Response) → P (counted_line count.Response (ResponseLine response))
 
@@ -155,15 +166,15 @@ pub record OfLine (P : Effect → Type 0) (state : State) : Type 0 where
   pub drops : (known : Device) → device_of state.devices known.id ≡ Some known → P (forgets known)
 
 module _ (P : Effect → Type 0) (state : State) where
-  of-packet : OfPacket P state → (response : Option Response) (telegram : Result Telegram TelegramFault)
-      → P (packet_by state response telegram)
-  of-packet each (Some response) telegram = each.hears response
-  of-packet each None (Ok t) = of_telegram P state t (each.telegrams t)
-  of-packet each None (Err fault) = each.passes
+  of-packet : (packet : Packet) → OfPacket P state packet → (response : Option Response)
+      (telegram : Result Telegram TelegramFault) → telegram_of packet ≡ telegram → P (packet_by state response telegram)
+  of-packet packet each (Some response) telegram is = each.hears response
+  of-packet packet each None (Ok t) is = of_telegram P state t (each.telegrams t is)
+  of-packet packet each None (Err fault) is = each.passes
 
-  -- so it holds of the effect of every packet
-  pub of_packet : OfPacket P state → (packet : Packet) → P (packet_effect state packet)
-  of_packet each packet = of-packet each (response_in packet) (telegram_of packet)
+  -- so it holds of the effect of this packet
+  pub of_packet : (packet : Packet) → OfPacket P state packet → P (packet_effect state packet)
+  of_packet packet each = of-packet packet each (response_in packet) (telegram_of packet) refl
 
   of-supported : OfLine P state → (eep : Eep) (effect : Effect) → P effect → P (if_supported eep effect)
   of-supported each eep effect holds = either P (supported eep) _ _ holds (each.denies error.UnsupportedProfile)
@@ -207,6 +218,6 @@ module _ (P : Effect → Type 0) (state : State) where
       either P (nat_lt longest_line (length line)) _ _ (each.denies error.TooLong) (of-order each (order_of line))
 
   -- and of every item
-  pub of_effect : OfPacket P state → OfLine P state → (item : Item) → P (effect state item)
-  of_effect packets lines (Received packet) = of_packet packets packet
+  pub of_effect : ((packet : Packet) → OfPacket P state packet) → OfLine P state → (item : Item) → P (effect state item)
+  of_effect packets lines (Received packet) = of_packet packet (packets packet)
   of_effect packets lines (Ordered line) = of_line lines line

@@ -8,6 +8,7 @@ pub mod ForCallers
 pub mod LifeLemmas
 pub mod LongLineLemmas
 pub mod PrefixLemmas
+pub mod QueryLemmas
 pub mod RestLemmas
 pub mod RunLemmas
 pub mod StopLemmas

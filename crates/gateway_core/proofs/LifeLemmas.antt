@@ -1,5 +1,5 @@
 -- What is told is found by later lives.
-use Rattle.std.proofs.Common.{◌≡◌, ◌≢◌, inl, inr, ℕ, true, false, cond, List, [], ◌∷◌, ◌++◌, Option, Some}
+use Rattle.std.proofs.Common.{◌≡◌, ◌≢◌, ◌⊎◌, inl, inr, ℕ, true, false, cond, List, [], ◌∷◌, ◌++◌, Option, Some}
 use Rattle.std.proofs.Common.{None, sym}
 use Rattle.std.proofs.Common.{ap, subst, ◌∙◌, arith, nat_cmp}
 use Rattle.std.specs.List.{AllByRecursion}
@@ -11,7 +11,7 @@ use Rattle.device_registry.specs.Devices.{Learned, Devices, Change, entered, cha
 use Rattle.gateway_core.specs.Step.{State, Item, Answer, change_of, with_change, state_after}
 use Rattle.gateway_core.specs.Run.{Fate, Taken, Refused, RefusedAtWrite, state_with, Run}
 use Rattle.gateway_core.specs.Stops.{Left, nothing_left, told, pending, left_with, left_by, Safe}
-use Rattle.gateway_core.specs.Lives.{Life, begun, stopped_in, IsLife, AreLives, written, IsOfOther, Spares, StopSpares}
+use Rattle.gateway_core.specs.Lives.{Life, begun, stopped_in, IsLife, AreLives, written, Agrees, Spares, StopSpares}
 use Rattle.gateway_core.specs.Lives.{LifeSpares, LivesKeep}
 use Rattle.gateway_core.proofs.StopLemmas.{left_by-append}
 
@@ -36,44 +36,50 @@ get-other devices change q h =
     get-entered devices change.sender change.entry q
     ∙ ap (λ b. cond b change.entry (get devices q)) (other_key q change.sender h)
 
-module _ (Before : Devices → Type 0) (sender : ℕ) (entry : Option Learned) where
+-- a change that agrees with what is known keeps it
+get-agreeing : (devices : Devices) (it change : Change) → (change.sender ≢ it.sender) ⊎ (change ≡ it)
+    → get devices it.sender ≡ it.entry → get (changed devices change) it.sender ≡ it.entry
+get-agreeing devices it change (inl apart) has = get-other devices change it.sender apart ∙ has
+get-agreeing devices it change (inr is) has = ap (λ c. get (changed devices c) it.sender) is ∙ get-same devices it
+
+module _ (Before : Devices → Type 0) (it : Change) where
   -- the sender has the entry, and so it has in all devices that a stop may leave
   record Kept (left : Left) (devices : Devices) : Type 0 where
-    pub now : get devices sender ≡ entry
-    pub safe : (d : Devices) → Safe Before left d → get d sender ≡ entry
+    pub now : get devices it.sender ≡ it.entry
+    pub safe : (d : Devices) → Safe Before left d → get d it.sender ≡ it.entry
 
-  after_told : (left : Left) (devices : Devices) (o : Option Change) → IsOfOther sender o → Kept left devices
+  after_told : (left : Left) (devices : Devices) (o : Option Change) → Agrees it o → Kept left devices
       → Kept (told left devices o) (with_change devices o)
   after_told left devices None other kept = kept
   after_told left devices (Some change) other kept =
-      let now = get-other devices change sender other ∙ kept.now in
+      let now = get-agreeing devices it change other kept.now in
       record {
         now = now;
         safe =
             λ d safe. elim safe [
               | inl one ↦
-                  elim one [ inl is ↦ ap (λ n. get n sender) is ∙ now | inr never ↦ absurd never ]
+                  elim one [ inl is ↦ ap (λ n. get n it.sender) is ∙ now | inr never ↦ absurd never ]
               | inr non ↦
                   absurd (let e = non.0 in cc)
             ];
       }
 
-  after_pending : (left : Left) (devices : Devices) (o : Option Change) → IsOfOther sender o → Kept left devices
+  after_pending : (left : Left) (devices : Devices) (o : Option Change) → Agrees it o → Kept left devices
       → Kept (pending left devices o) devices
   after_pending left devices None other kept = kept
   after_pending left devices (Some change) other kept = record {
     now = kept.now;
     safe = λ d safe. elim safe [
       | inl one ↦ elim one [
-        | inl is ↦ ap (λ n. get n sender) is ∙ get-other devices change sender other
-            ∙ kept.now
+        | inl is ↦ ap (λ n. get n it.sender) is ∙ get-agreeing devices it change other
+            kept.now
         | inr more ↦ kept.safe d (inl more)
       ]
       | inr non ↦ kept.safe d (inr non)
     ];
   }
 
-  after_one : (left : Left) (state : State) (item : Item) (fate : Fate) → IsOfOther sender (written state item fate)
+  after_one : (left : Left) (state : State) (item : Item) (fate : Fate) → Agrees it (written state item fate)
       → Kept left state.devices → Kept (left_with left state item fate) (state_with state item fate).devices
   after_one left state item Taken other kept = after_told left state.devices (change_of state item) other kept
   after_one left state item (Refused cause) other kept = kept
@@ -81,7 +87,7 @@ module _ (Before : Devices → Type 0) (sender : ℕ) (entry : Option Learned) w
       after_pending left state.devices (change_of state item) other kept
 
   after_all : (left : Left) (state last : State) (items : List Item) (fates : List Fate) (answers : List Answer)
-      → Run state items fates answers last → Spares sender state items fates
+      → Run state items fates answers last → Spares it state items fates
       → Kept left state.devices → Kept (left_by left state items fates) last.devices
   after_all left state last [] [] [] run spares kept = subst (λ (s : State). Kept left s.devices) (sym run) kept
   after_all left state last (item ∷ items) (fate ∷ fates) (answer ∷ answers) run spares kept =
@@ -92,35 +98,35 @@ module _ (Before : Devices → Type 0) (sender : ℕ) (entry : Option Learned) w
   after_all left state last (item ∷ items) [] answers run spares kept = absurd run
   after_all left state last (item ∷ items) (fate ∷ fates) [] run spares kept = absurd run
 
-  after_stop : (left : Left) (state : State) (stopped : Option Item) → StopSpares sender state stopped
+  after_stop : (left : Left) (state : State) (stopped : Option Item) → StopSpares it state stopped
       → Kept left state.devices → Kept (stopped_in left state stopped) state.devices
   after_stop left state None spares kept = kept
   after_stop left state (Some item) spares kept = after_pending left state.devices (change_of state item) spares kept
 
 -- a life that finds the entry, and spares the sender, leaves it
-life_keeps : (sender : ℕ) (entry : Option Learned) (life : Life) → IsLife life → LifeSpares sender life
-    → get life.found sender ≡ entry → get life.left sender ≡ entry
-life_keeps sender entry life is spares found =
+life_keeps : (it : Change) (life : Life) → IsLife life → LifeSpares it life
+    → get life.found it.sender ≡ it.entry → get life.left it.sender ≡ it.entry
+life_keeps it life is spares found =
     let Before = λ (d : Devices). d ≡ life.found in
     let start = begun life.base life.found in
-    let first : Kept Before sender entry nothing_left life.found =
+    let first : Kept Before it nothing_left life.found =
     record {
       now = found;
-      safe = λ d safe. elim safe [ inl never ↦ absurd never | inr same ↦ ap (λ n. get n sender) same.1 ∙ found ];
+      safe = λ d safe. elim safe [ inl never ↦ absurd never | inr same ↦ ap (λ n. get n it.sender) same.1 ∙ found ];
     } in
     let all =
-    after_all Before sender entry nothing_left start life.last life.items life.fates life.answers is.run spares.0
+    after_all Before it nothing_left start life.last life.items life.fates life.answers is.run spares.0
     first in
-    (after_stop Before sender entry (left_by nothing_left start life.items life.fates) life.last life.stopped spares.1
+    (after_stop Before it (left_by nothing_left start life.items life.fates) life.last life.stopped spares.1
     all).safe life.left is.safe
 
-lives_keep_found : (sender : ℕ) (entry : Option Learned) (found : Devices) (lives : List Life) (last : Devices)
-    → AreLives found lives last → AllByRecursion (LifeSpares sender) lives
-    → get found sender ≡ entry → get last sender ≡ entry
-lives_keep_found sender entry found [] last are spares has = ap (λ n. get n sender) are ∙ has
-lives_keep_found sender entry found (life ∷ lives) last are spares has =
-    lives_keep_found sender entry life.left lives last are.2 spares.1
-    (life_keeps sender entry life are.1 spares.0 (ap (λ n. get n sender) are.0 ∙ has))
+lives_keep_found : (it : Change) (found : Devices) (lives : List Life) (last : Devices)
+    → AreLives found lives last → AllByRecursion (LifeSpares it) lives
+    → get found it.sender ≡ it.entry → get last it.sender ≡ it.entry
+lives_keep_found it found [] last are spares has = ap (λ n. get n it.sender) are ∙ has
+lives_keep_found it found (life ∷ lives) last are spares has =
+    lives_keep_found it life.left lives last are.2 spares.1
+    (life_keeps it life are.1 spares.0 (ap (λ n. get n it.sender) are.0 ∙ has))
 
 -- the rest of a run, behind its first items
 run_on : (old mid last : State) (items others : List Item) (fates more : List Fate) (answers all : List Answer)
@@ -137,10 +143,10 @@ run_on old mid last (item ∷ items) others (fate ∷ fates) more [] all run who
 
 -- a change that is told is in all devices that a stop may leave
 told_kept : (Before : Devices → Type 0) (left : Left) (devices : Devices) (o : Option Change) (change : Change)
-    → o ≡ Some change → Kept Before change.sender change.entry (told left devices o) (with_change devices o)
+    → o ≡ Some change → Kept Before change (told left devices o) (with_change devices o)
 told_kept Before left devices o change is =
     let now = get-same devices change in
-    let kept : Kept Before change.sender change.entry (told left devices (Some change))
+    let kept : Kept Before change (told left devices (Some change))
     (with_change devices (Some change)) =
     record {
       now = now;
@@ -152,7 +158,7 @@ told_kept Before left devices o change is =
                 absurd (let e = non.0 in cc)
           ];
     } in
-    subst (λ o. Kept Before change.sender change.entry (told left devices o) (with_change devices o)) (sym is) kept
+    subst (λ o. Kept Before change (told left devices o) (with_change devices o)) (sym is) kept
 
 pub lives_keep : LivesKeep
 lives_keep life change lives last is tells spares are =
@@ -170,7 +176,7 @@ lives_keep life change lives last is tells spares are =
     let one = told_kept Before early tells.at.devices (change_of tells.at tells.item) change tells.asks in
     let behind = told_run tells.at life.last tells.item tells.after tells.more rest.0 rest.1 in
     let all =
-    after_all Before change.sender change.entry _ (state_after tells.at tells.item) life.last tells.after tells.more
+    after_all Before change _ (state_after tells.at tells.item) life.last tells.after tells.more
     behind.0 behind.1 tells.spared one in
     let same : left_by nothing_left start life.items life.fates
     ≡ left_by (left_with early tells.at tells.item Taken) (state_after tells.at tells.item) tells.after tells.more =
@@ -178,8 +184,8 @@ lives_keep life change lives last is tells spares are =
     ∙ ap (λ fates. left_by nothing_left start (tells.before ++ tells.item ∷ tells.after) fates) tells.fates_are
     ∙ left_by-append nothing_left start tells.at tells.before (tells.item ∷ tells.after) tells.fates
     (Taken ∷ tells.more) tells.answers tells.run in
-    let kept = after_stop Before change.sender change.entry _ life.last life.stopped tells.stop all in
-    lives_keep_found change.sender change.entry life.left lives last are spares
+    let kept = after_stop Before change _ life.last life.stopped tells.stop all in
+    lives_keep_found change life.left lives last are spares
     (kept.safe life.left (subst (λ l. Safe Before (stopped_in l life.last life.stopped) life.left) same is.safe))
   where
     told_run : (at last : State) (item : Item) (after : List Item) (more : List Fate) (answers : List Answer)

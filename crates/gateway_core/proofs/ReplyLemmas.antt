@@ -1,23 +1,23 @@
 -- What is sent by radio is told.
-use Rattle.std.proofs.Common.{◌≡◌, inl, inr, ℕ, List, Option, Some, None, Result, Ok, Err, refl, sym, ap, append-nil}
-use Rattle.std.specs.Prelude.{unwrap_or, is_some, nat_lt, length}
+use Rattle.std.proofs.Common.{◌≡◌, inl, inr, ℕ, Bool, true, false, List, Option, Some, None, Result, Ok, Err, refl, sym}
+use Rattle.std.proofs.Common.{ap, subst, append-nil}
+use Rattle.std.specs.Prelude.{unwrap_or, is_some, nat_lt, length, if◌then◌else◌}
 use Rattle.esp3_frames.specs.Packet.{Packet, spelling}
-use Rattle.erp1_telegrams.specs.declared.telegram.TelegramFault.{TelegramFault}
 use Rattle.erp1_telegrams.specs.Telegram.{Telegram, telegram_of, sent}
 use Rattle.erp1_telegrams.specs.declared.eep.Eep.{Eep}
 use Rattle.device_registry.specs.declared.device.Device.{Device}
 use Rattle.device_registry.specs.Devices.{device_of, is_full}
 use Rattle.teach_in.specs.Profiles.{supported}
-use Rattle.teach_in.proofs.ForCallers.{either}
-use Rattle.teach_in.specs.declared.four_byte.FourByteQuery.{FourByteQuery}
+use Rattle.teach_in.proofs.ForCallers.{either, LearnsByTold, Hears}
 use Rattle.teach_in.specs.declared.mode.Mode.{Mode}
 use Rattle.teach_in.specs.declared.mode.Mode.TheVariants.{LearnAnswer}
 use Rattle.teach_in.specs.declared.outcome.Outcome.{Outcome}
-use Rattle.teach_in.specs.declared.outcome.Outcome.TheVariants.{Accepted}
+use Rattle.teach_in.specs.declared.outcome.Outcome.TheVariants.{Accepted, Deleted}
 use Rattle.teach_in.specs.declared.telegrams.Teach.{Teach as Kind}
-use Rattle.teach_in.specs.declared.telegrams.Teach.TheVariants.{FourByte}
+use Rattle.teach_in.specs.declared.telegrams.Teach.TheVariants.{FourByte, Ute}
 use Rattle.teach_in.specs.FourByte.{four_byte_reply}
 use Rattle.teach_in.specs.Telegrams.{teach_in_of}
+use Rattle.teach_in.specs.Ute.{wants_reply, ute_reply}
 use Rattle.actuator_commands.specs.declared.orders.Order.{Order}
 use Rattle.actuator_commands.specs.declared.orders.Order.TheVariants.{LearnOn, LearnOnAnswer, LearnOff, Add, Remove}
 use Rattle.actuator_commands.specs.declared.orders.Order.TheVariants.{List as ListAll, Status, Base}
@@ -25,64 +25,72 @@ use Rattle.actuator_commands.specs.declared.orders.Order.TheVariants as orders
 use Rattle.actuator_commands.specs.declared.orders.OrderFault.{OrderFault}
 use Rattle.actuator_commands.specs.Orders.{order_of}
 use Rattle.actuator_commands.specs.Packets.{order_telegram, recipient}
-use Rattle.json_lines.specs.Lines.{TeachLine, Teach, Done, Response, text, texts}
-use Rattle.gateway_core.specs.Responses.{response_in}
+use Rattle.json_lines.specs.Lines.{TeachLine, Teach, Done, text, texts}
 use Rattle.gateway_core.specs.Run.{Taken, Refused, RefusedAtWrite}
-use Rattle.gateway_core.specs.Step.{State, Received, Ordered, Effect, told_of, radio_of, reply_of, telegram_effect}
-use Rattle.gateway_core.specs.Step.{packet_by, line_effect}
+use Rattle.gateway_core.specs.Step.{State, Received, Ordered, Effect, told_of, radio_of, reply_of, line_with}
+use Rattle.gateway_core.specs.Step.{packet_effect, line_effect}
 use Rattle.gateway_core.specs.Step.{order_effect, sending_effect, telegram_sent, removal, if_supported, longest_line}
 use Rattle.gateway_core.specs.Step.{base_query, known_of}
-use Rattle.gateway_core.specs.Telling.{IsPacketOf, RadioIsTold}
-use Rattle.gateway_core.proofs.EffectLemmas.{of_telegram, of_line}
+use Rattle.gateway_core.specs.Telling.{IsReply, IsPacketOf, RadioIsTold}
+use Rattle.gateway_core.proofs.EffectLemmas.{of_packet, of_line}
 
--- the bytes are those of this reply, in the mode that answers, to a telegram that is this query
-abbrev Replies : ℕ → Mode → Kind → Outcome → List ℕ → Type 0
-Replies base mode kind outcome bytes =
-    (query : FourByteQuery) × (kind ≡ FourByte query) × (mode ≡ LearnAnswer)
-    × (reply : Telegram) × (four_byte_reply query outcome base ≡ Some reply) × (bytes ≡ spelling (sent reply))
+-- the bytes are those of a reply to this telegram where this came of its sender
+abbrev Replies : State → Telegram → Outcome → List ℕ → Type 0
+Replies state t outcome bytes =
+    (reply : Telegram) × IsReply state t outcome reply × (bytes ≡ spelling (sent reply))
 
-reply-is : (base : ℕ) (mode : Mode) (kind : Kind) (outcome : Outcome) (bytes : List ℕ)
-    → radio_of (reply_of base mode kind outcome) ≡ Some bytes → Replies base mode kind outcome bytes
-reply-is base LearnAnswer (FourByte query) outcome bytes sent_as =
-    one (four_byte_reply query outcome base) refl sent_as
-  where
-    one : (reply : Option Telegram) → four_byte_reply query outcome base ≡ reply → radio_of reply ≡ Some bytes
-        → Replies base LearnAnswer (FourByte query) outcome bytes
-    one None is sent_as = absurd cc
-    one (Some reply) is sent_as = (query, refl, refl, reply, is, ap (λ o. unwrap_or o bytes) (sym sent_as))
-reply-is base mode kind outcome bytes sent_as = absurd cc
+-- the bytes of a telegram, if there is one
+telegram-in : (t : Option Telegram) (bytes : List ℕ) → radio_of t ≡ Some bytes
+    → (telegram : Telegram) × (t ≡ Some telegram) × (bytes ≡ spelling (sent telegram))
+telegram-in None bytes e = absurd cc
+telegram-in (Some telegram) bytes e = (telegram, refl, ap (λ o. unwrap_or o bytes) (sym e))
 
--- a telegram's effect has no bytes but those, and a teach line with the reply's outcome
-abbrev RepliesSo : State → Telegram → Effect → List ℕ → Type 0
-RepliesSo state t e bytes =
-    (line : TeachLine) × (texts e.desk ≡ text (Teach line))
-    × Replies state.base state.mode (teach_in_of t) line.outcome bytes
+-- a query of universal teach-in is answered where it waits for a reply
+wanted : (wants : Bool) (reply : Option Telegram) (bytes : List ℕ)
+    → radio_of (if wants then reply else None) ≡ Some bytes → (wants ≡ true) × (radio_of reply ≡ Some bytes)
+wanted true reply bytes e = (refl, e)
+wanted false reply bytes e = absurd cc
 
-telegram-replies : (state : State) (t : Telegram) (bytes : List ℕ) → (telegram_effect state t).radio ≡ Some bytes
-    → RepliesSo state t (telegram_effect state t) bytes
-telegram-replies state t bytes =
-    of_telegram (λ e. e.radio ≡ Some bytes → RepliesSo state t e bytes) state t (record {
-      ignores = λ e. absurd cc;
-      looks = λ e. absurd cc;
-      reads = λ line e. absurd cc;
-      admits = λ learning eep maker e.
-          let known : Device = record { id = t.sender; eep = eep; maker = maker } in (
-            told_of known Accepted,
-            append-nil _,
-            reply-is state.base state.mode (teach_in_of t) Accepted bytes e,
-          );
-      refuses = λ line is e.
-          (line, append-nil _, reply-is state.base state.mode (teach_in_of t) line.outcome bytes e);
+reply-is : (state : State) (t : Telegram) (mode : Mode) (kind : Kind) (outcome : Outcome) (bytes : List ℕ)
+    → state.mode ≡ mode → teach_in_of t ≡ kind → Hears mode kind
+    → radio_of (reply_of state.base mode kind outcome) ≡ Some bytes → Replies state t outcome bytes
+reply-is state t mode (Ute query) outcome bytes in_mode is hears e =
+    let (wants, sent_as) = wanted (wants_reply query) (ute_reply query outcome state.base) bytes e in
+    let (reply, says, spelled) = telegram-in (ute_reply query outcome state.base) bytes sent_as in
+    (reply, inr (query, is, wants, subst LearnsByTold (sym in_mode) hears, says), spelled)
+reply-is state t LearnAnswer (FourByte query) outcome bytes in_mode is hears e =
+    let (reply, says, spelled) = telegram-in (four_byte_reply query outcome state.base) bytes e in
+    (reply, inl (query, is, in_mode, says), spelled)
+reply-is state t mode kind outcome bytes in_mode is hears e = absurd cc
+
+-- a packet's effect has no bytes but those, and a teach line with the reply's outcome
+abbrev RepliesSo : State → Packet → Effect → List ℕ → Type 0
+RepliesSo state packet e bytes =
+    (t : Telegram) × (telegram_of packet ≡ Ok t) × (line : TeachLine) × (texts e.desk ≡ text (Teach line))
+    × Replies state t line.outcome bytes
+
+packet-replies : (state : State) (packet : Packet) (bytes : List ℕ) → (packet_effect state packet).radio ≡ Some bytes
+    → RepliesSo state packet (packet_effect state packet) bytes
+packet-replies state packet bytes =
+    of_packet (λ e. e.radio ≡ Some bytes → RepliesSo state packet e bytes) state packet (record {
+      telegrams = λ t carried.
+          let replies = λ (outcome : Outcome).
+          reply-is state t state.mode (teach_in_of t) outcome bytes refl refl in record {
+            ignores = λ e. absurd cc;
+            looks = λ e. absurd cc;
+            reads = λ line e. absurd cc;
+            admits = λ hears eep maker e.
+                let known : Device = record { id = t.sender; eep = eep; maker = maker } in
+                (t, carried, told_of known Accepted, append-nil _, replies Accepted hears e);
+            deletes = λ learning (query, asked, wants) e.
+                let hears = subst (Hears state.mode) (sym asked) learning in
+                let line = line_with t.sender (teach_in_of t) Deleted in
+                (t, carried, line, append-nil _, replies line.outcome hears e);
+            refuses = λ hears line is e. (t, carried, line, append-nil _, replies line.outcome hears e);
+          };
+      passes = λ e. absurd cc;
+      hears = λ response e. absurd cc;
     })
-
--- a packet's effect has no bytes but those of its telegram's
-packet-replies : (state : State) (packet : Packet) (bytes : List ℕ) (response : Option Response)
-    (telegram : Result Telegram TelegramFault) → telegram_of packet ≡ telegram
-    → (packet_by state response telegram).radio ≡ Some bytes
-    → (t : Telegram) × (telegram_of packet ≡ Ok t) × RepliesSo state t (packet_by state response telegram) bytes
-packet-replies state packet bytes (Some response) telegram is e = absurd cc
-packet-replies state packet bytes None (Ok t) is e = (t, is, telegram-replies state t bytes e)
-packet-replies state packet bytes None (Err fault) is e = absurd cc
 
 -- a line's effect that has bytes tells that it is done
 line-sends : (state : State) (bytes : List ℕ) (line : List ℕ) → (line_effect state line).radio ≡ Some bytes
@@ -168,17 +176,13 @@ line-orders state line bytes =
 
 pub radio_is_told : RadioIsTold
 radio_is_told state (Received packet) Taken bytes e =
-    let replies = packet-replies state packet bytes (response_in packet) (telegram_of packet) refl e in
-    let (t, carried, (line, told, (query, asked, answering, reply, says, sent_as))) = replies in (
+    let (t, carried, line, told, (reply, says, sent_as)) = packet-replies state packet bytes e in (
       refl,
       inl (record {
         packet = packet;
         received = refl;
         telegram = t;
         carried = carried;
-        query = query;
-        asked = asked;
-        answering = answering;
         line = line;
         told = told;
         reply = reply;

@@ -15,7 +15,7 @@ use Rattle.erp1_telegrams.specs.declared.eep.Eep.{Eep}
 use Rattle.erp1_telegrams.specs.Telegram.{Telegram}
 use Rattle.profiles_rps.specs.Reading.{Entry}
 use Rattle.device_registry.specs.declared.device.Device.{Device}
-use Rattle.device_registry.specs.Devices.{most_devices, Learned, Devices, is_full, Change, learned}
+use Rattle.device_registry.specs.Devices.{most_devices, Learned, Devices, is_full, Change, learned, forgotten}
 use Rattle.device_registry.proofs.ForCallers.{few_are_held}
 use Rattle.device_registry.specs.Holding.{HasDevices, MayFind, AreRegistries, Keeps, Pends}
 use Rattle.teach_in.specs.declared.mode.Mode.{Mode}
@@ -29,7 +29,7 @@ use Rattle.teach_in.specs.Telegrams.{teach_in_of}
 use Rattle.teach_in.specs.Verdicts.{plan_of}
 use Rattle.teach_in.proofs.ForCallers.{either, of_plan}
 use Rattle.json_lines.specs.declared.fixed.ErrorName.TheVariants as error
-use Rattle.gateway_core.specs.declared.handler.changes.Entered.{Entered}
+use Rattle.gateway_core.specs.declared.handler.changes.Committed.{Committed}
 use Rattle.gateway_core.specs.declared.refusal.Cause as told
 use Rattle.gateway_core.specs.declared.refusal.Refusal.{Refusal}
 use Rattle.gateway_core.specs.declared.refusal.Refusal.TheVariants.{Before, AtWrite}
@@ -43,7 +43,7 @@ use Rattle.actuator_commands.specs.declared.orders.OrderFault.{OrderFault}
 use Rattle.actuator_commands.specs.Orders.{order_of}
 use Rattle.gateway_core.specs.Step.{order_effect, line_effect, longest_line}
 use Rattle.gateway_core.specs.Step.{reading_effect, case_effect, data_case, effect, change_of, needs, with_change}
-use Rattle.gateway_core.specs.Step.{state_after, with_mode, plan_effect, tells_sender, radio_of, reply_of, refused_line}
+use Rattle.gateway_core.specs.Step.{state_after, with_mode, plan_effect, tells_sender, radio_of, reply_of, line_with}
 use Rattle.gateway_core.specs.Step.{if_supported, sets, denied, accepts, told_of}
 use Rattle.gateway_core.specs.Step.{answer_by, telegram_sent}
 use Rattle.gateway_core.specs.Profiles.{readings_of}
@@ -53,7 +53,7 @@ use Rattle.gateway_core.specs.Stops.{nothing_left, told, pending, Safe}
 use Rattle.gateway_core.specs.Handling.{HandlerValue, Went, Handles}
 use Rattle.gateway_core.specs.Tries.{state_of, Gives, IsMade, IsPending, Comes, Tries, answer_from, counts_from}
 use Rattle.gateway_core.specs.Tries.{mode_from}
-use Rattle.gateway_core.specs.Tries.{IsEntering, Enters}
+use Rattle.gateway_core.specs.Tries.{IsRefused, RegistryAlone, Enters, Erases}
 
 -- what is known, of its parts
 abbrev pub known_with : ℕ → Mode → Counts → Devices → State
@@ -129,9 +129,13 @@ addition-need devices known full done first second =
 
 pub plan-need : (state : State) (t : Telegram) → IsTrue (plan_effect state t true (plan_of t state.mode false)).need
 plan-need state t =
-    of_plan (λ plan. IsTrue (plan_effect state t true plan).need) t refl state.mode false
-    (λ learning eep maker. addition-need state.devices (record { id = t.sender; eep = eep; maker = maker }) _ _ refl refl)
-    (λ outcome is. refl)
+    of_plan (λ plan. IsTrue (plan_effect state t true plan).need) t state.mode false (record {
+      silent = refl;
+      adds = λ hears eep maker.
+          addition-need state.devices (record { id = t.sender; eep = eep; maker = maker }) _ _ refl refl;
+      forgets = λ told asks. refl;
+      refuses = λ hears outcome is. refl;
+    })
 
 pub data-need : (state : State) (t : Telegram) (known : Option Device)
     → IsTrue (case_effect state t (data_case known)).need
@@ -158,21 +162,23 @@ pub taught-answer : (state : State) (kind : Teach) (line : TeachLine) (answer : 
     → answer ≡ record { radio = radio_of (reply_of state.base state.mode kind outcome); desk = desk }
     → answer ≡ answer_by (tells_sender state kind line)
 taught-answer state kind line answer outcome desk is says e =
-    e ∙ ap (λ o. let a : Answer = record { radio = radio_of (reply_of state.base state.mode kind o); desk = desk } in a) is
+    e
+    ∙ ap (λ o. let a : Answer =
+    record { radio = radio_of (reply_of state.base state.mode kind o); desk = desk } in a) is
     ∙ ap (λ d. let a : Answer =
     record { radio = radio_of (reply_of state.base state.mode kind line.outcome); desk = d } in a)
     (says ∙ sym (append-nil _))
 
 -- a sender is refused with the line of its telegram
 pub refused-gives : (done : Done) (state : State) (t : Telegram) (kind : Teach) (id : ℕ) (line : TeachLine)
-    (outcome : Outcome) → kind ≡ teach_in_of t → id ≡ t.sender → refused_line id kind outcome ≡ line
+    (outcome : Outcome) → kind ≡ teach_in_of t → id ≡ t.sender → line_with id kind outcome ≡ line
     → Gives done (tells_sender state kind line)
     → Gives done (plan_effect state t true (Refuse outcome))
 refused-gives done state t kind id line outcome is sent_by told =
     subst (Gives done)
     (ap (tells_sender state kind) (sym told)
-    ∙ ap (λ i. tells_sender state kind (refused_line i kind outcome)) sent_by
-    ∙ ap (λ k. tells_sender state k (refused_line t.sender k outcome)) is)
+    ∙ ap (λ i. tells_sender state kind (line_with i kind outcome)) sent_by
+    ∙ ap (λ k. tells_sender state k (line_with t.sender k outcome)) is)
 
 -- what comes of a device that is to be learned: where the registry is full, and where it is not
 pub record Adds (known : Device) (full done : Effect) : Type 0 where
@@ -180,6 +186,11 @@ pub record Adds (known : Device) (full done : Effect) : Type 0 where
   pub stays : full.change ≡ None
   pub done_needs : IsTrue done.need
   pub learns : done.change ≡ Some (learned known)
+
+-- what comes of a sender that is to be forgotten
+pub record Drops (id : ℕ) (done : Effect) : Type 0 where
+  pub needs : IsTrue done.need
+  pub forgets : done.change ≡ Some (forgotten id)
 
 pub by-desk : (known : Device) → Adds known (tells (Error error.Full ∷ [])) (learns known)
 by-desk known = record { full_needs = refl; stays = refl; done_needs = refl; learns = refl }
@@ -297,7 +308,58 @@ module _ {S : Type 0} (g : Ghosts S) where
   reading-comes old new devices t eep None done gives keeps = (gives, keeps)
   reading-comes old new devices t eep (Some readings) done gives keeps = (gives, keeps)
 
-  -- ---- a device that is entered
+  -- ---- a device that is entered or erased
+
+  -- over another registry
+  pub alone : (base : ℕ) (mode : Mode) (counts : Counts) (old new : Held S) (IsSo : Devices → Type 0)
+      → (HasCleanDisk (state g new) → HasCleanDisk (state g old))
+      → (HasCleanDisk (state g new) → AreRegistries (state g new).may_leave)
+      → (HasCleanDisk (state g new) → (devices : Devices) → HasDevices (state g old) devices → IsSo devices)
+      → RegistryAlone g (record { base = base; mode = mode; counts = counts; registry = old }) IsSo
+      (record { base = base; mode = mode; counts = counts; registry = new })
+  alone base mode counts old new IsSo clean registries is_so =
+      record { same = refl; clean = clean; registries = λ honest before. registries honest; is_so = is_so }
+
+  -- with nothing asked of the registry
+  pub alone-unasked : (v : HandlerValue S) (IsSo : Devices → Type 0)
+      → ((devices : Devices) → Keeps (state g v.registry) (state g v.registry) devices → IsSo devices)
+      → RegistryAlone g v IsSo v
+  alone-unasked v IsSo is_so = record {
+    same = refl;
+    clean = λ honest. honest;
+    registries = λ honest before. before;
+    is_so = λ honest devices has. is_so devices (keeps-same (state g v.registry) devices has);
+  }
+
+  -- where the registry alone has changed
+  tries-registry : (old new : HandlerValue S) (IsSo : Devices → Type 0) (effect : State → Effect)
+      (r : Result Done Refusal) → RegistryAlone g old IsSo new
+      → ((devices : Devices) → IsSo devices
+      → Comes g old.registry new.registry devices (effect (state_of old devices)) r)
+      → Tries g old effect r new
+  tries-registry old new IsSo effect r alone comes =
+      record {
+        base = ap (λ (v : HandlerValue S). v.base) alone.same;
+        mode = ap (λ (v : HandlerValue S). v.mode) alone.same;
+        counts = ap (λ (v : HandlerValue S). v.counts) alone.same;
+        clean = alone.clean;
+        registries = alone.registries;
+        comes = λ honest devices has. comes devices (alone.is_so honest devices has);
+      }
+
+  -- what is done by what the handler knows then is what is done by what it knew
+  gives-before : (old new : HandlerValue S) (done : Done) (effect : State → Effect) (devices : Devices)
+      → new ≡ record old { registry = new.registry } → Gives done (effect (state_of new devices))
+      → Gives done (effect (state_of old devices))
+  gives-before old new done effect devices same =
+      subst (λ s. Gives done (effect s)) (ap (λ v. state_of v devices) same)
+
+  -- a change that is refused
+  refused-comes : (old new : Held S) (devices : Devices) (effect : Effect) (change : Change) (refusal : Refusal)
+      → IsTrue effect.need → effect.change ≡ Some change → IsRefused g old new devices change refusal
+      → Comes g old new devices effect (Err refusal)
+  refused-comes old new devices effect change (Before cause) need changes keeps = (need, keeps)
+  refused-comes old new devices effect change (AtWrite cause) need changes pends = rw changes pends
 
   -- a device is not learned: the write was tried, though the registry is full perhaps
   addition-pending : (old new : Held S) (devices : Devices) (known : Device) (full done : Effect) → Adds known full done
@@ -311,32 +373,16 @@ module _ {S : Type 0} (g : Ghosts S) where
           rw adds.stays (adds.full_needs, keeps-full (state g old) (state g new) known devices is pends)
       one false is = rw adds.learns pends
 
-  -- the device is entered or not, and what comes of it is answered so
-  pub tries-entering : (old new : HandlerValue S) (known : Device) (result : Result (Option Entered) Refusal)
-      (effect : State → Effect) (r : Result Done Refusal) → Enters g old known result new
-      → ((devices : Devices) → IsEntering g old.registry new.registry known devices result
-      → Comes g old.registry new.registry devices (effect (state_of old devices)) r)
-      → Tries g old effect r new
-  tries-entering old new known result effect r enters comes =
-      record {
-        base = ap (λ (v : HandlerValue S). v.base) enters.same;
-        mode = ap (λ (v : HandlerValue S). v.mode) enters.same;
-        counts = ap (λ (v : HandlerValue S). v.counts) enters.same;
-        clean = enters.clean;
-        registries = enters.registries;
-        comes = λ honest devices has. comes devices (enters.entering honest devices has);
-      }
-
   module _ (old new : HandlerValue S) (known : Device) (full done : State → Effect)
       (adds : (devices : Devices) → Adds known (full (state_of old devices)) (done (state_of old devices))) where
     pub tries-refused : (refusal : Refusal) → Enters g old known (Err refusal) new
         → Tries g old (λ state. addition state.devices known (full state) (done state)) (Err refusal) new
     tries-refused (Before cause) enters =
-        tries-entering old new known _ _ _ enters
+        tries-registry old new _ _ _ enters.alone
         (λ devices keeps.
         let all = adds devices in (addition-need devices known _ _ all.full_needs all.done_needs, keeps))
     tries-refused (AtWrite cause) enters =
-        tries-entering old new known _ _ _ enters
+        tries-registry old new _ _ _ enters.alone
         (λ devices pends.
         addition-pending old.registry new.registry devices known (full (state_of old devices))
         (done (state_of old devices)) (adds devices) pends)
@@ -345,27 +391,47 @@ module _ {S : Type 0} (g : Ghosts S) where
         → ((devices : Devices) → Gives told (full (state_of new devices)))
         → Tries g old (λ state. addition state.devices known (full state) (done state)) (Ok told) new
     tries-full told enters gives =
-        tries-entering old new known _ _ _ enters
+        tries-registry old new _ _ _ enters.alone
         (λ devices (is, keeps).
-        let here = subst (λ s. Gives told (full s)) (ap (λ v. state_of v devices) enters.same) (gives devices) in
-        rw (is, (adds devices).stays) (here, keeps))
+        rw (is, (adds devices).stays)
+        (gives-before old new told full devices enters.alone.same (gives devices), keeps))
 
     -- there is no memory to tell it
     pub tries-untold : (cause : told.Cause) → Enters g old known (Ok None) new
         → Tries g old (λ state. addition state.devices known (full state) (done state)) (Err (Before cause)) new
     tries-untold cause enters =
-        tries-entering old new known _ _ _ enters
+        tries-registry old new _ _ _ enters.alone
         (λ devices (is, keeps).
         let all = adds devices in (addition-need devices known _ _ all.full_needs all.done_needs, keeps))
 
-    pub tries-entered : (entered : Entered) (told : Done) → Enters g old known (Ok (Some entered)) new
+    pub tries-entered : (committed : Committed) (told : Done) → Enters g old known (Ok (Some committed)) new
         → ((devices : Devices) → Gives told (done (state_of new devices)))
         → Tries g old (λ state. addition state.devices known (full state) (done state)) (Ok told) new
-    tries-entered entered told enters gives =
-        tries-entering old new known _ _ _ enters
+    tries-entered committed told enters gives =
+        tries-registry old new _ _ _ enters.alone
         (λ devices (is, commits).
-        let here = subst (λ s. Gives told (done s)) (ap (λ v. state_of v devices) enters.same) (gives devices) in
-        rw (is, (adds devices).learns) (here, commits))
+        rw (is, (adds devices).learns)
+        (gives-before old new told done devices enters.alone.same (gives devices), commits))
+
+  module _ (old new : HandlerValue S) (line : TeachLine) (effect : State → Effect)
+      (erases : (devices : Devices) → Drops line.id (effect (state_of old devices))) where
+    pub tries-unerased : (refusal : Refusal) → Erases g old line (Err refusal) new
+        → Tries g old effect (Err refusal) new
+    tries-unerased refusal erased =
+        tries-registry old new _ _ _ erased.alone
+        (λ devices.
+        let all = erases devices in
+        refused-comes old.registry new.registry devices (effect (state_of old devices)) (forgotten line.id) refusal
+        all.needs all.forgets)
+
+    pub tries-erased : (committed : Committed) (told : Done) → Erases g old line (Ok committed) new
+        → ((devices : Devices) → Gives told (effect (state_of new devices)))
+        → Tries g old effect (Ok told) new
+    tries-erased committed told erased gives =
+        tries-registry old new _ _ _ erased.alone
+        (λ devices commits.
+        rw ((erases devices).forgets)
+        (gives-before old new told effect devices erased.alone.same (gives devices), commits))
 
   -- an order's telegram is sent, or it is told why there is none
   pub telegram-comes : (old new : Held S) (devices : Devices) (asked : Bool)

@@ -1,5 +1,5 @@
 -- Lives of the gateway, each ended by a stop, and what later ones find.
-use Rattle.std.specs.Prelude.{◌≡◌, ◌≢◌, ℕ, List, [], ◌∷◌, ◌++◌, Option, Some, None}
+use Rattle.std.specs.Prelude.{◌≡◌, ◌≢◌, ◌⊎◌, ℕ, List, [], ◌∷◌, ◌++◌, Option, Some, None}
 use Rattle.std.specs.List.{AllByRecursion}
 use Rattle.std.specs.FinMap.{get}
 use Rattle.device_registry.specs.Devices.{Devices, Change}
@@ -47,25 +47,25 @@ written state item Taken = change_of state item
 written state item (Refused cause) = None
 written state item (RefusedAtWrite cause) = change_of state item
 
-abbrev pub IsOfOther : ℕ → Option Change → Type 0
-IsOfOther sender None = Unit {0}
-IsOfOther sender (Some change) = change.sender ≢ sender
+-- the change, if any, is of another sender, or it is this one again
+abbrev pub Agrees : Change → Option Change → Type 0
+Agrees it None = Unit {0}
+Agrees it (Some change) = (change.sender ≢ it.sender) ⊎ (change ≡ it)
 
--- none of the items learns or forgets the sender, be it taken or refused at its write
-abbrev pub Spares : ℕ → State → List Item → List Fate → Type 0
-Spares sender state (item ∷ items) (fate ∷ fates) =
-    IsOfOther sender (written state item fate) × Spares sender (state_with state item fate) items fates
-Spares sender state items fates = Unit {0}
+-- each item that learns or forgets the sender asks for this change again, be it taken or refused at its write
+abbrev pub Spares : Change → State → List Item → List Fate → Type 0
+Spares it state (item ∷ items) (fate ∷ fates) =
+    Agrees it (written state item fate) × Spares it (state_with state item fate) items fates
+Spares it state items fates = Unit {0}
 
-abbrev pub StopSpares : ℕ → State → Option Item → Type 0
-StopSpares sender state None = Unit {0}
-StopSpares sender state (Some item) = IsOfOther sender (change_of state item)
+abbrev pub StopSpares : Change → State → Option Item → Type 0
+StopSpares it state None = Unit {0}
+StopSpares it state (Some item) = Agrees it (change_of state item)
 
-abbrev pub LifeSpares : ℕ → Life → Type 0
-LifeSpares sender life =
-    Spares sender (begun life.base life.found) life.items life.fates × StopSpares sender life.last life.stopped
+abbrev pub LifeSpares : Change → Life → Type 0
+LifeSpares it life = Spares it (begun life.base life.found) life.items life.fates × StopSpares it life.last life.stopped
 
--- the life told that the change is made, and then nothing in it learned or forgot the sender
+-- the life told that the change is made, and then nothing in it learned or forgot the sender otherwise
 pub record Tells (life : Life) (change : Change) : Type 0 where
   pub before : List Item
   pub item : Item
@@ -78,11 +78,12 @@ pub record Tells (life : Life) (change : Change) : Type 0 where
   pub fates_are : life.fates ≡ fates ++ Taken ∷ more
   pub run : Run (begun life.base life.found) before fates answers at
   pub asks : change_of at item ≡ Some change
-  pub spared : Spares change.sender (state_after at item) after more
-  pub stop : StopSpares change.sender life.last life.stopped
+  pub spared : Spares change (state_after at item) after more
+  pub stop : StopSpares change life.last life.stopped
 
--- what is told learned or forgotten is found so by every later life, until an item learns or forgets the sender
+-- what is told learned or forgotten is found so by every later life, until an item learns the sender otherwise, or
+-- forgets it where it was told learned
 abbrev pub LivesKeep : Type 0
 LivesKeep = (life : Life) (change : Change) (lives : List Life) (last : Devices) →
-    IsLife life → Tells life change → AllByRecursion (LifeSpares change.sender) lives → AreLives life.left lives last
+    IsLife life → Tells life change → AllByRecursion (LifeSpares change) lives → AreLives life.left lives last
     → get last change.sender ≡ change.entry

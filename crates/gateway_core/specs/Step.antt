@@ -16,10 +16,12 @@ use Rattle.teach_in.specs.declared.outcome.Outcome.{Outcome}
 use Rattle.teach_in.specs.declared.outcome.Outcome.TheVariants.{Accepted, Deleted}
 use Rattle.teach_in.specs.declared.outcome.Outcome.TheVariants as outcome
 use Rattle.teach_in.specs.declared.plans.Plan.{Plan}
-use Rattle.teach_in.specs.declared.plans.Plan.TheVariants.{Silent, Add, Refuse}
+use Rattle.teach_in.specs.declared.plans.Plan.TheVariants.{Silent, Add, Forget, Refuse}
 use Rattle.teach_in.specs.declared.telegrams.Teach.{Teach}
 use Rattle.teach_in.specs.declared.telegrams.Teach.TheVariants as teach
 use Rattle.teach_in.specs.FourByte.{eep_in, maker_in, four_byte_reply}
+use Rattle.teach_in.specs.Ute as ute
+use Rattle.teach_in.specs.Ute.{ute_reply, wants_reply}
 use Rattle.teach_in.specs.Profiles.{supported}
 use Rattle.teach_in.specs.Telegrams.{teach_in_of}
 use Rattle.teach_in.specs.Verdicts.{plan_of}
@@ -81,8 +83,8 @@ told_of known outcome = record { eep = Some known.eep; id = known.id; maker = kn
 
 -- ---- a packet
 
--- A packet of which the desk is told nothing. The counts are own choice: each packet raises just one. The store was asked
--- for its sender, or it was not.
+-- A packet of which the desk is told nothing. The counts are own choice: each packet raises just one. The store was
+-- asked for its sender, or it was not.
 abbrev pub unsaid : Bool → Effect
 unsaid asked = record nothing { count = Some count.Ignored; need = asked }
 
@@ -118,7 +120,7 @@ kind_case teach.Answer known = Replies
 kind_case teach.Contact known = Teaches
 kind_case teach.Bare known = Teaches
 kind_case (teach.FourByte query) known = Teaches
-kind_case teach.Ute known = Teaches
+kind_case (teach.Ute query) known = Teaches
 kind_case teach.Plain known = data_case known
 
 abbrev pub case_of : State → Telegram → Case
@@ -132,9 +134,10 @@ reading_effect t eep (Some readings) =
     counted_line count.Reading
     (Reading (record { dbm = t.dbm; eep = eep; id = t.sender; readings = readings }))
 
--- the reply that is sent by radio where this comes of a telegram's sender, if it gets one: a 4BS query does, in the mode
--- that answers. Own choice
+-- the reply that is sent by radio where this comes of a telegram's sender, if it gets one: a query of universal
+-- teach-in does that waits for one, and a 4BS query in the mode that answers. For 4BS, the mode is own choice
 abbrev pub reply_of : ℕ → Mode → Teach → Outcome → Option Telegram
+reply_of base mode (teach.Ute query) outcome = if wants_reply query then ute_reply query outcome base else None
 reply_of base LearnAnswer (teach.FourByte query) outcome = four_byte_reply query outcome base
 reply_of base mode kind outcome = None
 
@@ -162,11 +165,19 @@ accepts state kind known =
       mode = mode_after_one state.mode;
     }
 
--- the line of a sender that is refused: with the profile and the maker of its query, if it told them
-abbrev pub refused_line : ℕ → Teach → Outcome → TeachLine
-refused_line id (teach.FourByte query) outcome =
+-- the line of what came of a sender that this telegram does not teach: with the profile and the maker of its query, if
+-- it told them
+abbrev pub line_with : ℕ → Teach → Outcome → TeachLine
+line_with id (teach.FourByte query) outcome =
     record { eep = Some (eep_in query); id = id; maker = Some (maker_in query); outcome = outcome }
-refused_line id kind outcome = record { eep = None; id = id; maker = None; outcome = outcome }
+line_with id (teach.Ute query) outcome =
+    record { eep = Some (ute.eep_in query); id = id; maker = Some (ute.maker_in query); outcome = outcome }
+line_with id kind outcome = record { eep = None; id = id; maker = None; outcome = outcome }
+
+-- the sender is forgotten, whether it is learned or not
+abbrev pub deletes : State → Teach → ℕ → Effect
+deletes state kind id =
+    record (tells_sender state kind (line_with id kind Deleted)) { change = Some (forgotten id) }
 
 -- what comes of what is planned about the sender of a telegram, for which the store was asked or not
 abbrev pub plan_effect : State → Telegram → Bool → Plan → Effect
@@ -174,7 +185,9 @@ plan_effect state t asked Silent = unsaid asked
 plan_effect state t asked (Add known) =
     addition state.devices known (tells_sender state (teach_in_of t) (told_of known outcome.Full))
     (accepts state (teach_in_of t) known)
-plan_effect state t asked (Refuse outcome) = tells_sender state (teach_in_of t) (refused_line t.sender (teach_in_of t) outcome)
+plan_effect state t asked (Forget id) = deletes state (teach_in_of t) id
+plan_effect state t asked (Refuse outcome) =
+    tells_sender state (teach_in_of t) (line_with t.sender (teach_in_of t) outcome)
 
 -- whether a sender is learned
 abbrev pub is_learned : Devices → ℕ → Bool

@@ -1,16 +1,18 @@
 -- Of what a teach line tells, and what is told where bytes are sent by radio.
-use Rattle.std.specs.Prelude.{◌≡◌, ◌⊎◌, ℕ, List, Some, None, Ok}
+use Rattle.std.specs.Prelude.{◌≡◌, ◌⊎◌, ℕ, true, List, Some, None, Ok}
 use Rattle.esp3_frames.specs.Packet.{Packet, spelling}
 use Rattle.erp1_telegrams.specs.Telegram.{Telegram, telegram_of, sent}
 use Rattle.device_registry.specs.declared.device.Device.{Device}
 use Rattle.device_registry.specs.Devices.{Change, device_of, learned, forgotten}
 use Rattle.teach_in.specs.declared.four_byte.FourByteQuery.{FourByteQuery}
-use Rattle.teach_in.specs.declared.mode.Mode.TheVariants.{LearnAnswer}
+use Rattle.teach_in.specs.declared.mode.Mode.TheVariants.{Learn, LearnAnswer}
 use Rattle.teach_in.specs.declared.outcome.Outcome.{Outcome}
 use Rattle.teach_in.specs.declared.outcome.Outcome.TheVariants.{Accepted, Deleted}
-use Rattle.teach_in.specs.declared.telegrams.Teach.TheVariants.{FourByte}
+use Rattle.teach_in.specs.declared.telegrams.Teach.TheVariants.{FourByte, Ute}
+use Rattle.teach_in.specs.declared.ute.UteQuery.{UteQuery}
 use Rattle.teach_in.specs.FourByte.{four_byte_reply}
 use Rattle.teach_in.specs.Telegrams.{teach_in_of}
+use Rattle.teach_in.specs.Ute.{eep_in, maker_in, wants_reply, request_in, deletion, ute_reply}
 use Rattle.actuator_commands.specs.declared.orders.Order.{Order}
 use Rattle.actuator_commands.specs.declared.orders.Order.TheVariants.{Base}
 use Rattle.actuator_commands.specs.Orders.{order_of}
@@ -20,43 +22,59 @@ use Rattle.gateway_core.specs.Step.{State, Item, Received, Ordered, Effect, effe
 use Rattle.gateway_core.specs.Step.{base_query, known_of}
 use Rattle.gateway_core.specs.Run.{Fate, Taken, answer_with}
 
--- What a line with this outcome tells of an effect: that it learns a device, or forgets it as it stands, or that it
--- changes nothing, neither what is learned nor the mode.
-abbrev pub Tells : State → Effect → TeachLine → Outcome → Type 0
-Tells state e line Accepted =
+-- A device that is told deleted: as it stands where the desk has ordered so, and by radio as its query tells it,
+-- learned or not.
+abbrev pub IsDeleted : State → Item → Device → Type 0
+IsDeleted state (Ordered line) known = device_of state.devices known.id ≡ Some known
+IsDeleted state (Received packet) known =
+    (t : Telegram) × (telegram_of packet ≡ Ok t) × (known.id ≡ t.sender)
+    × (query : UteQuery) × (teach_in_of t ≡ Ute query) × (request_in query ≡ deletion)
+    × (known.eep ≡ eep_in query) × (known.maker ≡ Some (maker_in query))
+
+-- What a line with this outcome tells of an effect: that it learns a device, or forgets one of which this holds, or
+-- that it changes nothing, neither what is learned nor the mode.
+abbrev pub Tells : (Device → Type 0) → Effect → TeachLine → Outcome → Type 0
+Tells Gone e line Accepted =
     (known : Device) × (text (Teach line) ≡ text (Teach (told_of known Accepted)))
     × (e.change ≡ Some (learned known))
-Tells state e line Deleted =
+Tells Gone e line Deleted =
     (known : Device) × (text (Teach line) ≡ text (Teach (told_of known Deleted)))
-    × (device_of state.devices known.id ≡ Some known) × (e.change ≡ Some (forgotten known.id))
-Tells state e line outcome = (e.change ≡ None) × (e.mode ≡ None)
+    × Gone known × (e.change ≡ Some (forgotten known.id))
+Tells Gone e line outcome = (e.change ≡ None) × (e.mode ≡ None)
 
 -- a teach line is told only where the item is taken, and of what it does
 abbrev pub TeachLinesAreTold : Type 0
 TeachLinesAreTold = (state : State) (item : Item) (fate : Fate) (line : TeachLine)
     → (answer_with state item fate).desk ≡ text (Teach line)
-    → (fate ≡ Taken) × Tells state (effect state item) line line.outcome
+    → (fate ≡ Taken) × Tells (IsDeleted state item) (effect state item) line line.outcome
 
 -- and an item that is taken and asks for a change is answered with the line that tells it
 abbrev pub ChangesAreTold : Type 0
 ChangesAreTold = (state : State) (item : Item) (change : Change) → change_of state item ≡ Some change
     → (line : TeachLine) × ((answer_with state item Taken).desk ≡ text (Teach line))
-    × Tells state (effect state item) line line.outcome
+    × Tells (IsDeleted state item) (effect state item) line line.outcome
 
--- The bytes are the reply to the query that a packet carries: the mode is the one that answers, the desk is told the
--- query's teach line, and the reply says the outcome of that line.
+-- the telegram that replies to a query where this came of its sender: to a 4BS query in the mode that answers, and to
+-- one of universal teach-in that waits for a reply, in a window for all senders
+abbrev pub IsReply : State → Telegram → Outcome → Telegram → Type 0
+IsReply state t outcome reply =
+    ((query : FourByteQuery) × (teach_in_of t ≡ FourByte query) × (state.mode ≡ LearnAnswer)
+    × (four_byte_reply query outcome state.base ≡ Some reply))
+    ⊎ ((query : UteQuery) × (teach_in_of t ≡ Ute query) × (wants_reply query ≡ true)
+    × ((state.mode ≡ Learn) ⊎ (state.mode ≡ LearnAnswer))
+    × (ute_reply query outcome state.base ≡ Some reply))
+
+-- The bytes are the reply to the query that a packet carries: the desk is told the query's teach line, and the reply
+-- says the outcome of that line.
 pub record RepliesTo (state : State) (item : Item) (bytes : List ℕ) : Type 0 where
   pub packet : Packet
   pub received : item ≡ Received packet
   pub telegram : Telegram
   pub carried : telegram_of packet ≡ Ok telegram
-  pub query : FourByteQuery
-  pub asked : teach_in_of telegram ≡ FourByte query
-  pub answering : state.mode ≡ LearnAnswer
   pub line : TeachLine
   pub told : (answer_to state item).desk ≡ text (Teach line)
   pub reply : Telegram
-  pub says : four_byte_reply query line.outcome state.base ≡ Some reply
+  pub says : IsReply state telegram line.outcome reply
   pub sent_as : bytes ≡ spelling (sent reply)
 
 -- the packet that an order sends: the question for the base ID, or the order's telegram

@@ -4,22 +4,23 @@ use Rattle.sqlite.specs.Held.{Held, state}
 use Rattle.sqlite.specs.State.{HasCleanDisk}
 use Rattle.sqlite_trees.specs.declared.store.Store.{Ghosts}
 use Rattle.device_registry.specs.declared.device.Device.{Device}
-use Rattle.device_registry.specs.Devices.{Devices, Change, is_full, learned}
+use Rattle.device_registry.specs.Devices.{Devices, Change, is_full, learned, forgotten}
 use Rattle.device_registry.specs.Holding.{HasDevices, AreRegistries, Keeps, Commits, Pends}
 use Rattle.teach_in.specs.declared.mode.Mode.{Mode}
 use Rattle.teach_in.specs.declared.outcome.Outcome.{Outcome}
 use Rattle.teach_in.specs.declared.outcome.Outcome.TheVariants.{Accepted}
 use Rattle.teach_in.specs.declared.telegrams.Teach.{Teach}
-use Rattle.teach_in.specs.declared.telegrams.Teach.TheVariants.{FourByte}
+use Rattle.teach_in.specs.declared.telegrams.Teach.TheVariants.{FourByte, Ute}
 use Rattle.teach_in.specs.FourByte.{four_byte_code}
+use Rattle.teach_in.specs.Ute.{ute_code}
 use Rattle.json_lines.specs.declared.counts.Count.TheVariants as count
 use Rattle.json_lines.specs.declared.counts.Counts.{Counts}
 use Rattle.gateway_core.specs.declared.handler.done.Done.{Done}
-use Rattle.gateway_core.specs.declared.handler.changes.Entered.{Entered}
+use Rattle.gateway_core.specs.declared.handler.changes.Committed.{Committed}
 use Rattle.gateway_core.specs.declared.refusal.Refusal.{Refusal}
 use Rattle.gateway_core.specs.declared.refusal.Refusal.TheVariants.{Before, AtWrite}
 use Rattle.json_lines.specs.Counts.{counted, raised}
-use Rattle.json_lines.specs.Lines.{Teach as TeachOf, text}
+use Rattle.json_lines.specs.Lines.{Teach as TeachOf, TeachLine, text}
 use Rattle.gateway_core.specs.Step.{State, Answer, said, Effect, answer_by, told_of, with_mode}
 use Rattle.gateway_core.specs.Refusals.{cause_in}
 use Rattle.gateway_core.specs.Run.{cause_text}
@@ -64,41 +65,67 @@ pub record Tries {S : Type 0} (g : Ghosts S) (old : HandlerValue S) (effect : St
   pub comes : HasCleanDisk (state g new.registry) → (devices : Devices) → HasDevices (state g old.registry) devices
       → Comes g old.registry new.registry devices (effect (state_of old devices)) result
 
--- ---- a device that is entered
+-- ---- a device that is entered or erased
 
 -- a reply to the telegram, if it may get one, can be made where this comes of this sender
 abbrev pub MayReply : Teach → ℕ → Outcome → Type 0
 MayReply (FourByte query) id outcome = (id ≡ query.id) × IsSome (four_byte_code outcome)
+MayReply (Ute query) id outcome = (id ≡ query.id) × IsSome (ute_code outcome)
 MayReply kind id outcome = Unit {0}
 
--- it is told accepted
-abbrev pub IsEntered : Device → Entered → Type 0
-IsEntered known entered =
-    (entered.verdict.id ≡ known.id) × (entered.verdict.outcome ≡ Accepted)
-    × (entered.line ≡ text (TeachOf (told_of known Accepted)))
+-- what is committed is told with this line
+abbrev pub IsCommittedAs : TeachLine → Committed → Type 0
+IsCommittedAs line committed =
+    (committed.verdict.id ≡ line.id) × (committed.verdict.outcome ≡ line.outcome)
+    × (committed.line ≡ text (TeachOf line))
 
-abbrev pub WasEntered : Device → Result (Option Entered) Refusal → Type 0
-WasEntered known (Ok (Some entered)) = IsEntered known entered
-WasEntered known result = Unit {0}
-
-module _ {S : Type 0} (g : Ghosts S) (old new : Held S) (known : Device) (devices : Devices) where
-  -- it is committed, or there is no room, or it is refused
-  abbrev pub IsEntering : Result (Option Entered) Refusal → Type 0
-  IsEntering (Ok (Some entered)) = (is_full devices known.id ≡ false) × Commits (state g new) (learned known) devices
-  IsEntering (Ok None) = (is_full devices known.id ≡ true) × Keeps (state g old) (state g new) devices
-  IsEntering (Err (Before cause)) = Keeps (state g old) (state g new) devices
-  IsEntering (Err (AtWrite cause)) = Pends (state g old) (state g new) (learned known) devices
-
--- a device is entered in the registry, and nothing else changes
-pub record Enters {S : Type 0} (g : Ghosts S) (old : HandlerValue S) (known : Device)
-    (result : Result (Option Entered) Refusal) (new : HandlerValue S) : Type 0 where
+-- the registry alone has changed, and this is so of the devices that it had
+pub record RegistryAlone {S : Type 0} (g : Ghosts S) (old : HandlerValue S) (IsSo : Devices → Type 0)
+    (new : HandlerValue S) : Type 0 where
   pub same : new ≡ record old { registry = new.registry }
-  pub told : WasEntered known result
   pub clean : HasCleanDisk (state g new.registry) → HasCleanDisk (state g old.registry)
   pub registries : HasCleanDisk (state g new.registry) → AreRegistries (state g old.registry).may_leave
       → AreRegistries (state g new.registry).may_leave
-  pub entering : HasCleanDisk (state g new.registry) → (devices : Devices) → HasDevices (state g old.registry) devices
-      → IsEntering g old.registry new.registry known devices result
+  pub is_so : HasCleanDisk (state g new.registry) → (devices : Devices) → HasDevices (state g old.registry) devices
+      → IsSo devices
+
+abbrev pub WasEntered : Device → Result (Option Committed) Refusal → Type 0
+WasEntered known (Ok (Some committed)) = IsCommittedAs (told_of known Accepted) committed
+WasEntered known result = Unit {0}
+
+abbrev pub WasErased : TeachLine → Result Committed Refusal → Type 0
+WasErased line (Ok committed) = IsCommittedAs line committed
+WasErased line result = Unit {0}
+
+module _ {S : Type 0} (g : Ghosts S) (old new : Held S) (devices : Devices) where
+  -- what is refused leaves what was known, and perhaps the change, if its write was tried
+  abbrev pub IsRefused : Change → Refusal → Type 0
+  IsRefused change (Before cause) = Keeps (state g old) (state g new) devices
+  IsRefused change (AtWrite cause) = Pends (state g old) (state g new) change devices
+
+  -- a device is committed, or there is no room, or it is refused
+  abbrev pub IsEntering : Device → Result (Option Committed) Refusal → Type 0
+  IsEntering known (Ok (Some committed)) =
+      (is_full devices known.id ≡ false) × Commits (state g new) (learned known) devices
+  IsEntering known (Ok None) = (is_full devices known.id ≡ true) × Keeps (state g old) (state g new) devices
+  IsEntering known (Err refusal) = IsRefused (learned known) refusal
+
+  -- that a sender is forgotten is committed, or it is refused
+  abbrev pub IsErasing : ℕ → Result Committed Refusal → Type 0
+  IsErasing id (Ok committed) = Commits (state g new) (forgotten id) devices
+  IsErasing id (Err refusal) = IsRefused (forgotten id) refusal
+
+-- a device is entered in the registry
+pub record Enters {S : Type 0} (g : Ghosts S) (old : HandlerValue S) (known : Device)
+    (result : Result (Option Committed) Refusal) (new : HandlerValue S) : Type 0 where
+  pub told : WasEntered known result
+  pub alone : RegistryAlone g old (λ devices. IsEntering g old.registry new.registry devices known result) new
+
+-- a sender is erased there, which this line tells
+pub record Erases {S : Type 0} (g : Ghosts S) (old : HandlerValue S) (line : TeachLine)
+    (result : Result Committed Refusal) (new : HandlerValue S) : Type 0 where
+  pub told : WasErased line result
+  pub alone : RegistryAlone g old (λ devices. IsErasing g old.registry new.registry devices line.id result) new
 
 -- ---- what is answered and known
 

@@ -4,13 +4,17 @@ use Rattle.esp3_frames.specs.Packet.{Packet}
 use Rattle.erp1_telegrams.specs.declared.eep.Eep.{Eep}
 use Rattle.erp1_telegrams.specs.Telegram.{Telegram, telegram_of}
 use Rattle.device_registry.specs.declared.device.Device.{Device}
-use Rattle.device_registry.specs.Devices.{learned}
+use Rattle.device_registry.specs.Devices.{learned, forgotten}
 use Rattle.teach_in.specs.declared.mode.Mode.{Mode}
-use Rattle.teach_in.specs.declared.mode.Mode.TheVariants.{Closed, LearnAs}
+use Rattle.teach_in.specs.declared.mode.Mode.TheVariants.{Closed, Learn, LearnAnswer, LearnAs}
+use Rattle.teach_in.specs.declared.telegrams.Teach.TheVariants.{Ute}
+use Rattle.teach_in.specs.declared.ute.UteQuery.{UteQuery}
+use Rattle.teach_in.specs.Telegrams.{teach_in_of}
+use Rattle.teach_in.specs.Ute.{request_in, deletion}
 use Rattle.gateway_core.specs.Step.{State, Received, change_of, mode_set}
 
--- the packet carries a telegram, and its sender is learned in an open window. A window for one sender is closed then, and
--- any other stays open
+-- the packet carries a telegram, and its sender is learned in an open window, by a query of universal teach-in only in a
+-- window for all senders. A window for one sender is closed then, and any other stays open
 pub record LearnsSender (state : State) (packet : Packet) : Type 0 where
   pub telegram : Telegram
   pub carried : telegram_of packet ≡ Ok telegram
@@ -18,12 +22,27 @@ pub record LearnsSender (state : State) (packet : Packet) : Type 0 where
   pub is_sender : known.id ≡ telegram.sender
   pub change : change_of state (Received packet) ≡ Some (learned known)
   pub learning : state.mode ≢ Closed
+  pub heard : (query : UteQuery) → teach_in_of telegram ≡ Ute query
+      → (state.mode ≡ Learn) ⊎ (state.mode ≡ LearnAnswer)
   pub closes : (eep : Eep) → state.mode ≡ LearnAs eep → mode_set state (Received packet) ≡ Some Closed
   pub stays : (mode : Mode) → mode_set state (Received packet) ≡ Some mode
       → (eep : Eep) × (state.mode ≡ LearnAs eep)
 
--- a packet does so, or it changes neither what is learned nor the mode
-abbrev pub PacketsLearnInWindows : Type 0
-PacketsLearnInWindows = (state : State) (packet : Packet)
+-- the packet carries a query that asks for it, and its sender is forgotten in a window for all senders, which stays
+-- open
+pub record ForgetsSender (state : State) (packet : Packet) : Type 0 where
+  pub telegram : Telegram
+  pub carried : telegram_of packet ≡ Ok telegram
+  pub query : UteQuery
+  pub asked : teach_in_of telegram ≡ Ute query
+  pub deletes : request_in query ≡ deletion
+  pub change : change_of state (Received packet) ≡ Some (forgotten telegram.sender)
+  pub learning : (state.mode ≡ Learn) ⊎ (state.mode ≡ LearnAnswer)
+  pub stays : mode_set state (Received packet) ≡ None
+
+-- a packet does one of them, or it changes neither what is learned nor the mode
+abbrev pub PacketsChangeInWindows : Type 0
+PacketsChangeInWindows = (state : State) (packet : Packet)
     → LearnsSender state packet
-    ⊎ ((change_of state (Received packet) ≡ None) × (mode_set state (Received packet) ≡ None))
+    ⊎ (ForgetsSender state packet
+    ⊎ ((change_of state (Received packet) ≡ None) × (mode_set state (Received packet) ≡ None)))

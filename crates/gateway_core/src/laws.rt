@@ -14,7 +14,7 @@ ghost use Rattle.gateway_core.specs.Run.{RefusalsAreCounted, SameRefusals};
 ghost use Rattle.gateway_core.specs.Step.{Answer, Item};
 ghost use Rattle.gateway_core.specs.Stops.{SafeJoins};
 ghost use Rattle.gateway_core.specs.Telling.{ChangesAreTold, RadioIsTold, TeachLinesAreTold};
-ghost use Rattle.gateway_core.specs.Windows.{PacketsLearnInWindows};
+ghost use Rattle.gateway_core.specs.Windows.{PacketsChangeInWindows};
 
 use crate::gateway::Gateway;
 use device_registry::laws::devices_are_held;
@@ -75,7 +75,8 @@ pub fn safe_joins<S: Alter>()
     ensures { (registry : Held S) → SafeJoins (MayFind (state S.Store registry)) }
 {}
 
-/// What is told learned or forgotten is found so by every later life, until an item learns or forgets the sender.
+/// What is told learned or forgotten is found so by every later life, until an item learns the sender otherwise, or
+/// forgets it where it was told learned.
 pub fn lives_keep()
     ensures { LivesKeep }
 {}
@@ -95,8 +96,9 @@ pub fn left_is_prefix()
 {}
 
 /// A teach line is answered only where an item is taken. Where it tells `accepted`, the item learns the device of which
-/// the line tells, and where it tells `deleted` it forgets it. Where it tells another outcome, the item changes neither
-/// what is learned nor the mode.
+/// the line tells. Where it tells `deleted` the item forgets that device: a line the one that is learned, and a packet
+/// its telegram's sender, learned or not, as its query tells it. Where it tells another outcome, the item changes
+/// neither what is learned nor the mode.
 pub fn teach_lines_are_told()
     ensures { TeachLinesAreTold }
 {}
@@ -107,17 +109,19 @@ pub fn changes_are_told()
     ensures { ChangesAreTold }
 {}
 
-/// Bytes are sent by radio only where an item is taken. Those of a packet, which carries a 4BS query, in the mode that
-/// answers, are the reply with the outcome of the teach line that the desk is told. Those of a line are the packet of
-/// the order that it spells, and the desk is told that it is done.
+/// Bytes are sent by radio only where an item is taken. Those of a packet are the reply to the query that it carries,
+/// with the outcome of the teach line that the desk is told: a 4BS query in the mode that answers, or a query of
+/// universal teach-in that waits for a reply, in a window for all senders. Those of a line are the packet of the order
+/// that it spells, and the desk is told that it is done.
 pub fn radio_is_told()
     ensures { RadioIsTold }
 {}
 
-/// A packet changes what is learned only in an open window, and only by learning the sender of its telegram. It changes
-/// the mode only then, and only where the window is for one sender: that is closed.
-pub fn packets_learn_in_windows()
-    ensures { PacketsLearnInWindows }
+/// A packet changes what is learned only in an open window: it learns the sender of its telegram, or forgets it where
+/// the telegram is a query that asks so and the window is for all senders. It changes the mode only where it learns,
+/// and only where the window is for one sender: that is closed.
+pub fn packets_change_in_windows()
+    ensures { PacketsChangeInWindows }
 {}
 
 /// What a stop leaves after the calls of a life is what a life may leave.

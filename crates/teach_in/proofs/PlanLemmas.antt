@@ -1,5 +1,5 @@
 -- What holds of every plan, and of the query that a telegram is.
-use Rattle.std.proofs.Common.{◌≡◌, ◌≢◌, ℕ, Bool, true, false, Option, refl, sym, ap, ◌∙◌}
+use Rattle.std.proofs.Common.{◌≡◌, ◌≢◌, ◌⊎◌, inl, inr, ℕ, Bool, true, false, Option, refl, sym, ap, ◌∙◌, eqb-true}
 use Rattle.std.specs.Prelude.{if◌then◌else◌, ◌==◌, ◌&&◌, not}
 use Rattle.bit_fields.specs.Bits.{field}
 use Rattle.erp1_telegrams.specs.declared.eep.Eep.{Eep}
@@ -8,15 +8,18 @@ use Rattle.teach_in.specs.declared.four_byte.FourByteQuery.{FourByteQuery}
 use Rattle.teach_in.specs.declared.mode.Mode.{Mode}
 use Rattle.teach_in.specs.declared.mode.Mode.TheVariants.{Closed, Learn, LearnAnswer, LearnAs}
 use Rattle.teach_in.specs.declared.outcome.Outcome.{Outcome}
-use Rattle.teach_in.specs.declared.outcome.Outcome.TheVariants.{Unsupported, NoProfile}
+use Rattle.teach_in.specs.declared.outcome.Outcome.TheVariants.{Unsupported, General, NoProfile}
 use Rattle.teach_in.specs.declared.plans.Plan.{Plan}
-use Rattle.teach_in.specs.declared.plans.Plan.TheVariants.{Silent, Refuse}
+use Rattle.teach_in.specs.declared.plans.Plan.TheVariants.{Silent, Forget, Refuse}
 use Rattle.teach_in.specs.declared.telegrams.Teach.{Teach}
 use Rattle.teach_in.specs.declared.telegrams.Teach.TheVariants.{Plain, Contact, Bare, FourByte, Ute, Answer}
+use Rattle.teach_in.specs.declared.ute.UteQuery.{UteQuery}
 use Rattle.teach_in.specs.FourByte.{eep_in}
 use Rattle.teach_in.specs.Profiles.{supported}
 use Rattle.teach_in.specs.Telegrams.{teach_in_of, one_byte_kind, four_byte_kind, ute_kind}
-use Rattle.teach_in.specs.Verdicts.{add, is_learned_by, row_of, in_mode, plan_of}
+use Rattle.teach_in.specs.Ute as ute
+use Rattle.teach_in.specs.Ute.{request_in, deletion, not_used}
+use Rattle.teach_in.specs.Verdicts.{add, plan_asked, is_learned_by, row_of, in_mode, plan_of}
 
 -- what holds of both holds of the one that is chosen
 pub either : {A : Type 0} (P : A → Type 0) (b : Bool) (one other : A) → P one → P other
@@ -26,10 +29,13 @@ either P false one other of_one of_other = of_other
 
 -- ---- a plan
 
--- the outcomes that a telegram is refused with: it tells no profile, or one that is not supported
+-- the outcomes that a telegram is refused with: it tells no profile, or one that is not supported, or asks for nothing
+-- that is in use
 abbrev pub Refuses : Teach → Outcome → Type 0
 Refuses Bare NoProfile = Unit {0}
 Refuses (FourByte query) Unsupported = Unit {0}
+Refuses (Ute query) Unsupported = Unit {0}
+Refuses (Ute query) General = Unit {0}
 Refuses kind outcome = ⊥
 
 -- the gateway learns in this mode
@@ -37,50 +43,90 @@ abbrev pub IsOpen : Mode → Type 0
 IsOpen Closed = ⊥
 IsOpen mode = Unit {0}
 
-module _ (P : Plan → Type 0) (t : Telegram) (silent : P Silent) where
-  of-row : (known : Bool) (kind : Teach) (mode : Mode)
-      → (IsOpen mode → (eep : Eep) (maker : Option ℕ) → P (add t eep maker))
-      → ((outcome : Outcome) → Refuses kind outcome → P (Refuse outcome)) → P (in_mode (row_of t known kind) mode)
-  of-row known kind Closed adds refuses = silent
-  of-row known Contact Learn adds refuses = adds tt _ _
-  of-row known Contact LearnAnswer adds refuses = adds tt _ _
-  of-row known Contact (LearnAs eep) adds refuses = either P (eep.rorg == 0xD5) _ _ (adds tt _ _) silent
-  of-row known Bare Learn adds refuses = refuses NoProfile tt
-  of-row known Bare LearnAnswer adds refuses = refuses NoProfile tt
-  of-row known Bare (LearnAs eep) adds refuses = either P (eep.rorg == 0xA5) _ _ (adds tt _ _) silent
-  of-row known (FourByte query) Learn adds refuses =
-      either P (supported (eep_in query)) _ _ (adds tt _ _) (refuses Unsupported tt)
-  of-row known (FourByte query) LearnAnswer adds refuses =
-      either P (supported (eep_in query)) _ _ (adds tt _ _) (refuses Unsupported tt)
-  of-row known (FourByte query) (LearnAs eep) adds refuses = either P (eep.rorg == 0xA5) _ _ (adds tt _ _) silent
-  of-row known Plain Learn adds refuses = silent
-  of-row known Plain LearnAnswer adds refuses = silent
-  of-row known Plain (LearnAs eep) adds refuses =
-      either P (not known && is_learned_by t) _ _ (either P (eep.rorg == t.rorg) _ _ (adds tt _ _) silent) silent
-  of-row known Ute Learn adds refuses = silent
-  of-row known Ute LearnAnswer adds refuses = silent
-  of-row known Ute (LearnAs eep) adds refuses = silent
-  of-row known Answer Learn adds refuses = silent
-  of-row known Answer LearnAnswer adds refuses = silent
-  of-row known Answer (LearnAs eep) adds refuses = silent
+-- it learns by what telegrams tell
+abbrev pub LearnsByTold : Mode → Type 0
+LearnsByTold mode = (mode ≡ Learn) ⊎ (mode ≡ LearnAnswer)
 
-  -- it holds of each plan that there is, so it holds of this one
-  pub of_plan : (mode : Mode) (known : Bool) → (IsOpen mode → (eep : Eep) (maker : Option ℕ) → P (add t eep maker))
-      → ((outcome : Outcome) → Refuses (teach_in_of t) outcome → P (Refuse outcome)) → P (plan_of t mode known)
-  of_plan mode known adds refuses = of-row known (teach_in_of t) mode adds refuses
+-- something may come of a telegram that is this at teach-in
+abbrev pub Hears : Mode → Teach → Type 0
+Hears mode (Ute query) = LearnsByTold mode
+Hears mode kind = IsOpen mode
+
+pub hears-open : (mode : Mode) (kind : Teach) → Hears mode kind → IsOpen mode
+hears-open Learn kind hears = tt
+hears-open LearnAnswer kind hears = tt
+hears-open (LearnAs eep) kind hears = tt
+hears-open Closed (Ute query) (inl is) = absurd cc
+hears-open Closed (Ute query) (inr is) = absurd cc
+hears-open Closed kind hears = absurd hears
+
+-- it is a query that asks that its sender is forgotten
+abbrev pub AsksDeletion : Teach → Type 0
+AsksDeletion kind = (query : UteQuery) × (kind ≡ Ute query) × (request_in query ≡ deletion)
+
+-- a property of plans for a telegram that is this at teach-in, in this mode: it holds of each plan that there may be
+pub record OfPlans (P : Plan → Type 0) (t : Telegram) (kind : Teach) (mode : Mode) : Type 0 where
+  pub silent : P Silent
+  pub adds : Hears mode kind → (eep : Eep) (maker : Option ℕ) → P (add t eep maker)
+  pub forgets : LearnsByTold mode → AsksDeletion kind → P (Forget t.sender)
+  pub refuses : Hears mode kind → (outcome : Outcome) → Refuses kind outcome → P (Refuse outcome)
+
+module _ (P : Plan → Type 0) (t : Telegram) where
+  of-asked : (query : UteQuery) (mode : Mode) → LearnsByTold mode → OfPlans P t (Ute query) mode → P (plan_asked t query)
+  of-asked query mode told each =
+      by_request P (request_in query == deletion) _ _
+      (λ is. each.forgets told (query, refl, eqb-true (request_in query) deletion is))
+      (either P (request_in query == not_used) _ _ (each.refuses told General tt)
+      (either P (supported (ute.eep_in query)) _ _ (each.adds told _ _) (each.refuses told Unsupported tt)))
+    where
+      by_request : (P : Plan → Type 0) (b : Bool) (one other : Plan) → (b ≡ true → P one) → P other
+          → P (if b then one else other)
+      by_request P true one other of_one of_other = of_one refl
+      by_request P false one other of_one of_other = of_other
+
+  of-row : (known : Bool) (kind : Teach) (mode : Mode) → OfPlans P t kind mode → P (in_mode (row_of t known kind) mode)
+  of-row known kind Closed each = each.silent
+  of-row known Contact Learn each = each.adds tt _ _
+  of-row known Contact LearnAnswer each = each.adds tt _ _
+  of-row known Contact (LearnAs eep) each = either P (eep.rorg == 0xD5) _ _ (each.adds tt _ _) each.silent
+  of-row known Bare Learn each = each.refuses tt NoProfile tt
+  of-row known Bare LearnAnswer each = each.refuses tt NoProfile tt
+  of-row known Bare (LearnAs eep) each = either P (eep.rorg == 0xA5) _ _ (each.adds tt _ _) each.silent
+  of-row known (FourByte query) Learn each =
+      either P (supported (eep_in query)) _ _ (each.adds tt _ _) (each.refuses tt Unsupported tt)
+  of-row known (FourByte query) LearnAnswer each =
+      either P (supported (eep_in query)) _ _ (each.adds tt _ _) (each.refuses tt Unsupported tt)
+  of-row known (FourByte query) (LearnAs eep) each =
+      either P (eep.rorg == 0xA5) _ _ (each.adds tt _ _) each.silent
+  of-row known Plain Learn each = each.silent
+  of-row known Plain LearnAnswer each = each.silent
+  of-row known Plain (LearnAs eep) each =
+      either P (not known && is_learned_by t) _ _ (either P (eep.rorg == t.rorg) _ _ (each.adds tt _ _) each.silent)
+      each.silent
+  of-row known (Ute query) Learn each = of-asked query Learn (inl refl) each
+  of-row known (Ute query) LearnAnswer each = of-asked query LearnAnswer (inr refl) each
+  of-row known (Ute query) (LearnAs eep) each = each.silent
+  of-row known Answer Learn each = each.silent
+  of-row known Answer LearnAnswer each = each.silent
+  of-row known Answer (LearnAs eep) each = each.silent
+
+  -- so it holds of this one
+  pub of_plan : (mode : Mode) (known : Bool) → OfPlans P t (teach_in_of t) mode → P (plan_of t mode known)
+  of_plan mode known each = of-row known (teach_in_of t) mode each
 
 -- of a telegram of teach-in it does not matter whether its sender is known
 pub plan-unasked : (t : Telegram) (mode : Mode) (known : Bool) (kind : Teach) → teach_in_of t ≡ kind → kind ≢ Plain
     → plan_of t mode known ≡ plan_of t mode false
 plan-unasked t mode known kind is teaches =
-    ap (λ k. in_mode (row_of t known k) mode) is ∙ same kind teaches ∙ ap (λ k. in_mode (row_of t false k) mode) (sym is)
+    ap (λ k. in_mode (row_of t known k) mode) is ∙ same kind teaches
+    ∙ ap (λ k. in_mode (row_of t false k) mode) (sym is)
   where
     same : (kind : Teach) → kind ≢ Plain → in_mode (row_of t known kind) mode ≡ in_mode (row_of t false kind) mode
     same Plain teaches = absurd (teaches refl)
     same Contact teaches = refl
     same Bare teaches = refl
     same (FourByte query) teaches = refl
-    same Ute teaches = refl
+    same (Ute query) teaches = refl
     same Answer teaches = refl
 
 -- ---- a query
@@ -88,6 +134,7 @@ plan-unasked t mode known kind is teaches =
 -- the sender of a query, and of all else this one
 abbrev sender_in : ℕ → Teach → ℕ
 sender_in sender (FourByte query) = query.id
+sender_in sender (Ute query) = query.id
 sender_in sender kind = sender
 
 sender-in : (t : Telegram) → sender_in t.sender (teach_in_of t) ≡ t.sender
@@ -100,9 +147,12 @@ sender-in t =
     (either P (field t.payload 24 1 == 0) Bare _ refl
     (either P (field t.payload 27 1 == 0) (FourByte (record { id = t.sender; payload = t.payload })) Answer refl
     refl)))
-    (either P (t.rorg == 0xD4) (ute_kind t.payload) Plain
-    (either P (field t.payload 4 4 == 0) Ute Answer refl refl) refl))
+    (either P (t.rorg == 0xD4) (ute_kind t.sender t.payload) Plain
+    (either P (field t.payload 4 4 == 0) (Ute (record { id = t.sender; payload = t.payload })) Answer refl refl) refl))
 
 -- a query is of the telegram's sender
 pub query-sender : (t : Telegram) (query : FourByteQuery) → teach_in_of t ≡ FourByte query → query.id ≡ t.sender
 query-sender t query is = sym (ap (sender_in t.sender) is) ∙ sender-in t
+
+pub ute-sender : (t : Telegram) (query : UteQuery) → teach_in_of t ≡ Ute query → query.id ≡ t.sender
+ute-sender t query is = sym (ap (sender_in t.sender) is) ∙ sender-in t

@@ -1,4 +1,5 @@
 pub mod FourByte
 pub mod Profiles
 pub mod Telegrams
+pub mod Ute
 pub mod Verdicts

@@ -18,14 +18,15 @@ four_byte_kind sender payload =
     else if field payload 27 1 == 0 then FourByte (record { id = sender; payload = payload })
     else Answer
 
--- UTE: a query has the command 0 in DB6.3 to DB6.0, and any other is a reply ("UTE Telegram")
-abbrev pub ute_kind : List ℕ → Teach
-ute_kind payload = if field payload 4 4 == 0 then Ute else Answer
+-- UTE: a query has the command 0 in DB6.3 to DB6.0, and any other is a reply ("Universal Uni- and
+-- Bidirectional Teach-in")
+abbrev pub ute_kind : ℕ → List ℕ → Teach
+ute_kind sender payload = if field payload 4 4 == 0 then Ute (record { id = sender; payload = payload }) else Answer
 
 -- telegrams of the other kinds, RPS and VLD, are data
 abbrev pub teach_in_of : Telegram → Teach
 teach_in_of t =
     if t.rorg == 0xD5 then one_byte_kind t.payload
     else if t.rorg == 0xA5 then four_byte_kind t.sender t.payload
-    else if t.rorg == 0xD4 then ute_kind t.payload
+    else if t.rorg == 0xD4 then ute_kind t.sender t.payload
     else Plain

@@ -3,17 +3,19 @@ use Rattle.std.specs.Prelude.{ℕ, Bool, ◌==◌, ◌&&◌, ◌||◌, not, Opti
 use Rattle.bit_fields.specs.Bits.{field}
 use Rattle.erp1_telegrams.specs.declared.eep.Eep.{Eep}
 use Rattle.erp1_telegrams.specs.Telegram.{Telegram}
-use Rattle.teach_in.specs.declared.four_byte.FourByteQuery.{FourByteQuery}
 use Rattle.teach_in.specs.declared.mode.Mode.{Mode}
 use Rattle.teach_in.specs.declared.mode.Mode.TheVariants.{Closed, Learn, LearnAnswer, LearnAs}
-use Rattle.teach_in.specs.declared.outcome.Outcome.TheVariants.{Unsupported, NoProfile}
+use Rattle.teach_in.specs.declared.outcome.Outcome.TheVariants.{Unsupported, General, NoProfile}
 use Rattle.teach_in.specs.declared.plans.Plan.{Plan}
-use Rattle.teach_in.specs.declared.plans.Plan.TheVariants.{Silent, Add, Refuse}
+use Rattle.teach_in.specs.declared.plans.Plan.TheVariants.{Silent, Add, Forget, Refuse}
 use Rattle.teach_in.specs.declared.telegrams.Teach.{Teach}
 use Rattle.teach_in.specs.declared.telegrams.Teach.TheVariants.{Plain, Contact, Bare, FourByte, Ute, Answer}
+use Rattle.teach_in.specs.declared.ute.UteQuery.{UteQuery}
 use Rattle.teach_in.specs.FourByte.{eep_in, maker_in}
 use Rattle.teach_in.specs.Profiles.{supported}
 use Rattle.teach_in.specs.Telegrams.{teach_in_of}
+use Rattle.teach_in.specs.Ute as ute
+use Rattle.teach_in.specs.Ute.{request_in, deletion, not_used}
 
 -- the sender is learned with this profile and this maker
 abbrev pub add : Telegram → Eep → Option ℕ → Plan
@@ -27,10 +29,16 @@ add_kind rorg t eep maker = if eep.rorg == rorg then add t eep maker else Silent
 abbrev pub contact : Eep
 contact = record { rorg = 0xD5; func = 0x00; typ = 0x01 }
 
--- the profile that a query tells, where it is supported
-abbrev pub add_told : Telegram → FourByteQuery → Plan
-add_told t query =
-    if supported (eep_in query) then add t (eep_in query) (Some (maker_in query)) else Refuse Unsupported
+-- the profile and the maker that a query tells, where the profile is supported
+abbrev pub add_told : Telegram → Eep → ℕ → Plan
+add_told t eep maker = if supported eep then add t eep (Some maker) else Refuse Unsupported
+
+-- what a query of universal teach-in asks for; its sender is learned just as well where it is known
+abbrev pub plan_asked : Telegram → UteQuery → Plan
+plan_asked t query =
+    if request_in query == deletion then Forget t.sender
+    else if request_in query == not_used then Refuse General
+    else add_told t (ute.eep_in query) (ute.maker_in query)
 
 -- whether a telegram of data is one that its sender can be learned by: of RPS where a button is pressed (the bit at
 -- offset 3), and each of VLD
@@ -44,17 +52,19 @@ pub record Row : Type 0 where
   pub given : Eep → Plan
 
 -- The table: a row for each thing that a telegram may be at teach-in, which for data hangs on whether its sender is
--- known already. As yet nothing is planned for universal teach-in.
+-- known already.
 abbrev pub row_of : Telegram → Bool → Teach → Row
 row_of t known Contact = record { told = add t contact None; given = λ eep. add_kind 0xD5 t eep None }
 row_of t known Bare = record { told = Refuse NoProfile; given = λ eep. add_kind 0xA5 t eep None }
-row_of t known (FourByte query) =
-    record { told = add_told t query; given = λ eep. add_kind 0xA5 t eep (Some (maker_in query)) }
+row_of t known (FourByte query) = record {
+  told = add_told t (eep_in query) (maker_in query);
+  given = λ eep. add_kind 0xA5 t eep (Some (maker_in query));
+}
 row_of t known Plain = record {
   told = Silent;
   given = λ eep. if not known && is_learned_by t then add_kind t.rorg t eep None else Silent;
 }
-row_of t known Ute = record { told = Silent; given = λ eep. Silent }
+row_of t known (Ute query) = record { told = plan_asked t query; given = λ eep. Silent }
 row_of t known Answer = record { told = Silent; given = λ eep. Silent }
 
 -- what a row says in each mode

@@ -1,5 +1,5 @@
 //! Teach-in: what a telegram is to a gateway that learns, which profiles can be learned, what is planned about a sender
-//! in each mode, what came of the sender, and the reply to a query. Nothing here takes memory.
+//! in each mode, what came of the sender, and the replies to queries. Nothing here takes memory.
 #![tactic(auto)]
 
 mod four_byte;
@@ -8,6 +8,7 @@ mod outcome;
 mod plans;
 mod profiles;
 mod telegrams;
+mod ute;
 mod verdict;
 mod verdicts;
 
@@ -17,6 +18,7 @@ pub use outcome::Outcome;
 pub use plans::Plan;
 pub use profiles::supported;
 pub use telegrams::{Teach, classify};
+pub use ute::{UteQuery, ute_reply};
 pub use verdict::Verdict;
 pub use verdicts::plan;
 

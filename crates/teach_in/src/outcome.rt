@@ -12,7 +12,7 @@ pub enum Outcome {
     Unsupported,
     /// As many other devices are learned as can be.
     Full,
-    /// It asked for nothing that is known.
+    /// It asked for nothing that is in use.
     General,
     /// It told no profile.
     NoProfile,

@@ -9,6 +9,8 @@ pub enum Plan {
     Silent,
     /// This device is learned, unless as many others are learned as can be.
     Add(Device),
+    /// The device with this ID is forgotten, if it is learned.
+    Forget(u32),
     /// Nothing is done, and this is told.
     Refuse(Outcome),
 }

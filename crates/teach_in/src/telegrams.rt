@@ -3,6 +3,7 @@ ghost use Rattle.std.specs.Prelude.{◌≡◌, length};
 ghost use Rattle.teach_in.specs.Telegrams.{four_byte_kind, one_byte_kind, teach_in_of, ute_kind};
 
 use crate::four_byte::FourByteQuery;
+use crate::ute::UteQuery;
 use bit_fields::get;
 use erp1_telegrams::Telegram;
 
@@ -20,7 +21,7 @@ pub enum Teach {
     /// A 4BS telegram of teach-in that tells its profile and its maker.
     FourByte(FourByteQuery),
     /// A query of universal teach-in.
-    Ute,
+    Ute(UteQuery),
     /// A reply to a telegram of teach-in.
     Answer,
 }
@@ -65,12 +66,15 @@ fn four_byte_kind(id: u32, bytes: &[u8; 4]) -> Teach
     }
 }
 
-// What the bytes of a UTE telegram say.
-fn ute_kind(bytes: &[u8; 7]) -> Teach
-    ensures { result ≡ ute_kind bytes.now }
+// What the bytes of a UTE telegram of this sender say.
+fn ute_kind(id: u32, bytes: &[u8; 7]) -> Teach
+    ensures { result ≡ ute_kind id bytes.now }
 {
     match get::<7, 4, 4>(bytes) {
-        0 => Teach::Ute,
+        0 => Teach::Ute(UteQuery {
+            id,
+            payload: *bytes,
+        }),
         _ => Teach::Answer,
     }
 }
@@ -83,7 +87,7 @@ pub fn classify(telegram: &Telegram) -> Teach
     match telegram.rorg() {
         0xD5 => one_byte_kind(bytes_of(payload)),
         0xA5 => four_byte_kind(telegram.sender(), bytes_of(payload)),
-        0xD4 => ute_kind(bytes_of(payload)),
+        0xD4 => ute_kind(telegram.sender(), bytes_of(payload)),
         _ => Teach::Plain,
     }
 }

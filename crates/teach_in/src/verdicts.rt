@@ -1,13 +1,14 @@
 //! The table of verdicts: what is planned about the sender of a telegram.
 ghost use Rattle.std.specs.Prelude.{◌≡◌, Bool};
 ghost use Rattle.teach_in.specs.Telegrams.{teach_in_of};
-ghost use Rattle.teach_in.specs.Verdicts.{add, is_learned_by, plan_of, row_of};
+ghost use Rattle.teach_in.specs.Verdicts.{add, add_told, plan_asked, is_learned_by, plan_of, row_of};
 
 use crate::mode::Mode;
 use crate::outcome::Outcome;
 use crate::plans::Plan;
 use crate::profiles::supported;
 use crate::telegrams::{Teach, bytes_of, classify};
+use crate::ute::{DELETION, NOT_USED, UteQuery};
 use bit_fields::get;
 use device_registry::Device;
 use erp1_telegrams::{Eep, Telegram};
@@ -30,6 +31,28 @@ fn add(telegram: &Telegram, eep: Eep, maker: Option<u16>) -> Plan
     })
 }
 
+// The same with what a query tells, where that profile is supported.
+fn add_told(telegram: &Telegram, eep: Eep, maker: u16) -> Plan
+    ensures { result ≡ add_told telegram.now eep maker }
+{
+    if supported(eep) {
+        add(telegram, eep, Some(maker))
+    } else {
+        Plan::Refuse(Outcome::Unsupported)
+    }
+}
+
+// What a query of universal teach-in asks for.
+fn plan_asked(telegram: &Telegram, query: &UteQuery) -> Plan
+    ensures { result ≡ plan_asked telegram.now query.now }
+{
+    match query.request() {
+        DELETION => Plan::Forget(telegram.sender()),
+        NOT_USED => Plan::Refuse(Outcome::General),
+        _ => add_told(telegram, query.eep(), query.maker()),
+    }
+}
+
 // What is planned in the modes that learn by what a telegram tells.
 fn plan_told(telegram: &Telegram) -> Plan
     ensures { (known : Bool) → result ≡ (row_of telegram.now known (teach_in_of telegram.now)).told }
@@ -37,11 +60,9 @@ fn plan_told(telegram: &Telegram) -> Plan
     match classify(telegram) {
         Teach::Contact => add(telegram, CONTACT, None),
         Teach::Bare => Plan::Refuse(Outcome::NoProfile),
-        Teach::FourByte(query) if supported(query.eep()) => {
-            add(telegram, query.eep(), Some(query.maker()))
-        }
-        Teach::FourByte(_) => Plan::Refuse(Outcome::Unsupported),
-        Teach::Ute | Teach::Plain | Teach::Answer => Plan::Silent,
+        Teach::FourByte(query) => add_told(telegram, query.eep(), query.maker()),
+        Teach::Ute(query) => plan_asked(telegram, &query),
+        Teach::Plain | Teach::Answer => Plan::Silent,
     }
 }
 

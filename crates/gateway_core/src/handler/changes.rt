@@ -4,27 +4,28 @@ ghost use Rattle.std.specs.Prelude.{◌≡◌, [], ◌∷◌};
 ghost use Rattle.json_lines.specs.Lines.{Error};
 ghost use Rattle.json_lines.specs.declared.fixed.ErrorName.{ErrorName};
 ghost use Rattle.gateway_core.specs.Step.{addition, forgets, learns, tells};
-ghost use Rattle.gateway_core.specs.Tries.{Enters, Tries};
+ghost use Rattle.gateway_core.specs.Tries.{Enters, Erases, Tries};
 
 use crate::handler::Handler;
 use crate::handler::done::{Done, denied, told};
 use crate::refusal::{Cause, Refusal};
 use crate::reply::Desk;
 use device_registry::{Device, LearnFault};
+use erp1_telegrams::Eep;
 use json_lines::{ErrorName, Line, teach_line};
 use sqlite::Alter;
 use teach_in::{Outcome, Verdict};
 
-// What came of a device that is learned, and the line that tells it.
+// What came of a device that is learned or forgotten, and the line that tells it.
 #[derive(Drop)]
-pub(crate) struct Entered {
+pub(crate) struct Committed {
     pub(crate) verdict: Verdict,
     pub(crate) line: Line,
 }
 
 impl<S: Alter> Handler<S> {
     // Learns a device. It is `None` where the registry is full, which tells so before it writes.
-    pub(crate) fn enter(&mut self, device: Device) -> Result<Option<Entered>, Refusal>
+    pub(crate) fn enter(&mut self, device: Device) -> Result<Option<Committed>, Refusal>
         ensures { Enters S.Store self.old device result self.new }
     {
         let draft = teach_line(
@@ -41,7 +42,27 @@ impl<S: Alter> Handler<S> {
         };
         let verdict = Verdict::committed(receipt);
         let line = draft.tell(&verdict);
-        Ok(Some(Entered { verdict, line }))
+        Ok(Some(Committed { verdict, line }))
+    }
+
+    // Forgets the device with this ID, learned or not. It is told with this profile and this maker.
+    pub(crate) fn erase(
+        &mut self,
+        id: u32,
+        eep: Option<Eep>,
+        maker: Option<u16>,
+    ) -> Result<Committed, Refusal>
+        ensures { Erases S.Store self.old
+            (record { eep = eep; id = id; maker = maker; outcome = Outcome.Deleted }) result self.new }
+    {
+        let draft = teach_line(self.alloc, id, eep, maker, Outcome::Deleted)?;
+        let receipt = match self.registry.forget(id) {
+            Ok(receipt) => receipt,
+            Err(fault) => return Err(Refusal::AtWrite(Cause::from(fault))),
+        };
+        let verdict = Verdict::committed(receipt);
+        let line = draft.tell(&verdict);
+        Ok(Committed { verdict, line })
     }
 
     // Learns a device that the desk names.
@@ -50,7 +71,7 @@ impl<S: Alter> Handler<S> {
             (tells (Error ErrorName.Full ∷ [])) (learns device)) result self.new }
     {
         match self.enter(device)? {
-            Some(entered) => Ok(told(Desk::Owned(entered.line))),
+            Some(committed) => Ok(told(Desk::Owned(committed.line))),
             None => Ok(denied(ErrorName::Full)),
         }
     }
@@ -59,18 +80,7 @@ impl<S: Alter> Handler<S> {
     pub(crate) fn forget(&mut self, device: Device) -> Result<Done, Refusal>
         ensures { Tries S.Store self.old (λ state. forgets device) result self.new }
     {
-        let draft = teach_line(
-            self.alloc,
-            device.id,
-            Some(device.eep),
-            device.maker,
-            Outcome::Deleted,
-        )?;
-        let receipt = match self.registry.forget(device.id) {
-            Ok(receipt) => receipt,
-            Err(fault) => return Err(Refusal::AtWrite(Cause::from(fault))),
-        };
-        let line = draft.tell(&Verdict::committed(receipt));
-        Ok(told(Desk::Owned(line)))
+        let committed = self.erase(device.id, Some(device.eep), device.maker)?;
+        Ok(told(Desk::Owned(committed.line)))
     }
 }

@@ -55,9 +55,9 @@ impl<S: Alter> Handler<S> {
         }
         match classify(telegram) {
             Teach::Answer => Ok(ignored()),
-            Teach::Contact | Teach::Bare | Teach::FourByte(_) | Teach::Ute => self.try_plan(
-                telegram,
-            ),
+            Teach::Contact | Teach::Bare | Teach::FourByte(_) | Teach::Ute(_) => {
+                self.try_plan(telegram)
+            }
             Teach::Plain => self.try_data(telegram),
         }
     }

@@ -1,4 +1,4 @@
-//! How the sender of a telegram is learned, or told why it is not, and what it is replied.
+//! How the sender of a telegram is learned or forgotten, or told why it is not, and what it is replied.
 ghost use Rattle.std.specs.Prelude.{◌≡◌, ◌≢◌, ℕ, Bool, false, None, Some, IfOk, option_map};
 ghost use Rattle.device_registry.specs.Devices.{Devices};
 ghost use Rattle.teach_in.specs.declared.outcome.Outcome as spec;
@@ -6,11 +6,12 @@ ghost use Rattle.teach_in.specs.declared.outcome.Outcome.TheVariants as outcome;
 ghost use Rattle.teach_in.specs.Verdicts.{plan_of};
 ghost use Rattle.gateway_core.specs.Replies.{answer_of};
 ghost use Rattle.gateway_core.specs.Step;
-ghost use Rattle.gateway_core.specs.Step.{accepts, addition, plan_effect, radio_of, refused_line, reply_of, told_of};
+ghost use Rattle.gateway_core.specs.Step.{accepts, addition, deletes, line_with, plan_effect, radio_of, reply_of};
+ghost use Rattle.gateway_core.specs.Step.{told_of};
 ghost use Rattle.gateway_core.specs.Tries.{Gives, MayReply, Tries, state_of};
 
 use crate::handler::Handler;
-use crate::handler::changes::Entered;
+use crate::handler::changes::Committed;
 use crate::handler::done::{Done, ignored};
 use crate::handler::sending::packet_with;
 use crate::refusal::Refusal;
@@ -21,15 +22,16 @@ use erp1_telegrams::{Eep, Telegram};
 use json_lines::{Count, Line, teach_line};
 use sqlite::Alter;
 use std::alloc::AllocError;
-use teach_in::{Mode, Outcome, Plan, Teach, Verdict, classify, four_byte_reply, plan};
+use teach_in::{Mode, Outcome, Plan, Teach, Verdict, classify, four_byte_reply, plan, ute_reply};
 
 // The profile and the maker that a telegram of teach-in tells, if it does.
 fn told_by(teach: &Teach) -> (Option<Eep>, Option<u16>)
-    ensures { (id : ℕ) (outcome : spec.Outcome) → refused_line id teach.now outcome
+    ensures { (id : ℕ) (outcome : spec.Outcome) → line_with id teach.now outcome
         ≡ record { eep = result.0; id = id; maker = result.1; outcome = outcome } }
 {
     match teach {
         Teach::FourByte(query) => (Some(query.eep()), Some(query.maker())),
+        Teach::Ute(query) => (Some(query.eep()), Some(query.maker())),
         _ => (None, None),
     }
 }
@@ -45,13 +47,17 @@ fn mode_after_one(mode: Mode) -> Option<Mode>
 }
 
 impl<S: Alter> Handler<S> {
-    // The packet that replies to a telegram of teach-in, if it gets one: a 4BS query does, in the mode that answers.
+    // The packet that replies to a telegram of teach-in, if it gets one: a query of universal teach-in does that waits
+    // for one, and a 4BS query in the mode that answers.
     fn reply_packet(&self, teach: &Teach, verdict: &Verdict) -> Option<ArrayVec<u8, 64>>
         requires { MayReply teach.now verdict.now.id verdict.now.outcome }
         ensures { option_map (λ bytes. bytes.items) result
             ≡ radio_of (reply_of self.now.base self.now.mode teach.now verdict.now.outcome) }
     {
         match (self.mode, teach) {
+            (_, Teach::Ute(query)) if query.wants_reply() => {
+                Some(packet_with(&ute_reply(query, verdict, self.base)))
+            }
             (Mode::LearnAnswer, Teach::FourByte(query)) => {
                 Some(packet_with(&four_byte_reply(query, verdict, self.base)))
             }
@@ -79,7 +85,7 @@ impl<S: Alter> Handler<S> {
         }
     }
 
-    // Tells why a sender is not learned, and replies to it.
+    // Tells why nothing is done about a sender, and replies to it.
     fn refuse(
         &self,
         teach: &Teach,
@@ -91,8 +97,8 @@ impl<S: Alter> Handler<S> {
         requires accepted { outcome ≢ Outcome.Accepted }
         requires deleted { outcome ≢ Outcome.Deleted }
         requires reply { MayReply teach.now id outcome }
-        ensures { IfOk result (λ done. (devices : Devices) → Gives done (Step.tells_sender (state_of self.now devices) teach.now
-            (record { eep = eep; id = id; maker = maker; outcome = outcome }))) }
+        ensures { IfOk result (λ done. (devices : Devices) → Gives done (Step.tells_sender
+            (state_of self.now devices) teach.now (record { eep = eep; id = id; maker = maker; outcome = outcome }))) }
     {
         let draft = teach_line(self.alloc, id, eep, maker, outcome)?;
         let verdict = Verdict::refused(id, outcome);
@@ -105,9 +111,10 @@ impl<S: Alter> Handler<S> {
         requires accepted { MayReply teach.now device.id outcome.Accepted }
         requires full { MayReply teach.now device.id outcome.Full }
         ensures { Tries S.Store self.old (λ state. addition state.devices device
-            (Step.tells_sender state teach.now (told_of device outcome.Full)) (accepts state teach.now device)) result self.new }
+            (Step.tells_sender state teach.now (told_of device outcome.Full)) (accepts state teach.now device))
+            result self.new }
     {
-        let Some(Entered { verdict, line }) = self.enter(device)? else {
+        let Some(Committed { verdict, line }) = self.enter(device)? else {
             let full = self.refuse(
                 teach,
                 device.id,
@@ -122,6 +129,16 @@ impl<S: Alter> Handler<S> {
         Ok(done)
     }
 
+    // Forgets the sender of a telegram, learned or not.
+    fn try_forget(&mut self, teach: &Teach, id: u32) -> Result<Done, Refusal>
+        requires { MayReply teach.now id outcome.Deleted }
+        ensures { Tries S.Store self.old (λ state. deletes state teach.now id) result self.new }
+    {
+        let (eep, maker) = told_by(teach);
+        let Committed { verdict, line } = self.erase(id, eep, maker)?;
+        Ok(self.tell_sender(teach, &verdict, line))
+    }
+
     // Does what is planned about the sender of a telegram of teach-in, or of data whose sender is not learned.
     pub(crate) fn try_plan(&mut self, telegram: &Telegram) -> Result<Done, Refusal>
         ensures { (asked : Bool) → Tries S.Store self.old (λ state. plan_effect state telegram.now asked
@@ -131,6 +148,7 @@ impl<S: Alter> Handler<S> {
         match plan(telegram, self.mode, false) {
             Plan::Silent => Ok(ignored()),
             Plan::Add(device) => self.try_accept(&teach, device),
+            Plan::Forget(id) => self.try_forget(&teach, id),
             Plan::Refuse(outcome) => {
                 let (eep, maker) = told_by(&teach);
                 let refused = self.refuse(&teach, telegram.sender(), eep, maker, outcome)?;

@@ -7,23 +7,23 @@ use Rattle.gateway_core.specs.Tries.{Enters}
 use Rattle.gateway_core.proofs.TryLemmas.{by-desk, tries-entered, tries-full, tries-refused}
 use Rattle.gateway_core.proofs.handler.Handler.learn.Goals as goal
 
-pub returns-in_err-entered : goal.returns-in_err-entered
-returns-in_err-entered g c =
+pub returns-in_err-committed : goal.returns-in_err-committed
+returns-in_err-committed g c =
     let error = err_from_is_err_and c.from_residual.result c.from_residual.ensures.1 in
     rw (error.1, error.2)
     (tries-refused g.S.Store _ _ c.args.device (λ state. tells (Error name.Full ∷ []))
     (λ state. learns c.args.device)
     (λ devices. by-desk c.args.device)
-    c.in_err-entered.field-0.0 c.in_err-entered.ensures)
+    c.in_err-committed.field-0.0 c.in_err-committed.ensures)
 
 pub returns-in-Some : goal.returns-in-Some
 returns-in-Some g c =
     let entered =
     subst (λ o. Enters g.S.Store c.args.self.now c.args.device (Ok o) c.enter.new.self) c.in-Some.is
-    c.in_ok-entered.ensures in
+    c.in_ok-committed.ensures in
     tries-entered g.S.Store _ _ c.args.device (λ state. tells (Error name.Full ∷ [])) (λ state. learns c.args.device)
     (λ devices. by-desk c.args.device)
-    c.in-Some.entered _ entered
+    c.in-Some.committed _ entered
     (λ devices. (
       c.told.ensures.answer ∙ ap said (entered.told.2 ∙ sym (append-nil _)),
       c.told.ensures.count,
@@ -34,7 +34,7 @@ pub returns-in-None : goal.returns-in-None
 returns-in-None g c =
     let none =
     subst (λ o. Enters g.S.Store c.args.self.now c.args.device (Ok o) c.enter.new.self) c.in-None.is
-    c.in_ok-entered.ensures in
+    c.in_ok-committed.ensures in
     tries-full g.S.Store _ _ c.args.device (λ state. tells (Error name.Full ∷ [])) (λ state. learns c.args.device)
     (λ devices. by-desk c.args.device) _ none
     (λ devices. c.denied.ensures)

@@ -1,18 +1,20 @@
 use Rattle.std.proofs.Common.{Ok, sym, ap, subst, ◌∙◌}
 use Rattle.std.proofs.lemmas.Result.{err_from_is_err_and}
 use Rattle.teach_in.specs.declared.outcome.Outcome.TheVariants.{Accepted, Full}
-use Rattle.gateway_core.specs.declared.handler.changes.Entered.{Entered}
+use Rattle.gateway_core.specs.declared.handler.changes.Committed.{Committed}
 use Rattle.gateway_core.specs.Handling.{HandlerValue}
 use Rattle.gateway_core.specs.Step.{accepts, mode_after_one, tells_sender, told_of}
 use Rattle.gateway_core.specs.Tries.{Enters, state_of}
-use Rattle.gateway_core.proofs.TryLemmas.{by-radio, taught-answer, tries-entered, tries-full, tries-refused, tries-untold}
+use Rattle.gateway_core.proofs.TryLemmas.{by-radio, taught-answer, tries-entered, tries-full, tries-refused}
+use Rattle.gateway_core.proofs.TryLemmas.{tries-untold}
 use Rattle.gateway_core.proofs.handler.Handler.try_accept.Goals as goal
 
 pub returns-in_err-verdict : goal.returns-in_err-verdict
 returns-in_err-verdict g c =
     let error = err_from_is_err_and c.from_residual.result c.from_residual.ensures.1 in
     rw (error.1, error.2)
-    (tries-refused g.S.Store _ _ c.args.device (λ state. tells_sender state c.args.teach.now (told_of c.args.device Full))
+    (tries-refused g.S.Store _ _ c.args.device
+    (λ state. tells_sender state c.args.teach.now (told_of c.args.device Full))
     (λ state. accepts state c.args.teach.now c.args.device)
     (λ devices. by-radio (state_of c.args.self.now devices) c.args.teach.now c.args.device)
     c.in_err-verdict.field-0.0 c.in_err-verdict.ensures)
@@ -24,7 +26,8 @@ returns-in_err-full g c =
     subst (λ o. Enters g.S.Store c.args.self.now c.args.device (Ok o) c.enter.new.self) c.in_default.is
     c.in_ok-verdict.ensures in
     rw (error.1, error.2)
-    (tries-untold g.S.Store _ _ c.args.device (λ state. tells_sender state c.args.teach.now (told_of c.args.device Full))
+    (tries-untold g.S.Store _ _ c.args.device
+    (λ state. tells_sender state c.args.teach.now (told_of c.args.device Full))
     (λ state. accepts state c.args.teach.now c.args.device)
     (λ devices. by-radio (state_of c.args.self.now devices) c.args.teach.now c.args.device) _ none)
 
@@ -43,14 +46,16 @@ returns g c =
     let entered =
     subst (λ o. Enters g.S.Store c.args.self.now c.args.device (Ok o) c.enter.new.self) c.in-Some.is
     c.in_ok-verdict.ensures in
-    tries-entered g.S.Store _ _ c.args.device (λ state. tells_sender state c.args.teach.now (told_of c.args.device Full))
+    tries-entered g.S.Store _ _ c.args.device
+    (λ state. tells_sender state c.args.teach.now (told_of c.args.device Full))
     (λ state. accepts state c.args.teach.now c.args.device)
     (λ devices. by-radio (state_of c.args.self.now devices) c.args.teach.now c.args.device)
     c.in-Some.field-0 _ entered
     (λ devices. (
       taught-answer (state_of c.enter.new.self devices) c.args.teach.now (told_of c.args.device Accepted) _ _ _
-          (ap (λ (e : Entered). e.verdict.outcome) (sym c.in-Some.field-0-is) ∙ entered.told.1)
-          (ap (λ (e : Entered). e.line) (sym c.in-Some.field-0-is) ∙ entered.told.2) c.tell_sender-done.ensures.answer,
+          (ap (λ (e : Committed). e.verdict.outcome) (sym c.in-Some.field-0-is) ∙ entered.told.1)
+          (ap (λ (e : Committed). e.line) (sym c.in-Some.field-0-is) ∙ entered.told.2)
+          c.tell_sender-done.ensures.answer,
       c.tell_sender-done.ensures.count,
       c.mode_after_one-done.ensures ∙ ap (λ (v : HandlerValue _). mode_after_one v.mode) c.self.view_is,
     ))

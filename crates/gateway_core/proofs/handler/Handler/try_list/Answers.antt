@@ -24,5 +24,7 @@ returns g c =
     rw (← c.self.view_is) (tries g.S.Store _ _ _ _ _ _ _ c.all.ensures.clean c.all.ensures.registries
     (λ honest devices has.
     let found = c.in_ok-all.ensures.devices honest devices has in
-    let lines = ap (λ known. texts (listing known)) (c.as_slice.ensures.value ∙ found.0) in
-    ((c.told.ensures.answer ∙ ap said (c.in_ok-lines.ensures ∙ lines), c.told.ensures.count, c.told.ensures.mode), found.1)))
+    let lines = ap (λ known. texts (listing known)) (c.as_slice.ensures.value ∙ found.0) in (
+      (c.told.ensures.answer ∙ ap said (c.in_ok-lines.ensures ∙ lines), c.told.ensures.count, c.told.ensures.mode),
+      found.1,
+    )))

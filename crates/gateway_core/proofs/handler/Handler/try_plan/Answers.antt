@@ -1,10 +1,32 @@
-use Rattle.std.proofs.Common.{◌≡◌, false, refl, sym, ◌∙◌}
+use Rattle.std.proofs.Common.{◌≡◌, false, refl, sym, subst, ◌∙◌}
 use Rattle.std.proofs.lemmas.Result.{err_from_is_err_and}
-use Rattle.teach_in.specs.declared.plans.Plan.TheVariants.{Add, Refuse}
+use Rattle.teach_in.specs.declared.plans.Plan.TheVariants.{Add, Forget, Refuse}
 use Rattle.teach_in.specs.Verdicts.{plan_of}
-use Rattle.gateway_core.specs.Tries.{state_of}
+use Rattle.gateway_core.specs.Tries.{MayReply, state_of}
+use Rattle.gateway_core.proofs.QueryLemmas.{can_reply}
 use Rattle.gateway_core.proofs.TryLemmas.{refused-gives, tries-alone, tries-same}
 use Rattle.gateway_core.proofs.handler.Handler.try_plan.Goals as goal
+
+pub try_accept-requires-clause-accepted : goal.try_accept-requires-clause-accepted
+try_accept-requires-clause-accepted g c =
+    (can_reply c.args.telegram.now _ c.classify-teach.result (Add c.in-Add.device) c.classify-teach.ensures
+    (sym c.plan.ensures ∙ c.in-Add.is)).0
+
+pub try_accept-requires-clause-full : goal.try_accept-requires-clause-full
+try_accept-requires-clause-full g c =
+    (can_reply c.args.telegram.now _ c.classify-teach.result (Add c.in-Add.device) c.classify-teach.ensures
+    (sym c.plan.ensures ∙ c.in-Add.is)).1
+
+pub try_forget-requires : goal.try_forget-requires
+try_forget-requires g c =
+    can_reply c.args.telegram.now _ c.classify-teach.result (Forget c.in-Forget.id) c.classify-teach.ensures
+    (sym c.plan.ensures ∙ c.in-Forget.is)
+
+pub refuse-requires-clause-reply : goal.refuse-requires-clause-reply
+refuse-requires-clause-reply g c =
+    subst (λ id. MayReply c.classify-teach.result id c.in-Refuse.outcome) (sym c.sender.ensures)
+    (can_reply c.args.telegram.now _ c.classify-teach.result (Refuse c.in-Refuse.outcome) c.classify-teach.ensures
+    (sym c.plan.ensures ∙ c.in-Refuse.is))
 
 pub returns-in_err-refused-in-Refuse : goal.returns-in_err-refused-in-Refuse
 returns-in_err-refused-in-Refuse g c =
@@ -26,6 +48,13 @@ returns-in-Add g c =
     rw (← c.self.view_is) (sym c.plan.ensures ∙ c.in-Add.is) in
     λ asked.
     tries-same g.S.Store _ _ _ _ _ (λ devices. rw (plan, ← c.classify-teach.ensures) refl) c.try_accept.ensures
+
+pub returns-in-Forget : goal.returns-in-Forget
+returns-in-Forget g c =
+    let plan : plan_of c.args.telegram.now c.args.self.now.mode false ≡ Forget c.in-Forget.id =
+    rw (← c.self.view_is) (sym c.plan.ensures ∙ c.in-Forget.is) in
+    λ asked.
+    tries-same g.S.Store _ _ _ _ _ (λ devices. rw (plan, ← c.classify-teach.ensures) refl) c.try_forget.ensures
 
 pub returns-in_ok-refused-in-Refuse : goal.returns-in_ok-refused-in-Refuse
 returns-in_ok-refused-in-Refuse g c =

@@ -8,4 +8,5 @@ returns-in-Ok c =
     λ asked.
     subst (λ telegram. Gives c.sends_packet.result (telegram_sent asked telegram))
     (sym (sym c.packet_of.ensures ∙ ap Some c.in-Ok.is))
-    (subst (λ bytes. Gives c.sends_packet.result (sends_packet asked bytes)) c.packet_with.ensures (c.sends_packet.ensures asked))
+    (subst (λ bytes. Gives c.sends_packet.result (sends_packet asked bytes)) c.packet_with.ensures
+    (c.sends_packet.ensures asked))

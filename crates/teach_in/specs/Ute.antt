@@ -1,0 +1,62 @@
+-- Universal teach-in (UTE): queries that devices are taught in and out with, and the replies to them (EnOcean Equipment
+-- Profiles 2.6, "Universal Uni- and Bidirectional Teach-in"). A telegram has seven bytes, DB6 to DB0. DB5 is the number
+-- of channels, on which nothing hangs.
+use Rattle.std.specs.Prelude.{ℕ, Bool, ◌+◌, ◌*◌, ◌==◌, ◌∷◌, drop, Option, Some, None, option_map}
+use Rattle.bit_fields.specs.Bits.{field}
+use Rattle.erp1_telegrams.specs.declared.eep.Eep.{Eep}
+use Rattle.erp1_telegrams.specs.Telegram.{Telegram}
+use Rattle.teach_in.specs.declared.outcome.Outcome.{Outcome}
+use Rattle.teach_in.specs.declared.outcome.Outcome.TheVariants.{Accepted, Deleted, Unsupported, Full, General}
+use Rattle.teach_in.specs.declared.ute.UteQuery.{UteQuery}
+
+-- the profile that a query tells: its RORG in DB0, its FUNC in DB1, and its TYPE in DB2
+abbrev pub eep_in : UteQuery → Eep
+eep_in query =
+    record { rorg = field query.payload 48 8; func = field query.payload 40 8; typ = field query.payload 32 8 }
+
+-- the number of its maker, which has 11 bits: the high 3 bits in DB3.2 to DB3.0, and the low 8 in DB4
+abbrev pub maker_in : UteQuery → ℕ
+maker_in query = 256 * field query.payload 29 3 + field query.payload 16 8
+
+-- whether it waits for a reply: DB6.6 is 0 then
+abbrev pub wants_reply : UteQuery → Bool
+wants_reply query = field query.payload 1 1 == 0
+
+-- what it asks for, in DB6.5 and DB6.4
+abbrev pub request_in : UteQuery → ℕ
+request_in query = field query.payload 2 2
+
+-- that the sender is forgotten
+abbrev pub deletion : ℕ
+deletion = 1
+
+-- nothing that is in use. The other two requests, 0 and 2, ask that the sender is learned: the one for a teach-in, and
+-- the one that leaves open what is asked for. Own choice: that the second is never a deletion, also where the sender is
+-- learned already
+abbrev pub not_used : ℕ
+not_used = 3
+
+-- what DB6.5 and DB6.4 of a reply say of an outcome, if they can say it
+abbrev pub ute_code : Outcome → Option ℕ
+ute_code Accepted = Some 1
+ute_code Deleted = Some 2
+ute_code Unsupported = Some 3
+ute_code Full = Some 0
+ute_code General = Some 0
+ute_code outcome = None
+
+-- DB6 of a reply: DB6.7 as in the query, DB6.6 is 0, then the code, and the command 1 in DB6.3 to DB6.0
+abbrev pub first_byte : UteQuery → ℕ → ℕ
+first_byte query code = 128 * field query.payload 0 1 + 16 * code + 1
+
+-- the reply to a query, from the gateway with this base ID to the sender alone: the query, but for DB6
+abbrev pub ute_reply : UteQuery → Outcome → ℕ → Option Telegram
+ute_reply query outcome base =
+    option_map (λ code. record {
+      rorg = 0xD4;
+      payload = first_byte query code ∷ drop 1 query.payload;
+      sender = base;
+      status = 0;
+      dest = query.id;
+      dbm = None;
+    }) (ute_code outcome)

@@ -1,0 +1,33 @@
+//! A sender, its telegrams and what is planned about it, which the tests share.
+use crate::{Mode, Plan, Teach, classify, plan};
+use device_registry::Device;
+use erp1_telegrams::{BROADCAST, Eep, Telegram};
+use std::test::Fail;
+
+pub const SENDER: u32 = 0x0180_0ABC;
+
+pub const BASE: u32 = 0xFF80_0000;
+
+pub fn eep(rorg: u8, func: u8, typ: u8) -> Eep {
+    Eep { rorg, func, typ }
+}
+
+fn from(rorg: u8, payload: &[u8]) -> Result<Telegram, Fail> {
+    Ok(Telegram::new(rorg, payload, SENDER, 0, BROADCAST, None)?)
+}
+
+pub fn kind(rorg: u8, payload: &[u8]) -> Result<Teach, Fail> {
+    Ok(classify(&from(rorg, payload)?))
+}
+
+pub fn planned(rorg: u8, payload: &[u8], mode: Mode, known: bool) -> Result<Plan, Fail> {
+    Ok(plan(&from(rorg, payload)?, mode, known))
+}
+
+pub fn add(eep: Eep, maker: Option<u16>) -> Plan {
+    Plan::Add(Device {
+        id: SENDER,
+        eep,
+        maker,
+    })
+}

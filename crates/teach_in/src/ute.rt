@@ -1,0 +1,111 @@
+//! Universal teach-in (UTE): queries that devices are taught in and out with, and the replies to them.
+ghost use Rattle.std.specs.Prelude.{◌≡◌, true, ◌==◌, ◌<◌, Some, IsSome};
+ghost use Rattle.erp1_telegrams.specs.Address.{is_base};
+ghost use Rattle.teach_in.specs.Ute.{eep_in, first_byte, maker_in, request_in, ute_code, ute_reply, wants_reply};
+
+use crate::outcome::Outcome;
+use crate::verdict::Verdict;
+use bit_fields::get;
+use erp1_telegrams::{Eep, Telegram, is_base};
+
+/// A query of universal teach-in, which tells its sender's profile and maker, and what is asked for.
+///
+/// EnOcean Equipment Profiles 2.6, "Universal Uni- and Bidirectional Teach-in".
+#[derive(Clone, Copy, Debug, PartialEq, Eq)]
+pub struct UteQuery {
+    pub(crate) id: u32,
+    pub(crate) payload: [u8; 7],
+}
+
+/// The request that the sender is forgotten.
+pub(crate) const DELETION: u32 = 1;
+
+/// The request that is not in use.
+pub(crate) const NOT_USED: u32 = 3;
+
+impl UteQuery {
+    /// The sender.
+    pub fn id(&self) -> u32
+        ensures { result ≡ self.now.id }
+    {
+        self.id
+    }
+
+    /// The profile that it tells.
+    pub fn eep(&self) -> Eep
+        ensures { result ≡ eep_in self.now }
+    {
+        Eep {
+            rorg: get::<7, 48, 8>(&self.payload) as u8,
+            func: get::<7, 40, 8>(&self.payload) as u8,
+            typ: get::<7, 32, 8>(&self.payload) as u8,
+        }
+    }
+
+    /// The number of its maker, 0 to 2047.
+    pub fn maker(&self) -> u16
+        ensures { result ≡ maker_in self.now }
+    {
+        let high = get::<7, 29, 3>(&self.payload);
+        let low = get::<7, 16, 8>(&self.payload);
+        (256 * high + low) as u16
+    }
+
+    /// Whether it waits for a reply.
+    pub fn wants_reply(&self) -> bool
+        ensures { result ≡ wants_reply self.now }
+    {
+        get::<7, 1, 1>(&self.payload) == 0
+    }
+
+    // What it asks for: `DELETION`, `NOT_USED`, or any other, that the sender is learned.
+    pub(crate) fn request(&self) -> u32
+        ensures { result ≡ request_in self.now }
+    {
+        get::<7, 2, 2>(&self.payload)
+    }
+}
+
+// What DB6.5 and DB6.4 of a reply say of this outcome.
+fn ute_code(outcome: Outcome) -> u32
+    requires { IsSome (ute_code outcome) }
+    ensures code { Some result ≡ ute_code outcome }
+    ensures fits { result < 4 }
+{
+    match outcome {
+        Outcome::Accepted => 1,
+        Outcome::Deleted => 2,
+        Outcome::Unsupported => 3,
+        Outcome::Full | Outcome::General => 0,
+        Outcome::NoProfile => unreachable!(),
+    }
+}
+
+// DB6 of a reply with this code.
+fn first_byte(query: &UteQuery, code: u32) -> u8
+    requires { code < 4 }
+    ensures { result ≡ first_byte query.now code }
+{
+    (128 * get::<7, 0, 1>(&query.payload) + 16 * code + 1) as u8
+}
+
+/// The reply to a query, on the verdict on its sender: for that sender alone, from the base ID, with the query's own
+/// bytes but for DB6. `base` is a base ID, and the outcome is any but `NoProfile`. Whether the query waits for a reply,
+/// `wants_reply` tells.
+///
+/// EnOcean Equipment Profiles 2.6, "Universal Uni- and Bidirectional Teach-in".
+pub fn ute_reply(query: &UteQuery, verdict: &Verdict, base: u32) -> Telegram
+    requires id { verdict.now.id ≡ query.now.id }
+    requires outcome { IsSome (ute_code verdict.now.outcome) }
+    requires base { is_base base ≡ true }
+    ensures { Some result ≡ ute_reply query.now verdict.now.outcome base }
+{
+    prove!(verdict.id() == query.id() && is_base(base));
+    let [_, db5, db4, db3, db2, db1, db0] = query.payload;
+    let db6 = first_byte(query, ute_code(verdict.outcome()));
+    let payload = [db6, db5, db4, db3, db2, db1, db0];
+    match Telegram::new(0xD4, &payload, base, 0, query.id(), None) {
+        Ok(reply) => reply,
+        Err(_) => unreachable!(),
+    }
+}
