@@ -1,5 +1,5 @@
--- A sink that is given the text of answers is an outlet. The lemmas stand here, since the law of an `impl` cites nothing
--- outside `specs`.
+-- A sink that is given the text of answers is an outlet. The lemmas stand here, since the law of an `impl` cites
+-- nothing outside `specs`.
 use Rattle.std.specs.Prelude.{◌⊎◌, ℕ, List, ◌++◌, Option}
 use Rattle.std.specs.Io.KnownBytes.{Appends}
 use Rattle.std.proofs.Common.{refl, ap, sym, ◌∙◌, append_assoc, subst, inl, inr}

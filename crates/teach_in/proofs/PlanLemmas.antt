@@ -72,7 +72,8 @@ pub record OfPlans (P : Plan → Type 0) (t : Telegram) (kind : Teach) (mode : M
   pub refuses : Hears mode kind → (outcome : Outcome) → Refuses kind outcome → P (Refuse outcome)
 
 module _ (P : Plan → Type 0) (t : Telegram) where
-  of-asked : (query : UteQuery) (mode : Mode) → LearnsByTold mode → OfPlans P t (Ute query) mode → P (plan_asked t query)
+  of-asked : (query : UteQuery) (mode : Mode) → LearnsByTold mode → OfPlans P t (Ute query) mode
+      → P (plan_asked t query)
   of-asked query mode told each =
       by_request P (request_in query == deletion) _ _
       (λ is. each.forgets told (query, refl, eqb-true (request_in query) deletion is))

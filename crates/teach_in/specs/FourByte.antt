@@ -7,6 +7,7 @@ use Rattle.erp1_telegrams.specs.Telegram.{Telegram}
 use Rattle.teach_in.specs.declared.four_byte.FourByteQuery.{FourByteQuery}
 use Rattle.teach_in.specs.declared.outcome.Outcome.{Outcome}
 use Rattle.teach_in.specs.declared.outcome.Outcome.TheVariants.{Accepted, Unsupported, Full}
+use Rattle.teach_in.specs.Replies.{reply}
 
 -- the profile that a query tells: FUNC has 6 bits, and TYPE has 7
 abbrev pub eep_in : FourByteQuery → Eep
@@ -28,11 +29,4 @@ four_byte_code outcome = None
 -- the reply to a query, from the gateway with this base ID to the sender alone: the query, but for DB0
 abbrev pub four_byte_reply : FourByteQuery → Outcome → ℕ → Option Telegram
 four_byte_reply query outcome base =
-    option_map (λ code. record {
-      rorg = 0xA5;
-      payload = take 3 query.payload ++ code ∷ [];
-      sender = base;
-      status = 0;
-      dest = query.id;
-      dbm = None;
-    }) (four_byte_code outcome)
+    option_map (λ code. reply 0xA5 (take 3 query.payload ++ code ∷ []) query.id base) (four_byte_code outcome)

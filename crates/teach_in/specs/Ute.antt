@@ -8,6 +8,7 @@ use Rattle.erp1_telegrams.specs.Telegram.{Telegram}
 use Rattle.teach_in.specs.declared.outcome.Outcome.{Outcome}
 use Rattle.teach_in.specs.declared.outcome.Outcome.TheVariants.{Accepted, Deleted, Unsupported, Full, General}
 use Rattle.teach_in.specs.declared.ute.UteQuery.{UteQuery}
+use Rattle.teach_in.specs.Replies.{reply}
 
 -- the profile that a query tells: its RORG in DB0, its FUNC in DB1, and its TYPE in DB2
 abbrev pub eep_in : UteQuery → Eep
@@ -22,17 +23,16 @@ maker_in query = 256 * field query.payload 29 3 + field query.payload 16 8
 abbrev pub wants_reply : UteQuery → Bool
 wants_reply query = field query.payload 1 1 == 0
 
--- what it asks for, in DB6.5 and DB6.4
+-- What it asks for, in DB6.5 and DB6.4: 0 is a teach-in, 1 a deletion, 2 leaves open which of the two, and 3 is not used.
+-- Own choice: that 2 is a teach-in, also where the sender is learned already.
 abbrev pub request_in : UteQuery → ℕ
 request_in query = field query.payload 2 2
 
--- that the sender is forgotten
+-- the request that the sender is forgotten
 abbrev pub deletion : ℕ
 deletion = 1
 
--- nothing that is in use. The other two requests, 0 and 2, ask that the sender is learned: the one for a teach-in, and
--- the one that leaves open what is asked for. Own choice: that the second is never a deletion, also where the sender is
--- learned already
+-- the request that is not used
 abbrev pub not_used : ℕ
 not_used = 3
 
@@ -46,17 +46,10 @@ ute_code General = Some 0
 ute_code outcome = None
 
 -- DB6 of a reply: DB6.7 as in the query, DB6.6 is 0, then the code, and the command 1 in DB6.3 to DB6.0
-abbrev pub first_byte : UteQuery → ℕ → ℕ
-first_byte query code = 128 * field query.payload 0 1 + 16 * code + 1
+abbrev pub reply_first_byte : UteQuery → ℕ → ℕ
+reply_first_byte query code = 128 * field query.payload 0 1 + 16 * code + 1
 
 -- the reply to a query, from the gateway with this base ID to the sender alone: the query, but for DB6
 abbrev pub ute_reply : UteQuery → Outcome → ℕ → Option Telegram
 ute_reply query outcome base =
-    option_map (λ code. record {
-      rorg = 0xD4;
-      payload = first_byte query code ∷ drop 1 query.payload;
-      sender = base;
-      status = 0;
-      dest = query.id;
-      dbm = None;
-    }) (ute_code outcome)
+    option_map (λ code. reply 0xD4 (reply_first_byte query code ∷ drop 1 query.payload) query.id base) (ute_code outcome)

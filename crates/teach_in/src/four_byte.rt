@@ -4,6 +4,7 @@ ghost use Rattle.erp1_telegrams.specs.Address.{is_base};
 ghost use Rattle.teach_in.specs.FourByte.{eep_in, four_byte_code, four_byte_reply, maker_in};
 
 use crate::outcome::Outcome;
+use crate::reply::reply;
 use crate::verdict::Verdict;
 use bit_fields::get;
 use erp1_telegrams::{Eep, Telegram, is_base};
@@ -70,8 +71,5 @@ pub fn four_byte_reply(query: &FourByteQuery, verdict: &Verdict, base: u32) -> T
     prove!(verdict.id() == query.id() && is_base(base));
     let [db3, db2, db1, _] = query.payload;
     let payload = [db3, db2, db1, four_byte_code(verdict.outcome())];
-    match Telegram::new(0xA5, &payload, base, 0, query.id(), None) {
-        Ok(reply) => reply,
-        Err(_) => unreachable!(),
-    }
+    reply(0xA5, &payload, query.id(), base)
 }

@@ -7,6 +7,7 @@ mod mode;
 mod outcome;
 mod plans;
 mod profiles;
+mod reply;
 mod telegrams;
 mod ute;
 mod verdict;

@@ -1,9 +1,10 @@
 //! Universal teach-in (UTE): queries that devices are taught in and out with, and the replies to them.
 ghost use Rattle.std.specs.Prelude.{◌≡◌, true, ◌==◌, ◌<◌, Some, IsSome};
 ghost use Rattle.erp1_telegrams.specs.Address.{is_base};
-ghost use Rattle.teach_in.specs.Ute.{eep_in, first_byte, maker_in, request_in, ute_code, ute_reply, wants_reply};
+ghost use Rattle.teach_in.specs.Ute.{eep_in, reply_first_byte, maker_in, request_in, ute_code, ute_reply, wants_reply};
 
 use crate::outcome::Outcome;
+use crate::reply::reply;
 use crate::verdict::Verdict;
 use bit_fields::get;
 use erp1_telegrams::{Eep, Telegram, is_base};
@@ -82,9 +83,9 @@ fn ute_code(outcome: Outcome) -> u32
 }
 
 // DB6 of a reply with this code.
-fn first_byte(query: &UteQuery, code: u32) -> u8
+fn reply_first_byte(query: &UteQuery, code: u32) -> u8
     requires { code < 4 }
-    ensures { result ≡ first_byte query.now code }
+    ensures { result ≡ reply_first_byte query.now code }
 {
     (128 * get::<7, 0, 1>(&query.payload) + 16 * code + 1) as u8
 }
@@ -102,10 +103,7 @@ pub fn ute_reply(query: &UteQuery, verdict: &Verdict, base: u32) -> Telegram
 {
     prove!(verdict.id() == query.id() && is_base(base));
     let [_, db5, db4, db3, db2, db1, db0] = query.payload;
-    let db6 = first_byte(query, ute_code(verdict.outcome()));
+    let db6 = reply_first_byte(query, ute_code(verdict.outcome()));
     let payload = [db6, db5, db4, db3, db2, db1, db0];
-    match Telegram::new(0xD4, &payload, base, 0, query.id(), None) {
-        Ok(reply) => reply,
-        Err(_) => unreachable!(),
-    }
+    reply(0xD4, &payload, query.id(), base)
 }

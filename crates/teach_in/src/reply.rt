@@ -1,0 +1,18 @@
+//! Replies to telegrams of teach-in.
+ghost use Rattle.std.specs.Prelude.{◌≡◌, IsTrue, length};
+ghost use Rattle.erp1_telegrams.specs.Telegram.{fits, is_kind};
+ghost use Rattle.teach_in.specs.Replies;
+
+use erp1_telegrams::Telegram;
+
+// A telegram from the base ID to one sender alone.
+pub(crate) fn reply(rorg: u8, payload: &[u8], id: u32, base: u32) -> Telegram
+    requires kind { IsTrue (is_kind rorg) }
+    requires fits { IsTrue (fits rorg (length payload.now)) }
+    ensures { result ≡ Replies.reply rorg payload.now id base }
+{
+    match Telegram::new(rorg, payload, base, 0, id, None) {
+        Ok(telegram) => telegram,
+        Err(_) => unreachable!(),
+    }
+}
