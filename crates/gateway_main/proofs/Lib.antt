@@ -9,8 +9,9 @@ pub mod TakeLemmas
 pub mod LineLemmas
 pub mod LongLineLemmas
 pub mod SearchLemmas
-pub mod ProgressLemmas
-pub mod EndedLemmas
+pub mod BytesLemmas
+pub mod TurnLemmas
+pub mod WiresLemmas
 pub mod ReplayedLemmas
 pub mod CommandLemmas
 pub mod StartLemmas

@@ -1,4 +1,4 @@
--- What a stop leaves after a replay.
+-- What a stop leaves after an engine.
 use Rattle.std.proofs.Common.{ℕ, List, [], ◌∷◌, ◌++◌, None, subst}
 use Rattle.sqlite.specs.Held.{state}
 use Rattle.sqlite.specs.State.{HasCleanDisk}
@@ -12,7 +12,7 @@ use Rattle.gateway_core.specs.Beginnings.{LeavesALife}
 use Rattle.gateway_core.specs.Events.{items_of}
 use Rattle.gateway_core.proofs.ForCallers.{calls_leave_a_life}
 use Rattle.gateway_main.specs.Started.{Starts}
-use Rattle.gateway_main.specs.Lived.{ReplaysAreLives, BrokenReplaysAreLives}
+use Rattle.gateway_main.specs.Lived.{PlaysAreLives, BrokenPlaysAreLives}
 
 module _ {S : Type 0} (g : Ghosts S) where
   handled_is_a_life : (database : Held S) (base : ℕ) (old new : HandlerValue S) (items : List Item)
@@ -24,12 +24,12 @@ module _ {S : Type 0} (g : Ghosts S) where
       let P : ℕ → Type 0 = λ b. LeavesALife b began.found items answers None left in
       subst P began.base_is (calls_leave_a_life g old new began.found items answers clean began.begins handled left may)
 
-  pub replays_are_lives : ReplaysAreLives g
-  replays_are_lives database base old new events held now began done clean left may =
+  pub plays_are_lives : (puts : List Answer → Type 0) → PlaysAreLives g puts
+  plays_are_lives puts database base old new events began done clean left may =
       handled_is_a_life database base old.handler new.handler (items_of old.rest events) done.answered.answers began
       done.answered.handled clean left may
 
-  pub broken_replays_are_lives : BrokenReplaysAreLives g
-  broken_replays_are_lives database base old new events event held now began broken clean left may =
+  pub broken_plays_are_lives : (breaks : List Answer → Answer → Type 0) → BrokenPlaysAreLives g breaks
+  broken_plays_are_lives breaks database base old new events event began broken clean left may =
       handled_is_a_life database base old.handler new.handler broken.items
       (broken.answered.answers ++ broken.answered.last ∷ []) began broken.answered.handled clean left may

@@ -8,14 +8,15 @@ use Rattle.std.proofs.lemmas.List.Splits.{slice_split_none, slice_split_at, leng
 use Rattle.std.proofs.lemmas.Bool.{ne_eqb}
 use Rattle.gateway_core.specs.Events.{Event}
 use Rattle.gateway_main.specs.Script.{event_of, script, IsClosed}
-use Rattle.gateway_main.specs.Progress.{IsOneLine, ended, events_of}
+use Rattle.gateway_main.specs.Bytes.{IsOneLine, with_end, events_by}
+use Rattle.gateway_main.specs.declared.lines.Lines.TheVariants.{OfScript}
 
 lines_of_parts-cons : (x : List ℕ) (parts : List (List ℕ)) → 0 < length parts
     → lines_of_parts (x ∷ parts) ≡ strip_carriage_return x ∷ lines_of_parts parts
 lines_of_parts-cons x [] l = absurd (omega arith)
 lines_of_parts-cons x (y ∷ more) l = refl
 
-test_of_one_line : (bytes : List ℕ) → IsOneLine bytes → All (λ b. (b == 10) ≡ false) bytes
+pub test_of_one_line : (bytes : List ℕ) → IsOneLine bytes → All (λ b. (b == 10) ≡ false) bytes
 test_of_one_line bytes h k d l = ne_eqb _ 10 (h k d l)
 
 lines-first : (line more : List ℕ) → IsOneLine line
@@ -42,18 +43,18 @@ script-last tail one =
 
 -- some lines that LF ends, and more behind them
 pub script-ended : (ls : List (List ℕ)) (more : List ℕ) → All IsOneLine ls
-    → script (flat_map ended ls ++ more) ≡ events_of ls ++ script more
+    → script (flat_map with_end ls ++ more) ≡ events_by OfScript ls ++ script more
 script-ended [] more each = refl
 script-ended (l ∷ ls) more each =
-    let rest = flat_map ended ls ++ more in
-    let shape : flat_map ended (l ∷ ls) ++ more ≡ l ++ 10 ∷ rest =
-    append_assoc (l ++ 10 ∷ []) (flat_map ended ls) more ∙ append_assoc l (10 ∷ []) rest in
+    let rest = flat_map with_end ls ++ more in
+    let shape : flat_map with_end (l ∷ ls) ++ more ≡ l ++ 10 ∷ rest =
+    append_assoc (l ++ 10 ∷ []) (flat_map with_end ls) more ∙ append_assoc l (10 ∷ []) rest in
     let first : IsOneLine l = each 0 [] (omega arith) in
     let others : All IsOneLine ls = λ k d h. each (suc k) d (omega arith) in
     ap script shape ∙ script-first l rest first
     ∙ ap (λ (es : List Event). event_of (strip_carriage_return l) ∷ es) (script-ended ls more others)
 
-pub closed_of_lines : (ls : List (List ℕ)) → IsClosed (flat_map ended ls)
+pub closed_of_lines : (ls : List (List ℕ)) → IsClosed (flat_map with_end ls)
 closed_of_lines [] = inl refl
 closed_of_lines (l ∷ ls) = elim (closed_of_lines ls) [
   | inl e ↦ inr (l, ap (λ s. (l ++ 10 ∷ []) ++ s) e ∙ append-nil (l ++ 10 ∷ []))

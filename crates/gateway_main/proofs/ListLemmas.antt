@@ -1,6 +1,6 @@
 -- An element of a list, and what stands round it; and how much of a list fits.
 use Rattle.std.proofs.Common.{◌≡◌, ℕ, ◌+◌, ◌-◌, ◌<◌, ◌≤◌, List, [], ◌∷◌, ◌++◌, length, get_or, take}
-use Rattle.std.proofs.Common.{drop, ap, sym, ◌∙◌, append_assoc, arith, min, true}
+use Rattle.std.proofs.Common.{drop, ap, refl, sym, ◌∙◌, append_assoc, arith, min, true, zero, suc}
 use Rattle.std.specs.Prelude.{◌==◌, slice_index}
 use Rattle.std.proofs.Math.Seq.{take-append-add}
 use Rattle.std.proofs.lemmas.Bool.{eqb-true}
@@ -23,3 +23,9 @@ take-append n xs ys fits =
     let e : n ≡ length xs + (n - length xs) = omega arith in
     ap (λ k. take k (xs ++ ys)) e ∙ take-append-add xs ys (n - length xs)
     ∙ ap (λ zs. xs ++ zs) (sym (take_min (n - length xs) ys))
+
+-- what fits of more behind what fits
+pub take_take : (n : ℕ) (xs more : List ℕ) → take n (take n xs ++ more) ≡ take n (xs ++ more)
+take_take zero xs more = refl
+take_take (suc n) [] more = refl
+take_take (suc n) (x ∷ xs) more = ap (λ ys. x ∷ ys) (take_take n xs more)

@@ -17,7 +17,10 @@ use Rattle.gateway_core.specs.Events.{Event, Piece, Line, items_of, bytes_in}
 use Rattle.esp3_frames.specs.Frames.{rest_of}
 use Rattle.gateway_main.specs.Script.{event_of, spelled}
 use Rattle.gateway_main.specs.Played.{AnswersPart, Breaks, IsBegun}
-use Rattle.gateway_main.specs.Progress.{longest_kept, Takes, TakesOrBreaks}
+use Rattle.gateway_main.specs.Taking.{Takes, TakesOrBreaks}
+use Rattle.gateway_main.specs.Bytes.{longest_kept, event_by}
+use Rattle.gateway_main.specs.declared.lines.Lines.{Lines}
+use Rattle.gateway_main.specs.declared.lines.Lines.TheVariants.{OfScript, OfDesk}
 use Rattle.sqlite_trees.specs.declared.store.Store.{Ghosts}
 
 -- no packet stands for an order
@@ -42,6 +45,11 @@ event_of-long line h =
     ap (λ b. if b && starts_with nat_eq line (codes "S ") then spelled line (decode_of (drop 2 line)) else Line line)
     (lt-leb (length line) longest_line h)
 
+-- whoever's line it is
+event_by-long : (lines : Lines) (line : List ℕ) → longest_line < length line → event_by lines line ≡ Line line
+event_by-long OfScript line h = event_of-long line h
+event_by-long OfDesk line h = refl
+
 length-strip : (line : List ℕ) → length line ≤ length (strip_carriage_return line) + 1
 length-strip line =
     elim (slice_index line (length line - 1) == 13) as
@@ -52,8 +60,8 @@ length-strip line =
 
 module _ {S : Type 0} (g : Ghosts S) where
   takes_long : (old new : Value S) (short long : List ℕ) (puts : List Answer → Type 0) (count total : ℕ)
-      → longest_line < length short → longest_line < length long → Takes g old new (Line short) puts count total
-      → Takes g old new (Line long) puts count total
+      → longest_line < length short → longest_line < length long → Takes g old new (Line short ∷ []) puts count total
+      → Takes g old new (Line long ∷ []) puts count total
   takes_long old new short long puts count total a b takes =
       let done = takes.played.answered in
       record {
@@ -110,34 +118,35 @@ module _ {S : Type 0} (g : Ghosts S) where
         };
       }
 
-  long_lines_alike : {A E : Type 0} (r : Result A E) (old new : Value S) (short long : List ℕ)
+  long_lines_alike : {A E : Type 0} (r : Result A E) (lines : Lines) (old new : Value S) (short long : List ℕ)
       (puts : List Answer → Type 0) (breaks : List Answer → Answer → Type 0)
       (count total : ℕ) → longest_line < length short → longest_line < length long
-      → TakesOrBreaks g r old new (event_of short) puts breaks count total
-      → TakesOrBreaks g r old new (event_of long) puts breaks count total
-  long_lines_alike r old new short long puts breaks count total a b given =
+      → TakesOrBreaks g r old new (event_by lines short) puts breaks count total
+      → TakesOrBreaks g r old new (event_by lines long) puts breaks count total
+  long_lines_alike r lines old new short long puts breaks count total a b given =
       let P : Event → Type 0 = λ e. TakesOrBreaks g r old new e puts breaks count total in
-      subst P (sym (event_of-long long b))
-      (MatchResult-weaker r (subst P (event_of-long short a) given)
+      subst P (sym (event_by-long lines long b))
+      (MatchResult-weaker r (subst P (event_by-long lines short a) given)
       (λ _ takes. takes_long old new short long puts count total a b takes)
       (λ _ broken. breaks_long old new short long breaks broken.begun broken.items a b broken.begins broken.stand
       broken.rest broken.answered))
 
   -- what is kept of a line that LF ends stands for the line
-  pub kept_line_alike : {A E : Type 0} (r : Result A E) (old new : Value S) (kept line : List ℕ)
+  pub kept_line_alike : {A E : Type 0} (r : Result A E) (lines : Lines) (old new : Value S) (kept line : List ℕ)
       (puts : List Answer → Type 0) (breaks : List Answer → Answer → Type 0)
       (count total : ℕ) → kept ≡ take longest_kept line
-      → TakesOrBreaks g r old new (event_of (strip_carriage_return kept)) puts breaks count total
-      → TakesOrBreaks g r old new (event_of (strip_carriage_return line)) puts breaks count total
-  kept_line_alike r old new kept line puts breaks count total e given = elim (cases_lt longest_kept (length line)) [
-    | inl far ↦ long_lines_alike r old new (strip_carriage_return kept)
-        (strip_carriage_return line) puts breaks count total
-        (omega (arith, far, length-strip kept, ap length e, length-take longest_kept line))
-        (omega (arith, far, length-strip line)) given
-    | inr near ↦ let P : List ℕ → Type 0 =
-        λ l. TakesOrBreaks g r old new (event_of (strip_carriage_return l)) puts breaks count total in
-        subst P (e ∙ take_all longest_kept line near) given
-  ]
+      → TakesOrBreaks g r old new (event_by lines (strip_carriage_return kept)) puts breaks count total
+      → TakesOrBreaks g r old new (event_by lines (strip_carriage_return line)) puts breaks count total
+  kept_line_alike r lines old new kept line puts breaks count total e given =
+      elim (cases_lt longest_kept (length line)) [
+        | inl far ↦ long_lines_alike r lines old new (strip_carriage_return kept)
+            (strip_carriage_return line) puts breaks count total
+            (omega (arith, far, length-strip kept, ap length e, length-take longest_kept line))
+            (omega (arith, far, length-strip line)) given
+        | inr near ↦ let P : List ℕ → Type 0 =
+            λ l. TakesOrBreaks g r old new (event_by lines (strip_carriage_return l)) puts breaks count total in
+            subst P (e ∙ take_all longest_kept line near) given
+      ]
 
   -- and so does what is kept of a line that the end of the input ends
   pub kept_last_line_alike : {A E : Type 0} (r : Result A E) (old new : Value S) (kept line : List ℕ)
@@ -148,7 +157,7 @@ module _ {S : Type 0} (g : Ghosts S) where
   kept_last_line_alike r old new kept line puts breaks count total e given =
       elim (cases_lt longest_kept (length line)) [
         | inl far ↦
-            long_lines_alike r old new kept line puts breaks count total
+            long_lines_alike r OfScript old new kept line puts breaks count total
             (omega (arith, far, ap length e, length-take longest_kept line))
             (omega (arith, far)) given
         | inr near ↦ let P : List ℕ → Type 0 = λ l. TakesOrBreaks g r old new (event_of l) puts breaks count total in

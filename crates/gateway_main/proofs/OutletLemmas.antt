@@ -16,13 +16,4 @@ module _ {W : Type 0} (held : W → Option (List ℕ)) (counts : W → Counts) w
     text = subst (Appends (held old) (held new)) (sym (append-nil (text_of answer))) text;
     went = went;
   }
-  puts_one (Err failed) old new answer text went = record {
-    text = record {
-      part = text.part;
-      missing = text.missing;
-      whole = text.whole;
-      proper = text.proper;
-      text = text.grown;
-    };
-    went = went;
-  }
+  puts_one (Err failed) old new answer text went = record { text = text; went = went }

@@ -1,13 +1,15 @@
 -- How an engine goes on with events.
-use Rattle.std.proofs.Common.{List, [], ◌∷◌, ◌++◌, ap, sym, ◌∙◌, append_assoc, append-nil, map}
+use Rattle.std.proofs.Common.{◌≡◌, ℕ, ◌<◌, ◌^◌, List, [], ◌∷◌, ◌++◌, ap, sym, ◌∙◌, append_assoc, append-nil, map}
+use Rattle.std.proofs.Common.{arith, length, length-append}
 use Rattle.esp3_frames.specs.Frames.{rest_of}
 use Rattle.esp3_frames.proofs.ForCallers.{frames_of-may_become}
 use Rattle.gateway_core.specs.Step.{Item, Received, Answer}
 use Rattle.gateway_core.specs.Calls.{Value}
-use Rattle.gateway_core.specs.Events.{Event, items_of}
-use Rattle.gateway_core.proofs.ForCallers.{items_behind, rest_behind}
+use Rattle.gateway_core.specs.Events.{Event, items_of, bytes_in}
+use Rattle.gateway_core.proofs.ForCallers.{count_on, items_behind, rest_behind}
 use Rattle.gateway_main.specs.Outlets.{IsOutlet}
-use Rattle.gateway_main.specs.Played.{IsIdle, Plays, Breaks}
+use Rattle.gateway_main.specs.Played.{IsIdle, Plays, PlaysPart, Breaks}
+use Rattle.gateway_main.specs.Taking.{Takes}
 use Rattle.gateway_main.proofs.AnswerLemmas.{answers_nothing, answers-append, answers-part}
 use Rattle.sqlite_trees.specs.declared.store.Store.{Ghosts}
 
@@ -32,20 +34,49 @@ module _ {S : Type 0} (g : Ghosts S) {O : Type 0} (puts : O → O → List Answe
   }
 
   -- an answer does not get out behind some events
-  pub plays-break : (old mid new : Value S) (events : List Event) (event : Event) (o mids now : O)
-      → Plays g old mid events (puts o mids) → Breaks g mid new [] event (breaks mids now)
-      → Breaks g old new events event (breaks o now)
-  plays-break old mid new events event o mids now first second =
-      let last = second.begun ∷ [] in
+  pub plays-break : (old mid new : Value S) (events more : List Event) (event : Event) (o mids now : O)
+      → Plays g old mid events (puts o mids) → Breaks g mid new more event (breaks mids now)
+      → Breaks g old new (events ++ more) event (breaks o now)
+  plays-break old mid new events more event o mids now first second =
+      let last = more ++ second.begun ∷ [] in
+      let all : (events ++ more) ++ second.begun ∷ [] ≡ events ++ last = append_assoc events more (second.begun ∷ []) in
       record {
         begun = second.begun;
         begins = second.begins;
         items = items_of old.rest events ++ second.items;
-        stand = items_behind old.rest mid.rest events last first.rest
+        stand = ap (items_of old.rest) all ∙ items_behind old.rest mid.rest events last first.rest
             ∙ ap (λ (is : List Item). items_of old.rest events ++ is) second.stand
             ∙ sym (append_assoc (items_of old.rest events) second.items (map Received new.ready));
-        rest = second.rest ∙ rest_behind old.rest mid.rest events last first.rest;
+        rest = second.rest ∙ rest_behind old.rest mid.rest events last first.rest
+            ∙ ap (λ (es : List Event). rest_of (old.rest ++ bytes_in es)) (sym all);
         answered =
             answers-part g puts breaks outlet old.handler mid.handler new.handler (items_of old.rest events)
             second.items o mids now first.answered second.answered;
       }
+
+  -- the same, of events that are known
+  pub part_behind : (old mid new : Value S) (events more : List Event) (o mids now : O)
+      → Plays g old mid events (puts o mids) → PlaysPart g mid new more (breaks mids now)
+      → PlaysPart g old new (events ++ more) (breaks o now)
+  part_behind old mid new events more o mids now first second = record {
+    events = events ++ second.events;
+    event = second.event;
+    later = second.later;
+    whole = ap (λ (es : List Event). events ++ es) second.whole
+        ∙ sym (append_assoc events second.events (second.event ∷ second.later));
+    broken = plays-break old mid new events second.events second.event o mids now first second.broken;
+  }
+
+  pub takes_none : (old : Value S) (o : O) (count : ℕ) → IsIdle old → count < 2 ^ 64
+      → Takes g old old [] (puts o o) count count
+  takes_none old o count idle fits = record { played = plays_nothing old o idle; counted = omega arith }
+
+  pub takes-append : (old mid new : Value S) (events more : List Event) (o mids now : O) (count some total : ℕ)
+      → Takes g old mid events (puts o mids) count some → Takes g mid new more (puts mids now) some total
+      → Takes g old new (events ++ more) (puts o now) count total
+  takes-append old mid new events more o mids now count some total first second = record {
+    played = plays-append old mid new events more o mids now first.played second.played;
+    counted =
+        rw (items_behind old.rest mid.rest events more first.played.rest, length-append)
+        (count_on count some total (length (items_of old.rest events)) _ first.counted second.counted);
+  }

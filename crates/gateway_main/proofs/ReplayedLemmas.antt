@@ -4,6 +4,7 @@ use Rattle.std.specs.Prelude.{◌⊎◌}
 use Rattle.gateway_core.specs.Step.{Answer}
 use Rattle.gateway_core.specs.Calls.{Value}
 use Rattle.gateway_core.specs.Events.{Event}
+use Rattle.gateway_main.specs.Script.{script}
 use Rattle.gateway_main.specs.Counts.{Counts, OneFailed, OneEmpty}
 use Rattle.gateway_main.specs.Written.{WritesAll, WritesPart}
 use Rattle.gateway_main.specs.TextOutlet.{PutsText, BreaksText}
@@ -17,7 +18,7 @@ pub wrong_at : {W : Type 0} (counts : W → Counts) (old sink writer : W) → wr
 wrong_at counts old sink writer e wrong = rw e wrong
 
 module _ {S : Type 0} (g : Ghosts S) where
-  plays-weaker : (old new : Value S) (events : List Event) (P Q : List Answer → Type 0)
+  pub plays-weaker : (old new : Value S) (events : List Event) (P Q : List Answer → Type 0)
       → ((answers : List Answer) → P answers → Q answers) → Plays g old new events P → Plays g old new events Q
   plays-weaker old new events P Q so p = record {
     answered = record {
@@ -35,10 +36,10 @@ module _ {S : Type 0} (g : Ghosts S) where
   closed-weaker old new input P Q so p =
       record { closed = p.closed; is = p.is; played = plays-weaker old new _ P Q so p.played }
 
-  part-weaker : (old new : Value S) (input : List ℕ) (P Q : List Answer → Answer → Type 0)
+  pub part-weaker : (old new : Value S) (all : List Event) (P Q : List Answer → Answer → Type 0)
       → ((answers : List Answer) (last : Answer) → P answers last → Q answers last)
-      → PlaysPart g old new input P → PlaysPart g old new input Q
-  part-weaker old new input P Q so p =
+      → PlaysPart g old new all P → PlaysPart g old new all Q
+  part-weaker old new all P Q so p =
       let broken = p.broken in
       record {
         events = p.events;
@@ -76,8 +77,8 @@ module _ {S : Type 0} (g : Ghosts S) where
         (λ answers out. out.text) p)
 
     pub part_at : (entry now gateway : Value S) (input : List ℕ) (old sink writer : W) → gateway ≡ now
-        → writer ≡ sink → PlaysPart g entry now input (BreaksText held counts old sink)
+        → writer ≡ sink → PlaysPart g entry now (script input) (BreaksText held counts old sink)
         → ReplaysPart g entry gateway input (held old) (held writer)
     part_at entry now gateway input old sink writer e f p =
-        rw (e, f) (part-weaker entry now input (BreaksText held counts old sink) (WritesPart (held old) (held sink))
+        rw (e, f) (part-weaker entry now (script input) (BreaksText held counts old sink) (WritesPart (held old) (held sink))
         (λ answers last out. out.text) p)

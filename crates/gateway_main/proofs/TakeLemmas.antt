@@ -14,7 +14,7 @@ use Rattle.gateway_core.proofs.ForCallers.{brought-rest, cuts_do_not_matter, res
 use Rattle.json_lines.specs.Counts.{count_with}
 use Rattle.gateway_main.specs.Outlets.{IsOutlet}
 use Rattle.gateway_main.specs.Played.{IsIdle, Answers, AnswersPart, Plays, Breaks}
-use Rattle.gateway_main.specs.Progress.{Drains, DrainsPart, Takes}
+use Rattle.gateway_main.specs.Taking.{Drains, DrainsPart, Takes}
 use Rattle.gateway_core.proofs.ForCallers.{count_on}
 use Rattle.gateway_main.proofs.AnswerLemmas.{answers_nothing, answers_one, answers-append, part_one, answers-part}
 use Rattle.gateway_main.proofs.PlayLemmas.{plays_nothing, plays-append}
@@ -88,7 +88,7 @@ module _ {S : Type 0} (g : Ghosts S) {O : Type 0} (puts : O → O → List Answe
       items_of-piece old.rest (byte ∷ []) idle.rest ∙ ap (λ (ps : List Packet). map Received ps) (sym ready)
 
   pub takes_nothing : (old : Value S) (o : O) (count : ℕ) → IsIdle old → count < 2 ^ 64
-      → Takes g old old (Piece []) (puts o o) count count
+      → Takes g old old (Piece [] ∷ []) (puts o o) count count
   takes_nothing old o count idle fits =
       let none : items_of old.rest (Piece [] ∷ []) ≡ [] =
       items_of-piece old.rest [] idle.rest ∙ ap (λ r. map Received (packets_in r)) (append-nil old.rest)
@@ -102,9 +102,9 @@ module _ {S : Type 0} (g : Ghosts S) {O : Type 0} (puts : O → O → List Answe
   -- one byte more of a piece, and the packets that it brings
   pub takes_more : (old now mid new : Value S) (bytes : List ℕ) (byte : ℕ) (o mids after : O)
       (count some total : ℕ)
-      → Takes g old now (Piece bytes) (puts o mids) count some → Moves g now (Byte byte) mid → new.ready ≡ []
+      → Takes g old now (Piece bytes ∷ []) (puts o mids) count some → Moves g now (Byte byte) mid → new.ready ≡ []
       → Drains g mid new (puts mids after) some total
-      → Takes g old new (Piece (bytes ++ byte ∷ [])) (puts o after) count total
+      → Takes g old new (Piece (bytes ++ byte ∷ []) ∷ []) (puts o after) count total
   takes_more old now mid new bytes byte o mids after count some total before moved none drained =
       let all : mid.ready ≡ drained.packets =
       drained.ready ∙ ap (λ (ps : List Packet). drained.packets ++ ps) none ∙ append-nil drained.packets in
@@ -139,7 +139,7 @@ module _ {S : Type 0} (g : Ghosts S) {O : Type 0} (puts : O → O → List Answe
   -- an answer does not get out at the packets of one byte
   pub takes_part : (old now mid new : Value S) (bytes : List ℕ) (byte : ℕ) (later piece : List ℕ)
       (o mids after : O) (count some : ℕ)
-      → Takes g old now (Piece bytes) (puts o mids) count some → Moves g now (Byte byte) mid
+      → Takes g old now (Piece bytes ∷ []) (puts o mids) count some → Moves g now (Byte byte) mid
       → DrainsPart g mid new (breaks mids after) → piece ≡ (bytes ++ byte ∷ []) ++ later
       → Breaks g old new [] (Piece piece) (breaks o after)
   takes_part old now mid new bytes byte later piece o mids after count some before moved drained whole =
@@ -173,7 +173,7 @@ module _ {S : Type 0} (g : Ghosts S) {O : Type 0} (puts : O → O → List Answe
 
   pub takes_order : (old new : Value S) (line : List ℕ) (answer : Answer) (o now : O) (count total : ℕ)
       → IsIdle old → Moves g old (Order line answer) new → puts o now (answer ∷ [])
-      → total ≡ count_with count 1 → Takes g old new (Line line) (puts o now) count total
+      → total ≡ count_with count 1 → Takes g old new (Line line ∷ []) (puts o now) count total
   takes_order old new line answer o now count total idle (ready, rest, handled) out counted = record {
     played = record {
       answered = answers_one g puts breaks outlet old.handler new.handler (Ordered line) answer o now handled out;

@@ -1,5 +1,5 @@
 -- How the writes of a text go on.
-use Rattle.std.proofs.Common.{◌≡◌, ℕ, ◌-◌, List, ◌++◌, length, take, drop, ap, sym, ◌∙◌, append_assoc, length-append}
+use Rattle.std.proofs.Common.{◌≡◌, ℕ, ◌-◌, List, [], ◌++◌, length, take, drop, ap, sym, ◌∙◌, append_assoc, length-append}
 use Rattle.std.proofs.Common.{arith, length-drop, Option}
 use Rattle.std.specs.Prelude.{Result, IsErrAnd}
 use Rattle.std.specs.Io.KnownBytes.{Appends}
@@ -30,8 +30,8 @@ left_after old mid new text rest n before more = record {
     all_taken rest n = rw (← length-drop n rest) (take-length (drop n rest))
 
 -- a first part of the front is a first part of all
-pub part_of_front : (old new : Option (List ℕ)) (front back : List ℕ) → AppendsPart old new front
-    → AppendsPart old new (front ++ back)
+pub part_of_front : (old new : Option (List ℕ)) (front back : List ℕ) → AppendsPart old new [] front
+    → AppendsPart old new [] (front ++ back)
 part_of_front old new front back p = record {
   part = p.part;
   missing = p.missing ++ back;
@@ -41,9 +41,9 @@ part_of_front old new front back p = record {
 }
 
 -- behind the front, a first part of the back
-pub part_behind : (old mid new : Option (List ℕ)) (front back : List ℕ) → Appends old mid front
-    → AppendsPart mid new back → AppendsPart old new (front ++ back)
-part_behind old mid new front back first p = record {
+pub part_of_back : (old mid new : Option (List ℕ)) (front back : List ℕ) → Appends old mid front
+    → AppendsPart mid new [] back → AppendsPart old new [] (front ++ back)
+part_of_back old mid new front back first p = record {
   part = front ++ p.part;
   missing = p.missing;
   whole = ap (λ s. front ++ s) p.whole ∙ sym (append_assoc front p.part p.missing);
@@ -56,9 +56,9 @@ pub writes_behind : {A E : Type 0} (old mid new : Option (List ℕ)) (r : Result
     → Appends old mid front → Writes mid new r back → Writes old new r (front ++ back)
 writes_behind old mid new r front back first second =
     MatchResult-weaker r second (λ _ grown. Appends-trans old mid new front back first grown)
-    (λ _ part. part_behind old mid new front back first part)
+    (λ _ part. part_of_back old mid new front back first part)
 
 -- an error after a first part
 pub writes_part : {A E : Type 0} (Q : E → Type 0) (old new : Option (List ℕ)) (r : Result A E) (text : List ℕ)
-    → IsErrAnd r Q → AppendsPart old new text → Writes old new r text
+    → IsErrAnd r Q → AppendsPart old new [] text → Writes old new r text
 writes_part Q old new r text err part = let p = err_from_is_err_and r err in rw p.1 part

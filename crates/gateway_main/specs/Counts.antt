@@ -29,6 +29,14 @@ counted counts (Err e) = record {
 abbrev pub WentWell : Counts → Counts → Type 0
 WentWell old new = (new.failed ≡ old.failed) × (new.empty ≡ old.empty)
 
+-- no call failed
+abbrev pub NoneFailed : Counts → Counts → Type 0
+NoneFailed old new = new.failed ≡ old.failed
+
+-- one call failed
+abbrev pub OneMoreFailed : Counts → Counts → Type 0
+OneMoreFailed old new = new.failed ≡ one_more old.failed
+
 -- one call failed, and none answered 0 bytes
 abbrev pub OneFailed : Counts → Counts → Type 0
 OneFailed old new = (new.failed ≡ one_more old.failed) × (new.empty ≡ old.empty)

@@ -4,9 +4,12 @@ pub mod Written
 pub mod Script
 pub mod Outlets
 pub mod TextOutlet
+pub mod Wires
 pub mod Played
 pub mod Replayed
-pub mod Progress
+pub mod Taking
+pub mod Bytes
+pub mod Turns
 pub mod Bases
 pub mod Faults
 pub mod Endings

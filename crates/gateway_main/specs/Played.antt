@@ -59,10 +59,10 @@ module _ {S : Type 0} (g : Ghosts S) where
     pub is : HasClosed input closed
     pub played : Plays old new (script closed) puts
 
-  -- an answer did not get out at some event of the input
-  pub record PlaysPart (old new : Value S) (input : List ℕ) (breaks : List Answer → Answer → Type 0) : Type 0 where
+  -- an answer did not get out at some event of these
+  pub record PlaysPart (old new : Value S) (all : List Event) (breaks : List Answer → Answer → Type 0) : Type 0 where
     pub events : List Event
     pub event : Event
     pub later : List Event
-    pub whole : script input ≡ events ++ event ∷ later
+    pub whole : all ≡ events ++ event ∷ later
     pub broken : Breaks old new events event breaks

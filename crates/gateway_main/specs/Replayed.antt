@@ -2,6 +2,7 @@
 use Rattle.std.specs.Prelude.{ℕ, List, Option}
 use Rattle.gateway_core.specs.Calls.{Value}
 use Rattle.gateway_core.specs.Events.{Event}
+use Rattle.gateway_main.specs.Script.{script}
 use Rattle.gateway_main.specs.Written.{WritesAll, WritesPart}
 use Rattle.gateway_main.specs.Played.{Plays, Breaks, PlaysClosed, PlaysPart}
 use Rattle.sqlite_trees.specs.declared.store.Store.{Ghosts}
@@ -22,4 +23,4 @@ module _ {S : Type 0} (g : Ghosts S) where
 
   -- a write failed at some event of the input
   abbrev pub ReplaysPart : Value S → Value S → List ℕ → Option (List ℕ) → Option (List ℕ) → Type 0
-  ReplaysPart old new input held now = PlaysPart g old new input (WritesPart held now)
+  ReplaysPart old new input held now = PlaysPart g old new (script input) (WritesPart held now)

@@ -9,6 +9,7 @@ use Rattle.gateway_core.specs.Step.{Answer}
 use Rattle.json_lines.specs.Counts.{one_more}
 use Rattle.gateway_main.specs.Counts.{Counts, WentWell, OneFailed, OneEmpty}
 use Rattle.gateway_main.specs.Outlets.{IsOutlet}
+use Rattle.gateway_main.specs.Writes.{AppendsPart}
 use Rattle.gateway_main.specs.Written.{text_of, written, WritesAll, WritesPart}
 
 -- more text behind text
@@ -19,18 +20,16 @@ all_behind held mids now first second a b =
     (Appends-trans held mids now (written first) (written second) a b)
 
 -- a part of more text behind text
-part_behind : (held mids now : Option (List ℕ)) (first second : List Answer) (last : Answer)
-    → WritesAll held mids first → WritesPart mids now second last → WritesPart held now (first ++ second) last
-part_behind held mids now first second last a b = record {
+pub part_behind : (old mid new : Option (List ℕ)) (before front text : List ℕ) → Appends old mid before
+    → AppendsPart mid new front text → AppendsPart old new (before ++ front) text
+part_behind old mid new before front text a b = record {
   part = b.part;
   missing = b.missing;
   whole = b.whole;
   proper = b.proper;
-  text =
-      subst (Appends held now)
-      (sym (ap (λ t. t ++ b.part) (flat_map-append text_of first second)
-      ∙ append_assoc (written first) (written second) b.part))
-      (Appends-trans held mids now (written first) (written second ++ b.part) a b.text);
+  grown =
+      subst (Appends old new) (sym (append_assoc before front b.part))
+      (Appends-trans old mid new before (front ++ b.part) a b.grown);
 }
 
 -- no call went wrong
@@ -65,7 +64,11 @@ module _ {W : Type 0} (held : W → Option (List ℕ)) (counts : W → Counts) w
       went = well_behind (counts (sink old)) (counts (sink mid)) (counts (sink new)) a.went b.went;
     };
     broken = λ old mid new first second last a b. record {
-      text = part_behind (held (sink old)) (held (sink mid)) (held (sink new)) first second last a.text b.text;
+      text =
+          subst (λ front. AppendsPart (held (sink old)) (held (sink new)) front (text_of last))
+          (sym (flat_map-append text_of first second))
+          (part_behind (held (sink old)) (held (sink mid)) (held (sink new)) (written first) (written second)
+          (text_of last) a.text b.text);
       went = wrong_behind (counts (sink old)) (counts (sink mid)) (counts (sink new)) a.went b.went;
     };
   }

@@ -1,15 +1,15 @@
 -- What a write of a whole text leaves in a sink.
-use Rattle.std.specs.Prelude.{◌≡◌, ◌<◌, ℕ, List, ◌++◌, length, Option, Result, MatchResult}
+use Rattle.std.specs.Prelude.{◌≡◌, ◌<◌, ℕ, List, [], ◌++◌, length, Option, Result, MatchResult}
 use Rattle.std.specs.Io.KnownBytes.{Appends}
 
--- known bytes grow by some first part of the text, which is not all of it
-pub record AppendsPart (old new : Option (List ℕ)) (text : List ℕ) : Type 0 where
+-- known bytes grow by the front, and behind it by some first part of the text, which is not all of it
+pub record AppendsPart (old new : Option (List ℕ)) (front text : List ℕ) : Type 0 where
   pub part : List ℕ
   pub missing : List ℕ
   pub whole : text ≡ part ++ missing
   pub proper : 0 < length missing
-  pub grown : Appends old new part
+  pub grown : Appends old new (front ++ part)
 
 -- all of the text at `Ok`, and a first part of it at `Err`
 abbrev pub Writes : {A E : Type 0} → Option (List ℕ) → Option (List ℕ) → Result A E → List ℕ → Type 0
-Writes old new result text = MatchResult result (λ _. Appends old new text) (λ _. AppendsPart old new text)
+Writes old new result text = MatchResult result (λ _. Appends old new text) (λ _. AppendsPart old new [] text)

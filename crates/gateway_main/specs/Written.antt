@@ -1,9 +1,10 @@
 -- The text that is written for answers. Own choice.
-use Rattle.std.specs.Prelude.{◌≡◌, ◌<◌, ℕ, List, [], ◌++◌, length, codes, Option, Some, None}
+use Rattle.std.specs.Prelude.{ℕ, List, [], ◌++◌, codes, Option, Some, None}
 use Rattle.std.specs.Io.KnownBytes.{Appends}
 use Rattle.std.specs.List.{flat_map}
 use Rattle.hex.specs.Hex.{encode_lower}
 use Rattle.gateway_core.specs.Step.{Answer}
+use Rattle.gateway_main.specs.Writes.{AppendsPart}
 
 -- the radio bytes as a serial piece, if there are any
 abbrev pub radio_text : Option (List ℕ) → List ℕ
@@ -21,9 +22,5 @@ abbrev pub WritesAll : Option (List ℕ) → Option (List ℕ) → List Answer �
 WritesAll held now answers = Appends held now (written answers)
 
 -- the text of the answers was written, and of the last one's behind them only a first part, and not all of it
-pub record WritesPart (held now : Option (List ℕ)) (answers : List Answer) (last : Answer) : Type 0 where
-  pub part : List ℕ
-  pub missing : List ℕ
-  pub whole : text_of last ≡ part ++ missing
-  pub proper : 0 < length missing
-  pub text : Appends held now (written answers ++ part)
+abbrev pub WritesPart : Option (List ℕ) → Option (List ℕ) → List Answer → Answer → Type 0
+WritesPart held now answers last = AppendsPart held now (written answers) (text_of last)

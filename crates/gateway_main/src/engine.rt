@@ -4,7 +4,7 @@ ghost use Rattle.json_lines.specs.Counts.{one_more};
 ghost use Rattle.gateway_core.specs.Events.{Line as LineEvent, Piece as PieceEvent};
 ghost use Rattle.gateway_core.specs.Replies.{answer_of};
 ghost use Rattle.gateway_main.specs.Played.{IsIdle};
-ghost use Rattle.gateway_main.specs.Progress.{Drains, DrainsPart, TakesOrBreaks};
+ghost use Rattle.gateway_main.specs.Taking.{Drains, DrainsPart, TakesOrBreaks};
 
 use crate::outlet::Outlet;
 use crate::tally::Failed;

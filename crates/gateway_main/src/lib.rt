@@ -14,8 +14,11 @@ pub mod fault;
 #[cfg(test)]
 mod gateway_tests;
 pub mod laws;
+mod lines;
+mod living;
 mod outlet;
 mod player;
+mod replay_text;
 mod replaying;
 mod running;
 mod script_lines;
@@ -26,8 +29,10 @@ mod tally;
 #[cfg(test)]
 mod tests;
 mod unended;
+mod wires;
 mod writing;
 
+pub use living::live;
 pub use replaying::{RunFault, Summary, replay};
 pub use running::program;
 pub use sink::{OverWrite, Sink};

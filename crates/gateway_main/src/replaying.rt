@@ -8,16 +8,17 @@ ghost use Rattle.gateway_main.specs.Replayed.{Replays, ReplaysClosed, ReplaysPar
 ghost use Rattle.gateway_main.specs.Script.{script};
 
 use crate::engine::Engine;
+use crate::lines::Lines;
 use crate::player::Player;
+use crate::replay_text::ReplayText;
 use crate::sink::Sink;
 use crate::source::Source;
 use crate::unended::UnendedLine;
-use crate::writing::ReplayText;
 use gateway_core::Gateway;
 use sqlite::Alter;
 
 /// How many bytes are read at most in one turn. Own choice.
-const LONGEST_READ: usize = 256;
+pub(crate) const LONGEST_READ: usize = 256;
 
 /// What a replay did.
 #[derive(Clone, Copy, Debug, PartialEq, Eq)]
@@ -106,7 +107,7 @@ pub fn replay<R: Source, W: Sink, S: Alter>(
                 items: player.engine.items,
             });
         }
-        let Ok(()) = player.take_bytes(&buffer[..length]) else {
+        let Ok(()) = player.take_bytes(Lines::OfScript, &buffer[..length]) else {
             return Err(RunFault::Write);
         };
     }

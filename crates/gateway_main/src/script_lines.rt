@@ -3,7 +3,7 @@ ghost use Rattle.std.specs.Prelude.{◌≡◌, ◌≤◌, length, drop};
 ghost use Rattle.hex.specs.Hex.{decode_of};
 ghost use Rattle.gateway_core.specs.Step.{longest_line};
 ghost use Rattle.gateway_main.specs.Played.{IsIdle};
-ghost use Rattle.gateway_main.specs.Progress.{TakesOrBreaks};
+ghost use Rattle.gateway_main.specs.Taking.{TakesOrBreaks};
 ghost use Rattle.gateway_main.specs.Script.{event_of, spelled};
 
 use crate::engine::Engine;
@@ -16,8 +16,8 @@ use sqlite::Alter;
 const LONGEST_PIECE: usize = (LONGEST_LINE - 2) / 2;
 
 impl<O: Outlet, S: Alter> Engine<'_, O, S> {
-    /// Takes a line without its end.
-    pub fn take_line(&mut self, line: &[u8]) -> Result<(), Failed>
+    /// Takes a line of a script, without its end.
+    pub fn take_script_line(&mut self, line: &[u8]) -> Result<(), Failed>
         requires { IsIdle self.old.gateway.now }
         ensures gateway { self.new.gateway.ghost_name ≡ self.old.gateway.ghost_name }
         ensures loans { O.loans self.new.outlet ≡ O.loans self.old.outlet }

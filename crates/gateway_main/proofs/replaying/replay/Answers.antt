@@ -5,9 +5,11 @@ use Rattle.std.proofs.KnownBytes.{Consumes-nil, Consumes-trans, Consumes-kept}
 use Rattle.gateway_main.specs.declared.tally.Failed.{Failed}
 use Rattle.gateway_main.specs.Counts.{WentWell, OneFailed, OneEmpty}
 use Rattle.gateway_main.specs.Played.{IsIdle}
-use Rattle.gateway_main.specs.TextOutlet.{text_outlet}
+use Rattle.gateway_main.specs.declared.lines.Lines.TheVariants.{OfScript}
+use Rattle.gateway_main.specs.TextOutlet.{PutsText, text_outlet, well_behind, wrong_behind}
 use Rattle.gateway_main.proofs.CountLemmas.{went_well, made_more, made_none, made_within}
-use Rattle.gateway_main.proofs.ProgressLemmas.{progress_start, closes}
+use Rattle.gateway_main.proofs.BytesLemmas.{bytes_none, bytes_behind, closes, keeps_none, part_at_line, script_stops}
+use Rattle.gateway_main.proofs.BytesLemmas.{script_taken, stops_behind}
 use Rattle.gateway_main.proofs.ReplayedLemmas.{replays_at, closed_at, part_at, wrong_at}
 use Rattle.gateway_main.proofs.replaying.replay.Goals as goal
 
@@ -22,8 +24,8 @@ loop-turn-init g c =
         [],
         Consumes-nil (g.R.Source.left c.args.reader.now),
         rw c.new.ensures
-            (progress_start g.S.Store _ _ (text_outlet g.W.Sink.held g.W.Sink.counts (λ writer. writer))
-            c.args.gateway.now c.args.writer.now idle),
+            (bytes_none g.S.Store _ _ (text_outlet g.W.Sink.held g.W.Sink.counts (λ writer. writer)) OfScript
+            c.args.gateway.now [] [] c.args.writer.now 0 idle (omega arith) keeps_none),
       );
       writes = (refl, refl);
       reads = (refl, refl);
@@ -43,8 +45,8 @@ returns-in-Err-clause-stopped g c =
           c.in-Err.ensures.bytes,
       closed_at g.S.Store held counts c.args.gateway.now now.engine.gateway.now _ progress.0 c.args.writer.now
           now.engine.outlet.sink.now _ (search rules) (search rules)
-          (closes g.S.Store _ _ (text_outlet held counts (λ writer. writer)) c.args.gateway.now now.engine.gateway.now
-          progress.0 now.unended c.args.writer.now now.engine.outlet.sink.now now.engine.items progress.2),
+          (closes g.S.Store c.args.gateway.now now.engine.gateway.now progress.0 now.unended
+          (PutsText held counts c.args.writer.now now.engine.outlet.sink.now) 0 now.engine.items progress.2),
     )
 
 pub returns-clause-stopped : goal.returns-clause-stopped
@@ -58,8 +60,8 @@ returns-clause-stopped g c =
       progress.1,
       closed_at g.S.Store held counts c.args.gateway.now now.engine.gateway.now _ progress.0 c.args.writer.now
           now.engine.outlet.sink.now _ (search rules) (search rules)
-          (closes g.S.Store _ _ (text_outlet held counts (λ writer. writer)) c.args.gateway.now now.engine.gateway.now
-          progress.0 now.unended c.args.writer.now now.engine.outlet.sink.now now.engine.items progress.2),
+          (closes g.S.Store c.args.gateway.now now.engine.gateway.now progress.0 now.unended
+          (PutsText held counts c.args.writer.now now.engine.outlet.sink.now) 0 now.engine.items progress.2),
     )
 
 pub returns-then-length-eq0-clause-ok : goal.returns-then-length-eq0-clause-ok
@@ -69,30 +71,36 @@ returns-then-length-eq0-clause-ok g c =
     let progress = c.loop-turn.invariant.progress in
     let none : Consumes (left c.loop-turn.reader) (left c.read.new.self) [] =
     rw c.if-length-eq0.true at c.in-Ok.ensures.bytes.0 in
+    let old = c.loop-turn.player.engine in
     let done =
-    c.in-Ok-take_last.ensures.played c.args.gateway.now progress.0 (record { sink = c.args.writer }) progress.2 in (
+    script_taken g.S.Store _ _ (text_outlet g.W.Sink.held g.W.Sink.counts (λ writer. writer)) c.args.gateway.now
+    old.gateway.now new.gateway.now progress.0 c.loop-turn.player.unended c.args.writer.now old.outlet.sink.now
+    new.outlet.sink.now old.items new.items progress.2
+    (c.in-Ok-take_last.ensures.taken progress.2.rest progress.2.keeps) in (
       progress.0,
       rw append-nil at (Consumes-trans (left c.args.reader.now) (left c.loop-turn.reader) (left c.read.new.self)
           progress.0 [] progress.1 none),
       c.in-Ok.ensures.bytes.1 c.if-length-eq0.true (omega arith),
       replays_at g.S.Store g.W.Sink.held g.W.Sink.counts c.args.gateway.now new.gateway.now _ _ c.args.writer.now
-          new.outlet.sink.now _ (search rules) (search rules) done.0,
-      done.1,
+          new.outlet.sink.now _ (search rules) (search rules) done.played,
+      (let counted = done.counted in omega (arith, counted)),
     )
 
 pub returns-then-length-eq0-clause-ended : goal.returns-then-length-eq0-clause-ended
 returns-then-length-eq0-clause-ended g c =
     let counts = g.W.Sink.counts in
     let progress = c.loop-turn.invariant.progress in
-    let done =
-    c.in-Ok-take_last.ensures.played c.args.gateway.now progress.0 (record { sink = c.args.writer }) progress.2 in
+    let last = c.in-Ok-take_last.ensures.taken progress.2.rest progress.2.keeps in
     let went : WentWell (counts c.args.writer.now) (counts c.take_last.new.self.engine.outlet.sink.now) =
-    done.0.answered.out.went in
+    well_behind (counts c.args.writer.now) (counts c.loop-turn.player.engine.outlet.sink.now)
+    (counts c.take_last.new.self.engine.outlet.sink.now) progress.2.taken.played.answered.out.went
+    last.played.answered.out.went in
     let reads = c.loop-turn.invariant.reads in search rules
 
 pub returns-in_default-clause-broken : goal.returns-in_default-clause-broken
 returns-in_default-clause-broken g c =
     let left = g.R.Source.left in
+    let old = c.loop-turn.player.engine in
     let new = c.take_last.new.self.engine in
     let progress = c.loop-turn.invariant.progress in
     let none : Consumes (left c.loop-turn.reader) (left c.read.new.self) [] =
@@ -101,26 +109,32 @@ returns-in_default-clause-broken g c =
       progress.0,
       rw append-nil at (Consumes-trans (left c.args.reader.now) (left c.loop-turn.reader) (left c.read.new.self)
           progress.0 [] progress.1 none),
-      part_at g.S.Store g.W.Sink.held g.W.Sink.counts c.args.gateway.now new.gateway.now _ _ c.args.writer.now
+      part_at g.S.Store g.W.Sink.held g.W.Sink.counts c.args.gateway.now new.gateway.now _ progress.0 c.args.writer.now
           new.outlet.sink.now _ (search rules) (search rules)
-          (c.in_default.ensures.broken c.args.gateway.now progress.0 (record { sink = c.args.writer }) progress.2),
+          (script_stops g.S.Store _ _ (text_outlet g.W.Sink.held g.W.Sink.counts (λ writer. writer))
+          c.args.gateway.now old.gateway.now new.gateway.now progress.0 c.loop-turn.player.unended c.args.writer.now
+          old.outlet.sink.now new.outlet.sink.now old.items progress.2
+          (c.in_default.ensures.taken progress.2.rest progress.2.keeps)),
     )
 
 pub returns-in_default-clause-write : goal.returns-in_default-clause-write
 returns-in_default-clause-write g c =
     let counts = g.W.Sink.counts in
     let progress = c.loop-turn.invariant.progress in
-    let broken =
-    c.in_default.ensures.broken c.args.gateway.now progress.0 (record { sink = c.args.writer }) progress.2 in
+    let mid = c.loop-turn.player.engine.outlet.sink.now in
+    let new = c.take_last.new.self.engine.outlet.sink.now in
+    let last = c.in_default.ensures.taken progress.2.rest progress.2.keeps in
     λ _. (
       search rules,
-      wrong_at counts c.args.writer.now c.take_last.new.self.engine.outlet.sink.now _ (search rules)
-          broken.broken.answered.out.went,
+      wrong_at counts c.args.writer.now new _ (search rules)
+          (wrong_behind (counts c.args.writer.now) (counts mid) (counts new)
+          progress.2.taken.played.answered.out.went last.broken.answered.out.went),
     )
 
 pub returns-in_default-take_bytes-clause-broken : goal.returns-in_default-take_bytes-clause-broken
 returns-in_default-take_bytes-clause-broken g c =
     let left = g.R.Source.left in
+    let old = c.loop-turn.player.engine in
     let new = c.take_bytes.new.self.engine in
     let progress = c.loop-turn.invariant.progress in
     let chunk = take c.in-Ok.length c.read.new.buffer in
@@ -128,33 +142,39 @@ returns-in_default-take_bytes-clause-broken g c =
       progress.0 ++ chunk,
       Consumes-trans (left c.args.reader.now) (left c.loop-turn.reader) (left c.read.new.self) progress.0 chunk
           progress.1 c.in-Ok.ensures.bytes.0,
-      part_at g.S.Store g.W.Sink.held g.W.Sink.counts c.args.gateway.now new.gateway.now _ _ c.args.writer.now
-          new.outlet.sink.now _ (search rules) (search rules)
-          (c.in_default-take_bytes.ensures.broken c.args.gateway.now progress.0 (record { sink = c.args.writer })
-          progress.2),
+      part_at g.S.Store g.W.Sink.held g.W.Sink.counts c.args.gateway.now new.gateway.now _ (progress.0 ++ chunk)
+          c.args.writer.now new.outlet.sink.now _ (search rules) (search rules)
+          (part_at_line g.S.Store c.args.gateway.now new.gateway.now (progress.0 ++ chunk) _
+          (stops_behind g.S.Store _ _ (text_outlet g.W.Sink.held g.W.Sink.counts (λ writer. writer)) OfScript
+          c.args.gateway.now old.gateway.now new.gateway.now [] progress.0 chunk c.loop-turn.player.unended
+          c.args.writer.now old.outlet.sink.now new.outlet.sink.now 0 old.items progress.2
+          (c.in_default-take_bytes.ensures.taken progress.2.rest progress.2.keeps))),
     )
 
 pub returns-in_default-take_bytes-clause-write : goal.returns-in_default-take_bytes-clause-write
 returns-in_default-take_bytes-clause-write g c =
     let counts = g.W.Sink.counts in
     let progress = c.loop-turn.invariant.progress in
-    let broken =
-    c.in_default-take_bytes.ensures.broken c.args.gateway.now progress.0 (record { sink = c.args.writer }) progress.2 in
+    let mid = c.loop-turn.player.engine.outlet.sink.now in
+    let new = c.take_bytes.new.self.engine.outlet.sink.now in
+    let stop = c.in_default-take_bytes.ensures.taken progress.2.rest progress.2.keeps in
     λ _. (
       search rules,
-      wrong_at counts c.args.writer.now c.take_bytes.new.self.engine.outlet.sink.now _ (search rules)
-          broken.broken.answered.out.went,
+      wrong_at counts c.args.writer.now new _ (search rules)
+          (wrong_behind (counts c.args.writer.now) (counts mid) (counts new)
+          progress.2.taken.played.answered.out.went stop.broken.answered.out.went),
     )
 
 pub returns-in_default-take_bytes-clause-too_many : goal.returns-in_default-take_bytes-clause-too_many
 returns-in_default-take_bytes-clause-too_many g c =
     let counts = g.W.Sink.counts in
     let progress = c.loop-turn.invariant.progress in
-    let broken =
-    c.in_default-take_bytes.ensures.broken c.args.gateway.now progress.0 (record { sink = c.args.writer }) progress.2 in
+    let mid = c.loop-turn.player.engine.outlet.sink.now in
     let new = c.take_bytes.new.self.engine.outlet.sink.now in
+    let stop = c.in_default-take_bytes.ensures.taken progress.2.rest progress.2.keeps in
     let wrong : OneFailed (counts c.args.writer.now) (counts new) ⊎ OneEmpty (counts c.args.writer.now) (counts new) =
-    broken.broken.answered.out.went in search rules
+    wrong_behind (counts c.args.writer.now) (counts mid) (counts new) progress.2.taken.played.answered.out.went
+    stop.broken.answered.out.went in search rules
 
 pub loop-turn-preserved : goal.loop-turn-preserved
 loop-turn-preserved g c =
@@ -163,8 +183,14 @@ loop-turn-preserved g c =
     let invariant = c.loop-turn.invariant in
     let chunk = take c.in-Ok.length c.read.new.buffer in
     let after = c.in-Ok-take_bytes.ensures in
+    let p = invariant.progress.2 in
+    let old = c.loop-turn.player.engine in
+    let new = c.take_bytes.new.self.engine in
     let progress =
-    after.progress c.args.gateway.now invariant.progress.0 (record { sink = c.args.writer }) invariant.progress.2 in
+    bytes_behind g.S.Store _ _ (text_outlet g.W.Sink.held g.W.Sink.counts (λ writer. writer)) OfScript
+    c.args.gateway.now old.gateway.now new.gateway.now [] invariant.progress.0 chunk c.loop-turn.player.unended
+    c.take_bytes.new.self.unended c.args.writer.now old.outlet.sink.now new.outlet.sink.now 0 old.items new.items p
+    (after.taken p.rest p.keeps) in
     record {
       gateway = search rules;
       writer = search rules;
@@ -175,7 +201,7 @@ loop-turn-preserved g c =
             chunk invariant.progress.1 c.in-Ok.ensures.bytes.0,
         progress,
       );
-      writes = progress.played.answered.out.went;
+      writes = progress.taken.played.answered.out.went;
       reads =
           went_well Failed (reads c.args.reader.now) (reads c.loop-turn.reader) (reads c.read.new.self) c.in-Ok.length
           invariant.reads c.in-Ok.ensures.told c.if-length-eq0.false;

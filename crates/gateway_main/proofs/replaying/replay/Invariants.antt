@@ -1,8 +1,9 @@
-use Rattle.std.proofs.Common.{◌≡◌, List, ℕ}
+use Rattle.std.proofs.Common.{◌≡◌, List, [], ℕ}
 use Rattle.std.specs.Io.KnownBytes.{Consumes}
 use Rattle.gateway_main.specs.Counts.{WentWell, Made}
 use Rattle.gateway_main.specs.Played.{IsIdle}
-use Rattle.gateway_main.specs.Progress.{Progress}
+use Rattle.gateway_main.specs.Bytes.{TakesBytes}
+use Rattle.gateway_main.specs.declared.lines.Lines.TheVariants.{OfScript}
 use Rattle.gateway_main.specs.TextOutlet.{PutsText}
 use Rattle.gateway_main.proofs.replaying.replay.Given as goal
 
@@ -12,8 +13,8 @@ invariant-loop-turn g l = record {
   writer : l.player.engine.outlet.sink.ghost_name ≡ l.initial.player.engine.outlet.sink.ghost_name;
   idle : IsIdle l.player.engine.gateway.now;
   progress : (input : List ℕ) × Consumes (g.R.Source.left l.fn.reader) (g.R.Source.left l.reader) input
-      × Progress g.S.Store l.fn.gateway l.player.engine.gateway.now input l.player.unended
-      (PutsText g.W.Sink.held g.W.Sink.counts l.fn.writer l.player.engine.outlet.sink.now) l.player.engine.items;
+      × TakesBytes g.S.Store OfScript l.fn.gateway l.player.engine.gateway.now [] input l.player.unended
+      (PutsText g.W.Sink.held g.W.Sink.counts l.fn.writer l.player.engine.outlet.sink.now) 0 l.player.engine.items;
   writes : WentWell (g.W.Sink.counts l.fn.writer) (g.W.Sink.counts l.player.engine.outlet.sink.now);
   reads : WentWell (g.R.Source.counts l.fn.reader) (g.R.Source.counts l.reader);
   made : Made (g.R.Source.counts l.fn.reader) (g.R.Source.counts l.reader) l._turn;

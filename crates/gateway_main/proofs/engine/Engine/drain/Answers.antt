@@ -5,7 +5,7 @@ use Rattle.gateway_core.specs.Calls.{Value, Moves, Next}
 use Rattle.gateway_core.specs.Replies.{answer_of}
 use Rattle.json_lines.specs.Counts.{count_with}
 use Rattle.gateway_main.specs.declared.engine.Engine.{Engine}
-use Rattle.gateway_main.specs.Progress.{Drains}
+use Rattle.gateway_main.specs.Taking.{Drains}
 use Rattle.gateway_main.proofs.TakeLemmas.{drains_nothing, drains_one, drains_part}
 use Rattle.gateway_main.proofs.engine.Engine.drain.Given.{Over}
 use Rattle.gateway_main.proofs.engine.Engine.drain.Goals as goal

@@ -1,5 +1,5 @@
 use Rattle.std.proofs.Common.{◌≡◌, length}
-use Rattle.gateway_main.specs.Progress.{Drains}
+use Rattle.gateway_main.specs.Taking.{Drains}
 use Rattle.gateway_main.proofs.engine.Engine.drain.Given as goal
 
 abbrev pub invariant-loop-reply : goal.invariant-loop-reply

@@ -1,6 +1,6 @@
-use Rattle.std.proofs.Common.{◌≡◌, take}
+use Rattle.std.proofs.Common.{◌≡◌, take, [], ◌∷◌}
 use Rattle.gateway_core.specs.Events.{Piece}
-use Rattle.gateway_main.specs.Progress.{Takes}
+use Rattle.gateway_main.specs.Taking.{Takes}
 use Rattle.gateway_main.proofs.engine.Engine.take_piece.Given as goal
 
 -- the packets of the bytes so far are answered
@@ -8,6 +8,6 @@ abbrev pub invariant-loop-byte : goal.invariant-loop-byte
 invariant-loop-byte g l = record {
   gateway : l.self.gateway.ghost_name ≡ l.fn.self.gateway.ghost_name;
   loans : g.O.Outlet.loans l.self.outlet ≡ g.O.Outlet.loans l.fn.self.outlet;
-  takes : Takes g.S.Store l.fn.self.gateway.now l.self.gateway.now (Piece (take l.byte-index l.piece))
+  takes : Takes g.S.Store l.fn.self.gateway.now l.self.gateway.now (Piece (take l.byte-index l.piece) ∷ [])
       (g.O.Outlet.puts l.fn.self.outlet l.self.outlet) l.fn.self.items l.self.items;
 }

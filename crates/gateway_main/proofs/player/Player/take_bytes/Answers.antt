@@ -1,46 +1,64 @@
-use Rattle.std.proofs.Common.{◌≡◌, ◌++◌, ◌∷◌, [], ◌+◌, ◌-◌, length, take, drop, append_assoc, append-nil, ap, refl}
+use Rattle.std.proofs.Common.{◌≡◌, ◌++◌, ◌∷◌, [], ◌+◌, ◌-◌, length, take, drop, append_assoc, ap, refl}
 use Rattle.std.proofs.Common.{arith, subst, rules, sym, ◌∙◌, length-drop}
 use Rattle.std.proofs.Math.Seq.{take-length}
 use Rattle.std.proofs.lemmas.Result.{err_from_is_err_and}
-use Rattle.gateway_main.specs.Played.{PlaysPart}
+use Rattle.gateway_main.specs.Bytes.{StopsAtLine}
+use Rattle.gateway_main.proofs.BytesLemmas.{bytes_none, bytes_behind, bytes_without_end, line_stops, line_taken}
+use Rattle.gateway_main.proofs.BytesLemmas.{stops_behind}
 use Rattle.gateway_main.proofs.ListLemmas.{split_round}
 use Rattle.gateway_main.proofs.SearchLemmas.{one_line, one_line_before}
-use Rattle.gateway_main.proofs.ProgressLemmas.{progress_bytes}
 use Rattle.gateway_main.proofs.player.Player.take_bytes.Goals as goal
 
 pub loop-end-init : goal.loop-end-init
-loop-end-init g c = record {
-  gateway = refl;
-  loans = refl;
-  idle = c.requires;
-  taken = ([], refl, λ entry input first p. rw (append-nil input) p);
-}
+loop-end-init g c =
+    let o = g.O.Outlet in
+    let old = c.args.self.now.engine in
+    record {
+      gateway = refl;
+      loans = refl;
+      idle = c.requires;
+      taken = (
+        [],
+        refl,
+        λ tail keeps. bytes_none g.S.Store o.puts o.breaks g.met.O.Outlet.lawful c.args.lines old.gateway.now tail
+            c.args.self.now.unended old.outlet old.items c.requires (search rules) keeps,
+      );
+    }
 
-pub take_ended-requires-clause-one_line : goal.take_ended-requires-clause-one_line
-take_ended-requires-clause-one_line g c =
-    let found = c.in-Some.ensures in one_line_before c.loop-end.rest.now c.in-Some.end (omega arith) found.0.before
-
-pub returns-in_err-take_ended-clause-broken : goal.returns-in_err-take_ended-clause-broken
-returns-in_err-take_ended-clause-broken g c =
+pub returns-in_err-take_ended-clause-taken : goal.returns-in_err-take_ended-clause-taken
+returns-in_err-take_ended-clause-taken g c =
+    let o = g.O.Outlet in
+    let old = c.args.self.now.engine in
+    let mid = c.loop-end.self.engine in
     let new = c.take_ended.new.self.engine in
     let rest = c.loop-end.rest.now in
     let end = c.in-Some.end in
     let found = c.in-Some.ensures in
     let taken = c.loop-end.invariant.taken in
     let done = taken.0 in
-    let exit = err_from_is_err_and c.from_residual.result c.from_residual.ensures.1 in
-    rw exit.1 (λ entry input first p.
     let behind = drop (end + 1) rest in
-    let whole : ((input ++ done) ++ take end rest) ++ 10 ∷ behind ≡ input ++ c.args.bytes.now =
-    append_assoc (input ++ done) (take end rest) (10 ∷ behind)
-    ∙ append_assoc input done (take end rest ++ 10 ∷ behind)
-    ∙ ap (λ s. input ++ (done ++ s)) (sym (split_round rest end 10 found.0.high found.1))
-    ∙ ap (λ s. input ++ s) (sym taken.1) in
-    subst (λ s. PlaysPart g.S.Store entry new.gateway.now s (g.O.Outlet.breaks first new.outlet)) whole
-    (c.in_err-take_ended.ensures.broken entry (input ++ done) first behind (taken.2 entry input first p)))
+    let exit = err_from_is_err_and c.from_residual.result c.from_residual.ensures.1 in
+    let whole : done ++ (take end rest ++ 10 ∷ behind) ≡ c.args.bytes.now =
+    ap (λ s. done ++ s) (sym (split_round rest end 10 found.0.high found.1)) ∙ sym taken.1 in
+    rw exit.1 (λ tail keeps.
+    let p = taken.2 tail keeps in
+    subst (λ s. StopsAtLine g.S.Store c.args.lines old.gateway.now new.gateway.now tail s
+    (o.breaks old.outlet new.outlet)) whole
+    (stops_behind g.S.Store o.puts o.breaks g.met.O.Outlet.lawful c.args.lines old.gateway.now mid.gateway.now
+    new.gateway.now tail done (take end rest ++ 10 ∷ behind) c.loop-end.self.unended old.outlet mid.outlet new.outlet
+    old.items mid.items p
+    (line_stops g.S.Store o.puts o.breaks g.met.O.Outlet.lawful c.args.lines mid.gateway.now new.gateway.now p.rest
+    (take end rest) behind mid.outlet new.outlet p.keeps.one
+    (one_line_before rest end (omega arith) found.0.before)
+    (c.in_err-take_ended.ensures.taken p.rest p.keeps))))
 
 pub loop-end-preserved : goal.loop-end-preserved
 loop-end-preserved g c =
+    let o = g.O.Outlet in
+    let lawful = g.met.O.Outlet.lawful in
+    let old = c.args.self.now.engine in
+    let mid = c.loop-end.self.engine in
+    let new = c.take_ended.new.self.engine in
     let rest = c.loop-end.rest.now in
     let end = c.in-Some.end in
     let found = c.in-Some.ensures in
@@ -60,21 +78,29 @@ loop-end-preserved g c =
       taken = (
         done ++ line,
         whole,
-        λ entry input first p.
-            rw (← append_assoc input done line, ← append_assoc (input ++ done) (take end rest) (10 ∷ []))
-            (c.in_ok-take_ended.ensures.progress entry (input ++ done) first (taken.2 entry input first p)),
+        λ tail keeps.
+            let p = taken.2 tail keeps in
+            rw c.in_ok-take_ended.ensures.emptied
+            (bytes_behind g.S.Store o.puts o.breaks lawful c.args.lines old.gateway.now mid.gateway.now
+            new.gateway.now tail done line c.loop-end.self.unended [] old.outlet mid.outlet new.outlet old.items
+            mid.items new.items p
+            (line_taken g.S.Store o.puts o.breaks lawful c.args.lines mid.gateway.now new.gateway.now p.rest
+            (take end rest) mid.outlet new.outlet mid.items new.items p.keeps.one
+            (one_line_before rest end (omega arith) found.0.before)
+            (c.in_ok-take_ended.ensures.taken p.rest p.keeps))),
       );
     }
 
-pub returns-clause-progress : goal.returns-clause-progress
-returns-clause-progress g c =
+pub returns-clause-taken : goal.returns-clause-taken
+returns-clause-taken g c =
     let o = g.O.Outlet in
+    let old = c.args.self.now.engine in
     let now = c.loop-end.self in
     let rest = c.loop-end.rest.now in
     let taken = c.loop-end.invariant.taken in
     let done = taken.0 in
-    λ entry input first p.
-    rw (c.extend.ensures, taken.1, ← append_assoc input done rest)
-    (progress_bytes g.S.Store o.puts o.breaks g.met.O.Outlet.lawful entry now.engine.gateway.now (input ++ done)
-    now.unended rest first now.engine.outlet now.engine.items (one_line rest c.in_default.ensures)
-    (taken.2 entry input first p))
+    λ tail keeps.
+    rw (c.extend.ensures, taken.1)
+    (bytes_without_end g.S.Store o.puts o.breaks g.met.O.Outlet.lawful c.args.lines old.gateway.now
+    now.engine.gateway.now tail done now.unended rest old.outlet now.engine.outlet old.items now.engine.items
+    (one_line rest c.in_default.ensures) (taken.2 tail keeps))

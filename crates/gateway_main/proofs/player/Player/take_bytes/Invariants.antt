@@ -1,7 +1,6 @@
 use Rattle.std.proofs.Common.{◌≡◌, ◌++◌, List, ℕ, length}
-use Rattle.gateway_core.specs.Calls.{Value}
+use Rattle.gateway_main.specs.Bytes.{Keeps, TakesBytes}
 use Rattle.gateway_main.specs.Played.{IsIdle}
-use Rattle.gateway_main.specs.Progress.{Progress}
 use Rattle.gateway_main.proofs.player.Player.take_bytes.Given as goal
 
 -- the lines that end in the bytes so far are taken
@@ -10,11 +9,9 @@ invariant-loop-end g l = record {
   gateway : l.self.engine.gateway.ghost_name ≡ l.fn.self.engine.gateway.ghost_name;
   loans : g.O.Outlet.loans l.self.engine.outlet ≡ g.O.Outlet.loans l.fn.self.engine.outlet;
   idle : IsIdle l.self.engine.gateway.now;
-  taken : (done : List ℕ) × (l.bytes ≡ done ++ l.rest) × ((entry : Value _) (input : List ℕ) (first : _) →
-      Progress g.S.Store entry l.fn.self.engine.gateway.now input l.fn.self.unended
-      (g.O.Outlet.puts first l.fn.self.engine.outlet) l.fn.self.engine.items →
-      Progress g.S.Store entry l.self.engine.gateway.now (input ++ done) l.self.unended
-      (g.O.Outlet.puts first l.self.engine.outlet) l.self.engine.items);
+  taken : (done : List ℕ) × (l.bytes ≡ done ++ l.rest) × ((tail : List ℕ) → Keeps tail l.fn.self.unended →
+      TakesBytes g.S.Store l.lines l.fn.self.engine.gateway.now l.self.engine.gateway.now tail done l.self.unended
+      (g.O.Outlet.puts l.fn.self.engine.outlet l.self.engine.outlet) l.fn.self.engine.items l.self.engine.items);
 }
 
 abbrev pub decreases-loop-end : goal.decreases-loop-end

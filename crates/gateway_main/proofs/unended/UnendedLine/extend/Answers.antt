@@ -1,6 +1,6 @@
 use Rattle.std.proofs.Common.{◌≡◌, arith, min, length, ◌≤◌, ◌+◌, ◌-◌, sym, ◌∙◌, ap, take, ◌++◌}
 use Rattle.std.proofs.lemmas.List.{length-take}
-use Rattle.gateway_main.specs.Progress.{longest_kept}
+use Rattle.gateway_main.specs.Bytes.{longest_kept}
 use Rattle.gateway_main.proofs.ListLemmas.{take-append}
 use Rattle.gateway_main.proofs.ResultLemmas.{OnOk-where_ok}
 use Rattle.gateway_main.proofs.unended.UnendedLine.extend.Goals as goal

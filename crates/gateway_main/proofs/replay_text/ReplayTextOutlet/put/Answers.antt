@@ -1,4 +1,4 @@
-use Rattle.std.proofs.Common.{◌≡◌, ◌++◌, ap, sym, ◌∙◌, subst, Some, None}
+use Rattle.std.proofs.Common.{◌≡◌, [], ◌++◌, ap, sym, ◌∙◌, subst, Some, None}
 use Rattle.std.specs.Io.KnownBytes.{Appends}
 use Rattle.std.specs.Option.{option_map}
 use Rattle.std.proofs.lemmas.Result.{err_from_is_err_and}
@@ -9,8 +9,8 @@ use Rattle.gateway_main.specs.Written.{radio_text}
 use Rattle.gateway_main.proofs.CountLemmas.{went_behind}
 use Rattle.gateway_main.proofs.OutletLemmas.{puts_one}
 use Rattle.gateway_main.proofs.WriteLemmas.{part_of_front, writes_behind, writes_part}
-use Rattle.gateway_main.proofs.writing.ReplayTextOutlet.put.Goals as goal
-use Rattle.gateway_main.proofs.writing.ReplayTextOutlet.put.Goals.{in-Some+in_ok-write_piece, in_default}
+use Rattle.gateway_main.proofs.replay_text.ReplayTextOutlet.put.Goals as goal
+use Rattle.gateway_main.proofs.replay_text.ReplayTextOutlet.put.Goals.{in-Some+in_ok-write_piece, in_default}
 
 pub returns-in_err-write_piece-clause-put : goal.returns-in_err-write_piece-clause-put
 returns-in_err-write_piece-clause-put g c =
@@ -21,8 +21,8 @@ returns-in_err-write_piece-clause-put g c =
     let answer = answer_of c.args.reply.now in
     let radio : answer.radio ≡ Some c.as_slice.result.now =
     ap (option_map (λ bytes. bytes.items)) c.in-Some.is ∙ ap Some (sym c.as_slice.ensures.value) in
-    let part : AppendsPart (held old) (held new) (radio_text answer.radio) =
-    subst (λ r. AppendsPart (held old) (held new) (radio_text r)) (sym radio) c.in_err-write_piece.ensures.written in
+    let part : AppendsPart (held old) (held new) [] (radio_text answer.radio) =
+    subst (λ r. AppendsPart (held old) (held new) [] (radio_text r)) (sym radio) c.in_err-write_piece.ensures.written in
     let exit = err_from_is_err_and c.from_residual.result c.from_residual.ensures.1 in
     puts_one held counts c.from_residual.result old new answer
     (writes_part _ _ _ _ _ c.from_residual.ensures.1

@@ -1,8 +1,8 @@
 use Rattle.std.proofs.Common.{rules, ◌≡◌, ◌++◌, codes}
 use Rattle.hex.specs.Hex.{encode_lower}
 use Rattle.gateway_main.proofs.ResultLemmas.{OnOk-where_ok}
-use Rattle.gateway_main.proofs.WriteLemmas.{part_of_front, part_behind, writes_behind, writes_part}
-use Rattle.gateway_main.proofs.writing.write_piece.Goals as goal
+use Rattle.gateway_main.proofs.WriteLemmas.{part_of_front, part_of_back, writes_behind, writes_part}
+use Rattle.gateway_main.proofs.replay_text.write_piece.Goals as goal
 
 pub returns-in_err-write_text-clause-written : goal.returns-in_err-write_text-clause-written
 returns-in_err-write_text-clause-written g c =
@@ -19,7 +19,7 @@ returns-in_err-write_text-2-clause-written g c =
     OnOk-where_ok c.encode_to_slice.result (c.encode_to_slice.ensures.fits.1 (search rules))
     c.encode_to_slice.ensures.written in
     writes_part _ _ _ _ _ c.from_residual-in_err-write_text-2.ensures.1
-    (part_behind (held c.args.writer.now) (held c.write_text.new.writer) (held c.write_text-2.new.writer) (codes "S ")
+    (part_of_back (held c.args.writer.now) (held c.write_text.new.writer) (held c.write_text-2.new.writer) (codes "S ")
     (digits ++ codes "\n") c.in_ok-write_text.ensures.written
     (part_of_front (held c.write_text.new.writer) (held c.write_text-2.new.writer) digits (codes "\n")
     (rw spelled at c.in_err-write_text-2.ensures.written)))

@@ -1,0 +1,48 @@
+-- What the turns of a live gateway stand for. Own choice.
+use Rattle.std.specs.Prelude.{◌-◌, ◌≤◌, ◌==◌, All, Option, ℕ, List, [], ◌∷◌, ◌++◌, length, take, drop, map}
+use Rattle.std.specs.Io.KnownBytes.{Consumes}
+use Rattle.std.specs.List.{flat_map, slice_split}
+use Rattle.std.specs.Str.Lines.{strip_carriage_return}
+use Rattle.gateway_core.specs.Events.{Event, Piece, Line}
+
+-- what one turn read of the serial line, and then of the desk
+pub record Turn : Type 0 where
+  pub piece : List ℕ
+  pub desk : List ℕ
+
+-- how many bytes are read at most in one turn, of each of the two
+abbrev pub longest_read : ℕ
+longest_read = 256
+
+-- all that turns read of the one and of the other
+abbrev pub pieces : List Turn → List ℕ
+pieces turns = flat_map (λ turn. turn.piece) turns
+
+abbrev pub desk_bytes : List Turn → List ℕ
+desk_bytes turns = flat_map (λ turn. turn.desk) turns
+
+-- what stands before each LF, up to the LF before it
+abbrev pub ended_lines : List ℕ → List (List ℕ)
+ended_lines bytes =
+    let parts = slice_split (λ byte. byte == 10) bytes in take (length parts - 1) parts
+
+-- the orders of the desk: its lines that LF ends. One CR before LF is no part of a line
+abbrev pub orders : List ℕ → List Event
+orders bytes = map (λ line. Line (strip_carriage_return line)) (ended_lines bytes)
+
+-- Of each turn its piece, and then the orders that its desk bytes end: those that the desk's bytes so far hold, but for
+-- those that the bytes before the turn hold.
+abbrev pub events_behind : List ℕ → List Turn → List Event
+events_behind before [] = []
+events_behind before (turn ∷ turns) =
+    let now = before ++ turn.desk in
+    Piece turn.piece ∷ (drop (length (orders before)) (orders now) ++ events_behind now turns)
+
+abbrev pub events_of_turns : List Turn → List Event
+events_of_turns turns = events_behind [] turns
+
+-- a serial line and a desk, by what they give where it is known, gave just what the turns read
+pub record Gives (serial serial_now desk desk_now : Option (List ℕ)) (turns : List Turn) : Type 0 where
+  pub serial_gave : Consumes serial serial_now (pieces turns)
+  pub desk_gave : Consumes desk desk_now (desk_bytes turns)
+  pub short : All (λ turn. (length turn.piece ≤ longest_read) × (length turn.desk ≤ longest_read)) turns
