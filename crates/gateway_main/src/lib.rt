@@ -15,6 +15,8 @@ pub mod fault;
 mod gateway_tests;
 pub mod laws;
 mod lines;
+#[cfg(test)]
+mod live_tests;
 mod living;
 mod outlet;
 mod player;
