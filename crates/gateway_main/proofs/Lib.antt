@@ -13,6 +13,7 @@ pub mod BytesLemmas
 pub mod TurnLemmas
 pub mod WiresLemmas
 pub mod ReplayedLemmas
+pub mod RequiredLemmas
 pub mod CommandLemmas
 pub mod StartLemmas
 pub mod LifeLemmas

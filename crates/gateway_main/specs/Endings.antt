@@ -31,11 +31,12 @@ abbrev pub ending_of_line : Refused → Ending
 ending_of_line refused.BadBase = BadBase
 ending_of_line (refused.Words error) = ending_of_words (kind_of error) error
 
--- the fault of a replay, or else that of the close of its database
-abbrev pub done_of : {A : Type 0} → Result Summary RunFault → Result A StoreError → Result A Fault
-done_of (Err stopped) closed = Err (fault_of_run stopped)
-done_of (Ok summary) (Err error) = Err (fault_of_store error)
-done_of (Ok summary) (Ok closed) = Ok closed
+-- the fault for which nothing ran, or else that of the run, or else that of the close of its database
+abbrev pub done_of : {A : Type 0} → Result (Result Summary RunFault) Fault → Result A StoreError → Result A Fault
+done_of (Err fault) closed = Err fault
+done_of (Ok (Err stopped)) closed = Err (fault_of_run stopped)
+done_of (Ok (Ok summary)) (Err error) = Err (fault_of_store error)
+done_of (Ok (Ok summary)) (Ok closed) = Ok closed
 
 -- help and the version were asked for; else the command line is not taken
 abbrev pub status_of_kind : ErrorKind → ℕ

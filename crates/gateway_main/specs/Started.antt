@@ -9,7 +9,8 @@ use Rattle.device_registry.specs.declared.fault.OpenFault.TheVariants as opening
 use Rattle.gateway_core.specs.Handling.{HandlerValue}
 use Rattle.gateway_core.specs.Beginnings.{BeginsAt}
 use Rattle.gateway_main.specs.declared.fault.Fault.{Fault}
-use Rattle.gateway_main.specs.declared.fault.Fault.TheVariants.{NotARegistry, Store, Memory, Read, Write, TooManyTurns}
+use Rattle.gateway_main.specs.declared.fault.Fault.TheVariants.{NotARegistry, Store, Memory, CannotOpen}
+use Rattle.gateway_main.specs.declared.fault.Fault.TheVariants.{Read, Write, TooManyTurns}
 
 -- The gateway knows the devices that the database held when it was last committed. A stop leaves these, in a registry.
 pub record Starts {S : Type 0} (g : Ghosts S) (database : Held S) (base : ℕ) (now : HandlerValue S) : Type 0 where
@@ -26,6 +27,7 @@ RefusesToStart {S} g database NotARegistry =
     (last : Held S) × RefusesToOpen (state g database) (state g last) opening.NotARegistry
 RefusesToStart g database Store = ⊤
 RefusesToStart g database Memory = ⊤
+RefusesToStart g database CannotOpen = ⊥
 RefusesToStart g database Read = ⊥
 RefusesToStart g database Write = ⊥
 RefusesToStart g database TooManyTurns = ⊥

@@ -9,7 +9,7 @@ use crate::replaying::{RunFault, Summary};
 use clap::error::ErrorKind;
 use std::io;
 
-/// Why the program ends without a script that was replayed to its end.
+/// Why the program ends without having done to its end what it was asked.
 #[derive(Debug, Drop)]
 pub(crate) enum Ending {
     /// A fault ended it.
@@ -58,14 +58,14 @@ pub(crate) fn without_arguments(error: &io::Error) -> Ending
     }
 }
 
-/// What a replay and the close of its database come to: a fault of the replay is told before one of the close.
-pub(crate) fn done(
-    replayed: Result<Summary, RunFault>,
-    closed: Result<(), sqlite::Error>,
-) -> Result<(), Fault>
-    ensures { result ≡ done_of replayed closed }
+/// What the gateway did: what its run came to, or the fault for which it never ran.
+pub(crate) type Served = Result<Result<Summary, RunFault>, Fault>;
+
+/// What the gateway's work and the close of its database come to: a fault of the work is told before one of the close.
+pub(crate) fn done(served: Served, closed: Result<(), sqlite::Error>) -> Result<(), Fault>
+    ensures { result ≡ done_of served closed }
 {
-    replayed?;
+    served??;
     Ok(closed?)
 }
 

@@ -1,7 +1,7 @@
-//! The statuses that the program ends with.
+//! The statuses that the program ends with, and what it says of a fault.
 use crate::command_line::{Refused, read};
 use crate::ending::{Ending, done, status, without_arguments};
-use crate::fault::Fault;
+use crate::fault::{Fault, cannot_open};
 use crate::replaying::{RunFault, Summary};
 use std::alloc::AllocError;
 use std::io;
@@ -14,6 +14,7 @@ fn statuses(rt: HostRuntime) {
         Fault::NotARegistry,
         Fault::Store,
         Fault::Memory,
+        Fault::CannotOpen,
         Fault::Read,
         Fault::Write,
         Fault::TooManyTurns,
@@ -26,6 +27,35 @@ fn statuses(rt: HostRuntime) {
     assert_eq!(rt; status(&Err(without_arguments(&not_text))), 2);
     let no_memory = io::Error::from(AllocError);
     assert_eq!(rt; status(&Err(without_arguments(&no_memory))), 1);
+}
+
+#[test]
+fn fault_texts(rt: HostRuntime) -> Result<(), Fail> {
+    for (fault, text) in [
+        (Fault::NotARegistry, "not a registry"),
+        (Fault::Store, "store"),
+        (Fault::Memory, "memory"),
+        (Fault::CannotOpen, "cannot open"),
+        (Fault::from(RunFault::Read), "read"),
+        (Fault::from(RunFault::Write), "write"),
+        (Fault::from(RunFault::TooManyTurns), "too many turns"),
+    ] {
+        assert_eq!(rt; fault.to_string(rt.alloc())?.as_str(), text);
+    }
+    Ok(())
+}
+
+#[test]
+fn faults_of_paths(rt: HostRuntime) {
+    for kind in [
+        io::ErrorKind::NotFound,
+        io::ErrorKind::PermissionDenied,
+        io::ErrorKind::InvalidInput,
+        io::ErrorKind::Other,
+    ] {
+        assert_eq!(rt; cannot_open(&io::Error::from(kind)), Fault::CannotOpen);
+    }
+    assert_eq!(rt; cannot_open(&io::Error::from(AllocError)), Fault::Memory);
 }
 
 #[test]
@@ -42,6 +72,17 @@ fn statuses_of_command_lines(rt: HostRuntime) -> Result<(), Fail> {
         ("enogate replay --base", 2),
         ("enogate replay --base 1", 2),
         ("enogate help play", 2),
+        ("enogate live --help", 0),
+        ("enogate help live", 0),
+        ("enogate live", 2),
+        (
+            "enogate live --base 1 --serial s --desk d --out o --turns 1",
+            2,
+        ),
+        (
+            "enogate live --base FF800000 --serial s --desk d --out o --turns 0",
+            2,
+        ),
     ] {
         let mut words = Vec::new(rt.alloc());
         for word in line.split(' ') {
@@ -55,17 +96,29 @@ fn statuses_of_command_lines(rt: HostRuntime) -> Result<(), Fail> {
     Ok(())
 }
 
+// A path that does not open is told before the close, and so is what a run came to.
 #[test]
-fn a_replay_and_a_close(rt: HostRuntime) {
+fn a_run_and_a_close(rt: HostRuntime) {
     let summary = Summary { items: 2 };
-    assert_eq!(rt; done(Ok(summary), Ok(())), Ok(()));
+    assert_eq!(rt; done(Ok(Ok(summary)), Ok(())), Ok(()));
     assert_eq!(rt;
-        done(Err(RunFault::TooManyTurns), Ok(())),
+        done(Ok(Err(RunFault::TooManyTurns)), Ok(())),
         Err(Fault::TooManyTurns)
     );
+    assert_eq!(rt;
+        done(Err(Fault::CannotOpen), Ok(())),
+        Err(Fault::CannotOpen)
+    );
     let refused = sqlite::Error::SqliteFailure(sqlite::ErrorCode::TransactionState);
-    assert_eq!(rt; done(Ok(summary), Err(refused)), Err(Fault::Store));
+    assert_eq!(rt; done(Ok(Ok(summary)), Err(refused)), Err(Fault::Store));
     let no_memory = sqlite::Error::SqliteFailure(sqlite::ErrorCode::OutOfMemory);
-    assert_eq!(rt; done(Ok(summary), Err(no_memory)), Err(Fault::Memory));
-    assert_eq!(rt; done(Err(RunFault::Read), Err(refused)), Err(Fault::Read));
+    assert_eq!(rt; done(Ok(Ok(summary)), Err(no_memory)), Err(Fault::Memory));
+    assert_eq!(rt;
+        done(Ok(Err(RunFault::Read)), Err(refused)),
+        Err(Fault::Read)
+    );
+    assert_eq!(rt;
+        done(Err(Fault::CannotOpen), Err(refused)),
+        Err(Fault::CannotOpen)
+    );
 }

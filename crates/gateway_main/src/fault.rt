@@ -1,10 +1,13 @@
 //! What ends the program with status 1.
 ghost use Rattle.std.specs.Prelude.{◌≡◌};
+ghost use Rattle.std.specs.IoError.{error_kind};
+ghost use Rattle.gateway_main.specs.Faults.{fault_of_path};
 
 use crate::replaying::RunFault;
 use device_registry::OpenFault;
 use sqlite::ErrorCode;
 use std::alloc::AllocError;
+use std::io;
 use thiserror::Error;
 
 /// What ends the program with status 1. Its text is what the program says of it.
@@ -16,18 +19,31 @@ pub enum Fault {
     /// The database does not open, refuses to be read or written, or cannot be closed.
     #[error("store")]
     Store,
-    /// There is no memory for the command line, the database or the gateway.
+    /// There is no memory for the command line, the database, the gateway or the opening of a file.
     #[error("memory")]
     Memory,
-    /// Standard input cannot be read.
+    /// The serial line, the desk's file or the file of the answers does not open.
+    #[error("cannot open")]
+    CannotOpen,
+    /// Standard input, the serial line or the desk's file cannot be read.
     #[error("read")]
     Read,
-    /// Standard output cannot be written.
+    /// Standard output, the serial line or the file of the answers cannot be written.
     #[error("write")]
     Write,
     /// Standard input has not ended after all reads that the program makes.
     #[error("too many turns")]
     TooManyTurns,
+}
+
+/// What the program says where a path does not open.
+pub(crate) fn cannot_open(error: &io::Error) -> Fault
+    ensures { result ≡ fault_of_path (error_kind error.now) }
+{
+    match error.kind() {
+        io::ErrorKind::OutOfMemory => Fault::Memory,
+        _ => Fault::CannotOpen,
+    }
 }
 
 impl From<AllocError> for Fault {

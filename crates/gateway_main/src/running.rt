@@ -3,19 +3,23 @@ ghost use Rattle.std.specs.Prelude.{◌≡◌, true};
 ghost use Rattle.sqlite.specs.Held.{state};
 ghost use Rattle.device_registry.specs.Ready.{IsBetweenTransactions};
 ghost use Rattle.erp1_telegrams.specs.Address;
+ghost use Rattle.gateway_main.specs.Played.{IsIdle};
 
-use crate::command_line::{self, Options};
-use crate::ending::{Ending, done, status, without_arguments};
-use crate::fault::Fault;
+use crate::command_line::{self, LiveOptions, Options, Task};
+use crate::ending::{Ending, Served, done, status, without_arguments};
+use crate::fault::{Fault, cannot_open};
+use crate::living::live;
 use crate::replaying::{RunFault, Summary, replay};
 use crate::sink::OverWrite;
 use crate::source::OverRead;
 use crate::starting::start;
+use gateway_core::Gateway;
 use sqlite::{Alter, Connection};
+use std::fs::{File, OpenOptions};
 use std::process::ExitCode;
 use std::{env, io};
 
-/// How many reads the program makes at most.
+/// How many reads a replay makes at most.
 const TURNS: u64 = 4_000_000_000;
 
 /// Runs the program on the words that the process was started with.
@@ -46,30 +50,68 @@ fn run(rt: &HostRuntime, options: Options<'_>) -> Result<(), Fault>
 {
     match options.db {
         None => {
-            let (_, replayed) = serve(rt, Connection::open_in_memory(rt.alloc())?, options.base)?;
-            done(replayed, Ok(()))
+            let (_, served) = serve(rt, Connection::open_in_memory(rt.alloc())?, options)?;
+            done(served, Ok(()))
         }
         Some(path) => {
-            let (conn, replayed) = serve(rt, Connection::open(rt, path)?, options.base)?;
-            done(replayed, conn.close())
+            let (conn, served) = serve(rt, Connection::open(rt, path)?, options)?;
+            done(served, conn.close())
         }
     }
 }
 
-/// Replays standard input by a gateway over a database, and hands the connection back.
+/// Does the task by a gateway over a database, and hands the connection back.
 fn serve<S: Alter + Drop>(
     rt: &HostRuntime,
     conn: Connection<S>,
-    base: u32,
-) -> Result<(Connection<S>, Result<Summary, RunFault>), Fault>
-    requires base { Address.is_base base ≡ true }
+    options: Options<'_>,
+) -> Result<(Connection<S>, Served), Fault>
+    requires base { Address.is_base options.base ≡ true }
     requires idle { IsBetweenTransactions (state S.Store conn) }
 {
-    let mut gateway = start(rt.alloc(), conn, base)?;
+    let mut gateway = start(rt.alloc(), conn, options.base)?;
+    let served = match options.task {
+        Task::Replay => Ok(replay_standard(rt, &mut gateway)),
+        Task::Live(options) => live_on_paths(rt, options, &mut gateway),
+    };
+    Ok((gateway.close(), served))
+}
+
+/// Replays standard input to standard output.
+fn replay_standard<S: Alter>(
+    rt: &HostRuntime,
+    gateway: &mut Gateway<S>,
+) -> Result<Summary, RunFault>
+    requires { IsIdle gateway.old }
+{
     let mut reader = OverRead::new(rt.stdin());
     let mut writer = OverWrite::new(rt.stdout());
-    let replayed = replay(&mut reader, &mut writer, &mut gateway, TURNS);
-    Ok((gateway.close(), replayed))
+    replay(&mut reader, &mut writer, gateway, TURNS)
+}
+
+/// Opens the serial line, then the desk's file and then the file of the answers, and serves them.
+fn live_on_paths<S: Alter>(
+    rt: &HostRuntime,
+    options: LiveOptions<'_>,
+    gateway: &mut Gateway<S>,
+) -> Served
+    requires { IsIdle gateway.old }
+{
+    let line = OpenOptions::new()
+        .read(true)
+        .write(true)
+        .open(rt, options.serial)
+        .map_err(|error| cannot_open(&error))?;
+    let desk = File::open(rt, options.desk).map_err(|error| cannot_open(&error))?;
+    let out = File::create(rt, options.out).map_err(|error| cannot_open(&error))?;
+    Ok(live(
+        &mut OverRead::new(&line),
+        &mut OverRead::new(&desk),
+        &mut OverWrite::new(&line),
+        &mut OverWrite::new(&out),
+        gateway,
+        u64::from(options.turns),
+    ))
 }
 
 /// Names a fault or a mistake on standard error, or answers on standard output what was asked for.

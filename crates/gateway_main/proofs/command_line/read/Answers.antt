@@ -1,9 +1,18 @@
-use Rattle.std.proofs.Common.{rules, ap, inr, map, ◌∙◌}
+use Rattle.std.proofs.Common.{rules, ap, inr, map, sym, ◌∙◌}
 use Rattle.std.specs.String.{string_bytes}
 use Rattle.std.proofs.lemmas.Result.{err_from_is_err_and}
-use Rattle.clap.specs.Words.{App, takes}
-use Rattle.gateway_main.proofs.CommandLemmas.{taken_so}
+use Rattle.clap.specs.Words.{App, subcommand_rows_of, takes}
+use Rattle.gateway_main.proofs.CommandLemmas.{complete, found_so, taken_so}
 use Rattle.gateway_main.proofs.command_line.read.Goals as goal
+
+pub task_given-requires : goal.task_given-requires
+task_given-requires c =
+    let words = map string_bytes c.args.words.now in
+    let m = c.in_ok-matches.matches in
+    complete words (subcommand_rows_of m) c.in-Some.base
+    (taken_so words c.in_ok-command.field-0 c.in_ok-command.ensures c.in_ok-matches.ensures.kinds)
+    (found_so words c.in_ok-command.field-0 m c.in_ok-command.ensures c.in_ok-matches.ensures.matches)
+    (sym c.base_given.ensures ∙ c.in-Some.is)
 
 pub returns-in_err-matches-clause-passes : goal.returns-in_err-matches-clause-passes
 returns-in_err-matches-clause-passes c =

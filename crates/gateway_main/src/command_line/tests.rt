@@ -1,0 +1,245 @@
+//! Command lines that are taken and that are refused, and what help and the version tell.
+use super::{LiveOptions, Options, Refused, Task, read};
+use clap::error::ErrorKind;
+use std::test::Fail;
+
+fn words_of(rt: &HostRuntime, line: &str) -> Result<Vec<String>, Fail> {
+    let mut words = Vec::new(rt.alloc());
+    for word in line.split(' ') {
+        words.push(word.to_string(rt.alloc())?)?;
+    }
+    Ok(words)
+}
+
+/// The line is taken, and says this.
+fn taken(rt: &HostRuntime, line: &str, wanted: Options<'_>) -> Result<(), Fail> {
+    let words = words_of(rt, line)?;
+    match read(rt.alloc(), words.as_slice()) {
+        Ok(options) if options == wanted => Ok(()),
+        _ => Err(Fail::from(line)),
+    }
+}
+
+/// `clap` refuses the line in this way.
+fn refused(rt: &HostRuntime, line: &str, wanted: ErrorKind) -> Result<(), Fail> {
+    let words = words_of(rt, line)?;
+    match read(rt.alloc(), words.as_slice()) {
+        Err(Refused::Words(error)) if error.kind() == wanted => Ok(()),
+        _ => Err(Fail::from(line)),
+    }
+}
+
+/// What `clap` prints for the line.
+fn told(rt: &HostRuntime, line: &str) -> Result<String, Fail> {
+    let words = words_of(rt, line)?;
+    match read(rt.alloc(), words.as_slice()) {
+        Err(Refused::Words(error)) => Ok(error.to_string(rt.alloc())?),
+        _ => Err(Fail::from(line)),
+    }
+}
+
+#[test]
+fn lines_of_replay(rt: HostRuntime) -> Result<(), Fail> {
+    for (line, base, db) in [
+        ("enogate replay --base FF800000", 0xFF80_0000, None),
+        ("enogate replay --base=ffffff80", 0xFFFF_FF80, None),
+        (
+            "enogate replay --db x.db --base FF800000",
+            0xFF80_0000,
+            Some("x.db"),
+        ),
+        (
+            "enogate replay --base FF800000 --db=a/b",
+            0xFF80_0000,
+            Some("a/b"),
+        ),
+    ] {
+        let task = Task::Replay;
+        taken(&rt, line, Options { base, db, task })?;
+    }
+    Ok(())
+}
+
+#[test]
+fn lines_of_live(rt: HostRuntime) -> Result<(), Fail> {
+    for (line, db, turns) in [
+        (
+            "enogate live --base FF800000 --serial /dev/s --desk in/d --out o --turns 20",
+            None,
+            20,
+        ),
+        (
+            "enogate live --turns=20 --out=o --desk=in/d --serial=/dev/s --base=FF800000",
+            None,
+            20,
+        ),
+        (
+            "enogate live --db x.db --turns 1 --base ff800000 --out o --serial /dev/s --desk in/d",
+            Some("x.db"),
+            1,
+        ),
+        (
+            "enogate live --turns 4294967295 --base FF800000 --serial /dev/s --desk in/d --out o --db a/b",
+            Some("a/b"),
+            4_294_967_295,
+        ),
+        (
+            "enogate live --turns +0020 --base FF800000 --serial /dev/s --desk in/d --out o",
+            None,
+            20,
+        ),
+    ] {
+        let task = Task::Live(LiveOptions {
+            serial: "/dev/s",
+            desk: "in/d",
+            out: "o",
+            turns,
+        });
+        let base = 0xFF80_0000;
+        taken(&rt, line, Options { base, db, task })?;
+    }
+    Ok(())
+}
+
+#[test]
+fn bad_bases(rt: HostRuntime) -> Result<(), Fail> {
+    for command in [
+        "replay",
+        "live --serial /dev/s --desk d --out o --turns 1 --db x.db",
+    ] {
+        for base in ["FF80zz00", "FF80000", "FF800001", ""] {
+            let line = format!(in rt.alloc(); "enogate {command} --base={base}")?;
+            let words = words_of(&rt, line.as_str())?;
+            match read(rt.alloc(), words.as_slice()) {
+                Err(Refused::BadBase) => {}
+                _ => return Err(Fail::from(base)),
+            }
+        }
+    }
+    Ok(())
+}
+
+#[test]
+fn refused_lines(rt: HostRuntime) -> Result<(), Fail> {
+    for (line, kind) in [
+        ("enogate replay --help", ErrorKind::DisplayHelp),
+        ("enogate live --help", ErrorKind::DisplayHelp),
+        ("enogate --help", ErrorKind::DisplayHelp),
+        ("enogate --version", ErrorKind::DisplayVersion),
+        ("enogate replay", ErrorKind::MissingRequiredArgument),
+        ("enogate live", ErrorKind::MissingRequiredArgument),
+        ("enogate play", ErrorKind::InvalidSubcommand),
+        ("enogate", ErrorKind::MissingSubcommand),
+        (
+            "enogate replay --store x --base FF800000",
+            ErrorKind::UnknownArgument,
+        ),
+    ] {
+        refused(&rt, line, kind)?;
+    }
+    for option in ["serial", "desk", "out", "turns"] {
+        let line = format!(in rt.alloc(); "enogate replay --base FF800000 --{option} 1")?;
+        refused(&rt, line.as_str(), ErrorKind::UnknownArgument)?;
+    }
+    Ok(())
+}
+
+// Each option of `live` that is left out is missed, and of none that is given twice is one value taken.
+#[test]
+fn options_of_live(rt: HostRuntime) -> Result<(), Fail> {
+    let options = [
+        " --base FF800000",
+        " --serial s",
+        " --desk d",
+        " --out o",
+        " --turns 1",
+    ];
+    for left_out in options {
+        let mut line = "enogate live".to_string(rt.alloc())?;
+        for option in options {
+            if option != left_out {
+                line.push_str(option)?;
+            }
+        }
+        refused(&rt, line.as_str(), ErrorKind::MissingRequiredArgument)?;
+        line.push_str(left_out)?;
+        line.push_str(left_out)?;
+        refused(&rt, line.as_str(), ErrorKind::ArgumentConflict)?;
+    }
+    Ok(())
+}
+
+#[test]
+fn bad_turns(rt: HostRuntime) -> Result<(), Fail> {
+    for turns in [
+        "0",
+        "4294967296",
+        "18446744073709551617",
+        "-1",
+        "1x",
+        "0x10",
+        "1.0",
+        "",
+    ] {
+        let line = format!(in rt.alloc();
+            "enogate live --base FF800000 --serial s --desk d --out o --turns={turns}"
+        )?;
+        refused(&rt, line.as_str(), ErrorKind::ValueValidation)?;
+    }
+    Ok(())
+}
+
+#[test]
+fn help_of_replay(rt: HostRuntime) -> Result<(), Fail> {
+    assert_eq!(rt;
+        told(&rt, "enogate replay --help")?.as_str(),
+        "Runs a script from standard input to standard output\n\n\
+        Usage: enogate replay [OPTIONS] --base <ID>\n\n\
+        Options:\n      \
+        --base <ID>  Base ID of the radio module, 8 hexadecimal digits\n      \
+        --db <PATH>  SQLite file of the learned devices, which else stay in memory alone\n  \
+        -h, --help       Print help\n"
+    );
+    Ok(())
+}
+
+#[test]
+fn help_of_live(rt: HostRuntime) -> Result<(), Fail> {
+    assert_eq!(rt;
+        told(&rt, "enogate live --help")?.as_str(),
+        "Serves a serial line and a desk\n\n\
+        Usage: enogate live [OPTIONS] --base <ID> --serial <PATH> --desk <PATH> --out <PATH> --turns <N>\n\n\
+        Options:\n      \
+        --base <ID>      Base ID of the radio module, 8 hexadecimal digits\n      \
+        --serial <PATH>  Serial line, which is read and written\n      \
+        --desk <PATH>    File of the orders, which is read\n      \
+        --out <PATH>     File of the answers to the desk, which is made or emptied\n      \
+        --turns <N>      How many turns it serves, 1 to 4294967295\n      \
+        --db <PATH>      SQLite file of the learned devices, which else stay in memory alone\n  \
+        -h, --help           Print help\n"
+    );
+    Ok(())
+}
+
+#[test]
+fn help_of_both(rt: HostRuntime) -> Result<(), Fail> {
+    assert_eq!(rt;
+        told(&rt, "enogate --help")?.as_str(),
+        "A gateway for EnOcean radio devices\n\n\
+        Usage: enogate <COMMAND>\n\n\
+        Commands:\n  \
+        replay  Runs a script from standard input to standard output\n  \
+        live    Serves a serial line and a desk\n  \
+        help    Print this message or the help of the given subcommand(s)\n\n\
+        Options:\n  \
+        -h, --help     Print help\n  \
+        -V, --version  Print version\n"
+    );
+    Ok(())
+}
+
+#[test]
+fn version_text(rt: HostRuntime) -> Result<(), Fail> {
+    assert_eq!(rt; told(&rt, "enogate --version")?.as_str(), "enogate 0.1.0\n");
+    Ok(())
+}
