@@ -3,14 +3,17 @@
 #   make demo        runs the first script of examples/, by a program that is built unproved if none is there
 #   make test        the whole gate: every proof, edit, test and program; then the shell tests
 #   make build       proves and builds the program
-#   make install     puts it into $(PREFIX)/bin
-#   make uninstall   takes it away from there
+#   make install     puts the program, its manual page and the words for bash under $(DESTDIR)$(PREFIX)
+#   make uninstall   takes them away from there
 #   make clean       removes all that was made
 #
 # The kit's command `rt` has to be on the PATH.
 
 PREFIX ?= /usr/local
 PROGRAM = crates/enogate/out/enogate
+BIN = $(DESTDIR)$(PREFIX)/bin
+MAN = $(DESTDIR)$(PREFIX)/share/man/man1
+WORDS = $(DESTDIR)$(PREFIX)/share/bash-completion/completions
 SOURCES = crates.txt $(wildcard crates/*/src/*.rt crates/*/src/*/*.rt crates/*/specs/*.antt crates/*/proofs/*.antt)
 
 .PHONY: demo build test install uninstall clean
@@ -34,11 +37,13 @@ test:
 	tests/gate
 
 install: $(PROGRAM)
-	install -d "$(DESTDIR)$(PREFIX)/bin"
-	install -m 755 $(PROGRAM) "$(DESTDIR)$(PREFIX)/bin/enogate"
+	install -d "$(BIN)" "$(MAN)" "$(WORDS)"
+	install -m 755 $(PROGRAM) "$(BIN)/enogate"
+	install -m 644 contrib/enogate.1 "$(MAN)/enogate.1"
+	install -m 644 contrib/enogate.bash-completion "$(WORDS)/enogate"
 
 uninstall:
-	rm -f "$(DESTDIR)$(PREFIX)/bin/enogate"
+	rm -f "$(BIN)/enogate" "$(MAN)/enogate.1" "$(WORDS)/enogate"
 
 clean:
 	rm -rf crates/*/out target scripts/__pycache__

@@ -1,0 +1,12 @@
+"""Hangs a terminal up, as the kernel does where a stick is pulled out: from then on each read of it answers 0 bytes at
+once. It wants the rights of root.
+
+    tests/live/hang_up.py TERMINAL
+"""
+import fcntl
+import os
+import sys
+
+TIOCVHANGUP = 0x5437
+
+fcntl.ioctl(os.open(sys.argv[1], os.O_RDWR | os.O_NOCTTY), TIOCVHANGUP)
