@@ -1,5 +1,5 @@
-/* Preloaded, it answers each read of standard input with one byte `x`, as often as READS says, and then with the end of the
-   input. At the end it writes how many reads there were to the file that COUNT_READS names. */
+/* Preloaded, it answers each read of standard input with one byte `x`, as often as READS says, and then with the end
+   of the input. At the end it writes how many reads there were to the file that COUNT_READS names. */
 #define _GNU_SOURCE
 #include <dlfcn.h>
 #include <fcntl.h>

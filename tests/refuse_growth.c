@@ -1,5 +1,6 @@
-/* Preloaded, it refuses one growth of memory: the one whose number REFUSE_GROWTH gives, counted from 1. When it does, it makes
-   the empty file that REFUSE_MARK names. At the end it writes how many growths there were to the file that COUNT_GROWTHS names. */
+/* Preloaded, it refuses one growth of memory: the one whose number REFUSE_GROWTH gives, counted from 1. When it does,
+   it makes the empty file that REFUSE_MARK names. At the end it writes how many growths there were to the file that
+   COUNT_GROWTHS names. */
 #define _GNU_SOURCE
 #include <errno.h>
 #include <fcntl.h>

@@ -38,8 +38,8 @@ def preloading(work, source, **variables):
 
 
 def refuse_each(work, name, source, variable, script, cases, database=None, is_kept=None, first=1):
-    """The first call refused, or the one of another number, then the next one, and so on, until none is. Each run, on the
-    database of its number, ends as one of these cases, and then `is_kept` holds; each case is met."""
+    """The first call refused, or the one of another number, then the next one, and so on, until none is. Each run, on
+    the database of its number, ends as one of these cases, and then `is_kept` holds; each case is met."""
     mark = work / "mark"
     number, met, is_over, differs = first, set(), False, None
     while not is_over and not differs and number < first + 10_000:

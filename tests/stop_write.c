@@ -1,5 +1,5 @@
-/* Preloaded, it kills the program before one write to standard output: the one whose number STOP_WRITE gives, counted from
-   1. */
+/* Preloaded, it kills the program before one write to standard output: the one whose number STOP_WRITE gives, counted
+   from 1. */
 #define _GNU_SOURCE
 #include <dlfcn.h>
 #include <signal.h>
