@@ -4,7 +4,7 @@ use Rattle.std.specs.Prelude.{Result, Ok, Err, ◌==◌, if◌then◌else◌}
 use Rattle.std.proofs.lemmas.Bool.{ne_eqb}
 use Rattle.json_lines.specs.Counts.{one_more}
 use Rattle.gateway_main.specs.Counts.{Counts, counted, Went, WentWell, Made}
-use Rattle.gateway_main.specs.TextOutlet.{well_behind, wrong_behind}
+use Rattle.gateway_main.specs.Behind.{well_behind, wrong_behind}
 
 -- a call that answers some bytes went well
 pub went_well : (E : Type 0) (old mid new : Counts) (n : ℕ) → WentWell old mid → new ≡ counted {E = E} mid (Ok n)
@@ -17,6 +17,9 @@ went_well E old mid new n before e some =
 
 pub made_none : (old : Counts) → Made old old 0
 made_none old fits = omega arith
+
+pub made_at : (old new : Counts) (n m : ℕ) → n ≡ m → Made old new n → Made old new m
+made_at old new n m e made = rw (← e) made
 
 pub made_more : (old mid new : Counts) (n : ℕ) → Made old mid n → new.calls ≡ one_more mid.calls → Made old new (n + 1)
 made_more old mid new n before e fits = let h = before fits in omega (arith, h, e)

@@ -10,6 +10,7 @@ pub mod LineLemmas
 pub mod LongLineLemmas
 pub mod SearchLemmas
 pub mod BytesLemmas
+pub mod ReadLemmas
 pub mod TurnLemmas
 pub mod WiresLemmas
 pub mod ReplayedLemmas

@@ -1,12 +1,11 @@
 -- How a live gateway goes on with turns.
 use Rattle.std.proofs.Common.{◌≡◌, ℕ, ◌-◌, ◌<◌, List, [], ◌∷◌, ◌++◌, length, take, drop, map, refl, ap, sym, ◌∙◌}
-use Rattle.std.proofs.Common.{append_assoc, append-nil, arith, suc, zero, subst, ◌≤◌, Option}
-use Rattle.std.specs.Io.KnownBytes.{Consumes}
-use Rattle.std.proofs.KnownBytes.{Consumes-nil, Consumes-trans}
+use Rattle.std.proofs.Common.{append_assoc, append-nil, arith, suc}
 use Rattle.std.specs.Prelude.{◌==◌, All}
 use Rattle.std.specs.List.{flat_map, slice_split}
 use Rattle.std.specs.Str.Lines.{strip_carriage_return}
 use Rattle.std.proofs.Math.Seq.{drop-append_seam}
+use Rattle.std.proofs.lemmas.List.{map-append}
 use Rattle.std.proofs.lemmas.List.Concat.{flat_map-append}
 use Rattle.std.proofs.lemmas.List.Elements.{All-append, All-nil}
 use Rattle.std.proofs.lemmas.List.Splits.{slice_split_none, slice_split_at, length-slice_split}
@@ -15,11 +14,11 @@ use Rattle.gateway_core.specs.Calls.{Value}
 use Rattle.gateway_core.specs.Events.{Event, Piece, Line}
 use Rattle.gateway_main.specs.declared.lines.Lines.TheVariants.{OfDesk}
 use Rattle.gateway_main.specs.Outlets.{IsOutlet}
-use Rattle.gateway_main.specs.Played.{IsIdle, Breaks, PlaysPart}
+use Rattle.gateway_main.specs.Played.{IsIdle, Breaks}
+use Rattle.gateway_main.specs.Reads.{BreaksAtOrder}
 use Rattle.gateway_main.specs.Taking.{Takes}
 use Rattle.gateway_main.specs.Bytes.{IsOneLine, Keeps, TakesBytes, StopsAtLine, event_by, events_by, with_end}
-use Rattle.gateway_main.specs.Turns.{Turn, Gives, pieces, desk_bytes, ended_lines, longest_read, orders}
-use Rattle.gateway_main.specs.Turns.{events_behind, events_of_turns}
+use Rattle.gateway_main.specs.Turns.{Turn, desks, ended_lines, events_behind, events_of_turns, orders, pieces}
 use Rattle.gateway_main.proofs.BytesLemmas.{keeps_none}
 use Rattle.gateway_main.proofs.LineLemmas.{test_of_one_line}
 use Rattle.gateway_main.proofs.PlayLemmas.{takes_none, takes-append, plays-break}
@@ -84,6 +83,10 @@ orders-behind before desk ls more rest other whole each one behind others =
 
 -- ---- the events of one turn more
 
+-- all that turns read of the desk
+abbrev pub desk_bytes : List Turn → List ℕ
+desk_bytes turns = flat_map (λ turn. turn.desk) turns
+
 abbrev last_turn : List ℕ → Turn → List Event
 last_turn before turn = Piece turn.piece ∷ drop (length (orders before)) (orders (before ++ turn.desk))
 
@@ -102,41 +105,13 @@ desk_bytes-more : (read : List Turn) (turn : Turn) → desk_bytes (read ++ turn 
 desk_bytes-more read turn =
     flat_map-append (λ (turn : Turn). turn.desk) read (turn ∷ []) ∙ ap (λ s. desk_bytes read ++ s) (append-nil turn.desk)
 
-pieces-more : (read : List Turn) (turn : Turn) → pieces (read ++ turn ∷ []) ≡ pieces read ++ turn.piece
-pieces-more read turn =
-    flat_map-append (λ (turn : Turn). turn.piece) read (turn ∷ []) ∙ ap (λ s. pieces read ++ s) (append-nil turn.piece)
+-- ---- the reads of one turn more
 
--- ---- what turns read
+pub pieces-more : (read : List Turn) (turn : Turn) → pieces (read ++ turn ∷ []) ≡ pieces read ++ turn.piece ∷ []
+pieces-more read turn = map-append (λ (turn : Turn). turn.piece) read (turn ∷ [])
 
-pub gives_none : (serial desk : Option (List ℕ)) → Gives serial serial desk desk []
-gives_none serial desk = record {
-  serial_gave = Consumes-nil serial;
-  desk_gave = Consumes-nil desk;
-  short = All-nil (λ (turn : Turn). (length turn.piece ≤ longest_read) × (length turn.desk ≤ longest_read));
-}
-
-pub gives_more : (serial serial_mid serial_now desk desk_mid desk_now : Option (List ℕ)) (read : List Turn)
-    (piece bytes : List ℕ) → Gives serial serial_mid desk desk_mid read → Consumes serial_mid serial_now piece
-    → Consumes desk_mid desk_now bytes → length piece ≤ longest_read → length bytes ≤ longest_read
-    → Gives serial serial_now desk desk_now (read ++ record { piece = piece; desk = bytes } ∷ [])
-gives_more serial serial_mid serial_now desk desk_mid desk_now read piece bytes p a b short few =
-    let turn : Turn = record { piece = piece; desk = bytes } in
-    record {
-      serial_gave =
-          subst (Consumes serial serial_now) (sym (pieces-more read turn))
-          (Consumes-trans serial serial_mid serial_now (pieces read) piece p.serial_gave a);
-      desk_gave =
-          subst (Consumes desk desk_now) (sym (desk_bytes-more read turn))
-          (Consumes-trans desk desk_mid desk_now (desk_bytes read) bytes p.desk_gave b);
-      short =
-          All-append (λ (turn : Turn). (length turn.piece ≤ longest_read) × (length turn.desk ≤ longest_read)) read
-          (turn ∷ []) p.short (alone turn (short, few));
-    }
-  where
-    alone : (turn : Turn) → (length turn.piece ≤ longest_read) × (length turn.desk ≤ longest_read)
-        → All (λ (turn : Turn). (length turn.piece ≤ longest_read) × (length turn.desk ≤ longest_read)) (turn ∷ [])
-    alone turn is zero d l = is
-    alone turn is (suc k) d l = absurd (omega arith)
+pub desks-more : (read : List Turn) (turn : Turn) → desks (read ++ turn ∷ []) ≡ desks read ++ turn.desk ∷ []
+desks-more read turn = map-append (λ (turn : Turn). turn.desk) read (turn ∷ [])
 
 module _ {S : Type 0} (g : Ghosts S) where
   -- the turns were taken, and of the desk's line that is not ended the first bytes are kept
@@ -161,11 +136,11 @@ module _ {S : Type 0} (g : Ghosts S) {O : Type 0} (puts : O → O → List Answe
     taken = takes_none g puts breaks outlet old o 0 idle (omega arith);
   }
 
-  -- the turn's piece, and not yet its bytes of the desk
-  with_piece : (entry old mid : Value S) (read : List Turn) (piece kept : List ℕ) (o mids behind : O) (some more : ℕ)
+  -- a turn's piece, and not yet its bytes of the desk
+  pub piece_taken : (entry old mid : Value S) (read : List Turn) (piece kept : List ℕ) (o mids behind : O) (some more : ℕ)
       → TakesTurns g entry old read kept (puts o mids) some → Takes g old mid (Piece piece ∷ []) (puts mids behind) some more
       → Takes g entry mid (events_of_turns read ++ Piece piece ∷ []) (puts o behind) 0 more
-  with_piece entry old mid read piece kept o mids behind some more p q =
+  piece_taken entry old mid read piece kept o mids behind some more p q =
       takes-append g puts breaks outlet entry old mid (events_of_turns read) (Piece piece ∷ []) o mids behind 0 some more
       p.taken q
 
@@ -198,42 +173,17 @@ module _ {S : Type 0} (g : Ghosts S) {O : Type 0} (puts : O → O → List Answe
             rw is
             (takes-append g puts breaks outlet entry mid new (events_of_turns read ++ Piece piece ∷ [])
             (events_by OfDesk r.ended) o behind now 0 more total
-            (with_piece entry old mid read piece kept o mids behind some more p q) r.taken);
+            (piece_taken entry old mid read piece kept o mids behind some more p q) r.taken);
       }
-
-  -- a turn with nothing of the desk
-  no_desk : (entry old : Value S) (read : List Turn) (piece kept : List ℕ) (o mids : O) (some : ℕ)
-      → TakesTurns g entry old read kept (puts o mids) some
-      → events_of_turns (read ++ record { piece = piece; desk = [] } ∷ []) ≡ events_of_turns read ++ Piece piece ∷ []
-  no_desk entry old read piece kept o mids some p =
-      events_behind-more [] read (record { piece = piece; desk = [] })
-      ∙ ap (λ (es : List Event). events_of_turns read ++ Piece piece ∷ es)
-      (orders-behind (desk_bytes read) [] p.ended [] p.rest p.rest p.whole p.each p.keeps.one (append-nil p.rest)
-      (All-nil IsOneLine) ∙ orders-none p.rest p.keeps.one)
-
-  -- the desk could not be read
-  pub piece_taken : (entry old mid : Value S) (read : List Turn) (piece kept : List ℕ) (o mids behind : O) (some more : ℕ)
-      → TakesTurns g entry old read kept (puts o mids) some
-      → Takes g old mid (Piece piece ∷ []) (puts mids behind) some more
-      → Takes g entry mid (events_of_turns (read ++ record { piece = piece; desk = [] } ∷ [])) (puts o behind) 0 more
-  piece_taken entry old mid read piece kept o mids behind some more p q =
-      rw (no_desk entry old read piece kept o mids some p)
-      (with_piece entry old mid read piece kept o mids behind some more p q)
 
   -- an answer to a packet of the piece did not get out
   pub piece_stops : (entry old new : Value S) (read : List Turn) (piece kept : List ℕ) (o mids now : O) (some : ℕ)
       → TakesTurns g entry old read kept (puts o mids) some → Breaks g old new [] (Piece piece) (breaks mids now)
-      → PlaysPart g entry new (events_of_turns (read ++ record { piece = piece; desk = [] } ∷ [])) (breaks o now)
-  piece_stops entry old new read piece kept o mids now some p broken = record {
-    events = events_of_turns read;
-    event = Piece piece;
-    later = [];
-    whole = no_desk entry old read piece kept o mids some p;
-    broken =
-        rw (← append-nil (events_of_turns read))
-        (plays-break g puts breaks outlet entry old new (events_of_turns read) [] (Piece piece) o mids now
-        p.taken.played broken);
-  }
+      → Breaks g entry new (events_of_turns read) (Piece piece) (breaks o now)
+  piece_stops entry old new read piece kept o mids now some p broken =
+      rw (← append-nil (events_of_turns read))
+      (plays-break g puts breaks outlet entry old new (events_of_turns read) [] (Piece piece) o mids now
+      p.taken.played broken)
 
   -- an answer to an order did not get out
   pub order_stops : (entry old mid new : Value S) (read : List Turn) (piece desk kept : List ℕ)
@@ -241,7 +191,7 @@ module _ {S : Type 0} (g : Ghosts S) {O : Type 0} (puts : O → O → List Answe
       → (p : TakesTurns g entry old read kept (puts o mids) some)
       → Takes g old mid (Piece piece ∷ []) (puts mids behind) some more
       → StopsAtLine g OfDesk mid new p.rest desk (breaks behind now)
-      → PlaysPart g entry new (events_of_turns (read ++ record { piece = piece; desk = desk } ∷ [])) (breaks o now)
+      → BreaksAtOrder g entry new (read ++ record { piece = piece; desk = desk } ∷ []) (breaks o now)
   order_stops entry old mid new read piece desk kept o mids behind now some more p q s =
       let event = event_by OfDesk (strip_carriage_return s.line) in
       let later = orders s.more in
@@ -251,8 +201,11 @@ module _ {S : Type 0} (g : Ghosts S) {O : Type 0} (puts : O → O → List Answe
       orders-behind (desk_bytes read) desk p.ended s.ended p.rest (s.line ++ 10 ∷ s.more) p.whole p.each p.keeps.one
       s.whole s.each ∙ ap (λ (es : List Event). events_by OfDesk s.ended ++ es) (orders-first s.line s.more s.one) in
       record {
-        events = begun ++ events_by OfDesk s.ended;
-        event = event;
+        before = read;
+        last = record { piece = piece; desk = desk };
+        is_last = refl;
+        done = events_by OfDesk s.ended;
+        order = event;
         later = later;
         whole = events_behind-more [] read (record { piece = piece; desk = desk })
             ∙ ap (λ (es : List Event). events_of_turns read ++ Piece piece ∷ es) brought
@@ -260,5 +213,5 @@ module _ {S : Type 0} (g : Ghosts S) {O : Type 0} (puts : O → O → List Answe
             ∙ sym (append_assoc begun (events_by OfDesk s.ended) (event ∷ later));
         broken =
             plays-break g puts breaks outlet entry mid new begun (events_by OfDesk s.ended) event o behind now
-            (with_piece entry old mid read piece kept o mids behind some more p q).played s.broken;
+            (piece_taken entry old mid read piece kept o mids behind some more p q).played s.broken;
       }

@@ -6,7 +6,9 @@ use Rattle.gateway_core.specs.Calls.{Value}
 use Rattle.gateway_core.specs.Events.{Event}
 use Rattle.gateway_main.specs.Counts.{Counts, HasRoom, OneEmpty, OneFailed, OneMoreFailed, NoneFailed, WentWell}
 use Rattle.gateway_main.specs.Outlets.{IsOutlet}
-use Rattle.gateway_main.specs.Played.{Plays, PlaysPart}
+use Rattle.gateway_main.specs.Played.{Plays}
+use Rattle.gateway_main.specs.Reads.{BreaksTurn}
+use Rattle.gateway_main.specs.Turns.{Turn}
 use Rattle.gateway_main.specs.Wires.{BreaksWires, PutsWires, wires_outlet}
 use Rattle.sqlite_trees.specs.declared.store.Store.{Ghosts}
 
@@ -55,10 +57,12 @@ module _ {R D : Type 0} (serial_held : R → Option (List ℕ)) (serial_counts :
         desk_out)
     plays_at entry now gateway events serial serial_now serial_out desk desk_now desk_out e f h p = rw (e, f, h) p
 
-    pub plays_part_at : (entry now gateway : Value S) (events : List Event) (serial serial_now serial_out : R)
-        (desk desk_now desk_out : D) → gateway ≡ now → serial_out ≡ serial_now → desk_out ≡ desk_now
-        → PlaysPart g entry now events (BreaksWires serial_held serial_counts desk_held desk_counts serial desk
+    pub breaks_turn_at : (entry now gateway : Value S) (turns : List Turn) (piece : Option (List ℕ))
+        (serial serial_now serial_out : R) (desk desk_now desk_out : D) → gateway ≡ now → serial_out ≡ serial_now
+        → desk_out ≡ desk_now
+        → BreaksTurn g entry now turns piece (BreaksWires serial_held serial_counts desk_held desk_counts serial desk
         serial_now desk_now)
-        → PlaysPart g entry gateway events (BreaksWires serial_held serial_counts desk_held desk_counts serial desk
-        serial_out desk_out)
-    plays_part_at entry now gateway events serial serial_now serial_out desk desk_now desk_out e f h p = rw (e, f, h) p
+        → BreaksTurn g entry gateway turns piece (BreaksWires serial_held serial_counts desk_held desk_counts serial
+        desk serial_out desk_out)
+    breaks_turn_at entry now gateway turns piece serial serial_now serial_out desk desk_now desk_out e f h p =
+        rw (e, f, h) p

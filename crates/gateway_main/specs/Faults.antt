@@ -1,7 +1,5 @@
 -- What the program says of a call that was refused. Own choice.
 use Rattle.std.specs.Prelude.{if◌then◌else◌}
-use Rattle.std.specs.declared.io.ErrorKind.{ErrorKind}
-use Rattle.std.specs.declared.io.ErrorKind.TheVariants as io
 use Rattle.device_registry.specs.declared.fault.OpenFault.{OpenFault}
 use Rattle.device_registry.specs.declared.fault.OpenFault.TheVariants as opening
 use Rattle.sqlite.specs.declared.error.Error.{Error}
@@ -19,11 +17,6 @@ fault_of_store error = fault.Store
 abbrev pub fault_of_open : OpenFault → Fault
 fault_of_open opening.NotARegistry = fault.NotARegistry
 fault_of_open (opening.Refused why) = if why.is_memory then fault.Memory else fault.Store
-
--- where a path does not open
-abbrev pub fault_of_path : ErrorKind → Fault
-fault_of_path io.OutOfMemory = fault.Memory
-fault_of_path _ = fault.CannotOpen
 
 abbrev pub fault_of_run : RunFault → Fault
 fault_of_run Read = fault.Read

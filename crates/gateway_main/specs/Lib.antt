@@ -1,6 +1,7 @@
 pub mod Counts
 pub mod Writes
 pub mod Written
+pub mod Behind
 pub mod Script
 pub mod Outlets
 pub mod TextOutlet
@@ -10,6 +11,7 @@ pub mod Replayed
 pub mod Taking
 pub mod Bytes
 pub mod Turns
+pub mod Reads
 pub mod Bases
 pub mod Faults
 pub mod Endings

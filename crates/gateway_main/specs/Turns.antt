@@ -1,7 +1,6 @@
 -- What the turns of a live gateway stand for. Own choice.
-use Rattle.std.specs.Prelude.{◌-◌, ◌≤◌, ◌==◌, All, Option, ℕ, List, [], ◌∷◌, ◌++◌, length, take, drop, map}
-use Rattle.std.specs.Io.KnownBytes.{Consumes}
-use Rattle.std.specs.List.{flat_map, slice_split}
+use Rattle.std.specs.Prelude.{◌-◌, ◌==◌, ℕ, List, [], ◌∷◌, ◌++◌, length, take, drop, map}
+use Rattle.std.specs.List.{slice_split}
 use Rattle.std.specs.Str.Lines.{strip_carriage_return}
 use Rattle.gateway_core.specs.Events.{Event, Piece, Line}
 
@@ -10,16 +9,12 @@ pub record Turn : Type 0 where
   pub piece : List ℕ
   pub desk : List ℕ
 
--- how many bytes are read at most in one turn, of each of the two
-abbrev pub longest_read : ℕ
-longest_read = 256
+-- the reads of turns, of the one and of the other
+abbrev pub pieces : List Turn → List (List ℕ)
+pieces turns = map (λ turn. turn.piece) turns
 
--- all that turns read of the one and of the other
-abbrev pub pieces : List Turn → List ℕ
-pieces turns = flat_map (λ turn. turn.piece) turns
-
-abbrev pub desk_bytes : List Turn → List ℕ
-desk_bytes turns = flat_map (λ turn. turn.desk) turns
+abbrev pub desks : List Turn → List (List ℕ)
+desks turns = map (λ turn. turn.desk) turns
 
 -- what stands before each LF, up to the LF before it
 abbrev pub ended_lines : List ℕ → List (List ℕ)
@@ -40,9 +35,3 @@ events_behind before (turn ∷ turns) =
 
 abbrev pub events_of_turns : List Turn → List Event
 events_of_turns turns = events_behind [] turns
-
--- a serial line and a desk, by what they give where it is known, gave just what the turns read
-pub record Gives (serial serial_now desk desk_now : Option (List ℕ)) (turns : List Turn) : Type 0 where
-  pub serial_gave : Consumes serial serial_now (pieces turns)
-  pub desk_gave : Consumes desk desk_now (desk_bytes turns)
-  pub short : All (λ turn. (length turn.piece ≤ longest_read) × (length turn.desk ≤ longest_read)) turns

@@ -4,12 +4,11 @@ use Rattle.std.specs.Prelude.{◌⊎◌, ℕ, List, [], ◌∷◌, ◌++◌, Opt
 use Rattle.std.specs.List.{flat_map}
 use Rattle.std.specs.Io.KnownBytes.{Appends}
 use Rattle.std.proofs.Common.{refl, sym, append_assoc, subst, inl, inr}
-use Rattle.std.proofs.KnownBytes.{Appends-trans, Appends-nil}
-use Rattle.std.proofs.lemmas.List.Concat.{flat_map-append}
+use Rattle.std.proofs.KnownBytes.{Appends-nil}
 use Rattle.gateway_core.specs.Step.{Answer}
+use Rattle.gateway_main.specs.Behind.{all_behind, last_behind, well_behind, wrong_behind}
 use Rattle.gateway_main.specs.Counts.{Counts, WentWell, OneFailed, OneEmpty}
 use Rattle.gateway_main.specs.Outlets.{IsOutlet}
-use Rattle.gateway_main.specs.TextOutlet.{part_behind, well_behind, wrong_behind}
 use Rattle.gateway_main.specs.Writes.{AppendsPart}
 
 -- the radio bytes of an answer, if there are any
@@ -24,21 +23,6 @@ all_radio answers = flat_map (λ answer. radio_bytes answer.radio) answers
 -- what the desk is told
 abbrev pub all_desk : List Answer → List ℕ
 all_desk answers = flat_map (λ answer. answer.desk) answers
-
--- the text of some behind the text of others, and a part behind it
-all_behind : (text : Answer → List ℕ) (old mid new : Option (List ℕ)) (first second : List Answer)
-    → Appends old mid (flat_map text first) → Appends mid new (flat_map text second)
-    → Appends old new (flat_map text (first ++ second))
-all_behind text old mid new first second a b =
-    subst (Appends old new) (sym (flat_map-append text first second))
-    (Appends-trans old mid new (flat_map text first) (flat_map text second) a b)
-
-last_behind : (text : Answer → List ℕ) (old mid new : Option (List ℕ)) (first second : List Answer) (last : List ℕ)
-    → Appends old mid (flat_map text first) → AppendsPart mid new (flat_map text second) last
-    → AppendsPart old new (flat_map text (first ++ second)) last
-last_behind text old mid new first second last a b =
-    subst (λ front. AppendsPart old new front last) (sym (flat_map-append text first second))
-    (part_behind old mid new (flat_map text first) (flat_map text second) last a b)
 
 -- The sinks are known by what they hold, and by how their writes went.
 module _ {R D : Type 0} (serial_held : R → Option (List ℕ)) (serial_counts : R → Counts)

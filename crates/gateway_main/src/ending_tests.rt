@@ -1,7 +1,7 @@
 //! The statuses that the program ends with, and what it says of a fault.
 use crate::command_line::{Refused, read};
 use crate::ending::{Ending, done, status, without_arguments};
-use crate::fault::{Fault, cannot_open};
+use crate::fault::Fault;
 use crate::replaying::{RunFault, Summary};
 use std::alloc::AllocError;
 use std::io;
@@ -43,19 +43,6 @@ fn fault_texts(rt: HostRuntime) -> Result<(), Fail> {
         assert_eq!(rt; fault.to_string(rt.alloc())?.as_str(), text);
     }
     Ok(())
-}
-
-#[test]
-fn faults_of_paths(rt: HostRuntime) {
-    for kind in [
-        io::ErrorKind::NotFound,
-        io::ErrorKind::PermissionDenied,
-        io::ErrorKind::InvalidInput,
-        io::ErrorKind::Other,
-    ] {
-        assert_eq!(rt; cannot_open(&io::Error::from(kind)), Fault::CannotOpen);
-    }
-    assert_eq!(rt; cannot_open(&io::Error::from(AllocError)), Fault::Memory);
 }
 
 #[test]

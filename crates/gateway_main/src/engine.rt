@@ -30,6 +30,7 @@ impl<O: Outlet, S: Alter> Engine<'_, O, S> {
             (O.puts self.old.outlet self.new.outlet) (O.breaks self.old.outlet self.new.outlet)
             self.old.items self.new.items }
     {
+        // It tells the proof that the count is a `u64`.
         let _start = self.items;
         for byte in piece {
             self.gateway.byte(*byte);
@@ -50,6 +51,7 @@ impl<O: Outlet, S: Alter> Engine<'_, O, S> {
         ensures broken { OnErr result (DrainsPart S.Store self.old.gateway.now self.new.gateway.now
             (O.breaks self.old.outlet self.new.outlet)) }
     {
+        // It tells the proof that the count is a `u64`.
         let _start = self.items;
         while let Some(reply) = self.gateway.next() {
             self.answer(&reply)?;

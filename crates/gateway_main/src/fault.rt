@@ -1,13 +1,10 @@
 //! What ends the program with status 1.
 ghost use Rattle.std.specs.Prelude.{◌≡◌};
-ghost use Rattle.std.specs.IoError.{error_kind};
-ghost use Rattle.gateway_main.specs.Faults.{fault_of_path};
 
 use crate::replaying::RunFault;
 use device_registry::OpenFault;
 use sqlite::ErrorCode;
 use std::alloc::AllocError;
-use std::io;
 use thiserror::Error;
 
 /// What ends the program with status 1. Its text is what the program says of it.
@@ -19,7 +16,7 @@ pub enum Fault {
     /// The database does not open, refuses to be read or written, or cannot be closed.
     #[error("store")]
     Store,
-    /// There is no memory for the command line, the database, the gateway or the opening of a file.
+    /// There is no memory for the command line, the database or the gateway.
     #[error("memory")]
     Memory,
     /// The serial line, the desk's file or the file of the answers does not open.
@@ -34,16 +31,6 @@ pub enum Fault {
     /// Standard input has not ended after all reads that the program makes.
     #[error("too many turns")]
     TooManyTurns,
-}
-
-/// What the program says where a path does not open.
-pub(crate) fn cannot_open(error: &io::Error) -> Fault
-    ensures { result ≡ fault_of_path (error_kind error.now) }
-{
-    match error.kind() {
-        io::ErrorKind::OutOfMemory => Fault::Memory,
-        _ => Fault::CannotOpen,
-    }
 }
 
 impl From<AllocError> for Fault {

@@ -1,4 +1,5 @@
-//! A gateway's engine, which replays a script from a reader to a writer, and the command line of the program `enogate`.
+//! A gateway's engines, which replay a script or serve a serial line and a desk, and the command line of the program
+//! `enogate`.
 #![tactic(auto)]
 
 #[cfg(test)]

@@ -1,4 +1,5 @@
 //! Serial lines and desks that are served in turns: what goes where, and what stands where after each fault.
+use crate::tests::TakesNothing;
 use crate::{OverRead, OverWrite, RunFault, Source, Summary, live, start};
 use sqlite::Connection;
 use std::alloc::Global;
@@ -295,57 +296,118 @@ fn reads_that_fail(rt: HostRuntime) -> Result<(), Fail> {
     Ok(())
 }
 
-// Each write fails in turn. On the writer that failed stands what it took, and nothing that would come later stands on
-// the other: where the reply's bytes do not get out, the desk is not told; where the desk is not told, they are out.
-#[test]
-fn writes_that_fail(rt: HostRuntime) -> Result<(), Fail> {
+/// All that goes out by radio, and all that the desk is told, where a query and the order `base` are answered.
+#[derive(Drop)]
+struct AllAnswers {
+    radio: Vec<u8>,
+    desk: Vec<u8>,
+}
+
+impl AllAnswers {
+    fn new(alloc: Global) -> Result<AllAnswers, Fail> {
+        let mut radio = Vec::new(alloc);
+        radio.extend_from_slice(REPLY)?;
+        radio.extend_from_slice(BASE_QUESTION)?;
+        let mut desk = Vec::new(alloc);
+        desk.extend_from_slice(OK)?;
+        desk.extend_from_slice(TAUGHT)?;
+        desk.extend_from_slice(OK)?;
+        Ok(AllAnswers { radio, desk })
+    }
+}
+
+/// Whether a gateway that answers a query and the order `base` ends with `Write`, with just so many first bytes on each
+/// writer, where its writers fail from these calls on.
+fn breaks_off(
+    alloc: Global,
+    radio_fails_at: usize,
+    desk_fails_at: usize,
+    sent: usize,
+    told: usize,
+) -> Result<bool, Fail> {
     let serial = [b"".as_slice(), QUERY];
     let desk = [b"learn on\n".as_slice(), b"base\n"];
-    let mut all_radio = Vec::new(rt.alloc());
-    all_radio.extend_from_slice(REPLY)?;
-    all_radio.extend_from_slice(BASE_QUESTION)?;
-    let mut all_desk = Vec::new(rt.alloc());
-    all_desk.extend_from_slice(OK)?;
-    all_desk.extend_from_slice(TAUGHT)?;
-    all_desk.extend_from_slice(OK)?;
-    for fails_at in 1..=6 {
-        let done = serve(
-            rt.alloc(),
-            Parts::new(&serial, 0),
-            Parts::new(&desk, 0),
-            2,
-            fails_at,
-            usize::MAX,
-        )?;
-        assert!(rt; done.ended == Err(RunFault::Write));
-        // The reply takes four writes of seven bytes, of which the last has six, and the question two.
-        let (sent, told) = if fails_at < 5 {
-            (7 * (fails_at - 1), 14)
-        } else {
-            (27 + 7 * (fails_at - 5), 95)
-        };
-        assert!(rt; Some(done.radio.as_slice()) == all_radio.as_slice().get(..sent));
-        assert!(rt; Some(done.desk.as_slice()) == all_desk.as_slice().get(..told));
+    let all = AllAnswers::new(alloc)?;
+    let done = serve(
+        alloc,
+        Parts::new(&serial, 0),
+        Parts::new(&desk, 0),
+        2,
+        radio_fails_at,
+        desk_fails_at,
+    )?;
+    Ok(
+        done.ended == Err(RunFault::Write)
+            && Some(done.radio.as_slice()) == all.radio.as_slice().get(..sent)
+            && Some(done.desk.as_slice()) == all.desk.as_slice().get(..told),
+    )
+}
+
+// Each write to the serial line fails in turn. The desk is told nothing of the packet or order, and nothing later. The
+// reply takes four writes of seven bytes, of which the last has six, and the question two.
+#[test]
+fn serial_writes_that_fail(rt: HostRuntime) -> Result<(), Fail> {
+    for (fails_at, sent, told) in [
+        (1, 0, 14),
+        (2, 7, 14),
+        (3, 14, 14),
+        (4, 21, 14),
+        (5, 27, 95),
+        (6, 34, 95),
+    ] {
+        assert!(rt; breaks_off(rt.alloc(), fails_at, usize::MAX, sent, told)?);
     }
+    Ok(())
+}
+
+// Each write to the desk fails in turn. The radio bytes of the packet or order are out, and nothing later. The window's
+// line takes two writes of seven bytes, the teach line twelve, of which the last has four, and the answer to `base` two.
+#[test]
+fn desk_writes_that_fail(rt: HostRuntime) -> Result<(), Fail> {
     for fails_at in 1..=16 {
-        let done = serve(
-            rt.alloc(),
-            Parts::new(&serial, 0),
-            Parts::new(&desk, 0),
-            2,
-            usize::MAX,
-            fails_at,
-        )?;
-        assert!(rt; done.ended == Err(RunFault::Write));
-        // The window's line takes two writes of seven bytes, the teach line twelve, of which the last has four, and the
-        // answer to `base` two. Its question is out by then.
         let (sent, told) = match fails_at {
             1 | 2 => (0, 7 * (fails_at - 1)),
             3..=14 => (27, 14 + 7 * (fails_at - 3)),
             _ => (35, 95 + 7 * (fails_at - 15)),
         };
-        assert!(rt; Some(done.radio.as_slice()) == all_radio.as_slice().get(..sent));
-        assert!(rt; Some(done.desk.as_slice()) == all_desk.as_slice().get(..told));
+        assert!(rt; breaks_off(rt.alloc(), usize::MAX, fails_at, sent, told)?);
+    }
+    Ok(())
+}
+
+// A writer that takes 0 bytes ends the gateway like one that fails.
+#[test]
+fn writers_that_take_nothing(rt: HostRuntime) -> Result<(), Fail> {
+    let alloc = rt.alloc();
+    for takes_radio in [false, true] {
+        let mut gateway = start(alloc, Connection::open_in_memory(alloc)?, 0xFF80_0000)?;
+        let mut radio = Vec::new(alloc);
+        let mut desk = Vec::new(alloc);
+        let ended = if takes_radio {
+            live(
+                &mut OverRead::new(b"".as_slice()),
+                &mut OverRead::new(b"base\n".as_slice()),
+                &mut OverWrite::new(&mut radio),
+                &mut OverWrite::new(TakesNothing),
+                &mut gateway,
+                1,
+            )
+        } else {
+            live(
+                &mut OverRead::new(b"".as_slice()),
+                &mut OverRead::new(b"base\n".as_slice()),
+                &mut OverWrite::new(TakesNothing),
+                &mut OverWrite::new(&mut desk),
+                &mut gateway,
+                1,
+            )
+        };
+        assert!(rt; ended == Err(RunFault::Write));
+        assert_eq!(rt;
+            radio.as_slice(),
+            if takes_radio { BASE_QUESTION } else { b"" }
+        );
+        assert_eq!(rt; desk.as_slice(), b"".as_slice());
     }
     Ok(())
 }

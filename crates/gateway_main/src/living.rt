@@ -1,10 +1,11 @@
 //! A gateway serves a serial line and a desk.
-ghost use Rattle.std.specs.Prelude.{◌≡◌, ◌↔◌, ◌⊎◌, ◌+◌, ◌-◌, ◌^◌, ◌≤◌, min, Err, [], ℕ, List, length};
+ghost use Rattle.std.specs.Prelude.{◌≡◌, ◌↔◌, ◌+◌, ◌-◌, ◌^◌, ◌≤◌, min, Err, [], ℕ, List, Option, length};
 ghost use Rattle.std.specs.Prelude.{IfOk, IsOk};
 ghost use Rattle.gateway_core.specs.Events.{items_of};
-ghost use Rattle.gateway_main.specs.Counts.{HasRoom, Made, NoneFailed, OneMoreFailed, WentWell};
-ghost use Rattle.gateway_main.specs.Played.{Plays, PlaysPart};
-ghost use Rattle.gateway_main.specs.Turns.{Gives, Turn, events_of_turns};
+ghost use Rattle.gateway_main.specs.Counts.{HasRoom, Made, NoneFailed, WentWell};
+ghost use Rattle.gateway_main.specs.Played.{Plays};
+ghost use Rattle.gateway_main.specs.Reads.{BreaksTurn, NextReadFails, ReadsWell, events_with, pieces_with};
+ghost use Rattle.gateway_main.specs.Turns.{Turn, desks, events_of_turns, pieces};
 ghost use Rattle.gateway_main.specs.Wires.{BreaksWires, PutsWires};
 
 use crate::engine::Engine;
@@ -26,8 +27,9 @@ use sqlite::Alter;
 /// `desk_out`.
 ///
 /// It ends well after `turns` turns. A line of the desk that is not ended then is dropped. After `Read` all packets and
-/// lines that came are done. After `Write` the output breaks off within what one packet or order puts out: nothing of
-/// it is lost but what could not be written, and packets may still wait in the gateway. `TooManyTurns` never comes.
+/// lines that came are done. After `Write` no read was made any more, and the output breaks off within what one packet
+/// or order puts out: of all before it nothing is lost, and packets may still wait in the gateway. `TooManyTurns` never
+/// comes.
 pub fn live<P: Source, Q: Source, R: Sink, D: Sink, S: Alter>(
     serial_in: &mut P,
     desk_in: &mut Q,
@@ -39,31 +41,26 @@ pub fn live<P: Source, Q: Source, R: Sink, D: Sink, S: Alter>(
     requires { gateway.old.ready ≡ [] }
     // What is read, handled and written.
     ensures ok { IfOk result (λ summary. (read : List Turn) × (length read ≡ turns)
-        × Gives (P.left serial_in.old) (P.left serial_in.new) (Q.left desk_in.old) (Q.left desk_in.new) read
+        × ReadsWell P.left P.counts serial_in.old serial_in.new (pieces read)
+        × ReadsWell Q.left Q.counts desk_in.old desk_in.new (desks read)
         × Plays S.Store gateway.old gateway.new (events_of_turns read) (PutsWires R.held R.counts D.held D.counts
         serial_out.old desk_out.old serial_out.new desk_out.new)
         × (summary.items ≡ min (length (items_of gateway.old.rest (events_of_turns read))) (2 ^ 64 - 1))) }
-    ensures stopped { result ≡ Err RunFault.Read → (read : List Turn)
-        × Gives (P.left serial_in.old) (P.left serial_in.new) (Q.left desk_in.old) (Q.left desk_in.new) read
-        × Plays S.Store gateway.old gateway.new (events_of_turns read) (PutsWires R.held R.counts D.held D.counts
+    ensures stopped { result ≡ Err RunFault.Read → (read : List Turn) × (piece : Option (List ℕ))
+        × NextReadFails P.left P.counts Q.left Q.counts serial_in.old serial_in.new desk_in.old desk_in.new read piece
+        × Plays S.Store gateway.old gateway.new (events_with read piece) (PutsWires R.held R.counts D.held D.counts
         serial_out.old desk_out.old serial_out.new desk_out.new) }
-    ensures broken { result ≡ Err RunFault.Write → (read : List Turn)
-        × Gives (P.left serial_in.old) (P.left serial_in.new) (Q.left desk_in.old) (Q.left desk_in.new) read
-        × PlaysPart S.Store gateway.old gateway.new (events_of_turns read) (BreaksWires R.held R.counts D.held D.counts
+    ensures broken { result ≡ Err RunFault.Write → (read : List Turn) × (piece : Option (List ℕ))
+        × ReadsWell P.left P.counts serial_in.old serial_in.new (pieces_with read piece)
+        × ReadsWell Q.left Q.counts desk_in.old desk_in.new (desks read)
+        × BreaksTurn S.Store gateway.old gateway.new read piece (BreaksWires R.held R.counts D.held D.counts
         serial_out.old desk_out.old serial_out.new desk_out.new) }
     ensures never { result ≡ Err RunFault.TooManyTurns → ⊥ }
 
-    // How the reads and the writes went.
+    // How many reads are made, and when all turns are.
     ensures reads { (n m : ℕ) × (n ≤ turns) × (m ≤ n) × (n ≤ m + 1)
         × Made (P.counts serial_in.old) (P.counts serial_in.new) n
         × Made (Q.counts desk_in.old) (Q.counts desk_in.new) m }
-    ensures read { result ≡ Err RunFault.Read →
-        (OneMoreFailed (P.counts serial_in.old) (P.counts serial_in.new)
-        × NoneFailed (Q.counts desk_in.old) (Q.counts desk_in.new))
-        ⊎ (NoneFailed (P.counts serial_in.old) (P.counts serial_in.new)
-        × OneMoreFailed (Q.counts desk_in.old) (Q.counts desk_in.new)) }
-    ensures write { result ≡ Err RunFault.Write → NoneFailed (P.counts serial_in.old) (P.counts serial_in.new)
-        × NoneFailed (Q.counts desk_in.old) (Q.counts desk_in.new) }
     ensures whole { HasRoom (P.counts serial_in.old) turns → HasRoom (Q.counts desk_in.old) turns →
         HasRoom (R.counts serial_out.old) 0 → HasRoom (D.counts desk_out.old) 0 →
         (IsOk result ↔ (((P.counts serial_in.new).calls ≡ (P.counts serial_in.old).calls + turns)

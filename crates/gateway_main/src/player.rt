@@ -34,6 +34,7 @@ impl<O: Outlet, S: Alter> Player<'_, O, S> {
             bytes.now self.new.unended (O.puts self.old.engine.outlet self.new.engine.outlet)
             (O.breaks self.old.engine.outlet self.new.engine.outlet) self.old.engine.items self.new.engine.items }
     {
+        // It tells the proof that the count is a `u64`.
         let _start = self.engine.items;
         let mut rest = bytes;
         while let Some(end) = memchr(b'\n', rest) {
@@ -77,6 +78,7 @@ impl<O: Outlet, S: Alter> Player<'_, O, S> {
             (O.puts self.old.engine.outlet self.new.engine.outlet)
             (O.breaks self.old.engine.outlet self.new.engine.outlet) self.old.engine.items self.new.engine.items }
     {
+        // It tells the proof that the count is a `u64`.
         let _start = self.engine.items;
         let line = self.unended.as_slice();
         if line.is_empty() {

@@ -20,21 +20,21 @@ use sqlite::Alter;
 /// How many bytes are read at most in one turn. Own choice.
 pub(crate) const LONGEST_READ: usize = 256;
 
-/// What a replay did.
+/// What a replay or a live gateway did.
 #[derive(Clone, Copy, Debug, PartialEq, Eq)]
 pub struct Summary {
     /// How many packets were handled and orders taken. The count stays at its greatest value.
     pub items: u64,
 }
 
-/// Why a replay stopped before the end of its input.
+/// Why a replay, or a live gateway, stopped before its end.
 #[derive(Clone, Copy, Debug, PartialEq, Eq)]
 pub enum RunFault {
     /// A read failed.
     Read,
     /// A write failed, or took 0 bytes.
     Write,
-    /// All reads that were allowed were made, and the input has not ended.
+    /// All reads that were allowed were made, and the input of a replay has not ended.
     TooManyTurns,
 }
 

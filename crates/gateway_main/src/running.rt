@@ -7,7 +7,7 @@ ghost use Rattle.gateway_main.specs.Played.{IsIdle};
 
 use crate::command_line::{self, LiveOptions, Options, Task};
 use crate::ending::{Ending, Served, done, status, without_arguments};
-use crate::fault::{Fault, cannot_open};
+use crate::fault::Fault;
 use crate::living::live;
 use crate::replaying::{RunFault, Summary, replay};
 use crate::sink::OverWrite;
@@ -101,9 +101,9 @@ fn live_on_paths<S: Alter>(
         .read(true)
         .write(true)
         .open(rt, options.serial)
-        .map_err(|error| cannot_open(&error))?;
-    let desk = File::open(rt, options.desk).map_err(|error| cannot_open(&error))?;
-    let out = File::create(rt, options.out).map_err(|error| cannot_open(&error))?;
+        .map_err(|_| Fault::CannotOpen)?;
+    let desk = File::open(rt, options.desk).map_err(|_| Fault::CannotOpen)?;
+    let out = File::create(rt, options.out).map_err(|_| Fault::CannotOpen)?;
     Ok(live(
         &mut OverRead::new(&line),
         &mut OverRead::new(&desk),

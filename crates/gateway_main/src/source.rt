@@ -14,8 +14,9 @@ pub trait Source {
     /// How the reads so far went.
     ghost counts: { Self → Counts };
 
-    /// Reads some bytes into the front of the buffer, and says how many. 0 bytes say that no more will come, if the
-    /// buffer has room. After `Failed` nothing is lost: no byte was taken from the source.
+    /// Reads some bytes into the front of the buffer, and says how many. 0 bytes say that none is left, if the buffer
+    /// has room; of a terminal, which may bring more later, that none came in time. After `Failed` nothing is lost: no
+    /// byte was taken from the source.
     fn read(&mut self, buffer: &mut [u8]) -> Result<usize, Failed>
         ensures within { IfOk result (λ n. n ≤ length buffer.new) }
         ensures bytes { ReadConsumes (left self.old) (left self.new) result buffer.new }

@@ -199,7 +199,7 @@ impl<'a> Write for FailsAtSixteenth<'a> {
 
 /// A writer that takes nothing.
 #[derive(Drop)]
-struct TakesNothing;
+pub(crate) struct TakesNothing;
 
 impl Write for TakesNothing {
     fn write(&mut self, _text: &[u8]) -> io::Result<usize> {

@@ -1,7 +1,8 @@
 use Rattle.std.proofs.Common.{◌≡◌, List, length}
-use Rattle.gateway_main.specs.Counts.{NoneFailed, Made}
+use Rattle.gateway_main.specs.Counts.{Made}
 use Rattle.gateway_main.specs.Played.{IsIdle}
-use Rattle.gateway_main.specs.Turns.{Gives, Turn}
+use Rattle.gateway_main.specs.Reads.{ReadsWell}
+use Rattle.gateway_main.specs.Turns.{Turn, desks, pieces}
 use Rattle.gateway_main.specs.Wires.{PutsWires}
 use Rattle.gateway_main.proofs.TurnLemmas.{TakesTurns}
 use Rattle.gateway_main.proofs.living.live.Given as goal
@@ -13,13 +14,11 @@ invariant-loop-turn g l = record {
   desk : l.player.engine.outlet.desk.ghost_name ≡ l.initial.player.engine.outlet.desk.ghost_name;
   idle : IsIdle l.player.engine.gateway.now;
   progress : (read : List Turn) × (length read ≡ l._turn)
-      × Gives (g.P.Source.left l.fn.serial_in) (g.P.Source.left l.serial_in) (g.Q.Source.left l.fn.desk_in)
-      (g.Q.Source.left l.desk_in) read
+      × ReadsWell g.P.Source.left g.P.Source.counts l.fn.serial_in l.serial_in (pieces read)
+      × ReadsWell g.Q.Source.left g.Q.Source.counts l.fn.desk_in l.desk_in (desks read)
       × TakesTurns g.S.Store l.fn.gateway l.player.engine.gateway.now read l.player.unended
       (PutsWires g.R.Sink.held g.R.Sink.counts g.D.Sink.held g.D.Sink.counts l.fn.serial_out l.fn.desk_out
       l.player.engine.outlet.serial.now l.player.engine.outlet.desk.now) l.player.engine.items;
-  serial_reads : NoneFailed (g.P.Source.counts l.fn.serial_in) (g.P.Source.counts l.serial_in);
-  desk_reads : NoneFailed (g.Q.Source.counts l.fn.desk_in) (g.Q.Source.counts l.desk_in);
   serial_made : Made (g.P.Source.counts l.fn.serial_in) (g.P.Source.counts l.serial_in) l._turn;
   desk_made : Made (g.Q.Source.counts l.fn.desk_in) (g.Q.Source.counts l.desk_in) l._turn;
 }

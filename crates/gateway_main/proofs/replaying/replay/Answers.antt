@@ -6,7 +6,8 @@ use Rattle.gateway_main.specs.declared.tally.Failed.{Failed}
 use Rattle.gateway_main.specs.Counts.{WentWell, OneFailed, OneEmpty}
 use Rattle.gateway_main.specs.Played.{IsIdle}
 use Rattle.gateway_main.specs.declared.lines.Lines.TheVariants.{OfScript}
-use Rattle.gateway_main.specs.TextOutlet.{PutsText, text_outlet, well_behind, wrong_behind}
+use Rattle.gateway_main.specs.Behind.{well_behind, wrong_behind}
+use Rattle.gateway_main.specs.TextOutlet.{PutsText, text_outlet}
 use Rattle.gateway_main.proofs.CountLemmas.{went_well, made_more, made_none, made_within}
 use Rattle.gateway_main.proofs.BytesLemmas.{bytes_none, bytes_behind, closes, keeps_none, part_at_line, script_stops}
 use Rattle.gateway_main.proofs.BytesLemmas.{script_taken, stops_behind}

@@ -1,0 +1,77 @@
+-- What a live gateway reads, and how its reads go. Own choice.
+use Rattle.std.specs.Prelude.{◌≡◌, ◌≤◌, ◌+◌, All, IfSome, Option, None, Some, ℕ, List, [], ◌∷◌, ◌++◌, length}
+use Rattle.std.specs.Io.KnownBytes.{Consumes, IsAtEnd}
+use Rattle.std.specs.List.{concat}
+use Rattle.gateway_core.specs.Step.{Answer}
+use Rattle.gateway_core.specs.Calls.{Value}
+use Rattle.gateway_core.specs.Events.{Event, Piece}
+use Rattle.gateway_main.specs.Counts.{Counts, Made, NoneFailed, OneMoreFailed}
+use Rattle.gateway_main.specs.Played.{Breaks}
+use Rattle.gateway_main.specs.Turns.{Turn, pieces, desks, events_of_turns}
+use Rattle.sqlite_trees.specs.declared.store.Store.{Ghosts}
+
+-- how many bytes one read gives at most
+abbrev pub longest_read : ℕ
+longest_read = 256
+
+-- The bytes of one read, of a source that had the first bytes left before all reads, and has the second now. A read
+-- gives nothing only where nothing is left, as far as that is known.
+pub record IsRead (left left_now : Option (List ℕ)) (bytes : List ℕ) : Type 0 where
+  pub short : length bytes ≤ longest_read
+  pub empty : bytes ≡ [] → IfSome left (λ _. IsAtEnd left_now)
+
+module _ {P : Type 0} (left : P → Option (List ℕ)) (counts : P → Counts) where
+  -- these reads gave just what the source lost
+  pub record Gave (source source_now : P) (reads : List (List ℕ)) : Type 0 where
+    pub all : Consumes (left source) (left source_now) (concat reads)
+    pub each : All (IsRead (left source) (left source_now)) reads
+
+  -- these reads were made and no others, and none failed
+  pub record ReadsWell (source source_now : P) (reads : List (List ℕ)) : Type 0 where
+    pub gave : Gave source source_now reads
+    pub made : Made (counts source) (counts source_now) (length reads)
+    pub well : NoneFailed (counts source) (counts source_now)
+
+  -- one more was made behind these, and failed
+  pub record ReadsFail (source source_now : P) (reads : List (List ℕ)) : Type 0 where
+    pub gave : Gave source source_now reads
+    pub made : Made (counts source) (counts source_now) (length reads + 1)
+    pub failed : OneMoreFailed (counts source) (counts source_now)
+
+-- The reads of the serial line, and the events, where behind some turns a piece was read, or nothing yet.
+abbrev pub pieces_with : List Turn → Option (List ℕ) → List (List ℕ)
+pieces_with turns None = pieces turns
+pieces_with turns (Some piece) = pieces turns ++ piece ∷ []
+
+abbrev pub events_with : List Turn → Option (List ℕ) → List Event
+events_with turns None = events_of_turns turns
+events_with turns (Some piece) = events_of_turns turns ++ Piece piece ∷ []
+
+-- Behind the turns the next read failed: of the serial line, or behind a piece that of the desk.
+module _ {P Q : Type 0} (serial_left : P → Option (List ℕ)) (serial_counts : P → Counts)
+    (desk_left : Q → Option (List ℕ)) (desk_counts : Q → Counts) where
+  abbrev pub NextReadFails : P → P → Q → Q → List Turn → Option (List ℕ) → Type 0
+  NextReadFails serial serial_now desk desk_now turns None =
+      ReadsFail serial_left serial_counts serial serial_now (pieces turns)
+      × ReadsWell desk_left desk_counts desk desk_now (desks turns)
+  NextReadFails serial serial_now desk desk_now turns (Some piece) =
+      ReadsWell serial_left serial_counts serial serial_now (pieces turns ++ piece ∷ [])
+      × ReadsFail desk_left desk_counts desk desk_now (desks turns)
+
+module _ {S : Type 0} (g : Ghosts S) where
+  -- an answer to an order of the last turn did not get out
+  pub record BreaksAtOrder (old new : Value S) (turns : List Turn) (breaks : List Answer → Answer → Type 0)
+      : Type 0 where
+    pub before : List Turn
+    pub last : Turn
+    pub is_last : turns ≡ before ++ last ∷ []
+    pub done : List Event
+    pub order : Event
+    pub later : List Event
+    pub whole : events_of_turns turns ≡ (events_with before (Some last.piece) ++ done) ++ order ∷ later
+    pub broken : Breaks g old new (events_with before (Some last.piece) ++ done) order breaks
+
+  -- An answer did not get out: to a packet of the piece behind the turns, or else to an order of the last turn.
+  abbrev pub BreaksTurn : Value S → Value S → List Turn → Option (List ℕ) → (List Answer → Answer → Type 0) → Type 0
+  BreaksTurn old new turns (Some piece) breaks = Breaks g old new (events_of_turns turns) (Piece piece) breaks
+  BreaksTurn old new turns None breaks = BreaksAtOrder old new turns breaks
