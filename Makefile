@@ -1,13 +1,15 @@
 # enogate: a gateway for EnOcean radio devices.
 #
-#   make demo        runs the first script of examples/, by a program that is built unproved if none is there
+#   make demo        runs the first script of examples/, by a program that is built unproved if none
+#                    is there
 #   make test        the whole gate: every proof, edit, test and program; then the shell tests
 #   make build       proves and builds the program
-#   make install     puts the program, its manual page and the words for bash under $(DESTDIR)$(PREFIX)
+#   make install     puts the program that is built, enogate-backup (scripts/backup), the manual page
+#                    and the words for bash under $(DESTDIR)$(PREFIX)
 #   make uninstall   takes them away from there
 #   make clean       removes all that was made
 #
-# The kit's command `rt` has to be on the PATH.
+# The kit's command `rt` has to be on the PATH, but for `install`, `uninstall` and `clean`.
 
 PREFIX ?= /usr/local
 PROGRAM = crates/enogate/out/enogate
@@ -30,20 +32,24 @@ demo:
 build: $(PROGRAM)
 
 $(PROGRAM): $(SOURCES)
+	@$(REFUSAL)
 	cd crates/enogate && rt run -- replay --base FF800000 </dev/null
 	@touch $(PROGRAM)
 
 test:
 	tests/gate
 
+# It starts no proofs, since it may be run by root.
+install: REFUSAL = echo 'the program is not built, or older than its sources: run `make build` first' >&2; exit 1
 install: $(PROGRAM)
 	install -d "$(BIN)" "$(MAN)" "$(WORDS)"
 	install -m 755 $(PROGRAM) "$(BIN)/enogate"
+	install -m 755 scripts/backup "$(BIN)/enogate-backup"
 	install -m 644 contrib/enogate.1 "$(MAN)/enogate.1"
 	install -m 644 contrib/enogate.bash-completion "$(WORDS)/enogate"
 
 uninstall:
-	rm -f "$(BIN)/enogate" "$(MAN)/enogate.1" "$(WORDS)/enogate"
+	rm -f "$(BIN)/enogate" "$(BIN)/enogate-backup" "$(MAN)/enogate.1" "$(WORDS)/enogate"
 
 clean:
 	rm -rf crates/*/out target scripts/__pycache__
