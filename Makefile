@@ -4,8 +4,8 @@
 #                    is there
 #   make test        the whole gate: every proof, edit, test and program; then the shell tests
 #   make build       proves and builds the program
-#   make install     puts the program that is built, enogate-backup (scripts/backup), the manual page
-#                    and the words for bash under $(DESTDIR)$(PREFIX)
+#   make install     puts the program that was built, its manual page, the words for bash, and
+#                    scripts/backup as enogate-backup, under $(DESTDIR)$(PREFIX)
 #   make uninstall   takes them away from there
 #   make clean       removes all that was made
 #
