@@ -106,6 +106,9 @@ module _ {S : Type 0} (g : Ghosts S) where
         begun = Line long;
         begins = refl;
         items = Ordered long ∷ [];
+        own = Ordered long ∷ [];
+        behind = refl;
+        some = omega arith;
         stand = ap (λ (is : List Item). Ordered long ∷ is) (sym at.none);
         rest = rest;
         answered = record {

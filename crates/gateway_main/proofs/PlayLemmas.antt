@@ -44,6 +44,11 @@ module _ {S : Type 0} (g : Ghosts S) {O : Type 0} (puts : O → O → List Answe
         begun = second.begun;
         begins = second.begins;
         items = items_of old.rest events ++ second.items;
+        own = second.own;
+        behind = ap (λ (is : List Item). items_of old.rest events ++ is) second.behind
+            ∙ sym (append_assoc (items_of old.rest events) (items_of mid.rest more) second.own)
+            ∙ ap (λ (is : List Item). is ++ second.own) (sym (items_behind old.rest mid.rest events more first.rest));
+        some = second.some;
         stand = ap (items_of old.rest) all ∙ items_behind old.rest mid.rest events last first.rest
             ∙ ap (λ (is : List Item). items_of old.rest events ++ is) second.stand
             ∙ sym (append_assoc (items_of old.rest events) second.items (map Received new.ready));

@@ -1,10 +1,10 @@
 -- How the reads of a source go on.
-use Rattle.std.proofs.Common.{◌≡◌, ℕ, ◌+◌, ◌<◌, ◌≤◌, List, [], ◌∷◌, ◌++◌, length, take, map, Option, refl, ap, sym}
-use Rattle.std.proofs.Common.{◌∙◌, append-nil, arith, length-append, subst, suc, zero, None, Some}
-use Rattle.std.specs.Prelude.{All, IfSome, Result, Ok, Err}
+use Rattle.std.proofs.Common.{◌≡◌, ℕ, ◌+◌, ◌≤◌, List, [], ◌∷◌, ◌++◌, length, take, Option, refl, ap, sym, ◌∙◌}
+use Rattle.std.proofs.Common.{append-nil, arith, length-append, subst, None, Some}
+use Rattle.std.specs.Prelude.{All, IfSome, Ok, Err}
 use Rattle.std.specs.Io.KnownBytes.{Consumes, IsAtEnd, Keeps, ReadConsumes}
 use Rattle.std.specs.List.{concat, flat_map}
-use Rattle.std.proofs.KnownBytes.{Consumes-nil, Consumes-trans, Consumes-kept, Keeps-refl}
+use Rattle.std.proofs.KnownBytes.{Consumes-nil, Consumes-trans, Consumes-kept}
 use Rattle.std.proofs.lemmas.List.{length-take}
 use Rattle.std.proofs.lemmas.List.Concat.{concat_is, flat_map-append}
 use Rattle.std.proofs.lemmas.List.Elements.{All-append, All-cons, All-nil}
@@ -35,7 +35,8 @@ reads_before a b c all more reads p q each k d below =
 concat-more : (reads : List (List ℕ)) (bytes : List ℕ) → concat (reads ++ bytes ∷ []) ≡ concat reads ++ bytes
 concat-more reads bytes =
     concat_is (reads ++ bytes ∷ []) ∙ flat_map-append (λ (x : List ℕ). x) reads (bytes ∷ [])
-    ∙ ap (λ s. flat_map (λ (x : List ℕ). x) reads ++ s) (append-nil bytes) ∙ ap (λ s. s ++ bytes) (sym (concat_is reads))
+    ∙ ap (λ s. flat_map (λ (x : List ℕ). x) reads ++ s) (append-nil bytes)
+    ∙ ap (λ s. s ++ bytes) (sym (concat_is reads))
 
 at_end : (a b : Option (List ℕ)) → IsAtEnd b → IfSome a (λ _. IsAtEnd b)
 at_end None b end = tt
@@ -80,7 +81,8 @@ module _ {P : Type 0} (left : P → Option (List ℕ)) (counts : P → Counts) w
   -- a read more
   pub reads_more : (source mid now : P) (reads : List (List ℕ)) (n : ℕ) (buffer : List ℕ)
       → ReadsWell left counts source mid reads → n ≤ length buffer → length buffer ≡ longest_read
-      → ReadConsumes {E = Failed} (left mid) (left now) (Ok n) buffer → counts now ≡ counted {E = Failed} (counts mid) (Ok n)
+      → ReadConsumes {E = Failed} (left mid) (left now) (Ok n) buffer
+      → counts now ≡ counted {E = Failed} (counts mid) (Ok n)
       → ReadsWell left counts source now (reads ++ take n buffer ∷ [])
   reads_more source mid now reads n buffer p within room (some, end) told =
       let bytes = take n buffer in

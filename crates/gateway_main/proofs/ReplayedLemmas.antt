@@ -50,6 +50,9 @@ module _ {S : Type 0} (g : Ghosts S) where
           begun = broken.begun;
           begins = broken.begins;
           items = broken.items;
+          own = broken.own;
+          behind = broken.behind;
+          some = broken.some;
           stand = broken.stand;
           rest = broken.rest;
           answered = record {
@@ -80,5 +83,6 @@ module _ {S : Type 0} (g : Ghosts S) where
         → writer ≡ sink → PlaysPart g entry now (script input) (BreaksText held counts old sink)
         → ReplaysPart g entry gateway input (held old) (held writer)
     part_at entry now gateway input old sink writer e f p =
-        rw (e, f) (part-weaker entry now (script input) (BreaksText held counts old sink) (WritesPart (held old) (held sink))
+        rw (e, f) (part-weaker entry now (script input) (BreaksText held counts old sink)
+        (WritesPart (held old) (held sink))
         (λ answers last out. out.text) p)

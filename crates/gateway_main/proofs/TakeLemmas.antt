@@ -71,6 +71,7 @@ module _ {S : Type 0} (g : Ghosts S) {O : Type 0} (puts : O → O → List Answe
       → breaks mids now [] answer → DrainsPart g old new (breaks o now)
   drains_part old mid new answer o mids now count some before (packet, first, rest, handled) part = record {
     packets = before.packets ++ packet ∷ [];
+    some = omega (arith, length-append before.packets (packet ∷ []));
     ready = ready_after old.ready mid.ready new.ready before.packets packet before.ready first;
     rest = rest ∙ before.rest;
     answered = rw (map-append Received before.packets (packet ∷ []))
@@ -151,6 +152,16 @@ module _ {S : Type 0} (g : Ghosts S) {O : Type 0} (puts : O → O → List Answe
         begun = Piece (bytes ++ byte ∷ []);
         begins = (later, whole);
         items = first ++ map Received drained.packets;
+        own = first ++ map Received drained.packets;
+        behind = refl;
+        some =
+            let brought = drained.some in
+            omega (
+              arith,
+              brought,
+              length-append first (map Received drained.packets),
+              length-map drained.packets Received,
+            );
         stand = items-joined old.rest bytes (byte ∷ [])
             ∙ items_behind old.rest now.rest (Piece bytes ∷ []) (Piece (byte ∷ []) ∷ []) before.played.rest
             ∙ ap (λ (is : List Item). first ++ is) is
@@ -190,6 +201,9 @@ module _ {S : Type 0} (g : Ghosts S) {O : Type 0} (puts : O → O → List Answe
     begun = Line line;
     begins = refl;
     items = Ordered line ∷ [];
+    own = Ordered line ∷ [];
+    behind = refl;
+    some = omega arith;
     stand = ap (λ (ps : List Packet). Ordered line ∷ map Received ps) (sym (ready ∙ idle.ready));
     rest = rest_stays old new idle rest;
     answered = part_one g puts breaks outlet old.handler new.handler (Ordered line) answer o now handled part;

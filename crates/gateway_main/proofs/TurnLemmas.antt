@@ -103,7 +103,8 @@ events_behind-more before (first ∷ read) turn =
 
 desk_bytes-more : (read : List Turn) (turn : Turn) → desk_bytes (read ++ turn ∷ []) ≡ desk_bytes read ++ turn.desk
 desk_bytes-more read turn =
-    flat_map-append (λ (turn : Turn). turn.desk) read (turn ∷ []) ∙ ap (λ s. desk_bytes read ++ s) (append-nil turn.desk)
+    flat_map-append (λ (turn : Turn). turn.desk) read (turn ∷ [])
+    ∙ ap (λ s. desk_bytes read ++ s) (append-nil turn.desk)
 
 -- ---- the reads of one turn more
 
@@ -137,12 +138,13 @@ module _ {S : Type 0} (g : Ghosts S) {O : Type 0} (puts : O → O → List Answe
   }
 
   -- a turn's piece, and not yet its bytes of the desk
-  pub piece_taken : (entry old mid : Value S) (read : List Turn) (piece kept : List ℕ) (o mids behind : O) (some more : ℕ)
-      → TakesTurns g entry old read kept (puts o mids) some → Takes g old mid (Piece piece ∷ []) (puts mids behind) some more
+  pub piece_taken : (entry old mid : Value S) (read : List Turn) (piece kept : List ℕ) (o mids behind : O)
+      (some more : ℕ) → TakesTurns g entry old read kept (puts o mids) some
+      → Takes g old mid (Piece piece ∷ []) (puts mids behind) some more
       → Takes g entry mid (events_of_turns read ++ Piece piece ∷ []) (puts o behind) 0 more
   piece_taken entry old mid read piece kept o mids behind some more p q =
-      takes-append g puts breaks outlet entry old mid (events_of_turns read) (Piece piece ∷ []) o mids behind 0 some more
-      p.taken q
+      takes-append g puts breaks outlet entry old mid (events_of_turns read) (Piece piece ∷ []) o mids behind 0 some
+      more p.taken q
 
   pub turn_taken : (entry old mid new : Value S) (read : List Turn) (piece desk kept now_kept : List ℕ)
       (o mids behind now : O) (some more total : ℕ)
@@ -152,11 +154,13 @@ module _ {S : Type 0} (g : Ghosts S) {O : Type 0} (puts : O → O → List Answe
       → TakesTurns g entry new (read ++ record { piece = piece; desk = desk } ∷ []) now_kept (puts o now) total
   turn_taken entry old mid new read piece desk kept now_kept o mids behind now some more total p q r =
       let turn : Turn = record { piece = piece; desk = desk } in
-      let brought : drop (length (orders (desk_bytes read))) (orders (desk_bytes read ++ desk)) ≡ events_by OfDesk r.ended =
+      let brought : drop (length (orders (desk_bytes read))) (orders (desk_bytes read ++ desk))
+      ≡ events_by OfDesk r.ended =
       orders-behind (desk_bytes read) desk p.ended r.ended p.rest r.rest p.whole p.each p.keeps.one r.whole r.each
       ∙ ap (λ (es : List Event). events_by OfDesk r.ended ++ es) (orders-none r.rest r.keeps.one)
       ∙ append-nil (events_by OfDesk r.ended) in
-      let is : events_of_turns (read ++ turn ∷ []) ≡ (events_of_turns read ++ Piece piece ∷ []) ++ events_by OfDesk r.ended =
+      let is : events_of_turns (read ++ turn ∷ [])
+      ≡ (events_of_turns read ++ Piece piece ∷ []) ++ events_by OfDesk r.ended =
       events_behind-more [] read turn
       ∙ ap (λ (es : List Event). events_of_turns read ++ Piece piece ∷ es) brought
       ∙ sym (append_assoc (events_of_turns read) (Piece piece ∷ []) (events_by OfDesk r.ended)) in

@@ -1,5 +1,5 @@
 -- What an engine handles and puts out, whatever its outlet is.
-use Rattle.std.specs.Prelude.{◌≡◌, List, [], ◌∷◌, ◌++◌, map, ℕ}
+use Rattle.std.specs.Prelude.{◌≡◌, ◌<◌, List, [], ◌∷◌, ◌++◌, length, map, ℕ}
 use Rattle.esp3_frames.specs.Framing.{MayBecomePacket}
 use Rattle.esp3_frames.specs.Frames.{rest_of}
 use Rattle.gateway_core.specs.Step.{Item, Received, Answer}
@@ -42,13 +42,16 @@ module _ {S : Type 0} (g : Ghosts S) where
     pub rest : new.rest ≡ rest_of (old.rest ++ bytes_in events)
     pub idle : IsIdle new
 
-  -- behind these events one event was begun, and an answer did not get out: the items so far were handled, and the
-  -- packets that its bytes brought behind them wait
+  -- behind these events one event was begun, and an answer to an item of its own did not get out: the items so far were
+  -- handled, and the packets that its bytes brought behind them wait
   pub record Breaks (old new : Value S) (events : List Event) (event : Event) (breaks : List Answer → Answer → Type 0)
       : Type 0 where
     pub begun : Event
     pub begins : IsBegun event begun
     pub items : List Item
+    pub own : List Item
+    pub behind : items ≡ items_of old.rest events ++ own
+    pub some : 0 < length own
     pub stand : items_of old.rest (events ++ begun ∷ []) ≡ items ++ map Received new.ready
     pub rest : new.rest ≡ rest_of (old.rest ++ bytes_in (events ++ begun ∷ []))
     pub answered : AnswersPart old.handler new.handler items breaks

@@ -32,7 +32,7 @@ module _ {P : Type 0} (left : P → Option (List ℕ)) (counts : P → Counts) w
     pub made : Made (counts source) (counts source_now) (length reads)
     pub well : NoneFailed (counts source) (counts source_now)
 
-  -- one more was made behind these, and failed
+  -- one read more was made than these, and one failed
   pub record ReadsFail (source source_now : P) (reads : List (List ℕ)) : Type 0 where
     pub gave : Gave source source_now reads
     pub made : Made (counts source) (counts source_now) (length reads + 1)

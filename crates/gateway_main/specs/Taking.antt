@@ -1,5 +1,5 @@
 -- What an engine does with packets that wait, and with events.
-use Rattle.std.specs.Prelude.{◌≡◌, ℕ, List, [], ◌∷◌, ◌++◌, length, map, Result, MatchResult}
+use Rattle.std.specs.Prelude.{◌≡◌, ◌<◌, ℕ, List, [], ◌∷◌, ◌++◌, length, map, Result, MatchResult}
 use Rattle.esp3_frames.specs.Packet.{Packet}
 use Rattle.json_lines.specs.Counts.{count_with}
 use Rattle.gateway_core.specs.Step.{Received, Answer}
@@ -20,6 +20,7 @@ module _ {S : Type 0} (g : Ghosts S) where
   -- the same, where an answer did not get out
   pub record DrainsPart (old new : Value S) (breaks : List Answer → Answer → Type 0) : Type 0 where
     pub packets : List Packet
+    pub some : 0 < length packets
     pub ready : old.ready ≡ packets ++ new.ready
     pub rest : new.rest ≡ old.rest
     pub answered : AnswersPart g old.handler new.handler (map Received packets) breaks

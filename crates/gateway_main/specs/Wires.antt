@@ -104,8 +104,8 @@ module _ {R D : Type 0} (serial_held : R → Option (List ℕ)) (serial_counts :
       radio_well = (refl, refl);
       told_well = (refl, refl);
     };
-    more = λ old mid new first second. wires_more (serial old) (serial mid) (serial new) (desk old) (desk mid) (desk new)
-        first second;
+    more = λ old mid new first second. wires_more (serial old) (serial mid) (serial new) (desk old) (desk mid)
+        (desk new) first second;
     broken = λ old mid new first second last. wires_broken (serial old) (serial mid) (serial new) (desk old) (desk mid)
         (desk new) first second last;
   }

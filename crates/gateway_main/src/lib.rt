@@ -36,7 +36,7 @@ mod wires;
 mod writing;
 
 pub use living::live;
-pub use replaying::{RunFault, Summary, replay};
+pub use replaying::{LONGEST_READ, RunFault, Summary, replay};
 pub use running::program;
 pub use sink::{OverWrite, Sink};
 pub use source::{OverRead, Source};

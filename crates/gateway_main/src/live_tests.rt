@@ -361,7 +361,8 @@ fn serial_writes_that_fail(rt: HostRuntime) -> Result<(), Fail> {
 }
 
 // Each write to the desk fails in turn. The radio bytes of the packet or order are out, and nothing later. The window's
-// line takes two writes of seven bytes, the teach line twelve, of which the last has four, and the answer to `base` two.
+// line takes two writes of seven bytes, the teach line twelve, of which the last has four, and the answer to `base`
+// two.
 #[test]
 fn desk_writes_that_fail(rt: HostRuntime) -> Result<(), Fail> {
     for fails_at in 1..=16 {

@@ -22,9 +22,9 @@ use sqlite::Alter;
 /// Serves a serial line and a desk: handles what comes from both by the gateway, and writes what it answers.
 ///
 /// A turn is one read of at most `LONGEST_READ` bytes from the serial line, which are a piece of its stream, and then
-/// one of the desk. Each line that LF ends in the desk's bytes is an order, and one CR before LF is dropped. A read of 0
-/// bytes brings nothing. For each packet and each order the radio bytes go to `serial_out`, and then the desk's text to
-/// `desk_out`.
+/// one of the desk. Each line that LF ends in the desk's bytes is an order, and one CR before LF is dropped. A read of
+/// 0 bytes brings nothing. For each packet and each order the radio bytes go to `serial_out`, and then the desk's text
+/// to `desk_out`.
 ///
 /// It ends well after `turns` turns. A line of the desk that is not ended then is dropped. After `Read` all packets and
 /// lines that came are done. After `Write` no read was made any more, and the output breaks off within what one packet

@@ -17,8 +17,8 @@ use crate::unended::UnendedLine;
 use gateway_core::Gateway;
 use sqlite::Alter;
 
-/// How many bytes are read at most in one turn. Own choice.
-pub(crate) const LONGEST_READ: usize = 256;
+/// How many bytes one read brings at most. Own choice.
+pub const LONGEST_READ: usize = 256;
 
 /// What a replay or a live gateway did.
 #[derive(Clone, Copy, Debug, PartialEq, Eq)]

@@ -23,7 +23,8 @@ maker_in query = 256 * field query.payload 29 3 + field query.payload 16 8
 abbrev pub wants_reply : UteQuery → Bool
 wants_reply query = field query.payload 1 1 == 0
 
--- What it asks for, in DB6.5 and DB6.4: 0 is a teach-in, 1 a deletion, 2 leaves open which of the two, and 3 is not used.
+-- What it asks for, in DB6.5 and DB6.4: 0 is a teach-in, 1 a deletion, 2 leaves open which of the two, and 3 is not
+-- used.
 -- Own choice: that 2 is a teach-in, also where the sender is learned already.
 abbrev pub request_in : UteQuery → ℕ
 request_in query = field query.payload 2 2
@@ -52,4 +53,5 @@ reply_first_byte query code = 128 * field query.payload 0 1 + 16 * code + 1
 -- the reply to a query, from the gateway with this base ID to the sender alone: the query, but for DB6
 abbrev pub ute_reply : UteQuery → Outcome → ℕ → Option Telegram
 ute_reply query outcome base =
-    option_map (λ code. reply 0xD4 (reply_first_byte query code ∷ drop 1 query.payload) query.id base) (ute_code outcome)
+    option_map (λ code. reply 0xD4 (reply_first_byte query code ∷ drop 1 query.payload) query.id base)
+    (ute_code outcome)

@@ -48,9 +48,9 @@ returns-in_default-clause-stopped g c =
             (pieces read) c.in_default.field-0 serial c.in_default.ensures.bytes c.in_default.ensures.told,
         desk,
       ),
-      plays_at g.R.Sink.held g.R.Sink.counts g.D.Sink.held g.D.Sink.counts g.S.Store c.args.gateway.now now.gateway.now _
-          _ c.args.serial_out.now now.outlet.serial.now _ c.args.desk_out.now now.outlet.desk.now _ (search rules)
-          (search rules) (search rules) taken.taken.played,
+      plays_at g.R.Sink.held g.R.Sink.counts g.D.Sink.held g.D.Sink.counts g.S.Store c.args.gateway.now
+          now.gateway.now _ _ c.args.serial_out.now now.outlet.serial.now _ c.args.desk_out.now now.outlet.desk.now _
+          (search rules) (search rules) (search rules) taken.taken.played,
     )
 
 pub returns-in_default-clause-reads : goal.returns-in_default-clause-reads
@@ -131,8 +131,9 @@ returns-in_default-take_piece-clause-whole g c =
     (new.outlet.serial.now, new.outlet.desk.now) old.items taken c.in_default-take_piece.ensures.taken).answered in
     λ _ _ room others. (
       λ ok. absurd cc,
-      λ all. absurd (wrong_at_last g.R.Sink.held g.R.Sink.counts g.D.Sink.held g.D.Sink.counts c.args.serial_out.now new.outlet.serial.now _ c.args.desk_out.now
-          new.outlet.desk.now _ part.answers part.last (search rules) (search rules) part.out room others all.2 all.3),
+      λ all. absurd (wrong_at_last g.R.Sink.held g.R.Sink.counts g.D.Sink.held g.D.Sink.counts
+          c.args.serial_out.now new.outlet.serial.now _ c.args.desk_out.now new.outlet.desk.now _ part.answers part.last
+          (search rules) (search rules) part.out room others all.2 all.3),
     )
 
 -- ---- the desk cannot be read
@@ -155,9 +156,9 @@ returns-in_default-read-clause-stopped g c =
             c.read-in-loop-turn.new.self (desks read) c.in_default-read.field-0 desk c.in_default-read.ensures.bytes
             c.in_default-read.ensures.told,
       ),
-      plays_at g.R.Sink.held g.R.Sink.counts g.D.Sink.held g.D.Sink.counts g.S.Store c.args.gateway.now new.gateway.now _
-          _ c.args.serial_out.now new.outlet.serial.now _ c.args.desk_out.now new.outlet.desk.now _ (search rules)
-          (search rules) (search rules)
+      plays_at g.R.Sink.held g.R.Sink.counts g.D.Sink.held g.D.Sink.counts g.S.Store c.args.gateway.now
+          new.gateway.now _ _ c.args.serial_out.now new.outlet.serial.now _ c.args.desk_out.now new.outlet.desk.now _
+          (search rules) (search rules) (search rules)
           (piece_taken g.S.Store _ _ both c.args.gateway.now old.gateway.now new.gateway.now read piece
           c.loop-turn.player.unended (c.args.serial_out.now, c.args.desk_out.now)
           (old.outlet.serial.now, old.outlet.desk.now) (new.outlet.serial.now, new.outlet.desk.now) old.items new.items
@@ -258,8 +259,9 @@ returns-in_default-take_bytes-clause-whole g c =
     (c.in_default-take_bytes.ensures.taken taken.rest taken.keeps)).broken.answered in
     λ _ _ room others. (
       λ ok. absurd cc,
-      λ all. absurd (wrong_at_last g.R.Sink.held g.R.Sink.counts g.D.Sink.held g.D.Sink.counts c.args.serial_out.now new.outlet.serial.now _ c.args.desk_out.now
-          new.outlet.desk.now _ part.answers part.last (search rules) (search rules) part.out room others all.2 all.3),
+      λ all. absurd (wrong_at_last g.R.Sink.held g.R.Sink.counts g.D.Sink.held g.D.Sink.counts
+          c.args.serial_out.now new.outlet.serial.now _ c.args.desk_out.now new.outlet.desk.now _ part.answers part.last
+          (search rules) (search rules) part.out room others all.2 all.3),
     )
 
 -- ---- a whole turn
@@ -323,9 +325,9 @@ returns-clause-ok g c =
       count ∙ omega (arith, done, last),
       serial,
       desk,
-      plays_at g.R.Sink.held g.R.Sink.counts g.D.Sink.held g.D.Sink.counts g.S.Store c.args.gateway.now now.gateway.now _
-          _ c.args.serial_out.now now.outlet.serial.now _ c.args.desk_out.now now.outlet.desk.now _ (search rules)
-          (search rules) (search rules) taken.taken.played,
+      plays_at g.R.Sink.held g.R.Sink.counts g.D.Sink.held g.D.Sink.counts g.S.Store c.args.gateway.now
+          now.gateway.now _ _ c.args.serial_out.now now.outlet.serial.now _ c.args.desk_out.now now.outlet.desk.now _
+          (search rules) (search rules) (search rules) taken.taken.played,
       omega (arith, counted),
     )
 
