@@ -28,6 +28,27 @@ pub made_within : (old mid new : Counts) (n turns : ℕ) → n < turns → Made 
     → (m : ℕ) × (m ≤ turns) × Made old new m
 made_within old mid new n turns below before e = (n + 1, omega arith, made_more old mid new n before e)
 
+-- In turns of two sources: the first was called once more, and not yet the second.
+pub made_first : (a am an b bm : Counts) (turn turns : ℕ) → turn < turns → Made a am turn
+    → an.calls ≡ one_more am.calls → Made b bm turn
+    → (n m : ℕ) × (n ≤ turns) × (m ≤ n) × (n ≤ m + 1) × Made a an n × Made b bm m
+made_first a am an b bm turn turns below made e other =
+    (turn + 1, turn, omega arith, omega arith, omega arith, made_more a am an turn made e, other)
+
+-- Both were called once more.
+pub made_both : (a am an b bm bn : Counts) (turn turns : ℕ) → turn < turns → Made a am turn
+    → an.calls ≡ one_more am.calls → Made b bm turn → bn.calls ≡ one_more bm.calls
+    → (n m : ℕ) × (n ≤ turns) × (m ≤ n) × (n ≤ m + 1) × Made a an n × Made b bn m
+made_both a am an b bm bn turn turns below made e other f = (
+  turn + 1,
+  turn + 1,
+  omega arith,
+  omega arith,
+  omega arith,
+  made_more a am an turn made e,
+  made_more b bm bn turn other f,
+)
+
 -- calls that went well, and then a last one
 pub went_behind : {A E : Type 0} (r : Result A E) (old mid new : Counts) → WentWell old mid → Went r mid new
     → Went r old new

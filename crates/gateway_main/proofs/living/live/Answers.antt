@@ -2,7 +2,7 @@ use Rattle.std.proofs.Common.{rules, [], ◌∷◌, ◌++◌, ◌+◌, refl, tak
 use Rattle.json_lines.specs.Counts.{one_more}
 use Rattle.gateway_main.specs.Played.{IsIdle}
 use Rattle.gateway_main.specs.Turns.{Turn, desks, pieces}
-use Rattle.gateway_main.proofs.CountLemmas.{made_more, made_none}
+use Rattle.gateway_main.proofs.CountLemmas.{made_both, made_first, made_more, made_none}
 use Rattle.gateway_main.proofs.ReadLemmas.{reads_fail, reads_more, reads_none}
 use Rattle.gateway_main.proofs.TurnLemmas.{desks-more, order_stops, piece_stops, piece_taken, pieces-more, turn_taken}
 use Rattle.gateway_main.proofs.TurnLemmas.{turns_none}
@@ -56,17 +56,11 @@ returns-in_default-clause-stopped g c =
 pub returns-in_default-clause-reads : goal.returns-in_default-clause-reads
 returns-in_default-clause-reads g c =
     let serial = g.P.Source.counts in
-    let turn = c.loop-turn._turn in
-    let below = c.loop-turn-test.true in (
-      turn + 1,
-      turn,
-      omega (arith, below),
-      omega arith,
-      omega arith,
-      made_more (serial c.args.serial_in.now) (serial c.loop-turn.serial_in) (serial c.read.new.self) turn
-          c.loop-turn.invariant.serial_made (ap (λ t. t.calls) c.in_default.ensures.told),
-      c.loop-turn.invariant.desk_made,
-    )
+    let desk = g.Q.Source.counts in
+    let before = c.loop-turn.invariant in
+    made_first (serial c.args.serial_in.now) (serial c.loop-turn.serial_in) (serial c.read.new.self)
+    (desk c.args.desk_in.now) (desk c.loop-turn.desk_in) c.loop-turn._turn c.args.turns c.loop-turn-test.true
+    before.serial_made (ap (λ t. t.calls) c.in_default.ensures.told) before.desk_made
 
 pub returns-in_default-clause-whole : goal.returns-in_default-clause-whole
 returns-in_default-clause-whole g c =
@@ -106,17 +100,11 @@ returns-in_default-take_piece-clause-broken g c =
 pub returns-in_default-take_piece-clause-reads : goal.returns-in_default-take_piece-clause-reads
 returns-in_default-take_piece-clause-reads g c =
     let serial = g.P.Source.counts in
-    let turn = c.loop-turn._turn in
-    let below = c.loop-turn-test.true in (
-      turn + 1,
-      turn,
-      omega (arith, below),
-      omega arith,
-      omega arith,
-      made_more (serial c.args.serial_in.now) (serial c.loop-turn.serial_in) (serial c.read.new.self) turn
-          c.loop-turn.invariant.serial_made (ap (λ t. t.calls) c.in-Ok.ensures.told),
-      c.loop-turn.invariant.desk_made,
-    )
+    let desk = g.Q.Source.counts in
+    let before = c.loop-turn.invariant in
+    made_first (serial c.args.serial_in.now) (serial c.loop-turn.serial_in) (serial c.read.new.self)
+    (desk c.args.desk_in.now) (desk c.loop-turn.desk_in) c.loop-turn._turn c.args.turns c.loop-turn-test.true
+    before.serial_made (ap (λ t. t.calls) c.in-Ok.ensures.told) before.desk_made
 
 pub returns-in_default-take_piece-clause-whole : goal.returns-in_default-take_piece-clause-whole
 returns-in_default-take_piece-clause-whole g c =
@@ -169,18 +157,11 @@ pub returns-in_default-read-clause-reads : goal.returns-in_default-read-clause-r
 returns-in_default-read-clause-reads g c =
     let serial = g.P.Source.counts in
     let desk = g.Q.Source.counts in
-    let turn = c.loop-turn._turn in
-    let below = c.loop-turn-test.true in (
-      turn + 1,
-      turn + 1,
-      omega (arith, below),
-      omega arith,
-      omega arith,
-      made_more (serial c.args.serial_in.now) (serial c.loop-turn.serial_in) (serial c.read.new.self) turn
-          c.loop-turn.invariant.serial_made (ap (λ t. t.calls) c.in-Ok.ensures.told),
-      made_more (desk c.args.desk_in.now) (desk c.loop-turn.desk_in) (desk c.read-in-loop-turn.new.self) turn
-          c.loop-turn.invariant.desk_made (ap (λ t. t.calls) c.in_default-read.ensures.told),
-    )
+    let before = c.loop-turn.invariant in
+    made_both (serial c.args.serial_in.now) (serial c.loop-turn.serial_in) (serial c.read.new.self)
+    (desk c.args.desk_in.now) (desk c.loop-turn.desk_in) (desk c.read-in-loop-turn.new.self) c.loop-turn._turn
+    c.args.turns c.loop-turn-test.true before.serial_made (ap (λ t. t.calls) c.in-Ok.ensures.told) before.desk_made
+    (ap (λ t. t.calls) c.in_default-read.ensures.told)
 
 pub returns-in_default-read-clause-whole : goal.returns-in_default-read-clause-whole
 returns-in_default-read-clause-whole g c =
@@ -229,18 +210,11 @@ pub returns-in_default-take_bytes-clause-reads : goal.returns-in_default-take_by
 returns-in_default-take_bytes-clause-reads g c =
     let serial = g.P.Source.counts in
     let desk = g.Q.Source.counts in
-    let turn = c.loop-turn._turn in
-    let below = c.loop-turn-test.true in (
-      turn + 1,
-      turn + 1,
-      omega (arith, below),
-      omega arith,
-      omega arith,
-      made_more (serial c.args.serial_in.now) (serial c.loop-turn.serial_in) (serial c.read.new.self) turn
-          c.loop-turn.invariant.serial_made (ap (λ t. t.calls) c.in-Ok.ensures.told),
-      made_more (desk c.args.desk_in.now) (desk c.loop-turn.desk_in) (desk c.read-in-loop-turn.new.self) turn
-          c.loop-turn.invariant.desk_made (ap (λ t. t.calls) c.in-Ok-read.ensures.told),
-    )
+    let before = c.loop-turn.invariant in
+    made_both (serial c.args.serial_in.now) (serial c.loop-turn.serial_in) (serial c.read.new.self)
+    (desk c.args.desk_in.now) (desk c.loop-turn.desk_in) (desk c.read-in-loop-turn.new.self) c.loop-turn._turn
+    c.args.turns c.loop-turn-test.true before.serial_made (ap (λ t. t.calls) c.in-Ok.ensures.told) before.desk_made
+    (ap (λ t. t.calls) c.in-Ok-read.ensures.told)
 
 pub returns-in_default-take_bytes-clause-whole : goal.returns-in_default-take_bytes-clause-whole
 returns-in_default-take_bytes-clause-whole g c =
