@@ -1,46 +1,42 @@
 -- How the reads of a source go on.
 use Rattle.std.proofs.Common.{◌≡◌, ℕ, ◌+◌, ◌≤◌, List, [], ◌∷◌, ◌++◌, length, take, Option, refl, ap, sym, ◌∙◌}
-use Rattle.std.proofs.Common.{append-nil, arith, length-append, subst, None, Some}
-use Rattle.std.specs.Prelude.{All, IfSome, Ok, Err}
+use Rattle.std.proofs.Common.{append-nil, append_assoc, arith, inl, length-append, subst, None, Some, ◌<◌}
+use Rattle.std.specs.Prelude.{IfSome, Ok, Err}
 use Rattle.std.specs.Io.KnownBytes.{Consumes, IsAtEnd, Keeps, ReadConsumes}
 use Rattle.std.specs.List.{concat, flat_map}
 use Rattle.std.proofs.KnownBytes.{Consumes-nil, Consumes-trans, Consumes-kept}
 use Rattle.std.proofs.lemmas.List.{length-take}
 use Rattle.std.proofs.lemmas.List.Concat.{concat_is, flat_map-append}
-use Rattle.std.proofs.lemmas.List.Elements.{All-append, All-cons, All-nil}
 use Rattle.json_lines.specs.Counts.{one_more}
 use Rattle.gateway_main.specs.declared.tally.Failed.{Failed}
 use Rattle.gateway_main.specs.Counts.{Counts, counted}
-use Rattle.gateway_main.specs.Reads.{Gave, IsRead, ReadsFail, ReadsWell, longest_read}
+use Rattle.gateway_main.specs.Reads.{AreReads, Gave, IsRead, MakesReads, ReadsFail, ReadsWell, longest_read}
 use Rattle.gateway_main.proofs.CountLemmas.{made_at, made_more, made_none}
 
-none_behind : (front back : List ℕ) → front ++ back ≡ [] → back ≡ []
-none_behind [] back e = e
-none_behind (x ∷ front) back e = let n = ap length e in absurd (omega (arith, n))
+-- one read more behind others
+reads_and : (left : Option (List ℕ)) (before : List ℕ) (reads : List (List ℕ)) (bytes : List ℕ)
+    → AreReads left before reads → IsRead left (before ++ concat reads) bytes → AreReads left before (reads ++ bytes ∷ [])
+reads_and left before [] bytes each read = (subst (λ b. IsRead left b bytes) (append-nil before) read, tt)
+reads_and left before (first ∷ reads) bytes each read = (
+  each.0,
+  reads_and left (before ++ first) reads bytes each.1
+      (subst (λ b. IsRead left b bytes) (sym (append_assoc before first (concat reads))) read),
+)
 
--- what is known to be at its end stays so
-stays_at_end : (a b c : Option (List ℕ)) (all more : List ℕ) → Consumes a b all → Consumes b c more
-    → IfSome a (λ _. IsAtEnd b) → IfSome a (λ _. IsAtEnd c)
-stays_at_end None b c all more p q end = tt
-stays_at_end (Some xs) None c all more p q end = absurd p
-stays_at_end (Some xs) (Some ys) None all more p q end = absurd q
-stays_at_end (Some xs) (Some ys) (Some zs) all more p q end = none_behind more zs (sym q ∙ end)
-
-reads_before : (a b c : Option (List ℕ)) (all more : List ℕ) (reads : List (List ℕ)) → Consumes a b all
-    → Consumes b c more → All (IsRead a b) reads → All (IsRead a c) reads
-reads_before a b c all more reads p q each k d below =
-    let read = each k d below in
-    record { short = read.short; empty = λ none. stays_at_end a b c all more p q (read.empty none) }
+-- a read that gives nothing comes where all was read
+all_read : (a b c : Option (List ℕ)) (before bytes : List ℕ) → Consumes a b before → Consumes b c bytes → bytes ≡ []
+    → IsAtEnd c → IfSome a (λ all. all ≡ before)
+all_read None b c before bytes p q none end = tt
+all_read (Some xs) None c before bytes p q none end = absurd p
+all_read (Some xs) (Some ys) None before bytes p q none end = absurd q
+all_read (Some xs) (Some ys) (Some zs) before bytes p q none end =
+    p ∙ ap (λ (s : List ℕ). before ++ s) (q ∙ ap (λ (s : List ℕ). s ++ zs) none ∙ end) ∙ append-nil before
 
 concat-more : (reads : List (List ℕ)) (bytes : List ℕ) → concat (reads ++ bytes ∷ []) ≡ concat reads ++ bytes
 concat-more reads bytes =
     concat_is (reads ++ bytes ∷ []) ∙ flat_map-append (λ (x : List ℕ). x) reads (bytes ∷ [])
     ∙ ap (λ s. flat_map (λ (x : List ℕ). x) reads ++ s) (append-nil bytes)
     ∙ ap (λ s. s ++ bytes) (sym (concat_is reads))
-
-at_end : (a b : Option (List ℕ)) → IsAtEnd b → IfSome a (λ _. IsAtEnd b)
-at_end None b end = tt
-at_end (Some xs) b end = end
 
 empty_take : (n : ℕ) (buffer : List ℕ) → n ≤ length buffer → take n buffer ≡ [] → n ≡ 0
 empty_take n buffer within none = let e = ap length none in omega (arith, within, e, length-take n buffer)
@@ -50,7 +46,7 @@ module _ {P : Type 0} (left : P → Option (List ℕ)) (counts : P → Counts) w
   reads_none source = record {
     gave = record {
       all = Consumes-nil (left source);
-      each = All-nil (IsRead (left source) (left source));
+      each = tt;
     };
     made = made_none (counts source);
     well = refl;
@@ -60,22 +56,17 @@ module _ {P : Type 0} (left : P → Option (List ℕ)) (counts : P → Counts) w
       → Keeps (left mid) (left now) → Gave left counts source now reads
   gave_kept source mid now reads p kept = record {
     all = Consumes-kept (left source) (left mid) (left now) (concat reads) p.all kept;
-    each =
-        reads_before (left source) (left mid) (left now) (concat reads) [] reads p.all
-        (Consumes-kept (left mid) (left mid) (left now) [] (Consumes-nil (left mid)) kept) p.each;
+    each = p.each;
   }
 
   gave_more : (source mid now : P) (reads : List (List ℕ)) (bytes : List ℕ) → Gave left counts source mid reads
-      → Consumes (left mid) (left now) bytes → IsRead (left source) (left now) bytes
+      → Consumes (left mid) (left now) bytes → IsRead (left source) (concat reads) bytes
       → Gave left counts source now (reads ++ bytes ∷ [])
   gave_more source mid now reads bytes p some read = record {
     all =
         subst (Consumes (left source) (left now)) (sym (concat-more reads bytes))
         (Consumes-trans (left source) (left mid) (left now) (concat reads) bytes p.all some);
-    each =
-        All-append (IsRead (left source) (left now)) reads (bytes ∷ [])
-        (reads_before (left source) (left mid) (left now) (concat reads) bytes reads p.all some p.each)
-        (All-cons (IsRead (left source) (left now)) bytes [] read (All-nil (IsRead (left source) (left now))));
+    each = reads_and (left source) [] reads bytes p.each read;
   }
 
   -- a read more
@@ -86,9 +77,9 @@ module _ {P : Type 0} (left : P → Option (List ℕ)) (counts : P → Counts) w
       → ReadsWell left counts source now (reads ++ take n buffer ∷ [])
   reads_more source mid now reads n buffer p within room (some, end) told =
       let bytes = take n buffer in
-      let read : IsRead (left source) (left now) bytes = record {
+      let read : IsRead (left source) (concat reads) bytes = record {
         short = omega (arith, room, length-take n buffer);
-        empty = λ none. at_end (left source) (left now)
+        empty = λ none. all_read (left source) (left mid) (left now) (concat reads) bytes p.gave.all some none
             (end (empty_take n buffer within none) (omega (arith, room)));
       } in
       record {
@@ -98,6 +89,19 @@ module _ {P : Type 0} (left : P → Option (List ℕ)) (counts : P → Counts) w
             (made_more (counts source) (counts mid) (counts now) (length reads) p.made (ap (λ t. t.calls) told));
         well = ap (λ t. t.failed) told ∙ p.well;
       }
+
+  -- a read more, of those that may be made
+  pub one_read_more : (source mid now : P) (reads : List (List ℕ)) (n turn turns : ℕ) (buffer : List ℕ)
+      → ReadsWell left counts source mid reads → length reads ≡ turn → turn < turns → n ≤ length buffer
+      → length buffer ≡ longest_read → ReadConsumes {E = Failed} (left mid) (left now) (Ok n) buffer
+      → counts now ≡ counted {E = Failed} (counts mid) (Ok n) → MakesReads left counts source now turns
+  one_read_more source mid now reads n turn turns buffer p count below within room bytes told = (
+    reads ++ take n buffer ∷ [],
+    inl (
+      reads_more source mid now reads n buffer p within room bytes told,
+      omega (arith, count, below, length-append reads (take n buffer ∷ [])),
+    ),
+  )
 
   -- a read that fails
   pub reads_fail : (source mid now : P) (reads : List (List ℕ)) (error : Failed)

@@ -1,6 +1,6 @@
--- What a live gateway reads, and how its reads go. Own choice.
-use Rattle.std.specs.Prelude.{◌≡◌, ◌≤◌, ◌+◌, All, IfSome, Option, None, Some, ℕ, List, [], ◌∷◌, ◌++◌, length}
-use Rattle.std.specs.Io.KnownBytes.{Consumes, IsAtEnd}
+-- What a replay and a live gateway read, and how their reads go. Own choice.
+use Rattle.std.specs.Prelude.{◌≡◌, ◌≤◌, ◌+◌, ◌⊎◌, ⊤, IfSome, Option, None, Some, ℕ, List, [], ◌∷◌, ◌++◌, length}
+use Rattle.std.specs.Io.KnownBytes.{Consumes}
 use Rattle.std.specs.List.{concat}
 use Rattle.gateway_core.specs.Step.{Answer}
 use Rattle.gateway_core.specs.Calls.{Value}
@@ -14,17 +14,22 @@ use Rattle.sqlite_trees.specs.declared.store.Store.{Ghosts}
 abbrev pub longest_read : ℕ
 longest_read = 256
 
--- The bytes of one read, of a source that had the first bytes left before all reads, and has the second now. A read
--- gives nothing only where nothing is left, as far as that is known.
-pub record IsRead (left left_now : Option (List ℕ)) (bytes : List ℕ) : Type 0 where
+-- The bytes of one read, of a source that had the first bytes left before all reads, of which those before this one gave
+-- some. A read gives nothing only where nothing is left, as far as that is known.
+pub record IsRead (left : Option (List ℕ)) (before bytes : List ℕ) : Type 0 where
   pub short : length bytes ≤ longest_read
-  pub empty : bytes ≡ [] → IfSome left (λ _. IsAtEnd left_now)
+  pub empty : bytes ≡ [] → IfSome left (λ all. all ≡ before)
+
+-- one read behind another
+abbrev pub AreReads : Option (List ℕ) → List ℕ → List (List ℕ) → Type 0
+AreReads left before [] = ⊤
+AreReads left before (bytes ∷ more) = IsRead left before bytes × AreReads left (before ++ bytes) more
 
 module _ {P : Type 0} (left : P → Option (List ℕ)) (counts : P → Counts) where
   -- these reads gave just what the source lost
   pub record Gave (source source_now : P) (reads : List (List ℕ)) : Type 0 where
     pub all : Consumes (left source) (left source_now) (concat reads)
-    pub each : All (IsRead (left source) (left source_now)) reads
+    pub each : AreReads (left source) [] reads
 
   -- these reads were made and no others, and none failed
   pub record ReadsWell (source source_now : P) (reads : List (List ℕ)) : Type 0 where
@@ -37,6 +42,12 @@ module _ {P : Type 0} (left : P → Option (List ℕ)) (counts : P → Counts) w
     pub gave : Gave source source_now reads
     pub made : Made (counts source) (counts source_now) (length reads + 1)
     pub failed : OneMoreFailed (counts source) (counts source_now)
+
+  -- reads were made, of which the last one perhaps failed, and no more than so many
+  abbrev pub MakesReads : P → P → ℕ → Type 0
+  MakesReads source source_now most =
+      (reads : List (List ℕ)) × ((ReadsWell source source_now reads × (length reads ≤ most))
+      ⊎ (ReadsFail source source_now reads × (length reads + 1 ≤ most)))
 
 -- The reads of the serial line, and the events, where behind some turns a piece was read, or nothing yet.
 abbrev pub pieces_with : List Turn → Option (List ℕ) → List (List ℕ)

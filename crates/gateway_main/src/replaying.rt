@@ -3,7 +3,8 @@ ghost use Rattle.std.specs.Prelude.{◌≡◌, ◌↔◌, ◌⊎◌, ◌+◌, �
 ghost use Rattle.std.specs.Prelude.{IfOk, OnOk};
 ghost use Rattle.std.specs.Io.KnownBytes.{Consumes, IsAtEnd};
 ghost use Rattle.gateway_core.specs.Events.{items_of};
-ghost use Rattle.gateway_main.specs.Counts.{HasRoom, Made, OneEmpty, OneFailed, WentWell};
+ghost use Rattle.gateway_main.specs.Counts.{HasRoom, OneEmpty, OneFailed, WentWell};
+ghost use Rattle.gateway_main.specs.Reads.{MakesReads};
 ghost use Rattle.gateway_main.specs.Replayed.{Replays, ReplaysClosed, ReplaysPart};
 ghost use Rattle.gateway_main.specs.Script.{script};
 
@@ -69,7 +70,7 @@ pub fn replay<R: Source, W: Sink, S: Alter>(
         × ReplaysPart S.Store gateway.old gateway.new input (W.held writer.old) (W.held writer.new) }
 
     // How the reads and the writes went.
-    ensures reads { (n : ℕ) × (n ≤ turns) × Made (R.counts reader.old) (R.counts reader.new) n }
+    ensures reads { MakesReads R.left R.counts reader.old reader.new turns }
     ensures ended { OnOk result (OneEmpty (R.counts reader.old) (R.counts reader.new)
         × WentWell (W.counts writer.old) (W.counts writer.new)) }
     ensures read { result ≡ Err RunFault.Read → OneFailed (R.counts reader.old) (R.counts reader.new)

@@ -1,5 +1,5 @@
 //! Where bytes go.
-ghost use Rattle.std.specs.Prelude.{◌≡◌, ◌≤◌, ℕ, List, Option, IfOk, length};
+ghost use Rattle.std.specs.Prelude.{◌≡◌, ◌≤◌, ◌<◌, ℕ, List, Option, IfOk, length};
 ghost use Rattle.std.specs.Io.KnownBytes.{WriteAppends};
 ghost use Rattle.gateway_main.specs.Counts.{Counts, counted, none_yet};
 
@@ -14,8 +14,10 @@ pub trait Sink {
     /// How the writes so far went.
     ghost counts: { Self → Counts };
 
-    /// Takes some first bytes of the text, and says how many. After `Failed` it holds what it held before.
+    /// Takes some first bytes of the text, which has some, and says how many. After `Failed` it holds what it held
+    /// before.
     fn write(&mut self, text: &[u8]) -> Result<usize, Failed>
+        requires { 0 < length text.now }
         ensures within { IfOk result (λ n. n ≤ length text.now) }
         ensures bytes { WriteAppends (held self.old) (held self.new) result text.now }
         ensures told { counts self.new ≡ counted (counts self.old) result };

@@ -1,4 +1,4 @@
-use Rattle.std.proofs.Common.{rules, [], ◌++◌, refl, take, ap, arith, append-nil}
+use Rattle.std.proofs.Common.{rules, [], ◌∷◌, ◌++◌, ◌+◌, ◌∙◌, refl, take, ap, arith, append-nil, inl, inr, length-append}
 use Rattle.std.specs.Prelude.{◌⊎◌}
 use Rattle.std.specs.Io.KnownBytes.{Consumes}
 use Rattle.std.proofs.KnownBytes.{Consumes-nil, Consumes-trans, Consumes-kept}
@@ -8,9 +8,10 @@ use Rattle.gateway_main.specs.Played.{IsIdle}
 use Rattle.gateway_main.specs.declared.lines.Lines.TheVariants.{OfScript}
 use Rattle.gateway_main.specs.Behind.{well_behind, wrong_behind}
 use Rattle.gateway_main.specs.TextOutlet.{PutsText, text_outlet}
-use Rattle.gateway_main.proofs.CountLemmas.{went_well, made_more, made_none, made_within}
+use Rattle.gateway_main.proofs.CountLemmas.{went_well}
 use Rattle.gateway_main.proofs.BytesLemmas.{bytes_none, bytes_behind, closes, keeps_none, part_at_line, script_stops}
 use Rattle.gateway_main.proofs.BytesLemmas.{script_taken, stops_behind}
+use Rattle.gateway_main.proofs.ReadLemmas.{one_read_more, reads_fail, reads_more, reads_none}
 use Rattle.gateway_main.proofs.ReplayedLemmas.{replays_at, closed_at, part_at, wrong_at}
 use Rattle.gateway_main.proofs.replaying.replay.Goals as goal
 
@@ -30,7 +31,7 @@ loop-turn-init g c =
       );
       writes = (refl, refl);
       reads = (refl, refl);
-      made = made_none (g.R.Source.counts c.args.reader.now);
+      gave = ([], refl, reads_none g.R.Source.left g.R.Source.counts c.args.reader.now);
     }
 
 pub returns-in-Err-clause-stopped : goal.returns-in-Err-clause-stopped
@@ -206,31 +207,49 @@ loop-turn-preserved g c =
       reads =
           went_well Failed (reads c.args.reader.now) (reads c.loop-turn.reader) (reads c.read.new.self) c.in-Ok.length
           invariant.reads c.in-Ok.ensures.told c.if-length-eq0.false;
-      made =
-          made_more (reads c.args.reader.now) (reads c.loop-turn.reader) (reads c.read.new.self) c.loop-turn._turn
-          invariant.made (ap (λ t. t.calls) c.in-Ok.ensures.told);
+      gave =
+          let (parts, count, well) = invariant.gave in (
+            parts ++ chunk ∷ [],
+            length-append parts (chunk ∷ []) ∙ ap (λ n. n + 1) count,
+            reads_more left reads c.args.reader.now c.loop-turn.reader c.read.new.self parts c.in-Ok.length
+                c.read.new.buffer well c.in-Ok.ensures.within (omega arith) c.in-Ok.ensures.bytes c.in-Ok.ensures.told,
+          );
     }
 
 pub returns-in-Err-clause-reads : goal.returns-in-Err-clause-reads
 returns-in-Err-clause-reads g c =
-    let counts = g.R.Source.counts in
-    made_within (counts c.args.reader.now) (counts c.loop-turn.reader) (counts c.read.new.self) c.loop-turn._turn
-    c.args.turns c.loop-turn-test.true c.loop-turn.invariant.made (ap (λ t. t.calls) c.in-Err.ensures.told)
+    let (parts, count, well) = c.loop-turn.invariant.gave in
+    let below = c.loop-turn-test.true in (
+      parts,
+      inr (
+        reads_fail g.R.Source.left g.R.Source.counts c.args.reader.now c.loop-turn.reader c.read.new.self parts
+            c.in-Err.field-0 well c.in-Err.ensures.bytes c.in-Err.ensures.told,
+        omega (arith, count, below),
+      ),
+    )
 
 pub returns-then-length-eq0-clause-reads : goal.returns-then-length-eq0-clause-reads
 returns-then-length-eq0-clause-reads g c =
-    let counts = g.R.Source.counts in
-    made_within (counts c.args.reader.now) (counts c.loop-turn.reader) (counts c.read.new.self) c.loop-turn._turn
-    c.args.turns c.loop-turn-test.true c.loop-turn.invariant.made (ap (λ t. t.calls) c.in-Ok.ensures.told)
+    let (parts, count, well) = c.loop-turn.invariant.gave in
+    one_read_more g.R.Source.left g.R.Source.counts c.args.reader.now c.loop-turn.reader c.read.new.self parts
+    c.in-Ok.length c.loop-turn._turn c.args.turns c.read.new.buffer well count c.loop-turn-test.true c.in-Ok.ensures.within
+    (omega arith) c.in-Ok.ensures.bytes c.in-Ok.ensures.told
 
 pub returns-in_default-clause-reads : goal.returns-in_default-clause-reads
 returns-in_default-clause-reads g c =
-    let counts = g.R.Source.counts in
-    made_within (counts c.args.reader.now) (counts c.loop-turn.reader) (counts c.read.new.self) c.loop-turn._turn
-    c.args.turns c.loop-turn-test.true c.loop-turn.invariant.made (ap (λ t. t.calls) c.in-Ok.ensures.told)
+    let (parts, count, well) = c.loop-turn.invariant.gave in
+    one_read_more g.R.Source.left g.R.Source.counts c.args.reader.now c.loop-turn.reader c.read.new.self parts
+    c.in-Ok.length c.loop-turn._turn c.args.turns c.read.new.buffer well count c.loop-turn-test.true c.in-Ok.ensures.within
+    (omega arith) c.in-Ok.ensures.bytes c.in-Ok.ensures.told
 
 pub returns-in_default-take_bytes-clause-reads : goal.returns-in_default-take_bytes-clause-reads
 returns-in_default-take_bytes-clause-reads g c =
-    let counts = g.R.Source.counts in
-    made_within (counts c.args.reader.now) (counts c.loop-turn.reader) (counts c.read.new.self) c.loop-turn._turn
-    c.args.turns c.loop-turn-test.true c.loop-turn.invariant.made (ap (λ t. t.calls) c.in-Ok.ensures.told)
+    let (parts, count, well) = c.loop-turn.invariant.gave in
+    one_read_more g.R.Source.left g.R.Source.counts c.args.reader.now c.loop-turn.reader c.read.new.self parts
+    c.in-Ok.length c.loop-turn._turn c.args.turns c.read.new.buffer well count c.loop-turn-test.true c.in-Ok.ensures.within
+    (omega arith) c.in-Ok.ensures.bytes c.in-Ok.ensures.told
+
+pub returns-clause-reads : goal.returns-clause-reads
+returns-clause-reads g c =
+    let (parts, count, well) = c.loop-turn.invariant.gave in
+    let below = c.loop-turn.invariant in (parts, inl (well, omega (arith, count)))

@@ -1,8 +1,9 @@
-use Rattle.std.proofs.Common.{◌≡◌, List, [], ℕ}
+use Rattle.std.proofs.Common.{◌≡◌, List, [], ℕ, length}
 use Rattle.std.specs.Io.KnownBytes.{Consumes}
-use Rattle.gateway_main.specs.Counts.{WentWell, Made}
+use Rattle.gateway_main.specs.Counts.{WentWell}
 use Rattle.gateway_main.specs.Played.{IsIdle}
 use Rattle.gateway_main.specs.Bytes.{TakesBytes}
+use Rattle.gateway_main.specs.Reads.{ReadsWell}
 use Rattle.gateway_main.specs.declared.lines.Lines.TheVariants.{OfScript}
 use Rattle.gateway_main.specs.TextOutlet.{PutsText}
 use Rattle.gateway_main.proofs.replaying.replay.Given as goal
@@ -17,5 +18,6 @@ invariant-loop-turn g l = record {
       (PutsText g.W.Sink.held g.W.Sink.counts l.fn.writer l.player.engine.outlet.sink.now) 0 l.player.engine.items;
   writes : WentWell (g.W.Sink.counts l.fn.writer) (g.W.Sink.counts l.player.engine.outlet.sink.now);
   reads : WentWell (g.R.Source.counts l.fn.reader) (g.R.Source.counts l.reader);
-  made : Made (g.R.Source.counts l.fn.reader) (g.R.Source.counts l.reader) l._turn;
+  gave : (parts : List (List ℕ)) × (length parts ≡ l._turn)
+      × ReadsWell g.R.Source.left g.R.Source.counts l.fn.reader l.reader parts;
 }
