@@ -24,10 +24,6 @@ made_at old new n m e made = rw (← e) made
 pub made_more : (old mid new : Counts) (n : ℕ) → Made old mid n → new.calls ≡ one_more mid.calls → Made old new (n + 1)
 made_more old mid new n before e fits = let h = before fits in omega (arith, h, e)
 
-pub made_within : (old mid new : Counts) (n turns : ℕ) → n < turns → Made old mid n → new.calls ≡ one_more mid.calls
-    → (m : ℕ) × (m ≤ turns) × Made old new m
-made_within old mid new n turns below before e = (n + 1, omega arith, made_more old mid new n before e)
-
 -- In turns of two sources: the first was called once more, and not yet the second.
 pub made_first : (a am an b bm : Counts) (turn turns : ℕ) → turn < turns → Made a am turn
     → an.calls ≡ one_more am.calls → Made b bm turn

@@ -14,24 +14,24 @@ use Rattle.sqlite_trees.specs.declared.store.Store.{Ghosts}
 abbrev pub longest_read : ℕ
 longest_read = 256
 
--- The bytes of one read, of a source that had the first bytes left before all reads, of which those before this one gave
--- some. A read gives nothing only where nothing is left, as far as that is known.
+-- The bytes of one read: `left` is what the source had left before all reads, where that is known, and `before` what the
+-- reads before this one gave. A read gives nothing only where they gave all.
 pub record IsRead (left : Option (List ℕ)) (before bytes : List ℕ) : Type 0 where
   pub short : length bytes ≤ longest_read
   pub empty : bytes ≡ [] → IfSome left (λ all. all ≡ before)
 
--- one read behind another
+-- each of these is a read behind those before it
 abbrev pub AreReads : Option (List ℕ) → List ℕ → List (List ℕ) → Type 0
 AreReads left before [] = ⊤
 AreReads left before (bytes ∷ more) = IsRead left before bytes × AreReads left (before ++ bytes) more
 
 module _ {P : Type 0} (left : P → Option (List ℕ)) (counts : P → Counts) where
-  -- these reads gave just what the source lost
+  -- each of these is a read, and together they gave just what the source lost
   pub record Gave (source source_now : P) (reads : List (List ℕ)) : Type 0 where
     pub all : Consumes (left source) (left source_now) (concat reads)
     pub each : AreReads (left source) [] reads
 
-  -- these reads were made and no others, and none failed
+  -- just so many reads were made, none failed, and they gave these bytes, cut in some way
   pub record ReadsWell (source source_now : P) (reads : List (List ℕ)) : Type 0 where
     pub gave : Gave source source_now reads
     pub made : Made (counts source) (counts source_now) (length reads)
@@ -43,7 +43,7 @@ module _ {P : Type 0} (left : P → Option (List ℕ)) (counts : P → Counts) w
     pub made : Made (counts source) (counts source_now) (length reads + 1)
     pub failed : OneMoreFailed (counts source) (counts source_now)
 
-  -- reads were made, of which the last one perhaps failed, and no more than so many
+  -- reads were made, no more than so many, of which perhaps one failed, which gave nothing
   abbrev pub MakesReads : P → P → ℕ → Type 0
   MakesReads source source_now most =
       (reads : List (List ℕ)) × ((ReadsWell source source_now reads × (length reads ≤ most))

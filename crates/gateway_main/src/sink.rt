@@ -14,8 +14,8 @@ pub trait Sink {
     /// How the writes so far went.
     ghost counts: { Self → Counts };
 
-    /// Takes some first bytes of the text, which has some, and says how many. After `Failed` it holds what it held
-    /// before.
+    /// Takes some first bytes of the text, which is not empty, perhaps none, and says how many. After `Failed` it holds
+    /// what it held before.
     fn write(&mut self, text: &[u8]) -> Result<usize, Failed>
         requires { 0 < length text.now }
         ensures within { IfOk result (λ n. n ≤ length text.now) }

@@ -2,6 +2,7 @@
 ghost use Rattle.std.specs.Prelude.{◌≡◌, ◌≤◌, ◌<◌, ℕ, List, Option, IfOk, length};
 ghost use Rattle.std.specs.Io.KnownBytes.{ReadConsumes};
 ghost use Rattle.gateway_main.specs.Counts.{Counts, counted, none_yet};
+ghost use Rattle.gateway_main.specs.Reads.{longest_read};
 
 use crate::tally::{Failed, Tally};
 use std::io::Read;
@@ -14,11 +15,11 @@ pub trait Source {
     /// How the reads so far went.
     ghost counts: { Self → Counts };
 
-    /// Reads some bytes into the front of the buffer, which has room, and says how many. 0 bytes say that none is left;
-    /// of a terminal, which may bring more later, that none came in time. After `Failed` nothing is lost: no byte was
-    /// taken from the source.
+    /// Reads some bytes into the front of the buffer, which has room for 1 to `LONGEST_READ`, and says how many. 0 bytes
+    /// say that none is left; of a terminal, which may bring more later, that none came in time. After `Failed` nothing
+    /// is lost: no byte was taken from the source.
     fn read(&mut self, buffer: &mut [u8]) -> Result<usize, Failed>
-        requires { 0 < length buffer.old }
+        requires { (0 < length buffer.old) × (length buffer.old ≤ longest_read) }
         ensures within { IfOk result (λ n. n ≤ length buffer.new) }
         ensures bytes { ReadConsumes (left self.old) (left self.new) result buffer.new }
         ensures told { counts self.new ≡ counted (counts self.old) result };
