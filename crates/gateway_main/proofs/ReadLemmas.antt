@@ -15,7 +15,8 @@ use Rattle.gateway_main.proofs.CountLemmas.{made_at, made_more, made_none}
 
 -- one read more behind others
 reads_and : (left : Option (List ℕ)) (before : List ℕ) (reads : List (List ℕ)) (bytes : List ℕ)
-    → AreReads left before reads → IsRead left (before ++ concat reads) bytes → AreReads left before (reads ++ bytes ∷ [])
+    → AreReads left before reads → IsRead left (before ++ concat reads) bytes
+    → AreReads left before (reads ++ bytes ∷ [])
 reads_and left before [] bytes each read = (subst (λ b. IsRead left b bytes) (append-nil before) read, tt)
 reads_and left before (first ∷ reads) bytes each read = (
   each.0,

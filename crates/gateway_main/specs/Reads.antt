@@ -14,8 +14,8 @@ use Rattle.sqlite_trees.specs.declared.store.Store.{Ghosts}
 abbrev pub longest_read : ℕ
 longest_read = 256
 
--- The bytes of one read: `left` is what the source had left before all reads, where that is known, and `before` what the
--- reads before this one gave. A read gives nothing only where they gave all.
+-- The bytes of one read: `left` is what the source had left before all reads, where that is known, and `before` what
+-- the reads before this one gave. A read gives nothing only where they gave all.
 pub record IsRead (left : Option (List ℕ)) (before bytes : List ℕ) : Type 0 where
   pub short : length bytes ≤ longest_read
   pub empty : bytes ≡ [] → IfSome left (λ all. all ≡ before)

@@ -15,9 +15,9 @@ pub trait Source {
     /// How the reads so far went.
     ghost counts: { Self → Counts };
 
-    /// Reads some bytes into the front of the buffer, which has room for 1 to `LONGEST_READ`, and says how many. 0 bytes
-    /// say that none is left; of a terminal, which may bring more later, that none came in time. After `Failed` nothing
-    /// is lost: no byte was taken from the source.
+    /// Reads some bytes into the front of the buffer, which has room for 1 to `LONGEST_READ`, and says how many. 0
+    /// bytes say that none is left; of a terminal, which may bring more later, that none came in time. After `Failed`
+    /// nothing is lost: no byte was taken from the source.
     fn read(&mut self, buffer: &mut [u8]) -> Result<usize, Failed>
         requires { (0 < length buffer.old) × (length buffer.old ≤ longest_read) }
         ensures within { IfOk result (λ n. n ≤ length buffer.new) }

@@ -1,4 +1,5 @@
-use Rattle.std.proofs.Common.{rules, [], ◌∷◌, ◌++◌, ◌+◌, ◌∙◌, refl, take, ap, arith, append-nil, inl, inr, length-append}
+use Rattle.std.proofs.Common.{rules, [], ◌∷◌, ◌++◌, ◌+◌, ◌∙◌, refl, take, ap, arith, append-nil, inl, inr}
+use Rattle.std.proofs.Common.{length-append}
 use Rattle.std.specs.Prelude.{◌⊎◌}
 use Rattle.std.specs.Io.KnownBytes.{Consumes}
 use Rattle.std.proofs.KnownBytes.{Consumes-nil, Consumes-trans, Consumes-kept}
@@ -232,24 +233,24 @@ pub returns-then-length-eq0-clause-reads : goal.returns-then-length-eq0-clause-r
 returns-then-length-eq0-clause-reads g c =
     let (parts, count, well) = c.loop-turn.invariant.gave in
     one_read_more g.R.Source.left g.R.Source.counts c.args.reader.now c.loop-turn.reader c.read.new.self parts
-    c.in-Ok.length c.loop-turn._turn c.args.turns c.read.new.buffer well count c.loop-turn-test.true c.in-Ok.ensures.within
-    (omega arith) c.in-Ok.ensures.bytes c.in-Ok.ensures.told
+    c.in-Ok.length c.loop-turn._turn c.args.turns c.read.new.buffer well count c.loop-turn-test.true
+    c.in-Ok.ensures.within (omega arith) c.in-Ok.ensures.bytes c.in-Ok.ensures.told
 
 pub returns-in_default-clause-reads : goal.returns-in_default-clause-reads
 returns-in_default-clause-reads g c =
     let (parts, count, well) = c.loop-turn.invariant.gave in
     one_read_more g.R.Source.left g.R.Source.counts c.args.reader.now c.loop-turn.reader c.read.new.self parts
-    c.in-Ok.length c.loop-turn._turn c.args.turns c.read.new.buffer well count c.loop-turn-test.true c.in-Ok.ensures.within
-    (omega arith) c.in-Ok.ensures.bytes c.in-Ok.ensures.told
+    c.in-Ok.length c.loop-turn._turn c.args.turns c.read.new.buffer well count c.loop-turn-test.true
+    c.in-Ok.ensures.within (omega arith) c.in-Ok.ensures.bytes c.in-Ok.ensures.told
 
 pub returns-in_default-take_bytes-clause-reads : goal.returns-in_default-take_bytes-clause-reads
 returns-in_default-take_bytes-clause-reads g c =
     let (parts, count, well) = c.loop-turn.invariant.gave in
     one_read_more g.R.Source.left g.R.Source.counts c.args.reader.now c.loop-turn.reader c.read.new.self parts
-    c.in-Ok.length c.loop-turn._turn c.args.turns c.read.new.buffer well count c.loop-turn-test.true c.in-Ok.ensures.within
-    (omega arith) c.in-Ok.ensures.bytes c.in-Ok.ensures.told
+    c.in-Ok.length c.loop-turn._turn c.args.turns c.read.new.buffer well count c.loop-turn-test.true
+    c.in-Ok.ensures.within (omega arith) c.in-Ok.ensures.bytes c.in-Ok.ensures.told
 
 pub returns-clause-reads : goal.returns-clause-reads
 returns-clause-reads g c =
     let (parts, count, well) = c.loop-turn.invariant.gave in
-    let below = c.loop-turn.invariant in (parts, inl (well, omega (arith, count)))
+    (parts, inl (well, omega (arith, count)))
