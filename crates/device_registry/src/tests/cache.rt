@@ -1,5 +1,5 @@
 //! What is remembered of looked-up senders.
-use super::given::{contact, forget, in_memory, is_full, learn, reopened, sensor};
+use super::given::{contact, forget, in_memory, is_full, learn, sensor};
 use crate::{Device, Registry};
 use sqlite::Alter;
 use std::test::Fail;
@@ -13,7 +13,7 @@ fn kept<S: Alter>(registry: &Registry<S>, id: u32) -> Option<Option<Device>> {
 fn a_look_up_is_remembered(rt: HostRuntime) -> Result<(), Fail> {
     let mut registry = in_memory(rt.alloc(), 64)?;
     learn(&mut registry, contact(5))?;
-    let mut registry = reopened(rt.alloc(), registry)?;
+    let mut registry = Registry::open(rt.alloc(), registry.close())?;
     assert_eq!(rt; registry.cache.len(), 0);
     assert_eq!(rt; registry.find(5)?, Some(contact(5)));
     assert_eq!(rt; kept(&registry, 5), Some(Some(contact(5))));
@@ -68,7 +68,8 @@ fn one_place_is_for_the_last_sender(rt: HostRuntime) -> Result<(), Fail> {
 
 #[test]
 fn an_open_remembers_64(rt: HostRuntime) -> Result<(), Fail> {
-    let mut registry = reopened(rt.alloc(), in_memory(rt.alloc(), 1)?)?;
+    let conn = in_memory(rt.alloc(), 1)?.close();
+    let mut registry = Registry::open(rt.alloc(), conn)?;
     for id in 0..65 {
         assert_eq!(rt; registry.find(id)?, None);
     }

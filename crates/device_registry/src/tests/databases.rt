@@ -1,10 +1,7 @@
 //! Which databases are taken, and that the others are left as they were.
-use super::given::{
-    DEVICE_TABLE, META_TABLE, VERSION_ROW, empty_database, number, open_idle, prepare_idle, run,
-    sensor,
-};
-use crate::OpenFault;
+use super::given::{DEVICE_TABLE, META_TABLE, VERSION_ROW, number, prepare_idle, run, sensor};
 use crate::listing::{devices_rise, is_version};
+use crate::{OpenFault, Registry, prepare};
 use sqlite::{Alter, Connection};
 use std::alloc::Global;
 use std::process::Abort;
@@ -206,7 +203,7 @@ fn is_refused(
     query: &str,
     shown: i64,
 ) -> Result<(), Fail> {
-    let mut conn = empty_database(alloc)?;
+    let mut conn = Connection::open_in_memory(alloc)?;
     for statements in first {
         run(&mut conn, statements)?;
     }
@@ -224,8 +221,11 @@ fn is_refused(
     let behind = objects(alloc, &mut conn)?;
     assert_eq!(rt; behind.as_str(), before.as_str());
     assert_eq!(rt; number(&mut conn, query)?, shown, "{before}");
+    if !conn.is_autocommit() {
+        return Err(Fail::from("a transaction is open"));
+    }
     assert_eq!(rt;
-        open_idle(alloc, conn)?.err(),
+        Registry::open(alloc, conn).err(),
         Some(OpenFault::NotARegistry),
         "{before}"
     );
@@ -260,7 +260,7 @@ fn are_version<S: Alter>(conn: &mut Connection<S>, sql: &str) -> Result<bool, Fa
 
 #[test]
 fn rows_that_may_stand(rt: HostRuntime) -> Result<(), Fail> {
-    let mut conn = empty_database(rt.alloc())?;
+    let mut conn = Connection::open_in_memory(rt.alloc())?;
     for sql in [
         "SELECT 1, 1, -1 LIMIT 0",
         "SELECT 0, 0, -1",
@@ -295,7 +295,7 @@ fn rows_that_may_stand(rt: HostRuntime) -> Result<(), Fail> {
 
 #[test]
 fn rows_out_of_range(rt: HostRuntime) -> Result<(), Fail> {
-    let mut conn = empty_database(rt.alloc())?;
+    let mut conn = Connection::open_in_memory(rt.alloc())?;
     for sql in [
         "SELECT 4294967295, 1, -1",
         "SELECT 5, -5, -1",
@@ -316,8 +316,8 @@ fn rows_out_of_range(rt: HostRuntime) -> Result<(), Fail> {
 
 #[test]
 fn an_empty_database_is_made_one(rt: HostRuntime) -> Result<(), Fail> {
-    let mut conn = empty_database(rt.alloc())?;
-    prepare_idle(&mut conn)??;
+    let mut conn = Connection::open_in_memory(rt.alloc())?;
+    prepare(&mut conn)?;
     let wanted = format!(in rt.alloc();
         "table\nenogate_meta\n{}\ntable\nenogate_device\n{}\n",
         META_TABLE.trim_end_matches(';'),
@@ -337,8 +337,8 @@ fn an_empty_database_is_made_one(rt: HostRuntime) -> Result<(), Fail> {
 
 #[test]
 fn a_second_prepare_leaves_every_row(rt: HostRuntime) -> Result<(), Fail> {
-    let mut conn = empty_database(rt.alloc())?;
-    prepare_idle(&mut conn)??;
+    let mut conn = Connection::open_in_memory(rt.alloc())?;
+    prepare(&mut conn)?;
     run(
         &mut conn,
         "INSERT INTO enogate_device VALUES (7, 13959169, -1); INSERT INTO enogate_device VALUES (3, 10813957, 70);
@@ -373,7 +373,7 @@ fn a_second_prepare_leaves_every_row(rt: HostRuntime) -> Result<(), Fail> {
 
 #[test]
 fn a_thousand_devices_of_another_hand(rt: HostRuntime) -> Result<(), Fail> {
-    let mut conn = empty_database(rt.alloc())?;
+    let mut conn = Connection::open_in_memory(rt.alloc())?;
     for statements in [META_TABLE, DEVICE_TABLE, VERSION_ROW] {
         run(&mut conn, statements)?;
     }
@@ -382,7 +382,10 @@ fn a_thousand_devices_of_another_hand(rt: HostRuntime) -> Result<(), Fail> {
         "INSERT INTO enogate_device WITH RECURSIVE n (i) AS (SELECT 4294967294 UNION ALL SELECT i - 1 FROM n) \
         SELECT i, 10813957, 70 FROM n LIMIT 1000",
     )?;
-    let mut registry = open_idle(rt.alloc(), conn)??;
+    if !conn.is_autocommit() {
+        return Err(Fail::from("a transaction is open"));
+    }
+    let mut registry = Registry::open(rt.alloc(), conn)?;
     let all = registry.all()?;
     assert_eq!(rt; all.len(), 1000);
     assert_eq!(rt; all.first().copied(), Some(sensor(4_294_966_295)));
@@ -392,7 +395,7 @@ fn a_thousand_devices_of_another_hand(rt: HostRuntime) -> Result<(), Fail> {
 
 #[test]
 fn other_objects_beside_ours(rt: HostRuntime) -> Result<(), Fail> {
-    let mut conn = empty_database(rt.alloc())?;
+    let mut conn = Connection::open_in_memory(rt.alloc())?;
     run(
         &mut conn,
         "CREATE TABLE room (id INTEGER PRIMARY KEY, name TEXT NOT NULL UNIQUE) STRICT;
@@ -413,7 +416,10 @@ fn other_objects_beside_ours(rt: HostRuntime) -> Result<(), Fail> {
         )?,
         1
     );
-    let mut registry = open_idle(rt.alloc(), conn)??;
+    if !conn.is_autocommit() {
+        return Err(Fail::from("a transaction is open"));
+    }
+    let mut registry = Registry::open(rt.alloc(), conn)?;
     assert_eq!(rt; registry.all()?.as_slice(), [sensor(1)].as_slice());
     Ok(())
 }

@@ -1,6 +1,6 @@
 //! What is learned is found, listed and forgotten, also by the next open.
-use super::given::{contact, forget, in_memory, is_full, learn, open_idle, reopened, sensor};
-use crate::Device;
+use super::given::{contact, forget, in_memory, is_full, learn, sensor};
+use crate::{Device, Registry};
 use erp1_telegrams::Eep;
 use std::test::Fail;
 
@@ -45,7 +45,7 @@ fn numbers_at_their_ends(rt: HostRuntime) -> Result<(), Fail> {
     let mut registry = in_memory(rt.alloc(), 64)?;
     learn(&mut registry, greatest)?;
     learn(&mut registry, least)?;
-    let mut registry = reopened(rt.alloc(), registry)?;
+    let mut registry = Registry::open(rt.alloc(), registry.close())?;
     assert_eq!(rt; registry.find(0)?, Some(least));
     assert_eq!(rt; registry.find(0xFFFF_FFFE)?, Some(greatest));
     assert_eq!(rt; registry.all()?.as_slice(), [least, greatest].as_slice());
@@ -62,7 +62,7 @@ fn the_next_open_finds_all(rt: HostRuntime) -> Result<(), Fail> {
     forget(&mut registry, 3)?;
     let again = registry.close();
     assert!(rt; again.is_autocommit());
-    let mut registry = open_idle(rt.alloc(), again)??;
+    let mut registry = Registry::open(rt.alloc(), again)?;
     assert_eq!(rt;
         registry.all()?.as_slice(),
         [contact(0), contact(0x0180_0ABC), sensor(0xFFFF_FFFE)].as_slice()
@@ -81,7 +81,7 @@ fn an_open_commits_the_version_row(rt: HostRuntime) -> Result<(), Fail> {
     conn.execute("DELETE FROM enogate_device WHERE id > 1", &[])?;
     assert_eq!(rt; conn.changes(), 0);
     assert!(rt; conn.is_autocommit());
-    let conn = open_idle(rt.alloc(), conn)??.close();
+    let conn = Registry::open(rt.alloc(), conn)?.close();
     assert_eq!(rt; conn.changes(), 1);
     Ok(())
 }
@@ -100,7 +100,8 @@ fn a_thousand_devices_and_no_more(rt: HostRuntime) -> Result<(), Fail> {
     learn(&mut registry, sensor(7))?;
     assert_eq!(rt; registry.find(7)?, Some(sensor(7)));
     assert_eq!(rt; registry.find(0)?, Some(contact(0)));
-    let mut registry = reopened(rt.alloc(), registry)?;
+    let again = registry.close();
+    let mut registry = Registry::open(rt.alloc(), again)?;
     assert_eq!(rt; registry.all()?.len(), 1000);
     forget(&mut registry, 8)?;
     learn(&mut registry, sensor(1000))?;

@@ -1,6 +1,5 @@
 //! Disks that refuse a call, and connections over them.
-ghost use Rattle.std.specs.Prelude.{◌≡◌, ◌+◌, refl};
-ghost use Rattle.std.proofs.Common.{inl};
+ghost use Rattle.std.specs.Prelude.{◌≡◌, ◌+◌};
 
 use sqlite::{Connection, FileStore, Files, Options};
 use sqlite_disk::{Crash, Disk, Fuse, Memory, Tally};
@@ -8,19 +7,18 @@ use std::alloc::Global;
 use std::io;
 use std::test::Fail;
 
-/// A disk in memory with a fuse, which tells one write as failed, though its bytes are in the file. The type has no
-/// parameter, so that a proof names the laws of the store over it, and does not make them anew.
+/// A disk that tells one write as failed, though its bytes are in the file. Each other call goes as below it.
 #[derive(Drop)]
-pub struct Stumbling {
-    inner: Fuse<Memory>,
+pub struct Stumbling<D: Disk> {
+    inner: D,
     /// Which write from here on is told as failed, the next one being 1, or 0 for none.
     write: u64,
     told: u64,
     syncs: u64,
 }
 
-impl Stumbling {
-    pub fn new(inner: Fuse<Memory>, write: u64) -> Stumbling {
+impl<D: Disk> Stumbling<D> {
+    pub fn new(inner: D, write: u64) -> Stumbling<D> {
         Stumbling {
             inner,
             write,
@@ -29,7 +27,7 @@ impl Stumbling {
         }
     }
 
-    pub fn inner(&self) -> &Fuse<Memory> {
+    pub fn inner(&self) -> &D {
         &self.inner
     }
 
@@ -38,7 +36,7 @@ impl Stumbling {
         self.syncs
     }
 
-    pub fn into_inner(self) -> Fuse<Memory> {
+    pub fn into_inner(self) -> D {
         let Stumbling {
             inner,
             write: _,
@@ -49,30 +47,30 @@ impl Stumbling {
     }
 }
 
-impl Disk for Stumbling {
-    ghost seen = { λ s. ⟦<Fuse<Memory> as Disk>⟧.seen s.inner };
+impl<D: Disk> Disk for Stumbling<D> {
+    ghost seen = { λ s. D.Disk.seen s.inner };
 
-    ghost may_leave = { λ s. ⟦<Fuse<Memory> as Disk>⟧.may_leave s.inner };
+    ghost may_leave = { λ s. D.Disk.may_leave s.inner };
 
-    ghost is_usable = { λ s. ⟦<Fuse<Memory> as Disk>⟧.is_usable s.inner };
+    ghost is_usable = { λ s. D.Disk.is_usable s.inner };
 
-    ghost faults = { λ s. ⟦<Fuse<Memory> as Disk>⟧.faults s.inner + s.told };
+    ghost faults = { λ s. D.Disk.faults s.inner + s.told };
 
-    ghost tally_of = { λ s. ⟦<Fuse<Memory> as Disk>⟧.tally_of s.inner };
+    ghost tally_of = { λ s. D.Disk.tally_of s.inner };
 
-    ghost is_rotten = { λ s. ⟦<Fuse<Memory> as Disk>⟧.is_rotten s.inner };
+    ghost is_rotten = { λ s. D.Disk.is_rotten s.inner };
 
-    ghost key_of = { λ s. ⟦<Fuse<Memory> as Disk>⟧.key_of s.inner };
+    ghost key_of = { λ s. D.Disk.key_of s.inner };
 
-    ghost is_clean = { λ s. ⟦<Fuse<Memory> as Disk>⟧.is_clean s.inner };
+    ghost is_clean = { λ s. D.Disk.is_clean s.inner };
 
-    ghost is_fair = { λ s. ⟦<Fuse<Memory> as Disk>⟧.is_fair s.inner };
+    ghost is_fair = { λ s. D.Disk.is_fair s.inner };
 
-    ghost fair_if_clean = { λ _ _ _. refl };
+    ghost fair_if_clean = { λ s. D.Disk.fair_if_clean s.inner };
 
-    ghost seen_may_stay = { λ _. inl refl };
+    ghost seen_may_stay = { λ s. D.Disk.seen_may_stay s.inner };
 
-    ghost is_mixing = { λ s. ⟦<Fuse<Memory> as Disk>⟧.is_mixing s.inner };
+    ghost is_mixing = { λ s. D.Disk.is_mixing s.inner };
 
     fn mixes(&self) -> bool {
         self.inner.mixes()
@@ -124,7 +122,7 @@ impl Disk for Stumbling {
 }
 
 /// The files of all tests over disks: of one type, so that the store is compiled for it alone.
-pub type Disks = Files<Stumbling>;
+pub type Disks = Files<Stumbling<Fuse<Memory>>>;
 
 /// The log, or the database file.
 #[derive(Clone, Copy, Debug, PartialEq, Eq)]
@@ -152,7 +150,7 @@ pub enum Stop {
     OfMachine,
 }
 
-fn disk(file: Memory, refusal: Refusal) -> Stumbling {
+fn disk(file: Memory, refusal: Refusal) -> Stumbling<Fuse<Memory>> {
     match refusal {
         Refusal::Nothing => Stumbling::new(Fuse::new(file, u64::MAX), 0),
         Refusal::From(calls) => Stumbling::new(Fuse::new(file, calls), 0),
@@ -168,7 +166,7 @@ pub fn empty_files(alloc: Global) -> Disks {
     }
 }
 
-fn copied(alloc: Global, file: &Stumbling) -> Result<Memory, Fail> {
+fn copied(alloc: Global, file: &Stumbling<Fuse<Memory>>) -> Result<Memory, Fail> {
     let mut copy = Memory::new(alloc);
     copy.write_at(0, file.inner().inner().bytes())?;
     copy.sync()?;
@@ -201,7 +199,7 @@ pub fn connected(
     alloc: Global,
     files: Disks,
     pages: usize,
-) -> Result<Option<Connection<FileStore<Stumbling>>>, Fail> {
+) -> Result<Option<Connection<FileStore<Stumbling<Fuse<Memory>>>>>, Fail> {
     if !files.may_be_used() {
         return Err(Fail::from("a sync has failed"));
     }
@@ -213,7 +211,7 @@ pub fn connected(
 /// The files of a connection as a stop at this moment leaves them. They are copies, and refuse nothing any more.
 pub fn stopped(
     alloc: Global,
-    conn: Connection<FileStore<Stumbling>>,
+    conn: Connection<FileStore<Stumbling<Fuse<Memory>>>>,
     stop: Stop,
 ) -> Result<Disks, Fail> {
     let Files { log, db } = conn.into_store().close();

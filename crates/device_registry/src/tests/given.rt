@@ -77,49 +77,12 @@ pub fn forget<S: Alter>(registry: &mut Registry<S>, id: u32) -> Result<(), Store
     Ok(())
 }
 
-/// An empty database in memory.
-pub fn empty_database(alloc: Global) -> Result<Connection<MemStore>, Fail> {
-    Ok(Connection::open_in_memory(alloc)?)
-}
-
 /// A new registry in memory, with a cache of so many senders.
 pub fn in_memory(alloc: Global, cache: usize) -> Result<Registry<MemStore>, Fail>
     requires { (1 ≤ cache) × (cache ≤ 1024) }
 {
-    open_idle_with(alloc, empty_database(alloc)?, cache)
-}
-
-// `Registry::open_with`, of a connection that no statement has left in a transaction.
-fn open_idle_with<S: Alter + Drop>(
-    alloc: Global,
-    conn: Connection<S>,
-    cache: usize,
-) -> Result<Registry<S>, Fail>
-    requires { (1 ≤ cache) × (cache ≤ 1024) }
-{
-    if !conn.is_autocommit() {
-        return Err(Fail::from("a transaction is open"));
-    }
+    let conn = Connection::open_in_memory(alloc)?;
     Ok(Registry::open_with(alloc, conn, cache)?)
-}
-
-/// `Registry::open`, of a connection that no statement has left in a transaction.
-pub fn open_idle<S: Alter + Drop>(
-    alloc: Global,
-    conn: Connection<S>,
-) -> Result<Result<Registry<S>, OpenFault>, Fail> {
-    if !conn.is_autocommit() {
-        return Err(Fail::from("a transaction is open"));
-    }
-    Ok(Registry::open(alloc, conn))
-}
-
-/// The registry, closed and opened again.
-pub fn reopened<S: Alter + Drop>(
-    alloc: Global,
-    registry: Registry<S>,
-) -> Result<Registry<S>, OpenFault> {
-    Registry::open(alloc, registry.close())
 }
 
 /// `prepare`, of a connection that no statement has left in a transaction.

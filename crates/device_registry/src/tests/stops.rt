@@ -3,11 +3,11 @@ use super::disks::{
     Disks, Refusal, Stop, Stumbling, Which, connected, empty_files, refusing, stopped,
 };
 use super::given::{
-    contact, forget, is_learn_store, is_open_store, is_store, learn, open_idle, prepare_idle,
-    sensor,
+    contact, forget, is_learn_store, is_open_store, is_store, learn, prepare_idle, sensor,
 };
 use crate::Registry;
 use sqlite::{Alter, Connection, FileStore, Files, params};
+use sqlite_disk::{Fuse, Memory};
 use std::alloc::Global;
 use std::process::Abort;
 use std::test::Fail;
@@ -45,11 +45,14 @@ fn opened(
     alloc: Global,
     files: Disks,
     pages: usize,
-) -> Result<Option<Registry<FileStore<Stumbling>>>, Fail> {
+) -> Result<Option<Registry<FileStore<Stumbling<Fuse<Memory>>>>>, Fail> {
     let Some(conn) = connected(alloc, files, pages)? else {
         return Ok(None);
     };
-    Ok(open_idle(alloc, conn)?.ok())
+    if !conn.is_autocommit() {
+        return Err(Fail::from("a transaction is open"));
+    }
+    Ok(Registry::open(alloc, conn).ok())
 }
 
 // Whether a call is refused by the store. Else it answers what is wanted.
@@ -247,7 +250,7 @@ fn what_was_told_is_found_behind_a_stop(rt: HostRuntime) -> Result<(), Fail> {
 }
 
 // How many syncs of the log a connection made, at whose end the process dies.
-fn syncs(conn: Connection<FileStore<Stumbling>>) -> u64 {
+fn syncs(conn: Connection<FileStore<Stumbling<Fuse<Memory>>>>) -> u64 {
     let Files { log, db: _ } = conn.into_store().close();
     log.syncs()
 }
@@ -295,7 +298,7 @@ fn end_of(
     }
     let mut conn = registry.close();
     if opens_again {
-        match open_idle(alloc, conn)? {
+        match Registry::open(alloc, conn) {
             Ok(again) => conn = again.close(),
             Err(fault) => {
                 assert!(rt; is_open_store(&fault));
