@@ -7,6 +7,7 @@ use Rattle.std.proofs.lemmas.Bool.{and_parts, ne_eqb, eqb-true}
 use Rattle.std.proofs.lemmas.List.Folds.{find-append}
 use Rattle.erp1_telegrams.specs.declared.eep.Eep.{Eep}
 use Rattle.profiles_rps.specs.Profile.{Profiles, is_one_of, rows_in}
+use Rattle.profiles_rps.specs.Rows.{Row}
 
 -- the profile is none of the first ones, where its FUNC is another
 not-first : (ps : Profiles) (a b c : Bool) (found : Option Profiles) → b ≡ false
@@ -62,6 +63,14 @@ option_map-or f (Some x) b = refl
 rows_in-append : (xs ys : List Profiles) (eep : Eep)
     → rows_in (xs ++ ys) eep ≡ option_or (rows_in xs eep) (rows_in ys eep)
 rows_in-append xs ys eep = rw (find-append, option_map-or) refl
+
+-- what two tables read, of which one stands behind the other
+pub read-append : {R E : Type 0} (told : R → E) (read : List Row → E) (a b : Option R) (xs ys : List Profiles)
+    (eep : Eep) → option_map told a ≡ option_map read (rows_in xs eep)
+    → option_map told b ≡ option_map read (rows_in ys eep)
+    → option_map told (option_or a b) ≡ option_map read (rows_in (xs ++ ys) eep)
+read-append told read a b xs ys eep first second =
+    rw (rows_in-append, option_map-or, option_map-or, first, second) refl
 
 or-none : {A : Type 0} (a : Option A) → option_or a None ≡ a
 or-none None = refl

@@ -40,11 +40,22 @@ of_80_degrees typ =
     let more = pos (100 * (typ - 0x10)) in
     record { rorg = 0xA5; func = 0x02; types = typ ∷ []; rows = of_8_bits (more -ℤ pos 600) (more +ℤ pos 200) }
 
--- A5-02-01 to A5-02-0B, A5-02-10 to A5-02-1B, A5-02-20: -10 to 41.2 C, A5-02-30: -40 to 62.3 C
-abbrev pub temperature : List Profiles
-temperature =
+-- A5-02-01 to A5-02-0B
+abbrev pub spans_of_40_degrees : List Profiles
+spans_of_40_degrees =
     map of_40_degrees (0x01 ∷ 0x02 ∷ 0x03 ∷ 0x04 ∷ 0x05 ∷ 0x06 ∷ 0x07 ∷ 0x08 ∷ 0x09 ∷ 0x0A ∷ 0x0B ∷ [])
-    ++ map of_80_degrees (0x10 ∷ 0x11 ∷ 0x12 ∷ 0x13 ∷ 0x14 ∷ 0x15 ∷ 0x16 ∷ 0x17 ∷ 0x18 ∷ 0x19 ∷ 0x1A ∷ 0x1B ∷ [])
-    ++ record { rorg = 0xA5; func = 0x02; types = 0x20 ∷ []; rows = of_10_bits (minus 100) (pos 412) }
+
+-- A5-02-10 to A5-02-1B
+abbrev pub spans_of_80_degrees : List Profiles
+spans_of_80_degrees =
+    map of_80_degrees (0x10 ∷ 0x11 ∷ 0x12 ∷ 0x13 ∷ 0x14 ∷ 0x15 ∷ 0x16 ∷ 0x17 ∷ 0x18 ∷ 0x19 ∷ 0x1A ∷ 0x1B ∷ [])
+
+-- A5-02-20: -10 to 41.2 C, A5-02-30: -40 to 62.3 C
+abbrev pub of_10_bits_each : List Profiles
+of_10_bits_each =
+    record { rorg = 0xA5; func = 0x02; types = 0x20 ∷ []; rows = of_10_bits (minus 100) (pos 412) }
     ∷ record { rorg = 0xA5; func = 0x02; types = 0x30 ∷ []; rows = of_10_bits (minus 400) (pos 623) }
     ∷ []
+
+abbrev pub temperature : List Profiles
+temperature = spans_of_40_degrees ++ spans_of_80_degrees ++ of_10_bits_each

@@ -4,15 +4,26 @@ ghost use Rattle.std.specs.Prelude.{◌≡◌, option_map};
 ghost use Rattle.profiles_rps.specs.Reading.{entries};
 ghost use Rattle.profiles_rps.specs.Profile.{rows_in};
 ghost use Rattle.profiles_rps.specs.Rows.{entries_of};
-ghost use Rattle.profiles_4bs.specs.Temperature.{temperature};
+ghost use Rattle.profiles_4bs.specs.Temperature.{of_10_bits_each, spans_of_40_degrees, spans_of_80_degrees, temperature};
 
 use erp1_telegrams::Eep;
 use profiles_rps::{Readings, read_profiles};
 
-/// The readings of a payload by the rows of a profile A5-02, where there are rows.
+/// The readings of a payload by the rows of a profile A5-02, where there are rows. Each of the three functions has a
+/// part of the profiles: one of all would cost more than the three to prove.
 pub(crate) fn readings_by(eep: Eep, bytes: &[u8; 4]) -> Option<Readings>
     ensures { option_map (λ readings. entries readings.items) result
         ≡ option_map (entries_of bytes.now) (rows_in temperature eep) }
+{
+    over_40_degrees(eep, bytes)
+        .or(over_80_degrees(eep, bytes))
+        .or(by_10_bits(eep, bytes))
+}
+
+/// A5-02-01 to A5-02-0B.
+fn over_40_degrees(eep: Eep, bytes: &[u8; 4]) -> Option<Readings>
+    ensures { option_map (λ readings. entries readings.items) result
+        ≡ option_map (entries_of bytes.now) (rows_in spans_of_40_degrees eep) }
 {
     read_profiles! { eep, bytes, 4;
         (0xA5, 0x02, [0x01]) => { "TMP" (16, 8) [] range(255, 0, -400, 0, "C"); }
@@ -26,6 +37,15 @@ pub(crate) fn readings_by(eep: Eep, bytes: &[u8; 4]) -> Option<Readings>
         (0xA5, 0x02, [0x09]) => { "TMP" (16, 8) [] range(255, 0, 400, 800, "C"); }
         (0xA5, 0x02, [0x0A]) => { "TMP" (16, 8) [] range(255, 0, 500, 900, "C"); }
         (0xA5, 0x02, [0x0B]) => { "TMP" (16, 8) [] range(255, 0, 600, 1000, "C"); }
+    }
+}
+
+/// A5-02-10 to A5-02-1B.
+fn over_80_degrees(eep: Eep, bytes: &[u8; 4]) -> Option<Readings>
+    ensures { option_map (λ readings. entries readings.items) result
+        ≡ option_map (entries_of bytes.now) (rows_in spans_of_80_degrees eep) }
+{
+    read_profiles! { eep, bytes, 4;
         (0xA5, 0x02, [0x10]) => { "TMP" (16, 8) [] range(255, 0, -600, 200, "C"); }
         (0xA5, 0x02, [0x11]) => { "TMP" (16, 8) [] range(255, 0, -500, 300, "C"); }
         (0xA5, 0x02, [0x12]) => { "TMP" (16, 8) [] range(255, 0, -400, 400, "C"); }
@@ -38,6 +58,15 @@ pub(crate) fn readings_by(eep: Eep, bytes: &[u8; 4]) -> Option<Readings>
         (0xA5, 0x02, [0x19]) => { "TMP" (16, 8) [] range(255, 0, 300, 1100, "C"); }
         (0xA5, 0x02, [0x1A]) => { "TMP" (16, 8) [] range(255, 0, 400, 1200, "C"); }
         (0xA5, 0x02, [0x1B]) => { "TMP" (16, 8) [] range(255, 0, 500, 1300, "C"); }
+    }
+}
+
+/// A5-02-20 and A5-02-30.
+fn by_10_bits(eep: Eep, bytes: &[u8; 4]) -> Option<Readings>
+    ensures { option_map (λ readings. entries readings.items) result
+        ≡ option_map (entries_of bytes.now) (rows_in of_10_bits_each eep) }
+{
+    read_profiles! { eep, bytes, 4;
         (0xA5, 0x02, [0x20]) => { "TMP" (14, 10) [] range(1023, 0, -100, 412, "C"); }
         (0xA5, 0x02, [0x30]) => { "TMP" (14, 10) [] range(1023, 0, -400, 623, "C"); }
     }
