@@ -4,9 +4,9 @@ ghost use Rattle.erp1_telegrams.specs.Address.{is_base};
 
 use crate::{Order, OrderFault, Quantity, packet_of, parse};
 use arrayvec::ArrayVec;
-use device_registry::Device;
 use erp1_telegrams::{BROADCAST, Eep, Telegram, read, write};
 use esp3_frames::read_packet;
+use learned_devices::Device;
 use std::test::Fail;
 
 const DEVICE: u32 = 0x0180_0ABC;

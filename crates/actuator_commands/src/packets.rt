@@ -9,8 +9,8 @@ ghost use Rattle.actuator_commands.specs.Packets.{metered, order_telegram, sends
 ghost use Rattle.actuator_commands.specs.Packets.{telegram_to_one};
 
 use crate::orders::{Order, OrderFault, Quantity};
-use device_registry::Device;
 use erp1_telegrams::{BROADCAST, Eep, Telegram};
+use learned_devices::Device;
 
 fn is_switch(eep: Eep) -> bool
     ensures { result ≡ is_switch eep }

@@ -8,7 +8,7 @@ use Rattle.std.proofs.lemmas.Cmp.{nat_cmp_total}
 use Rattle.std.proofs.lemmas.Bool.Decides.{nat_tests}
 use Rattle.lru.proofs.Splits.{Contains-nil}
 use Rattle.sqlite.specs.State.{State, HasCleanDisk}
-use Rattle.device_registry.specs.declared.device.Device.{Device}
+use Rattle.learned_devices.specs.declared.Device.{Device}
 use Rattle.device_registry.specs.Devices.{Devices, Learned, Change, changed, entered, device, device_of}
 use Rattle.device_registry.specs.Holding.{HasDevices, Keeps, Commits}
 use Rattle.device_registry.specs.Ready.{IsReady}

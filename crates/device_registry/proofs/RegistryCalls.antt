@@ -9,7 +9,7 @@ use Rattle.std.proofs.Common.{MatchResult, List, map, refl, sym, ap, subst, â—Œâ
 use Rattle.sqlite_trees.specs.Tree.{Trees}
 use Rattle.sqlite.specs.Effect.{Database}
 use Rattle.sqlite.specs.State.{State, HasCleanDisk}
-use Rattle.device_registry.specs.declared.device.Device.{Device}
+use Rattle.learned_devices.specs.declared.Device.{Device}
 use Rattle.device_registry.specs.declared.fault.LearnFault.TheVariants.{Full, Refused}
 use Rattle.device_registry.specs.declared.fault.StoreFault.{StoreFault}
 use Rattle.device_registry.specs.declared.receipt.Receipt.{Receipt}

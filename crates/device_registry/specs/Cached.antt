@@ -1,7 +1,7 @@
 -- What is remembered of looked-up senders.
 use Rattle.std.specs.Prelude.{◌≡◌, ℕ, List, Option, IsTrue, Contains}
 use Rattle.sqlite.specs.State.{State, HasCleanDisk}
-use Rattle.device_registry.specs.declared.device.Device.{Device}
+use Rattle.learned_devices.specs.declared.Device.{Device}
 use Rattle.device_registry.specs.Devices.{Devices, device_of}
 use Rattle.device_registry.specs.Stored.{Registers}
 

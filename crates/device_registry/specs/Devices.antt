@@ -4,7 +4,7 @@ use Rattle.std.specs.Option.{option_map}
 use Rattle.std.specs.Ordering.{nat_cmp}
 use Rattle.std.specs.FinMap.{FinMap, get, insert, remove, len, entries}
 use Rattle.erp1_telegrams.specs.declared.eep.Eep.{Eep}
-use Rattle.device_registry.specs.declared.device.Device.{Device}
+use Rattle.learned_devices.specs.declared.Device.{Device}
 
 -- what is known of a sender: its profile, and its maker where it told one
 pub record Learned : Type 0 where

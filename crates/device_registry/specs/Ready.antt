@@ -7,7 +7,7 @@ use Rattle.sqlite_rules.specs.Lists.{Has}
 use Rattle.sqlite.specs.Order.{Row, column}
 use Rattle.sqlite_trees.specs.Tree.{Trees}
 use Rattle.device_registry.specs.Devices.{Devices, Learned, Change, changed, device}
-use Rattle.device_registry.specs.declared.device.Device.{Device}
+use Rattle.learned_devices.specs.declared.Device.{Device}
 use Rattle.device_registry.specs.Stored.{Registers, Holds, natural, eep_of, maker_in}
 
 -- while the disk is honest and the connection is open, no transaction is open

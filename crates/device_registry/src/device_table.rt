@@ -5,11 +5,11 @@ ghost use Rattle.sqlite.specs.State.{HasCleanDisk};
 ghost use Rattle.device_registry.specs.Holding.{LooksUp, Learns, Forgets, ListsAll, HandsOn};
 ghost use Rattle.device_registry.specs.Ready.{AreReady};
 
-use crate::device::Device;
 use crate::fault::{LearnFault, StoreFault};
 use crate::receipt::Receipt;
 use crate::rows::{all_listed, found};
 use crate::statements::{delete_or_renew, has_no_room, list, look_up, write};
+use learned_devices::Device;
 use sqlite::{Alter, Connection};
 use std::alloc::Global;
 use std::marker::Model;

@@ -1,7 +1,7 @@
 //! Why a call of the registry is refused.
 ghost use Rattle.std.specs.Prelude.{◌≡◌};
 
-use crate::device::Device;
+use learned_devices::Device;
 use sqlite::{Error, ErrorCode};
 use std::alloc::{AllocError, AllocFailed};
 

@@ -6,10 +6,10 @@
 #![tactic(auto)]
 
 mod cache;
-mod device;
 mod device_table;
 mod fault;
 pub mod laws;
+mod limits;
 mod listing;
 mod making;
 mod opening;
@@ -23,8 +23,9 @@ mod taking;
 #[cfg(test)]
 mod tests;
 
-pub use device::{Device, MOST_DEVICES};
 pub use fault::{LearnFault, OpenFault, StoreFault};
+pub use learned_devices::Device;
+pub use limits::MOST_DEVICES;
 pub use opening::prepare;
 pub use receipt::Receipt;
 pub use registry::Registry;

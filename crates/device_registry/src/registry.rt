@@ -4,10 +4,10 @@ ghost use Rattle.sqlite.specs.Held.{state};
 ghost use Rattle.device_registry.specs.Holding.{LooksUp, Learns, Forgets, ListsAll, HandsOn};
 
 use crate::cache::{Cache, cached, forget_entry, remember};
-use crate::device::Device;
 use crate::device_table::DeviceTable;
 use crate::fault::{LearnFault, StoreFault};
 use crate::receipt::Receipt;
+use learned_devices::Device;
 use sqlite::{Alter, Connection};
 use std::marker::Model;
 

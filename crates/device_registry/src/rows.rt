@@ -7,9 +7,9 @@ ghost use Rattle.device_registry.specs.Devices.{Learned, device};
 ghost use Rattle.device_registry.specs.Stored.{natural, eep_of, maker_in};
 ghost use Rattle.device_registry.specs.Ready.{AreFound, listed};
 
-use crate::device::Device;
 use crate::fault::StoreFault;
 use erp1_telegrams::Eep;
+use learned_devices::Device;
 use sqlite::{Error, Row};
 use std::alloc::Global;
 

@@ -11,10 +11,11 @@ ghost use Rattle.device_registry.specs.Stored.{Holds, maker_number, eep_number};
 ghost use Rattle.device_registry.specs.Opening.{Remains};
 ghost use Rattle.device_registry.specs.Ready.{Shows, IsReady, StaysReady, Stays, Turns, KeepsRows, AreFound, listed};
 
-use crate::device::{Device, MOST_DEVICES};
 use crate::fault::StoreFault;
+use crate::limits::MOST_DEVICES;
 use crate::rows::number;
 use erp1_telegrams::Eep;
+use learned_devices::Device;
 use sqlite::{Alter, Connection, Error, Row, Statement, params};
 
 /// A text, compiled, which writes nothing. It is refused on a connection that a failure has shut.

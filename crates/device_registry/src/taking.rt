@@ -10,7 +10,7 @@ ghost use Rattle.sqlite_trees.specs.Objects.{catalog_tree};
 ghost use Rattle.device_registry.specs.Stored.{HasTables, IsWhole, IsRegistry};
 ghost use Rattle.device_registry.specs.Opening.{IsAtRest, Remains, AreListed, IsOwn};
 
-use crate::device::MOST_DEVICES;
+use crate::limits::MOST_DEVICES;
 use crate::listing::{are_ours, devices_rise, is_version};
 use crate::places::trees_in;
 use sqlite::{Alter, Connection, Error, Row};

@@ -5,7 +5,7 @@ use Rattle.std.specs.Prelude.{unwrap_or, is_some, nat_lt, length, if◌then◌el
 use Rattle.esp3_frames.specs.Packet.{Packet, spelling}
 use Rattle.erp1_telegrams.specs.Telegram.{Telegram, telegram_of, sent}
 use Rattle.erp1_telegrams.specs.declared.eep.Eep.{Eep}
-use Rattle.device_registry.specs.declared.device.Device.{Device}
+use Rattle.learned_devices.specs.declared.Device.{Device}
 use Rattle.device_registry.specs.Devices.{device_of, is_full}
 use Rattle.teach_in.specs.Profiles.{supported}
 use Rattle.teach_in.proofs.ForCallers.{either, LearnsByTold, Hears}

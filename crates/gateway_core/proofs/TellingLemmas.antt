@@ -2,7 +2,7 @@
 use Rattle.std.proofs.Common.{◌≡◌, ℕ, List, [], ◌∷◌, Some, Ok, refl, sym, ap, subst, ◌∙◌, append-nil}
 use Rattle.esp3_frames.specs.Packet.{Packet}
 use Rattle.erp1_telegrams.specs.Telegram.{Telegram, telegram_of}
-use Rattle.device_registry.specs.declared.device.Device.{Device}
+use Rattle.learned_devices.specs.declared.Device.{Device}
 use Rattle.device_registry.specs.Devices.{Change, all_of}
 use Rattle.teach_in.specs.declared.outcome.Outcome.{Outcome}
 use Rattle.teach_in.specs.declared.outcome.Outcome.TheVariants.{Accepted, Deleted, Unsupported, General, NoProfile}

@@ -8,7 +8,7 @@ use Rattle.erp1_telegrams.specs.declared.telegram.TelegramFault.{TelegramFault}
 use Rattle.erp1_telegrams.specs.Address.{is_passed_over}
 use Rattle.erp1_telegrams.specs.Telegram.{Telegram, telegram_of, sent}
 use Rattle.profiles_rps.specs.Reading.{Entry}
-use Rattle.device_registry.specs.declared.device.Device.{Device}
+use Rattle.learned_devices.specs.declared.Device.{Device}
 use Rattle.device_registry.specs.Devices.{Devices, device_of, all_of, is_full, Change, learned, forgotten, changed}
 use Rattle.teach_in.specs.declared.mode.Mode.{Mode}
 use Rattle.teach_in.specs.declared.mode.Mode.TheVariants.{Closed, Learn, LearnAnswer, LearnAs}

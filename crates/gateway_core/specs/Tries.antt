@@ -3,7 +3,7 @@ use Rattle.std.specs.Prelude.{◌≡◌, ℕ, Bool, true, false, IsTrue, IsSome,
 use Rattle.sqlite.specs.Held.{Held, state}
 use Rattle.sqlite.specs.State.{HasCleanDisk}
 use Rattle.sqlite_trees.specs.declared.store.Store.{Ghosts}
-use Rattle.device_registry.specs.declared.device.Device.{Device}
+use Rattle.learned_devices.specs.declared.Device.{Device}
 use Rattle.device_registry.specs.Devices.{Devices, Change, is_full, learned, forgotten}
 use Rattle.device_registry.specs.Holding.{HasDevices, AreRegistries, Keeps, Commits, Pends}
 use Rattle.teach_in.specs.declared.mode.Mode.{Mode}

@@ -14,7 +14,5 @@ pub mod ReadLemmas
 pub mod TurnLemmas
 pub mod WiresLemmas
 pub mod ReplayedLemmas
-pub mod RequiredLemmas
-pub mod CommandLemmas
 pub mod StartLemmas
 pub mod LifeLemmas

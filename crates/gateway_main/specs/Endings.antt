@@ -7,8 +7,8 @@ use Rattle.clap.specs.declared.error.Error.{Error}
 use Rattle.clap.specs.declared.error.ErrorKind.{ErrorKind}
 use Rattle.clap.specs.declared.error.ErrorKind.TheVariants.{DisplayHelp, DisplayVersion, OutOfMemory}
 use Rattle.sqlite.specs.declared.error.Error.{Error as StoreError}
-use Rattle.gateway_main.specs.declared.command_line.Refused.{Refused}
-use Rattle.gateway_main.specs.declared.command_line.Refused.TheVariants as refused
+use Rattle.arguments.specs.declared.Refused.{Refused}
+use Rattle.arguments.specs.declared.Refused.TheVariants as refused
 use Rattle.gateway_main.specs.declared.ending.Ending.{Ending}
 use Rattle.gateway_main.specs.declared.ending.Ending.TheVariants.{Failed, NotText, BadBase, Said}
 use Rattle.gateway_main.specs.declared.fault.Fault.{Fault}

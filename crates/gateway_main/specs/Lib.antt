@@ -12,9 +12,7 @@ pub mod Taking
 pub mod Bytes
 pub mod Turns
 pub mod Reads
-pub mod Bases
 pub mod Faults
 pub mod Endings
-pub mod CommandLine
 pub mod Started
 pub mod Lived

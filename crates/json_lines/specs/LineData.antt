@@ -10,7 +10,7 @@ use Rattle.serde_json.specs.Sent.{IsTextOf}
 use Rattle.serde_json.specs.View.{items_of}
 use Rattle.erp1_telegrams.specs.declared.eep.Eep.{Eep}
 use Rattle.profiles_rps.specs.Reading.{Meaning, value, word, raw, out_of_range, Entry}
-use Rattle.device_registry.specs.declared.device.Device.{Device}
+use Rattle.learned_devices.specs.declared.Device.{Device}
 use Rattle.teach_in.specs.declared.mode.Mode.{Mode}
 use Rattle.json_lines.specs.declared.counts.Counts.{Counts}
 use Rattle.json_lines.specs.Lines.{ReadingLine, TeachLine}

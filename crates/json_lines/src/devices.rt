@@ -7,7 +7,7 @@ ghost use Rattle.json_lines.specs.LineData.{device_members, list_members, object
 
 use crate::line::{Line, line_of};
 use crate::parts::{put_id, put_maker, put_profile};
-use device_registry::Device;
+use learned_devices::Device;
 use serde::{Described, Serialize, Serializer};
 use std::alloc::{AllocError, Global};
 

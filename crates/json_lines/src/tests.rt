@@ -2,9 +2,9 @@
 use crate::{
     Count, Counts, ErrorName, device_lines, done_line, reading_line, response_line, status_line,
 };
-use device_registry::Device;
 use erp1_telegrams::{BROADCAST, Eep, Telegram};
 use exact_values::{over, scale};
+use learned_devices::Device;
 use profiles_rps::{Reading, Readings, What};
 use std::process::Abort;
 use std::test::Fail;

@@ -1,6 +1,6 @@
 //! What may be planned about a sender.
 use crate::outcome::Outcome;
-use device_registry::Device;
+use learned_devices::Device;
 
 /// What is planned about the sender of a telegram, before anything is done.
 #[derive(Clone, Copy, Debug, PartialEq, Eq)]

@@ -10,8 +10,8 @@ use crate::profiles::supported;
 use crate::telegrams::{Teach, bytes_of, classify};
 use crate::ute::{DELETION, NOT_USED, UteQuery};
 use bit_fields::get;
-use device_registry::Device;
 use erp1_telegrams::{Eep, Telegram};
+use learned_devices::Device;
 
 /// The profile of a contact, which its teach-in does not tell (EnOcean Equipment Profiles 2.6, "1BS Telegram").
 const CONTACT: Eep = Eep {

@@ -1,7 +1,7 @@
 //! A sender, its telegrams and what is planned about it, which the tests share.
 use crate::{Mode, Plan, Teach, classify, plan};
-use device_registry::Device;
 use erp1_telegrams::{BROADCAST, Eep, Telegram};
+use learned_devices::Device;
 use std::test::Fail;
 
 pub const SENDER: u32 = 0x0180_0ABC;

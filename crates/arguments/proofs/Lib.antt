@@ -1,0 +1,2 @@
+pub mod RequiredLemmas
+pub mod CommandLemmas
