@@ -1,3 +1,4 @@
+use Rattle.std.proofs.Common.{rules}
 use Rattle.json_lines.specs.Lines.{TeachLine}
 use Rattle.json_lines.proofs.LineTexts.{teach_told}
 use Rattle.json_lines.proofs.teach.teach_line.Goals as goal
@@ -11,3 +12,6 @@ returns-clause-line c =
       outcome = c.args.outcome;
     } in
     teach_told line c.in_ok-line.line c.in_ok-line.ensures
+
+pub returns-clause-outcome : goal.returns-clause-outcome
+returns-clause-outcome c = search rules

@@ -1,0 +1,20 @@
+use Rattle.std.proofs.Common.{rules}
+use Rattle.actuator_commands.proofs.orders.is_in_range.Goals as goal
+
+pub returns-then-channel-le-LAST_CHANNEL : goal.returns-then-channel-le-LAST_CHANNEL
+returns-then-channel-le-LAST_CHANNEL c = search rules
+
+pub returns-then-id-3 : goal.returns-then-id-3
+returns-then-id-3 c = search rules
+
+pub returns-then-value-le-MOST_VALUE : goal.returns-then-value-le-MOST_VALUE
+returns-then-value-le-MOST_VALUE c = search rules
+
+pub returns-in-Central : goal.returns-in-Central
+returns-in-Central c = search rules
+
+pub returns-in-Add : goal.returns-in-Add
+returns-in-Add c = search rules
+
+pub returns-then-id-2 : goal.returns-then-id-2
+returns-then-id-2 c = search rules
