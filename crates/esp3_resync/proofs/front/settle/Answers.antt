@@ -1,3 +1,4 @@
+use Rattle.std.proofs.Common.{rules}
 use Rattle.std.proofs.Common.{◌≡◌, subst, ◌∙◌}
 use Rattle.esp3_frames.specs.Frames.{front_of}
 use Rattle.esp3_frames.specs.Frames.Front.{Never}
@@ -25,3 +26,6 @@ loop-found-preserved c = record {
       (never (goal.at.loop-found-preserved c).In-Refused) c.skip_to_sync.ensures).0 ∙ c.loop-found.invariant.same;
   found = c.front-found-in-Refused.ensures;
 }
+
+pub returns-in-Announced : goal.returns-in-Announced
+returns-in-Announced c = search rules

@@ -1,3 +1,4 @@
+use Rattle.std.proofs.Common.{rules}
 use Rattle.std.proofs.Common.{◌≡◌, true, List, Option, Some, None, Ok, Err, option_map, refl, sym, ap, ◌∙◌}
 use Rattle.std.specs.Prelude.{is_some, Result}
 use Rattle.std.specs.Option.{ok_or, option_map_or}
@@ -40,3 +41,6 @@ pub returns-in-Err : goal.returns-in-Err
 returns-in-Err c =
     refuse (λ rows. read_by c.args.eep.rorg rows c.args.telegram.now) c.in-Err.refusal (rows_of c.args.eep)
     c.in-Err.ensures (sym c.supports.ensures ∙ c.if-supports.true)
+
+pub returns-in-Err-2 : goal.returns-in-Err-2
+returns-in-Err-2 c = search rules

@@ -1,3 +1,4 @@
+use Rattle.std.proofs.Common.{rules}
 use Rattle.std.proofs.Common.{◌≡◌, [], ◌∷◌, ◌++◌, length, sym, ap, ◌∙◌}
 use Rattle.std.proofs.lemmas.Bool.{eqb-true}
 use Rattle.std.proofs.lemmas.List.{nil_from_length}
@@ -35,3 +36,9 @@ returns-in-None c =
     c.settle-self-inside.ensures.frames
     ∙ frames_of_more c.self.inside.window c.push.new.self c.args.self.now c.args.b c.self.invariant.front c.self.view_is
     c.requires c.push.ensures
+
+pub invariant_of-self : goal.invariant_of-self
+invariant_of-self c = search rules
+
+pub settle_behind-self-inside-requires : goal.settle_behind-self-inside-requires
+settle_behind-self-inside-requires c = search rules

@@ -1,3 +1,4 @@
+use Rattle.std.proofs.Common.{rules}
 use Rattle.std.proofs.Common.{◌≡◌, ℕ, ◌+◌, List, ◌∷◌, length, take, drop, refl, sym, ap, ◌∙◌, arith, length-take}
 use Rattle.std.proofs.Common.{length-drop}
 use Rattle.std.specs.Prelude.{Option, Some, None}
@@ -97,3 +98,6 @@ returns-clause-taken c =
       sym (ap ready c.self.view_is) ∙ ap ready here ∙ ap (λ (ps : List Packet). p ∷ ps) (sym (ap ready behind)),
       ap rest behind ∙ sym (ap rest here) ∙ ap rest c.self.view_is,
     )
+
+pub invariant_of-self : goal.invariant_of-self
+invariant_of-self c = search rules
