@@ -11,7 +11,7 @@ use std::io;
 
 /// Why the program ends without having done to its end what it was asked.
 #[derive(Debug, Drop)]
-pub(crate) enum Ending {
+pub enum Ending {
     /// A fault ended it.
     Failed(Fault),
     /// An argument is not text.
@@ -49,7 +49,7 @@ impl From<Refused> for Ending {
 }
 
 /// The ending where the program's arguments cannot be had.
-pub(crate) fn without_arguments(error: &io::Error) -> Ending
+pub fn without_arguments(error: &io::Error) -> Ending
     ensures { result ≡ ending_of_arguments (error_kind error.now) }
 {
     match error.kind() {
@@ -59,10 +59,10 @@ pub(crate) fn without_arguments(error: &io::Error) -> Ending
 }
 
 /// What the gateway did: what its run came to, or the fault for which it never ran.
-pub(crate) type Served = Result<Result<Summary, RunFault>, Fault>;
+pub type Served = Result<Result<Summary, RunFault>, Fault>;
 
 /// What the gateway's work and the close of its database come to: a fault of the work is told before one of the close.
-pub(crate) fn done(served: Served, closed: Result<(), sqlite::Error>) -> Result<(), Fault>
+pub fn done(served: Served, closed: Result<(), sqlite::Error>) -> Result<(), Fault>
     ensures { result ≡ done_of served closed }
 {
     served??;
@@ -70,7 +70,7 @@ pub(crate) fn done(served: Served, closed: Result<(), sqlite::Error>) -> Result<
 }
 
 /// The status that the program ends with.
-pub(crate) fn status(ended: &Result<(), Ending>) -> u8
+pub fn status(ended: &Result<(), Ending>) -> u8
     ensures { result ≡ status_of ended.now }
 {
     match ended {

@@ -2,22 +2,12 @@
 //! `enogate`.
 #![tactic(auto)]
 
-#[cfg(test)]
-mod cache_tests;
 pub mod command_line;
-#[cfg(test)]
-mod cut_tests;
-mod ending;
-#[cfg(test)]
-mod ending_tests;
+pub mod ending;
 mod engine;
 pub mod fault;
-#[cfg(test)]
-mod gateway_tests;
 pub mod laws;
 mod lines;
-#[cfg(test)]
-mod live_tests;
 mod living;
 mod outlet;
 mod player;
@@ -29,8 +19,6 @@ mod sink;
 mod source;
 mod starting;
 mod tally;
-#[cfg(test)]
-mod tests;
 mod unended;
 mod wires;
 mod writing;

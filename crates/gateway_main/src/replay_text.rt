@@ -47,6 +47,3 @@ fn write_piece<W: Sink>(writer: &mut W, bytes: &[u8]) -> Result<(), Failed>
     write_text(writer, digits)?;
     write_text(writer, b"\n")
 }
-
-#[cfg(test)]
-mod tests;

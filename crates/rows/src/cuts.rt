@@ -1,8 +1,9 @@
 //! Streams that are made up, each cut in three ways: whatever the cuts, the same is written.
-use crate::{OverRead, OverWrite, replay, start};
-use sqlite::Connection;
+use crate::gateways::replay_new;
+use crate::telling::Telling;
+use anyhow::Result;
+use gateway_main::{OverRead, OverWrite};
 use std::alloc::Global;
-use std::test::Fail;
 
 /// A contact telegram of the device that each script learns first.
 const CONTACT: [u8; 21] = [
@@ -19,6 +20,12 @@ const RESPONSE: [u8; 12] = [
 const FALSE_HEADER: [u8; 6] = [0x55, 0x00, 0x3F, 0x00, 0x01, 0xA1];
 
 const FIRST: &[u8] = b"add 01800ABC D5-00-01\n";
+
+/// More reads than any script takes.
+const TURNS: u64 = 1000;
+
+/// How many streams are made up.
+const STREAMS: u32 = 1000;
 
 /// Numbers without a pattern: a linear congruential generator.
 #[derive(Drop)]
@@ -37,7 +44,7 @@ impl Chance {
 }
 
 // Eight parts, each a packet, a false header, a first part of a packet, or noise.
-fn stream(alloc: Global, chance: &mut Chance) -> Result<Vec<u8>, Fail> {
+fn stream(alloc: Global, chance: &mut Chance) -> Result<Vec<u8>> {
     let mut bytes = Vec::new(alloc);
     for _ in 0..8 {
         match chance.next() % 6 {
@@ -56,7 +63,7 @@ fn stream(alloc: Global, chance: &mut Chance) -> Result<Vec<u8>, Fail> {
 }
 
 // Puts a piece of serial bytes behind a script.
-fn add_piece(script: &mut Vec<u8>, piece: &[u8]) -> Result<(), Fail> {
+fn add_piece(script: &mut Vec<u8>, piece: &[u8]) -> Result<()> {
     const DIGITS: &[u8; 16] = b"0123456789ABCDEF";
     script.extend_from_slice(b"S ")?;
     for byte in piece {
@@ -69,12 +76,7 @@ fn add_piece(script: &mut Vec<u8>, piece: &[u8]) -> Result<(), Fail> {
 
 // The script of a stream: one device is learned, then the pieces come, and then the counts are told. A longest piece
 // of 0 bytes leaves the lengths to chance.
-fn script(
-    alloc: Global,
-    bytes: &[u8],
-    longest: usize,
-    chance: &mut Chance,
-) -> Result<Vec<u8>, Fail> {
+fn script(alloc: Global, bytes: &[u8], longest: usize, chance: &mut Chance) -> Result<Vec<u8>> {
     let mut script = Vec::new(alloc);
     script.extend_from_slice(FIRST)?;
     let mut rest = bytes;
@@ -93,45 +95,44 @@ fn script(
     Ok(script)
 }
 
-// What is written for a script.
-fn written(alloc: Global, script: &[u8]) -> Result<Vec<u8>, Fail> {
-    let mut gateway = start(alloc, Connection::open_in_memory(alloc)?, 0xFF80_0000)?;
+/// What is written for a stream that is cut so, or nothing where the replay does not end well.
+fn written(alloc: Global, bytes: &[u8], longest: usize, chance: &mut Chance) -> Result<Vec<u8>> {
+    let script = script(alloc, bytes, longest, chance)?;
     let mut out = Vec::new(alloc);
-    let mut reader = OverRead::new(script);
-    replay(
-        &mut reader,
-        &mut OverWrite::new(&mut out),
-        &mut gateway,
-        1000,
-    )?;
+    let mut reader = OverRead::new(script.as_slice());
+    let done = replay_new(alloc, &mut reader, &mut OverWrite::new(&mut out), TURNS)?;
+    if done.is_err() {
+        out.clear();
+    }
     Ok(out)
 }
 
-#[test]
-fn cuts_do_not_matter(rt: HostRuntime) -> Result<(), Fail> {
-    let alloc = rt.alloc();
+/// What is written for the next stream, whole. None: other cuts change it.
+fn written_for_any_cut(alloc: Global, chance: &mut Chance) -> Result<Option<Vec<u8>>> {
+    let bytes = stream(alloc, chance)?;
+    let whole = written(alloc, bytes.as_slice(), 99, chance)?;
+    let single = written(alloc, bytes.as_slice(), 1, chance)?;
+    let mixed = written(alloc, bytes.as_slice(), 0, chance)?;
+    let is_same = single.as_slice() == whole.as_slice() && mixed.as_slice() == whole.as_slice();
+    Ok(is_same.then_some(whole))
+}
+
+/// Of a hundred streams and more a packet is read.
+pub fn tell(rt: &HostRuntime, telling: &mut Telling) -> Result<()> {
     let mut chance = Chance { state: 2026 };
+    let mut same = 0u32;
     let mut told = 0u32;
-    for _ in 0..1000 {
-        let bytes = stream(alloc, &mut chance)?;
-        let whole = written(
-            alloc,
-            script(alloc, bytes.as_slice(), 99, &mut chance)?.as_slice(),
-        )?;
-        let single = written(
-            alloc,
-            script(alloc, bytes.as_slice(), 1, &mut chance)?.as_slice(),
-        )?;
-        let mixed = written(
-            alloc,
-            script(alloc, bytes.as_slice(), 0, &mut chance)?.as_slice(),
-        )?;
-        assert_eq!(rt; single.as_slice(), whole.as_slice());
-        assert_eq!(rt; mixed.as_slice(), whole.as_slice());
-        if whole.len() > 300 {
-            told = told.saturating_add(1);
+    for _ in 0..STREAMS {
+        if let Some(text) = written_for_any_cut(rt.alloc(), &mut chance)? {
+            same = same.saturating_add(1);
+            if text.len() > 300 {
+                told = told.saturating_add(1);
+            }
         }
     }
-    assert!(rt; told > 100);
-    Ok(())
+    telling.tell(
+        rt,
+        "a thousand streams, each cut in three ways",
+        same == STREAMS && told > 100,
+    )
 }

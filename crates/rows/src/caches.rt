@@ -1,0 +1,58 @@
+//! Rows over registries that remember few senders and many: the same is written.
+ghost use Rattle.std.specs.Prelude.{◌≤◌};
+
+use crate::scripts::row;
+use crate::telling::Telling;
+use anyhow::Result;
+use device_registry::Registry;
+use gateway_core::Gateway;
+use gateway_main::{OverRead, OverWrite, replay};
+use sqlite::{Alter, Connection};
+use std::alloc::Global;
+
+/// More reads than these rows take.
+const TURNS: u64 = 1000;
+
+pub fn tell(rt: &HostRuntime, telling: &mut Telling) -> Result<()> {
+    for name in ["two-hundred-contacts", "contact-learned-and-forgotten"] {
+        tell_of(rt, telling, name, 1)?;
+        tell_of(rt, telling, name, 64)?;
+        tell_of(rt, telling, name, 1024)?;
+    }
+    Ok(())
+}
+
+fn tell_of(rt: &HostRuntime, telling: &mut Telling, name: &str, cache: usize) -> Result<()>
+    requires { (1 ≤ cache) × (cache ≤ 1024) }
+{
+    let alloc = rt.alloc();
+    let (script, wanted) = row(rt, name)?;
+    let conn = Connection::open_in_memory(alloc)?;
+    let Ok(registry) = Registry::open_with(alloc, conn, cache) else {
+        return telling.tell(rt, name, false);
+    };
+    let is_well = is_written(alloc, registry, script.as_slice(), wanted.as_slice());
+    let title = format!(in alloc; "{name} with a cache of {cache}")?;
+    telling.tell(rt, title.as_str(), is_well)
+}
+
+/// Whether this is what is written for a script over this registry.
+fn is_written<S: Alter + Drop>(
+    alloc: Global,
+    registry: Registry<S>,
+    script: &[u8],
+    wanted: &[u8],
+) -> bool {
+    let Ok(mut gateway) = Gateway::new(alloc, registry, 0xFF80_0000) else {
+        return false;
+    };
+    let mut written = Vec::new(alloc);
+    let mut reader = OverRead::new(script);
+    let done = replay(
+        &mut reader,
+        &mut OverWrite::new(&mut written),
+        &mut gateway,
+        TURNS,
+    );
+    done.is_ok() && written.as_slice() == wanted
+}

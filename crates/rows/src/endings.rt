@@ -1,0 +1,153 @@
+//! The statuses that the program ends with, and what it says of a fault.
+use crate::telling::Telling;
+use anyhow::Result;
+use gateway_main::command_line::{Refused, read};
+use gateway_main::ending::{Ending, done, status, without_arguments};
+use gateway_main::fault::Fault;
+use gateway_main::{RunFault, Summary};
+use std::alloc::{AllocError, Global};
+use std::io;
+
+pub fn tell(rt: &HostRuntime, telling: &mut Telling) -> Result<()> {
+    tell_faults(rt, telling)?;
+    tell_statuses(rt, telling)?;
+    tell_command_lines(rt, telling)?;
+    tell_closes(rt, telling)
+}
+
+// Each fault has its text, and the status 1.
+fn tell_faults(rt: &HostRuntime, telling: &mut Telling) -> Result<()> {
+    for (fault, text) in [
+        (Fault::NotARegistry, "not a registry"),
+        (Fault::Store, "store"),
+        (Fault::Memory, "memory"),
+        (Fault::CannotOpen, "cannot open"),
+        (Fault::from(RunFault::Read), "read"),
+        (Fault::from(RunFault::Write), "write"),
+        (Fault::from(RunFault::TooManyTurns), "too many turns"),
+    ] {
+        let is_well = fault.to_string(rt.alloc())?.as_str() == text
+            && status(&Err(Ending::from(fault))) == 1;
+        let name = format!(in rt.alloc(); "the fault: {text}")?;
+        telling.tell(rt, name.as_str(), is_well)?;
+    }
+    Ok(())
+}
+
+fn tell_statuses(rt: &HostRuntime, telling: &mut Telling) -> Result<()> {
+    let not_text = io::Error::from(io::ErrorKind::InvalidData);
+    let no_memory = io::Error::from(AllocError);
+    for (name, ended, wanted) in [
+        ("an end with no fault", Ok(()), 0),
+        ("a bad base", Err(Ending::from(Refused::BadBase)), 2),
+        (
+            "no memory for the line",
+            Err(Ending::from(Refused::from(AllocError))),
+            1,
+        ),
+        (
+            "an argument that is no text",
+            Err(without_arguments(&not_text)),
+            2,
+        ),
+        (
+            "no memory for the arguments",
+            Err(without_arguments(&no_memory)),
+            1,
+        ),
+    ] {
+        telling.tell(rt, name, status(&ended) == wanted)?;
+    }
+    Ok(())
+}
+
+/// Command lines that are not run, and the status of each.
+const LINES: &str = "\
+0 enogate --help
+0 enogate replay -h
+0 enogate help replay
+0 enogate --version
+0 enogate -V
+2 enogate replay --version
+2 enogate
+2 enogate replay
+2 enogate replay --base
+2 enogate replay --base 1
+2 enogate help play
+0 enogate live --help
+0 enogate help live
+2 enogate live
+2 enogate live --base 1 --serial s --desk d --out o --turns 1
+2 enogate live --base FF800000 --serial s --desk d --out o --turns 0";
+
+fn tell_command_lines(rt: &HostRuntime, telling: &mut Telling) -> Result<()> {
+    for case in LINES.lines() {
+        let is_well = match case.split_once(' ') {
+            Some((wanted, line)) => status_of_line(rt.alloc(), line)? == wanted.parse().ok(),
+            None => false,
+        };
+        telling.tell(rt, case, is_well)?;
+    }
+    Ok(())
+}
+
+/// The status for a command line that is not run.
+fn status_of_line(alloc: Global, line: &str) -> Result<Option<u8>> {
+    let mut words = Vec::new(alloc);
+    for word in line.split(' ') {
+        words.push(word.to_string(alloc)?)?;
+    }
+    match read(alloc, words.as_slice()) {
+        Ok(_) => Ok(None),
+        Err(why) => Ok(Some(status(&Err(Ending::from(why))))),
+    }
+}
+
+// A path that does not open is told before the close, and so is what a run came to.
+fn tell_closes(rt: &HostRuntime, telling: &mut Telling) -> Result<()> {
+    let summary = Summary { items: 2 };
+    let refused = sqlite::Error::SqliteFailure(sqlite::ErrorCode::TransactionState);
+    let no_memory = sqlite::Error::SqliteFailure(sqlite::ErrorCode::OutOfMemory);
+    for (name, served, closed, wanted) in [
+        ("all well", Ok(Ok(summary)), Ok(()), Ok(())),
+        (
+            "a run's fault",
+            Ok(Err(RunFault::TooManyTurns)),
+            Ok(()),
+            Err(Fault::TooManyTurns),
+        ),
+        (
+            "no path",
+            Err(Fault::CannotOpen),
+            Ok(()),
+            Err(Fault::CannotOpen),
+        ),
+        (
+            "a close that is refused",
+            Ok(Ok(summary)),
+            Err(refused),
+            Err(Fault::Store),
+        ),
+        (
+            "a close with no memory",
+            Ok(Ok(summary)),
+            Err(no_memory),
+            Err(Fault::Memory),
+        ),
+        (
+            "a run's fault and a close",
+            Ok(Err(RunFault::Read)),
+            Err(refused),
+            Err(Fault::Read),
+        ),
+        (
+            "no path and a close",
+            Err(Fault::CannotOpen),
+            Err(refused),
+            Err(Fault::CannotOpen),
+        ),
+    ] {
+        telling.tell(rt, name, done(served, closed) == wanted)?;
+    }
+    Ok(())
+}

@@ -1,0 +1,89 @@
+//! Readers and writers that fail, or take less than they are given.
+use std::io;
+use std::io::{Read, Write};
+
+fn failed() -> io::Error {
+    io::Error::from(io::ErrorKind::Other)
+}
+
+/// A reader that gives one part at each read, then nothing, and fails where it is not given room for just 256 bytes, or
+/// at the read of one number, the first being 1.
+#[derive(Drop)]
+pub struct Parts<'a> {
+    parts: &'a [&'a [u8]],
+    reads: usize,
+    fails_at: usize,
+}
+
+impl<'a> Parts<'a> {
+    pub fn new(parts: &'a [&'a [u8]], fails_at: usize) -> Parts<'a> {
+        Parts {
+            parts,
+            reads: 0,
+            fails_at,
+        }
+    }
+}
+
+impl<'a> Read for Parts<'a> {
+    fn read(&mut self, buffer: &mut [u8]) -> io::Result<usize> {
+        self.reads = self.reads.saturating_add(1);
+        if self.reads == self.fails_at || buffer.len() != 256 {
+            return Err(failed());
+        }
+        let Some(part) = self.parts.first() else {
+            return Ok(0);
+        };
+        let mut part = *part;
+        self.parts = &self.parts[1..];
+        part.read(buffer)
+    }
+}
+
+/// A writer that takes so many bytes at a call, and fails from the call of one number on, the first being 1.
+#[derive(Drop)]
+pub struct Sips<'a> {
+    taken: &'a mut Vec<u8>,
+    most: usize,
+    writes: usize,
+    fails_at: usize,
+}
+
+impl<'a> Sips<'a> {
+    pub fn new(taken: &'a mut Vec<u8>, most: usize, fails_at: usize) -> Sips<'a> {
+        Sips {
+            taken,
+            most,
+            writes: 0,
+            fails_at,
+        }
+    }
+}
+
+impl<'a> Write for Sips<'a> {
+    fn write(&mut self, text: &[u8]) -> io::Result<usize> {
+        self.writes = self.writes.saturating_add(1);
+        if self.writes >= self.fails_at {
+            return Err(failed());
+        }
+        self.taken.write(&text[..text.len().min(self.most)])
+    }
+
+    fn flush(&mut self) -> io::Result<()> {
+        Ok(())
+    }
+}
+
+/// A writer that takes nothing.
+#[derive(Drop)]
+pub struct TakesNothing;
+
+impl Write for TakesNothing {
+    fn write(&mut self, _text: &[u8]) -> io::Result<usize> {
+        Ok(0)
+    }
+
+    fn flush(&mut self) -> io::Result<()> {
+        Ok(())
+    }
+}

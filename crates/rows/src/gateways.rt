@@ -1,0 +1,94 @@
+//! New gateways over databases in memory, and one over what another has learned.
+use crate::telling::Telling;
+use anyhow::Result;
+use device_registry::Registry;
+use gateway_core::{Gateway, Reply, StartFault};
+use gateway_main::fault::Fault;
+use gateway_main::{RunFault, Sink, Source, Summary, live, replay, start};
+use sqlite::{Alter, Connection};
+use std::alloc::Global;
+
+/// The base ID of the radio module in every case.
+pub const BASE: u32 = 0xFF80_0000;
+
+/// Replays a script by a new gateway.
+pub fn replay_new<R: Source, W: Sink>(
+    alloc: Global,
+    reader: &mut R,
+    writer: &mut W,
+    turns: u64,
+) -> Result<Result<Summary, RunFault>, Fault> {
+    let conn = Connection::open_in_memory(alloc)?;
+    let mut gateway = start(alloc, conn, BASE)?;
+    Ok(replay(reader, writer, &mut gateway, turns))
+}
+
+/// Serves a serial line and a desk by a new gateway.
+pub fn serve_new<P: Source, Q: Source, R: Sink, D: Sink>(
+    alloc: Global,
+    serial: (&mut P, &mut R),
+    desk: (&mut Q, &mut D),
+    turns: u64,
+) -> Result<Result<Summary, RunFault>, Fault> {
+    let conn = Connection::open_in_memory(alloc)?;
+    let mut gateway = start(alloc, conn, BASE)?;
+    let (serial_in, serial_out) = serial;
+    let (desk_in, desk_out) = desk;
+    Ok(live(
+        serial_in,
+        desk_in,
+        serial_out,
+        desk_out,
+        &mut gateway,
+        turns,
+    ))
+}
+
+pub fn tell(rt: &HostRuntime, telling: &mut Telling) -> Result<()> {
+    telling.tell(rt, "a base ID that is none", is_no_base(rt.alloc())?)?;
+    let is_found = finds_what_was_learned_before(rt.alloc())?;
+    telling.tell(rt, "what was learned before", is_found)
+}
+
+fn is_no_base(alloc: Global) -> Result<bool> {
+    let Ok(registry) = Registry::open(alloc, Connection::open_in_memory(alloc)?) else {
+        return Ok(false);
+    };
+    Ok(Gateway::new(alloc, registry, 0xFF80_0001).err() == Some(StartFault::BadBase))
+}
+
+const ACCEPTED: &[u8] =
+    b"{\"eep\":\"D5-00-01\",\"id\":\"01800ABC\",\"maker\":null,\"result\":\"accepted\",\"type\":\"teach\"}\n";
+
+const SECOND_ACCEPTED: &[u8] =
+    b"{\"eep\":\"D5-00-01\",\"id\":\"00000001\",\"maker\":null,\"result\":\"accepted\",\"type\":\"teach\"}\n";
+
+const BOTH_LISTED: &[u8] =
+    b"{\"eep\":\"D5-00-01\",\"id\":\"00000001\",\"maker\":null,\"type\":\"device\"}\n\
+    {\"eep\":\"D5-00-01\",\"id\":\"01800ABC\",\"maker\":null,\"type\":\"device\"}\n\
+    {\"count\":2,\"type\":\"list\"}\n";
+
+/// Whether a gateway lists what another learned over the same database.
+fn finds_what_was_learned_before(alloc: Global) -> Result<bool> {
+    let Ok(first) = start(alloc, Connection::open_in_memory(alloc)?, BASE) else {
+        return Ok(false);
+    };
+    Ok(lists_what_it_learned(alloc, first))
+}
+
+fn lists_what_it_learned<S: Alter + Drop>(alloc: Global, first: Gateway<S>) -> bool {
+    let mut first = first;
+    let is_learned = tells(&first.order(b"add 01800ABC D5-00-01"), ACCEPTED)
+        && tells(&first.order(b"add 00000001 D5-00-01"), SECOND_ACCEPTED);
+    let Ok(registry) = Registry::open(alloc, first.close()) else {
+        return false;
+    };
+    match Gateway::new(alloc, registry, BASE) {
+        Ok(mut second) => is_learned && tells(&second.order(b"list"), BOTH_LISTED),
+        Err(_) => false,
+    }
+}
+
+fn tells(reply: &Reply, text: &[u8]) -> bool {
+    reply.radio.is_none() && reply.desk.as_bytes() == text
+}

@@ -1,0 +1,325 @@
+//! Serial lines and desks that are served in turns: what goes where, and what stands where after each fault.
+use crate::fakes::{Parts, Sips, TakesNothing};
+use crate::gateways::{BASE, serve_new};
+use crate::telling::Telling;
+use anyhow::{Result, bail};
+use gateway_core::Gateway;
+use gateway_main::{OverRead, OverWrite, RunFault, Summary, live, start};
+use sqlite::{Alter, Connection};
+use std::alloc::Global;
+
+const OK: &[u8] = b"{\"type\":\"ok\"}\n";
+
+const SYNTAX: &[u8] = b"{\"error\":\"syntax\",\"type\":\"error\"}\n";
+
+const TOO_LONG: &[u8] = b"{\"error\":\"too_long\",\"type\":\"error\"}\n";
+
+const STATUS: &[u8] =
+    b"{\"ignored\":1,\"mode\":\"closed\",\"readings\":0,\"refused\":0,\"responses\":0,\"teach\":0,\
+    \"type\":\"status\"}\n";
+
+/// A contact telegram, what is told where it is learned, and its reading.
+const CONTACT: &[u8] =
+    b"\x55\x00\x07\x07\x01\x7A\xD5\x09\x01\x80\x0A\xBC\x00\x01\xFF\xFF\xFF\xFF\x2D\x00\x1F";
+
+const KNOWN: &[u8] =
+    b"{\"eep\":\"D5-00-01\",\"id\":\"01800ABC\",\"maker\":null,\"result\":\"accepted\",\"type\":\"teach\"}\n";
+
+const READING: &[u8] = b"{\"dbm\":-45,\"eep\":\"D5-00-01\",\"id\":\"01800ABC\",\
+    \"readings\":[{\"name\":\"CO\",\"word\":\"closed\"}],\"type\":\"reading\"}\n";
+
+/// A query of universal teach-in, the reply to it, and what the desk is told.
+const QUERY: &[u8] =
+    b"\x55\x00\x0D\x07\x01\xFD\xD4\xA0\x01\x46\x00\x12\x01\xD2\x01\x80\x0A\xBC\x00\x01\
+    \xFF\xFF\xFF\xFF\x2D\x00\x8A";
+
+const REPLY: &[u8] =
+    b"\x55\x00\x0D\x07\x01\xFD\xD4\x91\x01\x46\x00\x12\x01\xD2\xFF\x80\x00\x00\x00\x03\
+    \x01\x80\x0A\xBC\xFF\x00\xF3";
+
+const TAUGHT: &[u8] =
+    b"{\"eep\":\"D2-01-12\",\"id\":\"01800ABC\",\"maker\":70,\"result\":\"accepted\",\"type\":\"teach\"}\n";
+
+/// The question for the base ID.
+const BASE_QUESTION: &[u8] = b"\x55\x00\x01\x00\x05\x70\x08\x38";
+
+/// No call of a writer fails.
+const NEVER: usize = usize::MAX;
+
+pub fn tell(rt: &HostRuntime, telling: &mut Telling) -> Result<()> {
+    tell_order_of_sides(rt, telling)?;
+    tell_both_outputs(rt, telling)?;
+    tell_lines(rt, telling)?;
+    tell_lengths(rt, telling)?;
+    tell_reads_that_fail(rt, telling)?;
+    tell_writes_that_fail(rt, telling)?;
+    tell_writers_that_take_nothing(rt, telling)
+}
+
+/// How a gateway served some turns, and what went out.
+#[derive(Drop)]
+struct Served {
+    ended: Result<Summary, RunFault>,
+    radio: Vec<u8>,
+    desk: Vec<u8>,
+}
+
+impl Served {
+    /// Whether it ended so, with these bytes on each side.
+    fn is(&self, ended: Result<Summary, RunFault>, radio: &[&[u8]], desk: &[&[u8]]) -> bool {
+        self.ended == ended && is_all(&self.radio, radio) && is_all(&self.desk, desk)
+    }
+}
+
+/// Whether the bytes are these parts, one behind the other.
+fn is_all(bytes: &Vec<u8>, parts: &[&[u8]]) -> bool {
+    let mut rest = bytes.as_slice();
+    for part in parts {
+        match rest.strip_prefix(*part) {
+            Some(behind) => rest = behind,
+            None => return false,
+        }
+    }
+    rest.is_empty()
+}
+
+/// Serves turns with writers that take seven bytes at a call and fail at these calls.
+fn serve(
+    alloc: Global,
+    serial: Parts<'_>,
+    desk: Parts<'_>,
+    turns: u64,
+    fails_at: (usize, usize),
+) -> Result<Served> {
+    let (radio_fails_at, desk_fails_at) = fails_at;
+    let mut radio = Vec::new(alloc);
+    let mut told = Vec::new(alloc);
+    let mut radio_out = OverWrite::new(Sips::new(&mut radio, 7, radio_fails_at));
+    let mut desk_out = OverWrite::new(Sips::new(&mut told, 7, desk_fails_at));
+    let serial = (&mut OverRead::new(serial), &mut radio_out);
+    let desk = (&mut OverRead::new(desk), &mut desk_out);
+    let ended = serve_new(alloc, serial, desk, turns)?;
+    Ok(Served {
+        ended,
+        radio,
+        desk: told,
+    })
+}
+
+/// Serves turns that read these parts, with writers that do not fail.
+fn serve_parts(alloc: Global, serial: &[&[u8]], desk: &[&[u8]], turns: u64) -> Result<Served> {
+    serve(
+        alloc,
+        Parts::new(serial, 0),
+        Parts::new(desk, 0),
+        turns,
+        (NEVER, NEVER),
+    )
+}
+
+fn items(items: u64) -> Result<Summary, RunFault> {
+    Ok(Summary { items })
+}
+
+// In a turn the serial line comes first: its packet is counted before the status is told, and a query before the window
+// is open is ignored.
+fn tell_order_of_sides(rt: &HostRuntime, telling: &mut Telling) -> Result<()> {
+    let served = serve_parts(rt.alloc(), &[CONTACT], &[b"status\n".as_slice()], 1)?;
+    telling.tell(
+        rt,
+        "a packet before an order",
+        served.is(items(2), &[], &[STATUS]),
+    )?;
+    let served = serve_parts(rt.alloc(), &[QUERY], &[b"learn on\n".as_slice()], 1)?;
+    telling.tell(
+        rt,
+        "a query before its window",
+        served.is(items(2), &[], &[OK]),
+    )
+}
+
+// The reply goes out by radio as it is, and the desk is told what was learned. With 0 turns it ends well, and readers and
+// writers that fail are not asked.
+fn tell_both_outputs(rt: &HostRuntime, telling: &mut Telling) -> Result<()> {
+    let alloc = rt.alloc();
+    let desk = [b"learn on\r\nba".as_slice(), b"se\n"];
+    let served = serve_parts(alloc, &[b"".as_slice(), QUERY], &desk, 2)?;
+    let is_well = served.is(items(3), &[REPLY, BASE_QUESTION], &[OK, TAUGHT, OK]);
+    telling.tell(rt, "a query answered by radio", is_well)?;
+    let served = serve(alloc, Parts::new(&[], 1), Parts::new(&[], 1), 0, (1, 1))?;
+    telling.tell(rt, "no turns", served.is(items(0), &[], &[]))
+}
+
+// A packet may come in pieces, and bytes that are LF or digits are bytes like others on the serial line. A line of the
+// desk is always an order, and counts at its LF, without one CR. What is no line at the end of the turns is dropped.
+fn tell_lines(rt: &HostRuntime, telling: &mut Telling) -> Result<()> {
+    let serial = [b"S \n".as_slice(), &CONTACT[..10], &CONTACT[10..]];
+    let desk = [b"add 01800ABC D5-00-01\n".as_slice(), b"S 00\nS", b"\n"];
+    let served = serve_parts(rt.alloc(), &serial, &desk, 3)?;
+    let is_well = served.is(items(4), &[], &[KNOWN, SYNTAX, READING, SYNTAX]);
+    telling.tell(rt, "pieces and lines", is_well)?;
+    let is_dropped = drops_what_is_not_ended(rt.alloc())?;
+    telling.tell(rt, "a line that is not ended", is_dropped)
+}
+
+fn drops_what_is_not_ended(alloc: Global) -> Result<bool> {
+    let mut gateway = start(alloc, Connection::open_in_memory(alloc)?, BASE)?;
+    let first = desk_after(alloc, &mut gateway, b"lea")?;
+    let second = desk_after(alloc, &mut gateway, b"rn on\n")?;
+    Ok(first.is_empty() && second.as_slice() == SYNTAX)
+}
+
+/// What the desk is told in one more turn, in which it gives these bytes and the serial line none.
+fn desk_after<S: Alter>(alloc: Global, gateway: &mut Gateway<S>, bytes: &[u8]) -> Result<Vec<u8>> {
+    if gateway.is_ready() {
+        bail!("a packet waits");
+    }
+    let mut told = Vec::new(alloc);
+    let ended = live(
+        &mut OverRead::new(b"".as_slice()),
+        &mut OverRead::new(bytes),
+        &mut OverWrite::new(Vec::new(alloc)),
+        &mut OverWrite::new(&mut told),
+        gateway,
+        1,
+    );
+    if ended.is_err() {
+        bail!("a turn failed");
+    }
+    Ok(told)
+}
+
+/// Whether this is told for 100 letters, so many more, and this end, across three reads.
+fn is_told(alloc: Global, length: usize, end: &[u8], wanted: &[u8]) -> Result<bool> {
+    let line = [b'x'; 201];
+    let (front, back) = line.split_at(100);
+    let served = serve_parts(alloc, &[], &[front, &back[..length.min(101)], end], 3)?;
+    Ok(served.is(items(1), &[], &[wanted]))
+}
+
+// A line's end does not count to its 200 bytes.
+fn tell_lengths(rt: &HostRuntime, telling: &mut Telling) -> Result<()> {
+    let cases: [(&str, usize, &[u8], &[u8]); 4] = [
+        ("200 bytes of the desk and LF", 100, b"\n", SYNTAX),
+        ("200 bytes of the desk, CR and LF", 100, b"\r\n", SYNTAX),
+        ("201 bytes of the desk and LF", 101, b"\n", TOO_LONG),
+        ("201 bytes of the desk, CR and LF", 101, b"\r\n", TOO_LONG),
+    ];
+    for (name, length, end, wanted) in cases {
+        telling.tell(rt, name, is_told(rt.alloc(), length, end, wanted)?)?;
+    }
+    Ok(())
+}
+
+/// Serves two turns, in which a query and the order `base` are answered, with readers and writers that fail at these
+/// calls.
+fn serve_query(
+    alloc: Global,
+    read_fails_at: (usize, usize),
+    write_fails_at: (usize, usize),
+) -> Result<Served> {
+    let (serial_fails_at, desk_fails_at) = read_fails_at;
+    let serial = [b"".as_slice(), QUERY];
+    let desk = [b"learn on\n".as_slice(), b"base\n"];
+    let serial = Parts::new(&serial, serial_fails_at);
+    serve(
+        alloc,
+        serial,
+        Parts::new(&desk, desk_fails_at),
+        2,
+        write_fails_at,
+    )
+}
+
+// Each read fails in turn: what came before it is done.
+fn tell_reads_that_fail(rt: &HostRuntime, telling: &mut Telling) -> Result<()> {
+    let cases: [(&str, (usize, usize), &[&[u8]], &[&[u8]]); 4] = [
+        ("the first read of the serial line", (1, 0), &[], &[]),
+        ("the first read of the desk", (0, 1), &[], &[]),
+        ("the second read of the serial line", (2, 0), &[], &[OK]),
+        (
+            "the second read of the desk",
+            (0, 2),
+            &[REPLY],
+            &[OK, TAUGHT],
+        ),
+    ];
+    for (name, fails_at, radio, desk) in cases {
+        let served = serve_query(rt.alloc(), fails_at, (NEVER, NEVER))?;
+        telling.tell(rt, name, served.is(Err(RunFault::Read), radio, desk))?;
+    }
+    Ok(())
+}
+
+/// Whether the gateway ends with `Write`, with just so many first bytes on each writer, where its writers fail from
+/// these calls on.
+fn breaks_off(alloc: Global, fails_at: (usize, usize), sent: usize, told: usize) -> Result<bool> {
+    let all = serve_query(alloc, (0, 0), (NEVER, NEVER))?;
+    let done = serve_query(alloc, (0, 0), fails_at)?;
+    Ok(
+        all.is(items(3), &[REPLY, BASE_QUESTION], &[OK, TAUGHT, OK])
+            && done.ended == Err(RunFault::Write)
+            && Some(done.radio.as_slice()) == all.radio.as_slice().get(..sent)
+            && Some(done.desk.as_slice()) == all.desk.as_slice().get(..told),
+    )
+}
+
+// Each write to the serial line fails in turn. The desk is told nothing of the packet or order, and nothing later. The
+// reply takes four writes of seven bytes, of which the last has six, and the question two. Then each write to the desk
+// fails in turn. The radio bytes of the packet or order are out, and nothing later. The window's line takes two writes,
+// the teach line twelve, of which the last has four, and the answer to `base` two.
+fn tell_writes_that_fail(rt: &HostRuntime, telling: &mut Telling) -> Result<()> {
+    let alloc = rt.alloc();
+    for (fails_at, sent, told) in [
+        (1, 0, 14),
+        (2, 7, 14),
+        (3, 14, 14),
+        (4, 21, 14),
+        (5, 27, 95),
+        (6, 34, 95),
+    ] {
+        let name = format!(in alloc; "write {fails_at} to the serial line")?;
+        let is_well = breaks_off(alloc, (fails_at, NEVER), sent, told)?;
+        telling.tell(rt, name.as_str(), is_well)?;
+    }
+    for fails_at in 1..=16 {
+        let (sent, told) = match fails_at {
+            1 | 2 => (0, 7 * (fails_at - 1)),
+            3..=14 => (27, 14 + 7 * (fails_at - 3)),
+            _ => (35, 95 + 7 * (fails_at - 15)),
+        };
+        let name = format!(in alloc; "write {fails_at} to the desk")?;
+        let is_well = breaks_off(alloc, (NEVER, fails_at), sent, told)?;
+        telling.tell(rt, name.as_str(), is_well)?;
+    }
+    Ok(())
+}
+
+// A writer that takes 0 bytes ends the gateway like one that fails.
+fn tell_writers_that_take_nothing(rt: &HostRuntime, telling: &mut Telling) -> Result<()> {
+    let alloc = rt.alloc();
+    let mut desk = Vec::new(alloc);
+    let serial = (
+        &mut OverRead::new(b"".as_slice()),
+        &mut OverWrite::new(TakesNothing),
+    );
+    let orders = (
+        &mut OverRead::new(b"base\n".as_slice()),
+        &mut OverWrite::new(&mut desk),
+    );
+    let ended = serve_new(alloc, serial, orders, 1)?;
+    let is_well = ended == Err(RunFault::Write) && desk.is_empty();
+    telling.tell(rt, "a serial line that takes nothing", is_well)?;
+    let mut radio = Vec::new(alloc);
+    let serial = (
+        &mut OverRead::new(b"".as_slice()),
+        &mut OverWrite::new(&mut radio),
+    );
+    let orders = (
+        &mut OverRead::new(b"base\n".as_slice()),
+        &mut OverWrite::new(TakesNothing),
+    );
+    let ended = serve_new(alloc, serial, orders, 1)?;
+    let is_well = ended == Err(RunFault::Write) && radio.as_slice() == BASE_QUESTION;
+    telling.tell(rt, "a desk that takes nothing", is_well)
+}

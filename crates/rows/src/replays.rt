@@ -1,0 +1,148 @@
+//! Replays of short scripts, of readers and writers that fail, and of lines at their longest.
+use crate::fakes::{Parts, Sips, TakesNothing};
+use crate::gateways::replay_new;
+use crate::telling::Telling;
+use anyhow::Result;
+use gateway_main::{OverRead, OverWrite, RunFault, Source, Summary};
+use std::alloc::Global;
+
+const SYNTAX: &[u8] = b"{\"error\":\"syntax\",\"type\":\"error\"}\n";
+
+const TOO_LONG: &[u8] = b"{\"error\":\"too_long\",\"type\":\"error\"}\n";
+
+const NONE_LISTED: &[u8] = b"{\"count\":0,\"type\":\"list\"}\n";
+
+pub fn tell(rt: &HostRuntime, telling: &mut Telling) -> Result<()> {
+    tell_turns(rt, telling)?;
+    tell_items(rt, telling)?;
+    tell_lengths(rt, telling)?;
+    tell_ends(rt, telling)?;
+    tell_reads(rt, telling)?;
+    tell_writes(rt, telling)
+}
+
+/// Whether a replay comes to this, and this is written.
+fn comes_to<R: Source>(
+    alloc: Global,
+    reader: &mut R,
+    turns: u64,
+    wanted: Result<Summary, RunFault>,
+    text: &[u8],
+) -> Result<bool> {
+    let mut out = Vec::new(alloc);
+    let done = replay_new(alloc, reader, &mut OverWrite::new(&mut out), turns)?;
+    Ok(done == wanted && out.as_slice() == text)
+}
+
+/// Whether this is written for a script that is replayed to its end.
+fn is_written(alloc: Global, script: &[u8], text: &[u8]) -> Result<bool> {
+    let mut out = Vec::new(alloc);
+    let mut reader = OverRead::new(script);
+    let done = replay_new(alloc, &mut reader, &mut OverWrite::new(&mut out), 9)?;
+    Ok(done.is_ok() && out.as_slice() == text)
+}
+
+// The end of the input is a read of its own.
+fn tell_turns(rt: &HostRuntime, telling: &mut Telling) -> Result<()> {
+    let script = b"\n".as_slice();
+    let too_many = Err(RunFault::TooManyTurns);
+    let is_well = comes_to(rt.alloc(), &mut OverRead::new(script), 1, too_many, SYNTAX)?;
+    telling.tell(rt, "a turn too few", is_well)?;
+    let one = Ok(Summary { items: 1 });
+    let is_well = comes_to(rt.alloc(), &mut OverRead::new(script), 2, one, SYNTAX)?;
+    telling.tell(rt, "just enough turns", is_well)
+}
+
+const CONTACT_READ: &[u8] =
+    b"{\"eep\":\"D5-00-01\",\"id\":\"01800ABC\",\"maker\":null,\"result\":\"accepted\",\"type\":\"teach\"}\n\
+    {\"dbm\":-45,\"eep\":\"D5-00-01\",\"id\":\"01800ABC\",\
+    \"readings\":[{\"name\":\"CO\",\"word\":\"closed\"}],\"type\":\"reading\"}\n";
+
+// An order and a packet are two items, also where the packet lies in two pieces and the last line has no end.
+fn tell_items(rt: &HostRuntime, telling: &mut Telling) -> Result<()> {
+    let script =
+        b"add 01800ABC D5-00-01\nS 55000707017AD50901800ABC0001FFFFFFFF2D001F\n".as_slice();
+    let two = Ok(Summary { items: 2 });
+    let is_well = comes_to(rt.alloc(), &mut OverRead::new(script), 2, two, CONTACT_READ)?;
+    telling.tell(rt, "two items", is_well)?;
+    let script =
+        b"add 01800abc d5-00-01\r\nS 55000707017ad50901800A\nS BC0001ffffffff2d001f".as_slice();
+    let is_well = comes_to(rt.alloc(), &mut OverRead::new(script), 2, two, CONTACT_READ)?;
+    telling.tell(rt, "two items in three lines", is_well)
+}
+
+/// A line of so many letters with this end. With 100 bytes of a piece before it, it lies across two reads.
+fn line_of(alloc: Global, length: usize, end: &[u8]) -> Result<Vec<u8>> {
+    let mut script = Vec::new(alloc);
+    script.extend_from_slice(b"S ")?;
+    script.extend_from_slice(&[b'0'; 98])?;
+    script.extend_from_slice(b"\n")?;
+    script.extend_from_slice(&[b'x'; 201][..length.min(201)])?;
+    script.extend_from_slice(end)?;
+    Ok(script)
+}
+
+// A line's end does not count to its 200 bytes.
+fn tell_lengths(rt: &HostRuntime, telling: &mut Telling) -> Result<()> {
+    let cases: [(&str, usize, &[u8], &[u8]); 6] = [
+        ("200 bytes and LF", 200, b"\n", SYNTAX),
+        ("200 bytes, CR and LF", 200, b"\r\n", SYNTAX),
+        ("200 bytes and no end", 200, b"", SYNTAX),
+        ("201 bytes and LF", 201, b"\n", TOO_LONG),
+        ("201 bytes, CR and LF", 201, b"\r\n", TOO_LONG),
+        ("200 bytes and CR", 200, b"\r", TOO_LONG),
+    ];
+    for (name, length, end, wanted) in cases {
+        let script = line_of(rt.alloc(), length, end)?;
+        telling.tell(rt, name, is_written(rt.alloc(), script.as_slice(), wanted)?)?;
+    }
+    Ok(())
+}
+
+// One CR before LF belongs to the end of a line, and a CR before the end of the input to the line.
+fn tell_ends(rt: &HostRuntime, telling: &mut Telling) -> Result<()> {
+    let cases: [(&str, &[u8], &[u8]); 7] = [
+        ("a line with LF", b"list\n", NONE_LISTED),
+        ("a line with CR and LF", b"list\r\n", NONE_LISTED),
+        ("a line with no end", b"list", NONE_LISTED),
+        ("a line with CR", b"list\r", SYNTAX),
+        ("a line with two CR and LF", b"list\r\r\n", SYNTAX),
+        ("LF alone", b"\n", SYNTAX),
+        ("CR and LF alone", b"\r\n", SYNTAX),
+    ];
+    for (name, script, wanted) in cases {
+        telling.tell(rt, name, is_written(rt.alloc(), script, wanted)?)?;
+    }
+    Ok(())
+}
+
+fn tell_reads(rt: &HostRuntime, telling: &mut Telling) -> Result<()> {
+    let alloc = rt.alloc();
+    let one = Ok(Summary { items: 1 });
+    let script = [b"\n".as_slice()];
+    let mut reader = OverRead::new(Parts::new(&script, 0));
+    let is_well = comes_to(alloc, &mut reader, 2, one, SYNTAX)?;
+    telling.tell(rt, "a read of 256 bytes", is_well)?;
+    let script = [b"\nadd 01800ABC D5".as_slice()];
+    let mut reader = OverRead::new(Parts::new(&script, 2));
+    let is_well = comes_to(alloc, &mut reader, 9, Err(RunFault::Read), SYNTAX)?;
+    telling.tell(rt, "a read that fails", is_well)
+}
+
+fn tell_writes(rt: &HostRuntime, telling: &mut Telling) -> Result<()> {
+    let alloc = rt.alloc();
+    let script = b"\n\n".as_slice();
+    let mut taken = Vec::new(alloc);
+    let mut writer = OverWrite::new(Sips::new(&mut taken, 1, 16));
+    let done = replay_new(alloc, &mut OverRead::new(script), &mut writer, 9)?;
+    let is_well = done == Err(RunFault::Write)
+        && taken.as_slice() == b"{\"error\":\"synta".as_slice();
+    telling.tell(rt, "a write that fails", is_well)?;
+    let mut writer = OverWrite::new(TakesNothing);
+    let done = replay_new(alloc, &mut OverRead::new(script), &mut writer, 9)?;
+    telling.tell(
+        rt,
+        "a writer that takes nothing",
+        done == Err(RunFault::Write),
+    )
+}
