@@ -1,7 +1,9 @@
 //! What the calls do to a database, what is remembered, and what a refusal or a stop leaves.
+mod acts;
 mod cache;
 mod databases;
 mod devices;
 mod disks;
 mod given;
+mod steps;
 mod stops;

@@ -1,134 +1,135 @@
 //! What is remembered of looked-up senders.
-use super::given::{contact, forget, in_memory, is_full, learn, sensor};
-use crate::{Device, Registry};
-use sqlite::Alter;
+ghost use Rattle.std.specs.Prelude.{◌≤◌};
+
+use super::acts::{Act, play};
+use super::given::{contact, sensor};
+use crate::Device;
+use std::alloc::Global;
+use std::process::Abort;
 use std::test::Fail;
 
-// What is remembered of a sender. It leaves the order of the entries.
-fn kept<S: Alter>(registry: &Registry<S>, id: u32) -> Option<Option<Device>> {
-    registry.cache.peek(&id).copied()
-}
+/// A sender that is remembered as not learned.
+const NOT_LEARNED: Option<Option<Device>> = Some(None);
 
 #[test]
 fn a_look_up_is_remembered(rt: HostRuntime) -> Result<(), Fail> {
-    let mut registry = in_memory(rt.alloc(), 64)?;
-    learn(&mut registry, contact(5))?;
-    let mut registry = Registry::open(rt.alloc(), registry.close())?;
-    assert_eq!(rt; registry.cache.len(), 0);
-    assert_eq!(rt; registry.find(5)?, Some(contact(5)));
-    assert_eq!(rt; kept(&registry, 5), Some(Some(contact(5))));
-    assert_eq!(rt; registry.find(6)?, None);
-    assert_eq!(rt; kept(&registry, 6), Some(None));
-    assert_eq!(rt; kept(&registry, 5), Some(Some(contact(5))));
-    assert_eq!(rt; registry.find(6)?, None);
-    assert_eq!(rt; registry.find(5)?, Some(contact(5)));
-    assert_eq!(rt; registry.all()?.as_slice(), [contact(5)].as_slice());
-    assert_eq!(rt; registry.cache.len(), 2);
-    Ok(())
+    let before = [Act::Learns(contact(5))];
+    let behind = [
+        Act::RemembersSoMany(0),
+        Act::Finds(5, Some(contact(5))),
+        Act::Remembers(5, Some(Some(contact(5)))),
+        Act::Finds(6, None),
+        Act::Remembers(6, NOT_LEARNED),
+        Act::Remembers(5, Some(Some(contact(5)))),
+        Act::Finds(6, None),
+        Act::Finds(5, Some(contact(5))),
+        Act::Counts(1),
+        Act::Lists(0, contact(5)),
+        Act::RemembersSoMany(2),
+    ];
+    play(rt.alloc(), &rt, 64, &before, &behind)
 }
 
 #[test]
 fn a_change_is_remembered(rt: HostRuntime) -> Result<(), Fail> {
-    let mut registry = in_memory(rt.alloc(), 64)?;
-    assert_eq!(rt; registry.find(5)?, None);
-    learn(&mut registry, contact(5))?;
-    assert_eq!(rt; kept(&registry, 5), Some(Some(contact(5))));
-    learn(&mut registry, sensor(5))?;
-    assert_eq!(rt; kept(&registry, 5), Some(Some(sensor(5))));
-    assert_eq!(rt; registry.find(5)?, Some(sensor(5)));
-    forget(&mut registry, 5)?;
-    assert_eq!(rt; kept(&registry, 5), Some(None));
-    assert_eq!(rt; registry.find(5)?, None);
-    forget(&mut registry, 9)?;
-    assert_eq!(rt; kept(&registry, 9), Some(None));
-    learn(&mut registry, contact(9))?;
-    assert_eq!(rt; registry.find(9)?, Some(contact(9)));
-    Ok(())
+    let acts = [
+        Act::Finds(5, None),
+        Act::Learns(contact(5)),
+        Act::Remembers(5, Some(Some(contact(5)))),
+        Act::Learns(sensor(5)),
+        Act::Remembers(5, Some(Some(sensor(5)))),
+        Act::Finds(5, Some(sensor(5))),
+        Act::Forgets(5),
+        Act::Remembers(5, NOT_LEARNED),
+        Act::Finds(5, None),
+        Act::Forgets(9),
+        Act::Remembers(9, NOT_LEARNED),
+        Act::Learns(contact(9)),
+        Act::Finds(9, Some(contact(9))),
+    ];
+    play(rt.alloc(), &rt, 64, &acts, &[])
 }
 
 #[test]
 fn one_place_is_for_the_last_sender(rt: HostRuntime) -> Result<(), Fail> {
-    let mut registry = in_memory(rt.alloc(), 1)?;
-    learn(&mut registry, contact(5))?;
-    assert_eq!(rt; registry.find(6)?, None);
-    assert_eq!(rt; kept(&registry, 6), Some(None));
-    assert_eq!(rt; kept(&registry, 5), None);
-    assert_eq!(rt; registry.find(5)?, Some(contact(5)));
-    assert_eq!(rt; kept(&registry, 5), Some(Some(contact(5))));
-    assert_eq!(rt; kept(&registry, 6), None);
-    learn(&mut registry, sensor(6))?;
-    assert_eq!(rt; kept(&registry, 5), None);
-    assert_eq!(rt; kept(&registry, 6), Some(Some(sensor(6))));
-    forget(&mut registry, 5)?;
-    assert_eq!(rt; kept(&registry, 6), None);
-    assert_eq!(rt; registry.cache.len(), 1);
-    assert_eq!(rt; registry.find(6)?, Some(sensor(6)));
-    Ok(())
+    let acts = [
+        Act::Learns(contact(5)),
+        Act::Finds(6, None),
+        Act::Remembers(6, NOT_LEARNED),
+        Act::Remembers(5, None),
+        Act::Finds(5, Some(contact(5))),
+        Act::Remembers(5, Some(Some(contact(5)))),
+        Act::Remembers(6, None),
+        Act::Learns(sensor(6)),
+        Act::Remembers(5, None),
+        Act::Remembers(6, Some(Some(sensor(6)))),
+        Act::Forgets(5),
+        Act::Remembers(6, None),
+        Act::RemembersSoMany(1),
+        Act::Finds(6, Some(sensor(6))),
+    ];
+    play(rt.alloc(), &rt, 1, &acts, &[])
 }
 
 #[test]
 fn an_open_remembers_64(rt: HostRuntime) -> Result<(), Fail> {
-    let conn = in_memory(rt.alloc(), 1)?.close();
-    let mut registry = Registry::open(rt.alloc(), conn)?;
-    for id in 0..65 {
-        assert_eq!(rt; registry.find(id)?, None);
-    }
-    assert_eq!(rt; registry.cache.len(), 64);
-    assert_eq!(rt; kept(&registry, 0), None);
-    assert_eq!(rt; kept(&registry, 1), Some(None));
-    Ok(())
+    let behind = [
+        Act::FindsNoneBelow(65),
+        Act::RemembersSoMany(64),
+        Act::Remembers(0, None),
+        Act::Remembers(1, NOT_LEARNED),
+    ];
+    play(rt.alloc(), &rt, 1, &[], &behind)
 }
 
 #[test]
 fn the_sender_of_long_ago_goes_first(rt: HostRuntime) -> Result<(), Fail> {
-    let mut registry = in_memory(rt.alloc(), 2)?;
-    assert_eq!(rt; registry.find(1)?, None);
-    assert_eq!(rt; registry.find(2)?, None);
-    assert_eq!(rt; registry.find(1)?, None);
-    assert_eq!(rt; registry.find(3)?, None);
-    assert_eq!(rt; kept(&registry, 1), Some(None));
-    assert_eq!(rt; kept(&registry, 2), None);
-    assert_eq!(rt; kept(&registry, 3), Some(None));
-    Ok(())
+    let acts = [
+        Act::Finds(1, None),
+        Act::Finds(2, None),
+        Act::Finds(1, None),
+        Act::Finds(3, None),
+        Act::Remembers(1, NOT_LEARNED),
+        Act::Remembers(2, None),
+        Act::Remembers(3, NOT_LEARNED),
+    ];
+    play(rt.alloc(), &rt, 2, &acts, &[])
 }
 
 #[test]
 fn a_full_registry_goes_on_remembering(rt: HostRuntime) -> Result<(), Fail> {
-    let mut registry = in_memory(rt.alloc(), 1024)?;
-    for id in 0..1000 {
-        learn(&mut registry, contact(id))?;
-    }
-    assert_eq!(rt; registry.find(2000)?, None);
-    match learn(&mut registry, sensor(1000)) {
-        Err(fault) => assert!(rt; is_full(&fault)),
-        Ok(()) => return Err(Fail::from("one too many")),
-    }
-    assert_eq!(rt; registry.cache.len(), 1001);
-    for id in 0..1000 {
-        assert_eq!(rt; kept(&registry, id), Some(Some(contact(id))));
-    }
-    assert_eq!(rt; kept(&registry, 2000), Some(None));
-    assert_eq!(rt; registry.find(1000)?, None);
-    Ok(())
+    let acts = [
+        Act::LearnsContacts(1000),
+        Act::Finds(2000, None),
+        Act::IsFullFor(sensor(1000)),
+        Act::RemembersSoMany(1001),
+        Act::RemembersContacts(1000),
+        Act::Remembers(2000, NOT_LEARNED),
+        Act::Finds(1000, None),
+    ];
+    play(rt.alloc(), &rt, 1024, &acts, &[])
+}
+
+// A cache of so many senders answers as any other, and remembers so many behind it.
+fn answers_the_same(
+    alloc: Global,
+    rt: &impl Abort,
+    cache: usize,
+    remembered: usize,
+) -> Result<(), Fail>
+    requires { (1 ≤ cache) × (cache ≤ 1024) }
+{
+    let acts = [
+        Act::LearnsInTurn(200),
+        Act::FindsInTurn(200),
+        Act::RemembersSoMany(remembered),
+    ];
+    play(alloc, rt, cache, &acts, &[])
 }
 
 #[test]
 fn caches_of_each_size_answer_the_same(rt: HostRuntime) -> Result<(), Fail> {
-    for cache in [1, 64, 1024] {
-        let mut registry = in_memory(rt.alloc(), cache)?;
-        for id in 0..200 {
-            learn(
-                &mut registry,
-                if id % 2 == 0 { contact(id) } else { sensor(id) },
-            )?;
-        }
-        for id in 0..200 {
-            let wanted = if id % 2 == 0 { contact(id) } else { sensor(id) };
-            assert_eq!(rt; registry.find(id)?, Some(wanted));
-            assert_eq!(rt; registry.find(id)?, Some(wanted));
-            assert_eq!(rt; registry.find(id + 200)?, None);
-        }
-        assert_eq!(rt; registry.cache.len(), cache.min(400));
-    }
-    Ok(())
+    answers_the_same(rt.alloc(), &rt, 1, 1)?;
+    answers_the_same(rt.alloc(), &rt, 64, 64)?;
+    answers_the_same(rt.alloc(), &rt, 1024, 400)
 }

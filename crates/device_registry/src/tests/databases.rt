@@ -1,4 +1,5 @@
 //! Which databases are taken, and that the others are left as they were.
+use super::acts::{Act, take_all};
 use super::given::{DEVICE_TABLE, META_TABLE, VERSION_ROW, number, prepare_idle, run, sensor};
 use crate::listing::{devices_rise, is_version};
 use crate::{OpenFault, Registry, prepare};
@@ -7,176 +8,159 @@ use std::alloc::Global;
 use std::process::Abort;
 use std::test::Fail;
 
-const NOTHING: &[&str] = &[];
+/// Databases that have not both tables as they ought to be. Of each: its statements, of which META, DEVICE and VERSION
+/// stand for ours; a query that shows a number; and that number.
+const WITHOUT_OURS: &str = "\
+META
+? SELECT count(*) FROM enogate_meta
+= 0
 
-const OURS: &[&str] = &[META_TABLE, DEVICE_TABLE];
+META
+VERSION
+? SELECT version FROM enogate_meta
+= 1
 
-/// Databases that have not both tables as they ought to be, with a query that shows a number and that number.
-const WITHOUT_OURS: [(&[&str], &str, i64); 14] = [
-    (&[META_TABLE], "SELECT count(*) FROM enogate_meta", 0),
-    (
-        &[META_TABLE, VERSION_ROW],
-        "SELECT version FROM enogate_meta",
-        1,
-    ),
-    (
-        &[
-            DEVICE_TABLE,
-            "INSERT INTO enogate_device VALUES (5, 13959169, -1)",
-        ],
-        "SELECT id + eep + maker FROM enogate_device",
-        13_959_173,
-    ),
-    (
-        &["CREATE TABLE Enogate_Meta (note TEXT); INSERT INTO Enogate_Meta VALUES ('mine')"],
-        "SELECT count(*) FROM enogate_meta WHERE note = 'mine'",
-        1,
-    ),
-    (
-        &["CREATE TABLE ENOGATE_DEVICE (id); INSERT INTO enogate_device VALUES (8)"],
-        "SELECT id FROM enogate_device",
-        8,
-    ),
-    (
-        &[
-            "CREATE TABLE enogate_meta (k INTEGER PRIMARY KEY, version INTEGER) STRICT",
-            DEVICE_TABLE,
-            "INSERT INTO enogate_meta VALUES (1, 1), (2, 1)",
-        ],
-        "SELECT sum(k) FROM enogate_meta",
-        3,
-    ),
-    (
-        &[
-            META_TABLE,
-            VERSION_ROW,
-            "CREATE TABLE enogate_device (id INTEGER PRIMARY KEY, eep INTEGER, maker INTEGER) STRICT",
-            "INSERT INTO enogate_device VALUES (4294967295, -5, 2048)",
-        ],
-        "SELECT id + eep + maker FROM enogate_device",
-        4_294_969_338,
-    ),
-    (
-        &[
-            "CREATE TABLE enogate_meta (k INTEGER PRIMARY KEY CHECK (k = 1),  version INTEGER NOT NULL) STRICT",
-            DEVICE_TABLE,
-            VERSION_ROW,
-        ],
-        "SELECT version FROM enogate_meta",
-        1,
-    ),
-    (
-        &[
-            "CREATE TABLE room (id INTEGER PRIMARY KEY) STRICT; INSERT INTO room VALUES (4)",
-            "CREATE VIEW enogate_meta AS SELECT id FROM room",
-        ],
-        "SELECT id FROM enogate_meta",
-        4,
-    ),
-    (
-        &[
-            "CREATE TABLE room (id INTEGER PRIMARY KEY) STRICT; INSERT INTO room VALUES (4)",
-            "CREATE VIEW Enogate_Device AS SELECT id + 1 AS next FROM room",
-        ],
-        "SELECT next FROM enogate_device",
-        5,
-    ),
-    (
-        &[
-            META_TABLE,
-            VERSION_ROW,
-            "CREATE VIEW enogate_device AS SELECT version FROM enogate_meta",
-        ],
-        "SELECT version FROM enogate_device",
-        1,
-    ),
-    (
-        &[
-            "CREATE TABLE room (id INTEGER PRIMARY KEY, name TEXT) STRICT; INSERT INTO room VALUES (3, 'hall')",
-            "CREATE INDEX Enogate_Meta ON room (name)",
-        ],
-        "SELECT id FROM room WHERE name = 'hall'",
-        3,
-    ),
-    (
-        &[
-            "CREATE TABLE room (id INTEGER PRIMARY KEY, device INTEGER REFERENCES Enogate_Device (id)) STRICT",
-            "CREATE TABLE bed (id INTEGER PRIMARY KEY) STRICT; INSERT INTO bed VALUES (6)",
-        ],
-        "SELECT id FROM bed",
-        6,
-    ),
-    (
-        &[
-            "CREATE TABLE note (id INTEGER PRIMARY KEY, meta INTEGER REFERENCES enogate_meta) STRICT",
-        ],
-        "SELECT count(*) FROM note",
-        0,
-    ),
-];
+DEVICE
+INSERT INTO enogate_device VALUES (5, 13959169, -1)
+? SELECT id + eep + maker FROM enogate_device
+= 13959173
 
-/// What makes a database of our two tables one that is no registry, with a query that shows a number and that number.
-const BESIDE_OURS: [(&[&str], &str, i64); 9] = [
-    (&[], "SELECT count(*) FROM enogate_meta", 0),
-    (
-        &["INSERT INTO enogate_meta VALUES (1, 9)"],
-        "SELECT version FROM enogate_meta",
-        9,
-    ),
-    (
-        &["INSERT INTO enogate_meta VALUES (1, 0)"],
-        "SELECT version FROM enogate_meta",
-        0,
-    ),
-    (
-        &["INSERT INTO enogate_meta VALUES (1, -1)"],
-        "SELECT version FROM enogate_meta",
-        -1,
-    ),
-    (
-        &[
-            VERSION_ROW,
-            "INSERT INTO enogate_device VALUES (5, 1, -1)",
-            "CREATE TABLE room (id INTEGER PRIMARY KEY, device INTEGER REFERENCES Enogate_Device (id)) STRICT",
-            "INSERT INTO room VALUES (1, 5)",
-        ],
-        "SELECT device FROM room",
-        5,
-    ),
-    (
-        &[
-            VERSION_ROW,
-            "CREATE TABLE note (id INTEGER PRIMARY KEY, meta INTEGER REFERENCES enogate_meta) STRICT",
-        ],
-        "SELECT version FROM enogate_meta",
-        1,
-    ),
-    (
-        &[
-            VERSION_ROW,
-            "CREATE UNIQUE INDEX by_eep ON enogate_device (eep)",
-        ],
-        "SELECT version FROM enogate_meta",
-        1,
-    ),
-    (
-        &[
-            VERSION_ROW,
-            "CREATE INDEX by_version ON enogate_meta (version)",
-        ],
-        "SELECT version FROM enogate_meta",
-        1,
-    ),
-    (
-        &[
-            VERSION_ROW,
-            "INSERT INTO enogate_device WITH RECURSIVE n (i) AS (SELECT 0 UNION ALL SELECT i + 1 FROM n) \
-            SELECT i, 13959169, -1 FROM n LIMIT 1001",
-        ],
-        "SELECT count(*) FROM enogate_device",
-        1001,
-    ),
-];
+CREATE TABLE Enogate_Meta (note TEXT); INSERT INTO Enogate_Meta VALUES ('mine')
+? SELECT count(*) FROM enogate_meta WHERE note = 'mine'
+= 1
+
+CREATE TABLE ENOGATE_DEVICE (id); INSERT INTO enogate_device VALUES (8)
+? SELECT id FROM enogate_device
+= 8
+
+CREATE TABLE enogate_meta (k INTEGER PRIMARY KEY, version INTEGER) STRICT
+DEVICE
+INSERT INTO enogate_meta VALUES (1, 1), (2, 1)
+? SELECT sum(k) FROM enogate_meta
+= 3
+
+META
+VERSION
+CREATE TABLE enogate_device (id INTEGER PRIMARY KEY, eep INTEGER, maker INTEGER) STRICT
+INSERT INTO enogate_device VALUES (4294967295, -5, 2048)
+? SELECT id + eep + maker FROM enogate_device
+= 4294969338
+
+CREATE TABLE enogate_meta (k INTEGER PRIMARY KEY CHECK (k = 1),  version INTEGER NOT NULL) STRICT
+DEVICE
+VERSION
+? SELECT version FROM enogate_meta
+= 1
+
+CREATE TABLE room (id INTEGER PRIMARY KEY) STRICT; INSERT INTO room VALUES (4)
+CREATE VIEW enogate_meta AS SELECT id FROM room
+? SELECT id FROM enogate_meta
+= 4
+
+CREATE TABLE room (id INTEGER PRIMARY KEY) STRICT; INSERT INTO room VALUES (4)
+CREATE VIEW Enogate_Device AS SELECT id + 1 AS next FROM room
+? SELECT next FROM enogate_device
+= 5
+
+META
+VERSION
+CREATE VIEW enogate_device AS SELECT version FROM enogate_meta
+? SELECT version FROM enogate_device
+= 1
+
+CREATE TABLE room (id INTEGER PRIMARY KEY, name TEXT) STRICT; INSERT INTO room VALUES (3, 'hall')
+CREATE INDEX Enogate_Meta ON room (name)
+? SELECT id FROM room WHERE name = 'hall'
+= 3
+
+CREATE TABLE room (id INTEGER PRIMARY KEY, device INTEGER REFERENCES Enogate_Device (id)) STRICT
+CREATE TABLE bed (id INTEGER PRIMARY KEY) STRICT; INSERT INTO bed VALUES (6)
+? SELECT id FROM bed
+= 6
+
+CREATE TABLE note (id INTEGER PRIMARY KEY, meta INTEGER REFERENCES enogate_meta) STRICT
+? SELECT count(*) FROM note
+= 0";
+
+/// Databases of our two tables that are no registry, told in the same way.
+const BESIDE_OURS: &str = "\
+META
+DEVICE
+? SELECT count(*) FROM enogate_meta
+= 0
+
+META
+DEVICE
+INSERT INTO enogate_meta VALUES (1, 9)
+? SELECT version FROM enogate_meta
+= 9
+
+META
+DEVICE
+INSERT INTO enogate_meta VALUES (1, 0)
+? SELECT version FROM enogate_meta
+= 0
+
+META
+DEVICE
+INSERT INTO enogate_meta VALUES (1, -1)
+? SELECT version FROM enogate_meta
+= -1
+
+META
+DEVICE
+VERSION
+INSERT INTO enogate_device VALUES (5, 1, -1)
+CREATE TABLE room (id INTEGER PRIMARY KEY, device INTEGER REFERENCES Enogate_Device (id)) STRICT
+INSERT INTO room VALUES (1, 5)
+? SELECT device FROM room
+= 5
+
+META
+DEVICE
+VERSION
+CREATE TABLE note (id INTEGER PRIMARY KEY, meta INTEGER REFERENCES enogate_meta) STRICT
+? SELECT version FROM enogate_meta
+= 1
+
+META
+DEVICE
+VERSION
+CREATE UNIQUE INDEX by_eep ON enogate_device (eep)
+? SELECT version FROM enogate_meta
+= 1
+
+META
+DEVICE
+VERSION
+CREATE INDEX by_version ON enogate_meta (version)
+? SELECT version FROM enogate_meta
+= 1
+
+META
+DEVICE
+VERSION
+INSERT INTO enogate_device WITH RECURSIVE n (i) AS (SELECT 0 UNION ALL SELECT i + 1 FROM n) \
+SELECT i, 13959169, -1 FROM n LIMIT 1001
+? SELECT count(*) FROM enogate_device
+= 1001";
+
+fn statement(line: &str) -> &str {
+    match line {
+        "META" => META_TABLE,
+        "DEVICE" => DEVICE_TABLE,
+        "VERSION" => VERSION_ROW,
+        _ => line,
+    }
+}
+
+// Runs the statements, of which each has a line.
+fn run_lines<S: Alter>(conn: &mut Connection<S>, lines: &str) -> Result<(), Fail> {
+    for line in lines.lines() {
+        run(conn, statement(line))?;
+    }
+    Ok(())
+}
 
 // The objects of a database, each by its kind, its name and its text.
 fn objects<S: Alter>(alloc: Global, conn: &mut Connection<S>) -> Result<String, Fail> {
@@ -194,143 +178,204 @@ fn objects<S: Alter>(alloc: Global, conn: &mut Connection<S>) -> Result<String, 
     Ok(told)
 }
 
-// A database that these statements make is refused, and shows the same before and behind it.
-fn is_refused(
-    alloc: Global,
+fn show<S: Alter>(
     rt: &impl Abort,
-    first: &[&str],
-    then: &[&str],
+    conn: &mut Connection<S>,
     query: &str,
     shown: i64,
 ) -> Result<(), Fail> {
-    let mut conn = Connection::open_in_memory(alloc)?;
-    for statements in first {
-        run(&mut conn, statements)?;
-    }
-    for statements in then {
-        run(&mut conn, statements)?;
-    }
-    let before = objects(alloc, &mut conn)?;
-    assert!(rt; before.contains("CREATE "));
-    assert_eq!(rt; number(&mut conn, query)?, shown, "{before}");
-    assert_eq!(rt;
-        prepare_idle(&mut conn)?,
-        Err(OpenFault::NotARegistry),
-        "{before}"
-    );
-    let behind = objects(alloc, &mut conn)?;
-    assert_eq!(rt; behind.as_str(), before.as_str());
-    assert_eq!(rt; number(&mut conn, query)?, shown, "{before}");
+    assert_eq!(rt; number(conn, query)?, shown, "{query}");
+    Ok(())
+}
+
+fn is_refused_to_prepare<S: Alter>(rt: &impl Abort, conn: &mut Connection<S>) -> Result<(), Fail> {
+    assert_eq!(rt; prepare_idle(conn)?, Err(OpenFault::NotARegistry));
+    Ok(())
+}
+
+fn is_refused_to_open<S: Alter + Drop>(
+    alloc: Global,
+    rt: &impl Abort,
+    conn: Connection<S>,
+) -> Result<(), Fail> {
     if !conn.is_autocommit() {
         return Err(Fail::from("a transaction is open"));
     }
     assert_eq!(rt;
         Registry::open(alloc, conn).err(),
-        Some(OpenFault::NotARegistry),
-        "{before}"
+        Some(OpenFault::NotARegistry)
     );
+    Ok(())
+}
+
+// A database is refused, and shows the same before and behind it.
+fn is_refused<S: Alter + Drop>(
+    alloc: Global,
+    rt: &impl Abort,
+    conn: Connection<S>,
+    query: &str,
+    shown: i64,
+) -> Result<(), Fail> {
+    let mut conn = conn;
+    let before = objects(alloc, &mut conn)?;
+    assert!(rt; before.contains("CREATE "));
+    show(rt, &mut conn, query, shown)?;
+    is_refused_to_prepare(rt, &mut conn)?;
+    let behind = objects(alloc, &mut conn)?;
+    assert_eq!(rt; behind.as_str(), before.as_str());
+    show(rt, &mut conn, query, shown)?;
+    is_refused_to_open(alloc, rt, conn)
+}
+
+// Each of these databases is refused.
+fn are_refused(alloc: Global, rt: &impl Abort, cases: &str) -> Result<(), Fail> {
+    for case in cases.split("\n\n") {
+        let (statements, shows) = case.split_once("\n? ").ok_or("no query")?;
+        let (query, shown) = shows.split_once("\n= ").ok_or("no number")?;
+        let mut conn = Connection::open_in_memory(alloc)?;
+        run_lines(&mut conn, statements)?;
+        is_refused(alloc, rt, conn, query, shown.parse()?)?;
+    }
     Ok(())
 }
 
 #[test]
 fn databases_without_our_tables(rt: HostRuntime) -> Result<(), Fail> {
-    for (statements, query, shown) in WITHOUT_OURS {
-        is_refused(rt.alloc(), &rt, NOTHING, statements, query, shown)?;
-    }
-    Ok(())
+    are_refused(rt.alloc(), &rt, WITHOUT_OURS)
 }
 
 #[test]
 fn our_tables_with_something_wrong(rt: HostRuntime) -> Result<(), Fail> {
-    for (statements, query, shown) in BESIDE_OURS {
-        is_refused(rt.alloc(), &rt, OURS, statements, query, shown)?;
+    are_refused(rt.alloc(), &rt, BESIDE_OURS)
+}
+
+// Whether each of these rows may stand in the table of the devices.
+fn are_devices<S: Alter>(
+    rt: &impl Abort,
+    conn: &mut Connection<S>,
+    wanted: bool,
+    selects: &str,
+) -> Result<(), Fail> {
+    for sql in selects.lines() {
+        let rows = conn.query_all(sql, &[])?;
+        assert_eq!(rt; devices_rise(rows.as_slice()), wanted, "{sql}");
     }
     Ok(())
 }
 
-// Whether these rows may stand in the table of the devices.
-fn are_devices<S: Alter>(conn: &mut Connection<S>, sql: &str) -> Result<bool, Fail> {
-    Ok(devices_rise(conn.query_all(sql, &[])?.as_slice()))
+// Whether each of these rows may stand in the table of the version.
+fn are_version<S: Alter>(
+    rt: &impl Abort,
+    conn: &mut Connection<S>,
+    wanted: bool,
+    selects: &str,
+) -> Result<(), Fail> {
+    for sql in selects.lines() {
+        let rows = conn.query_all(sql, &[])?;
+        assert_eq!(rt; is_version(rows.as_slice()), wanted, "{sql}");
+    }
+    Ok(())
 }
 
-// Whether these rows may stand in the table of the version.
-fn are_version<S: Alter>(conn: &mut Connection<S>, sql: &str) -> Result<bool, Fail> {
-    Ok(is_version(conn.query_all(sql, &[])?.as_slice()))
-}
+const DEVICES: &str = "\
+SELECT 1, 1, -1 LIMIT 0
+SELECT 0, 0, -1
+SELECT 4294967294, 16777215, 2047
+SELECT 0, 5, 0 UNION ALL SELECT 1, 5, 0 UNION ALL SELECT 4294967294, 0, -1";
+
+const NO_DEVICES: &str = "\
+SELECT -1, 1, -1
+SELECT '5', 1, -1
+SELECT NULL, 1, -1
+SELECT 5, 1, -1 UNION ALL SELECT 5, 2, -1
+SELECT 5, 1, -1 UNION ALL SELECT 4, 1, -1";
+
+const NO_VERSION: &str = "\
+SELECT 1, 1 LIMIT 0
+SELECT 1, 2
+SELECT 1, 0
+SELECT 1, '1'
+SELECT 1, NULL
+SELECT NULL, 1
+SELECT 1, 1 UNION ALL SELECT 1, 1";
 
 #[test]
 fn rows_that_may_stand(rt: HostRuntime) -> Result<(), Fail> {
     let mut conn = Connection::open_in_memory(rt.alloc())?;
-    for sql in [
-        "SELECT 1, 1, -1 LIMIT 0",
-        "SELECT 0, 0, -1",
-        "SELECT 4294967294, 16777215, 2047",
-        "SELECT 0, 5, 0 UNION ALL SELECT 1, 5, 0 UNION ALL SELECT 4294967294, 0, -1",
-    ] {
-        assert!(rt; are_devices(&mut conn, sql)?, "{sql}");
-    }
-    assert!(rt; are_version(&mut conn, "SELECT 1, 1")?);
-    for sql in [
-        "SELECT -1, 1, -1",
-        "SELECT '5', 1, -1",
-        "SELECT NULL, 1, -1",
-        "SELECT 5, 1, -1 UNION ALL SELECT 5, 2, -1",
-        "SELECT 5, 1, -1 UNION ALL SELECT 4, 1, -1",
-    ] {
-        assert!(rt; !are_devices(&mut conn, sql)?, "{sql}");
-    }
-    for sql in [
-        "SELECT 1, 1 LIMIT 0",
-        "SELECT 1, 2",
-        "SELECT 1, 0",
-        "SELECT 1, '1'",
-        "SELECT 1, NULL",
-        "SELECT NULL, 1",
-        "SELECT 1, 1 UNION ALL SELECT 1, 1",
-    ] {
-        assert!(rt; !are_version(&mut conn, sql)?, "{sql}");
-    }
-    Ok(())
+    are_devices(&rt, &mut conn, true, DEVICES)?;
+    are_version(&rt, &mut conn, true, "SELECT 1, 1")?;
+    are_devices(&rt, &mut conn, false, NO_DEVICES)?;
+    are_version(&rt, &mut conn, false, NO_VERSION)
 }
+
+const DEVICES_OUT_OF_RANGE: &str = "\
+SELECT 4294967295, 1, -1
+SELECT 5, -5, -1
+SELECT 5, 16777216, -1
+SELECT 5, NULL, -1
+SELECT 5, '1', -1
+SELECT 5, 1, 2048
+SELECT 5, 1, -2
+SELECT 5, 1, NULL";
+
+const VERSIONS_OUT_OF_RANGE: &str = "\
+SELECT 2, 1
+SELECT 0, 1
+SELECT -1, 1";
 
 #[test]
 fn rows_out_of_range(rt: HostRuntime) -> Result<(), Fail> {
     let mut conn = Connection::open_in_memory(rt.alloc())?;
-    for sql in [
-        "SELECT 4294967295, 1, -1",
-        "SELECT 5, -5, -1",
-        "SELECT 5, 16777216, -1",
-        "SELECT 5, NULL, -1",
-        "SELECT 5, '1', -1",
-        "SELECT 5, 1, 2048",
-        "SELECT 5, 1, -2",
-        "SELECT 5, 1, NULL",
-    ] {
-        assert!(rt; !are_devices(&mut conn, sql)?, "{sql}");
-    }
-    for sql in ["SELECT 2, 1", "SELECT 0, 1", "SELECT -1, 1"] {
-        assert!(rt; !are_version(&mut conn, sql)?, "{sql}");
-    }
-    Ok(())
+    are_devices(&rt, &mut conn, false, DEVICES_OUT_OF_RANGE)?;
+    are_version(&rt, &mut conn, false, VERSIONS_OUT_OF_RANGE)
+}
+
+// The objects and the rows of a database that was prepared when it was empty.
+fn is_made<S: Alter>(alloc: Global, rt: &impl Abort, conn: &mut Connection<S>) -> Result<(), Fail> {
+    let wanted = format!(in alloc;
+        "table\nenogate_meta\n{}\ntable\nenogate_device\n{}\n",
+        META_TABLE.trim_end_matches(';'),
+        DEVICE_TABLE.trim_end_matches(';'),
+    )?;
+    assert_eq!(rt; objects(alloc, conn)?.as_str(), wanted.as_str());
+    show(rt, conn, "SELECT k * 10 + version FROM enogate_meta", 11)?;
+    show(rt, conn, "SELECT count(*) FROM enogate_device", 0)
 }
 
 #[test]
 fn an_empty_database_is_made_one(rt: HostRuntime) -> Result<(), Fail> {
     let mut conn = Connection::open_in_memory(rt.alloc())?;
     prepare(&mut conn)?;
-    let wanted = format!(in rt.alloc();
-        "table\nenogate_meta\n{}\ntable\nenogate_device\n{}\n",
-        META_TABLE.trim_end_matches(';'),
-        DEVICE_TABLE.trim_end_matches(';'),
+    is_made(rt.alloc(), &rt, &mut conn)
+}
+
+// A second `prepare` leaves each row.
+fn is_taken_again<S: Alter>(rt: &impl Abort, conn: &mut Connection<S>) -> Result<(), Fail> {
+    run(
+        conn,
+        "INSERT INTO enogate_device VALUES (7, 13959169, -1); INSERT INTO enogate_device VALUES (3, 10813957, 70);
+        CREATE TABLE room (name TEXT) STRICT; INSERT INTO room VALUES ('hall'), ('attic');
+        INSERT INTO enogate_device VALUES (5, 0, 2047)",
     )?;
-    assert_eq!(rt; objects(rt.alloc(), &mut conn)?.as_str(), wanted.as_str());
+    assert_eq!(rt; prepare_idle(conn)?, Ok(()));
+    assert!(rt; conn.is_autocommit());
+    Ok(())
+}
+
+// The three devices that it leaves, in the order of their IDs.
+fn have_three_devices<S: Alter>(
+    alloc: Global,
+    rt: &impl Abort,
+    conn: &mut Connection<S>,
+) -> Result<(), Fail> {
+    let mut devices = Vec::new(alloc);
+    for row in &conn.query_all("SELECT id, eep, maker FROM enogate_device ORDER BY id", &[])? {
+        let numbers: (i64, i64, i64) = (row.get(0)?, row.get(1)?, row.get(2)?);
+        devices.push(numbers)?;
+    }
     assert_eq!(rt;
-        number(&mut conn, "SELECT k * 10 + version FROM enogate_meta")?,
-        11
-    );
-    assert_eq!(rt;
-        number(&mut conn, "SELECT count(*) FROM enogate_device")?,
-        0
+        devices.as_slice(),
+        [(3, 10_813_957, 70), (5, 0, 2047), (7, 13_959_169, -1)].as_slice()
     );
     Ok(())
 }
@@ -339,53 +384,36 @@ fn an_empty_database_is_made_one(rt: HostRuntime) -> Result<(), Fail> {
 fn a_second_prepare_leaves_every_row(rt: HostRuntime) -> Result<(), Fail> {
     let mut conn = Connection::open_in_memory(rt.alloc())?;
     prepare(&mut conn)?;
-    run(
+    is_taken_again(&rt, &mut conn)?;
+    have_three_devices(rt.alloc(), &rt, &mut conn)?;
+    show(
+        &rt,
         &mut conn,
-        "INSERT INTO enogate_device VALUES (7, 13959169, -1); INSERT INTO enogate_device VALUES (3, 10813957, 70);
-        CREATE TABLE room (name TEXT) STRICT; INSERT INTO room VALUES ('hall'), ('attic');
-        INSERT INTO enogate_device VALUES (5, 0, 2047)",
+        "SELECT k * 10 + version FROM enogate_meta",
+        11,
     )?;
-    assert_eq!(rt; prepare_idle(&mut conn)?, Ok(()));
-    assert!(rt; conn.is_autocommit());
-    let mut ids = Vec::new(rt.alloc());
-    for row in &conn.query_all("SELECT id, eep, maker FROM enogate_device ORDER BY id", &[])? {
-        let numbers: (i64, i64, i64) = (row.get(0)?, row.get(1)?, row.get(2)?);
-        ids.push(numbers)?;
-    }
-    assert_eq!(rt;
-        ids.as_slice(),
-        [(3, 10_813_957, 70), (5, 0, 2047), (7, 13_959_169, -1)].as_slice()
-    );
-    assert_eq!(rt;
-        number(&mut conn, "SELECT k * 10 + version FROM enogate_meta")?,
-        11
-    );
-    assert_eq!(rt;
-        number(
-            &mut conn,
-            "SELECT count(*) FROM room WHERE name IN ('hall', 'attic')"
-        )?,
-        2
-    );
-    assert_eq!(rt; number(&mut conn, "SELECT count(*) FROM room")?, 2);
-    Ok(())
+    show(
+        &rt,
+        &mut conn,
+        "SELECT count(*) FROM room WHERE name IN ('hall', 'attic')",
+        2,
+    )?;
+    show(&rt, &mut conn, "SELECT count(*) FROM room", 2)
 }
 
-#[test]
-fn a_thousand_devices_of_another_hand(rt: HostRuntime) -> Result<(), Fail> {
-    let mut conn = Connection::open_in_memory(rt.alloc())?;
-    for statements in [META_TABLE, DEVICE_TABLE, VERSION_ROW] {
-        run(&mut conn, statements)?;
-    }
-    run(
-        &mut conn,
-        "INSERT INTO enogate_device WITH RECURSIVE n (i) AS (SELECT 4294967294 UNION ALL SELECT i - 1 FROM n) \
-        SELECT i, 10813957, 70 FROM n LIMIT 1000",
-    )?;
+// A registry over the connection of another hand.
+fn opened<S: Alter + Drop>(alloc: Global, conn: Connection<S>) -> Result<Registry<S>, Fail> {
     if !conn.is_autocommit() {
         return Err(Fail::from("a transaction is open"));
     }
-    let mut registry = Registry::open(rt.alloc(), conn)?;
+    Ok(Registry::open(alloc, conn)?)
+}
+
+// The first device of a thousand, and the last.
+fn have_a_thousand_sensors<S: Alter>(
+    rt: &impl Abort,
+    registry: &mut Registry<S>,
+) -> Result<(), Fail> {
     let all = registry.all()?;
     assert_eq!(rt; all.len(), 1000);
     assert_eq!(rt; all.first().copied(), Some(sensor(4_294_966_295)));
@@ -394,32 +422,48 @@ fn a_thousand_devices_of_another_hand(rt: HostRuntime) -> Result<(), Fail> {
 }
 
 #[test]
-fn other_objects_beside_ours(rt: HostRuntime) -> Result<(), Fail> {
+fn a_thousand_devices_of_another_hand(rt: HostRuntime) -> Result<(), Fail> {
     let mut conn = Connection::open_in_memory(rt.alloc())?;
+    run_lines(&mut conn, "META\nDEVICE\nVERSION")?;
     run(
         &mut conn,
+        "INSERT INTO enogate_device WITH RECURSIVE n (i) AS (SELECT 4294967294 UNION ALL SELECT i - 1 FROM n) \
+        SELECT i, 10813957, 70 FROM n LIMIT 1000",
+    )?;
+    have_a_thousand_sensors(&rt, &mut opened(rt.alloc(), conn)?)
+}
+
+// `prepare` of a database that has other objects, and once more with a device in it.
+fn is_prepared_beside_others<S: Alter>(
+    rt: &impl Abort,
+    conn: &mut Connection<S>,
+) -> Result<(), Fail> {
+    run(
+        conn,
         "CREATE TABLE room (id INTEGER PRIMARY KEY, name TEXT NOT NULL UNIQUE) STRICT;
         INSERT INTO room VALUES (1, 'hall');
         CREATE TABLE bed (id INTEGER PRIMARY KEY AUTOINCREMENT, room INTEGER REFERENCES room (id)) STRICT;
         CREATE INDEX by_room ON bed (room); CREATE VIEW enogate AS SELECT name FROM room",
     )?;
-    assert_eq!(rt; prepare_idle(&mut conn)?, Ok(()));
-    run(
-        &mut conn,
-        "INSERT INTO enogate_device VALUES (1, 10813957, 70)",
-    )?;
-    assert_eq!(rt; prepare_idle(&mut conn)?, Ok(()));
-    assert_eq!(rt;
-        number(
-            &mut conn,
-            "SELECT count(*) FROM enogate WHERE name = 'hall'"
-        )?,
-        1
-    );
-    if !conn.is_autocommit() {
-        return Err(Fail::from("a transaction is open"));
-    }
-    let mut registry = Registry::open(rt.alloc(), conn)?;
-    assert_eq!(rt; registry.all()?.as_slice(), [sensor(1)].as_slice());
-    Ok(())
+    assert_eq!(rt; prepare_idle(conn)?, Ok(()));
+    run(conn, "INSERT INTO enogate_device VALUES (1, 10813957, 70)")?;
+    assert_eq!(rt; prepare_idle(conn)?, Ok(()));
+    show(
+        rt,
+        conn,
+        "SELECT count(*) FROM enogate WHERE name = 'hall'",
+        1,
+    )
+}
+
+#[test]
+fn other_objects_beside_ours(rt: HostRuntime) -> Result<(), Fail> {
+    let mut conn = Connection::open_in_memory(rt.alloc())?;
+    is_prepared_beside_others(&rt, &mut conn)?;
+    let mut registry = opened(rt.alloc(), conn)?;
+    take_all(
+        &rt,
+        &mut registry,
+        &[Act::Counts(1), Act::Lists(0, sensor(1))],
+    )
 }

@@ -1,25 +1,27 @@
 //! What is learned is found, listed and forgotten, also by the next open.
-use super::given::{contact, forget, in_memory, is_full, learn, sensor};
+use super::acts::{Act, play, take_all};
+use super::given::{contact, in_memory, run, sensor};
 use crate::{Device, Registry};
 use erp1_telegrams::Eep;
+use sqlite::Alter;
+use std::alloc::Global;
+use std::process::Abort;
 use std::test::Fail;
 
 #[test]
 fn learns_finds_and_forgets(rt: HostRuntime) -> Result<(), Fail> {
-    let mut registry = in_memory(rt.alloc(), 64)?;
-    assert_eq!(rt; registry.find(0x0180_0ABC)?, None);
-    let learned = registry.learn(sensor(0x0180_0ABC))?;
-    assert_eq!(rt; learned.spend(), (0x0180_0ABC, true));
-    assert_eq!(rt; registry.find(0x0180_0ABC)?, Some(sensor(0x0180_0ABC)));
-    assert_eq!(rt; registry.find(0x0180_0ABD)?, None);
-    learn(&mut registry, contact(0x0180_0ABC))?;
-    assert_eq!(rt; registry.find(0x0180_0ABC)?, Some(contact(0x0180_0ABC)));
-    let forgotten = registry.forget(0x0180_0ABC)?;
-    assert_eq!(rt; forgotten.spend(), (0x0180_0ABC, false));
-    assert_eq!(rt; registry.find(0x0180_0ABC)?, None);
-    let nobody = registry.forget(0x0180_0ABC)?;
-    assert_eq!(rt; nobody.spend(), (0x0180_0ABC, false));
-    Ok(())
+    let acts = [
+        Act::Finds(0x0180_0ABC, None),
+        Act::Learns(sensor(0x0180_0ABC)),
+        Act::Finds(0x0180_0ABC, Some(sensor(0x0180_0ABC))),
+        Act::Finds(0x0180_0ABD, None),
+        Act::Learns(contact(0x0180_0ABC)),
+        Act::Finds(0x0180_0ABC, Some(contact(0x0180_0ABC))),
+        Act::Forgets(0x0180_0ABC),
+        Act::Finds(0x0180_0ABC, None),
+        Act::Forgets(0x0180_0ABC),
+    ];
+    play(rt.alloc(), &rt, 64, &acts, &[])
 }
 
 #[test]
@@ -42,70 +44,77 @@ fn numbers_at_their_ends(rt: HostRuntime) -> Result<(), Fail> {
         },
         maker: Some(2047),
     };
-    let mut registry = in_memory(rt.alloc(), 64)?;
-    learn(&mut registry, greatest)?;
-    learn(&mut registry, least)?;
-    let mut registry = Registry::open(rt.alloc(), registry.close())?;
-    assert_eq!(rt; registry.find(0)?, Some(least));
-    assert_eq!(rt; registry.find(0xFFFF_FFFE)?, Some(greatest));
-    assert_eq!(rt; registry.all()?.as_slice(), [least, greatest].as_slice());
-    Ok(())
+    let before = [Act::Learns(greatest), Act::Learns(least)];
+    let behind = [
+        Act::Finds(0, Some(least)),
+        Act::Finds(0xFFFF_FFFE, Some(greatest)),
+        Act::Counts(2),
+        Act::Lists(0, least),
+        Act::Lists(1, greatest),
+    ];
+    play(rt.alloc(), &rt, 64, &before, &behind)
 }
 
 #[test]
 fn the_next_open_finds_all(rt: HostRuntime) -> Result<(), Fail> {
-    let mut registry = in_memory(rt.alloc(), 64)?;
-    learn(&mut registry, sensor(0xFFFF_FFFE))?;
-    learn(&mut registry, contact(0))?;
-    learn(&mut registry, sensor(3))?;
-    learn(&mut registry, contact(0x0180_0ABC))?;
-    forget(&mut registry, 3)?;
-    let again = registry.close();
-    assert!(rt; again.is_autocommit());
-    let mut registry = Registry::open(rt.alloc(), again)?;
-    assert_eq!(rt;
-        registry.all()?.as_slice(),
-        [contact(0), contact(0x0180_0ABC), sensor(0xFFFF_FFFE)].as_slice()
-    );
-    assert_eq!(rt; registry.find(3)?, None);
-    assert_eq!(rt; registry.find(0xFFFF_FFFE)?, Some(sensor(0xFFFF_FFFE)));
+    let before = [
+        Act::Learns(sensor(0xFFFF_FFFE)),
+        Act::Learns(contact(0)),
+        Act::Learns(sensor(3)),
+        Act::Learns(contact(0x0180_0ABC)),
+        Act::Forgets(3),
+    ];
+    let behind = [
+        Act::Counts(3),
+        Act::Lists(0, contact(0)),
+        Act::Lists(1, contact(0x0180_0ABC)),
+        Act::Lists(2, sensor(0xFFFF_FFFE)),
+        Act::Finds(3, None),
+        Act::Finds(0xFFFF_FFFE, Some(sensor(0xFFFF_FFFE))),
+    ];
+    play(rt.alloc(), &rt, 64, &before, &behind)
+}
+
+// The rows that the last statement changed: none, and then the one that an open wrote.
+fn open_writes_one_row<S: Alter + Drop>(
+    alloc: Global,
+    rt: &impl Abort,
+    registry: Registry<S>,
+) -> Result<(), Fail> {
+    let mut conn = registry.close();
+    run(&mut conn, "DELETE FROM enogate_device WHERE id > 1")?;
+    assert_eq!(rt; conn.changes(), 0);
+    if !conn.is_autocommit() {
+        return Err(Fail::from("a transaction is open"));
+    }
+    let conn = Registry::open(alloc, conn)?.close();
+    assert_eq!(rt; conn.changes(), 1);
     Ok(())
 }
 
 #[test]
 fn an_open_commits_the_version_row(rt: HostRuntime) -> Result<(), Fail> {
     let mut registry = in_memory(rt.alloc(), 64)?;
-    // The rows that the last statement changed: none, and then the one that the open wrote.
-    learn(&mut registry, contact(1))?;
-    let mut conn = registry.close();
-    conn.execute("DELETE FROM enogate_device WHERE id > 1", &[])?;
-    assert_eq!(rt; conn.changes(), 0);
-    assert!(rt; conn.is_autocommit());
-    let conn = Registry::open(rt.alloc(), conn)?.close();
-    assert_eq!(rt; conn.changes(), 1);
-    Ok(())
+    take_all(&rt, &mut registry, &[Act::Learns(contact(1))])?;
+    open_writes_one_row(rt.alloc(), &rt, registry)
 }
 
 #[test]
 fn a_thousand_devices_and_no_more(rt: HostRuntime) -> Result<(), Fail> {
-    let mut registry = in_memory(rt.alloc(), 64)?;
-    for id in 0..1000 {
-        learn(&mut registry, contact(id))?;
-    }
-    match learn(&mut registry, sensor(1000)) {
-        Err(fault) => assert!(rt; is_full(&fault)),
-        Ok(()) => return Err(Fail::from("one too many")),
-    }
-    assert_eq!(rt; registry.find(1000)?, None);
-    learn(&mut registry, sensor(7))?;
-    assert_eq!(rt; registry.find(7)?, Some(sensor(7)));
-    assert_eq!(rt; registry.find(0)?, Some(contact(0)));
-    let again = registry.close();
-    let mut registry = Registry::open(rt.alloc(), again)?;
-    assert_eq!(rt; registry.all()?.len(), 1000);
-    forget(&mut registry, 8)?;
-    learn(&mut registry, sensor(1000))?;
-    assert_eq!(rt; registry.find(1000)?, Some(sensor(1000)));
-    assert_eq!(rt; registry.find(8)?, None);
-    Ok(())
+    let before = [
+        Act::LearnsContacts(1000),
+        Act::IsFullFor(sensor(1000)),
+        Act::Finds(1000, None),
+        Act::Learns(sensor(7)),
+        Act::Finds(7, Some(sensor(7))),
+        Act::Finds(0, Some(contact(0))),
+    ];
+    let behind = [
+        Act::Counts(1000),
+        Act::Forgets(8),
+        Act::Learns(sensor(1000)),
+        Act::Finds(1000, Some(sensor(1000))),
+        Act::Finds(8, None),
+    ];
+    play(rt.alloc(), &rt, 64, &before, &behind)
 }

@@ -208,13 +208,23 @@ pub fn connected(
     Ok(Connection::open_files(alloc, files, options).ok())
 }
 
-/// The files of a connection as a stop at this moment leaves them. They are copies, and refuse nothing any more.
+/// What a stop leaves.
+#[derive(Drop)]
+pub struct Left {
+    /// The files. They are copies, and refuse nothing any more.
+    pub files: Disks,
+    /// How many syncs of the log there were.
+    pub syncs: u64,
+}
+
+/// What a stop at this moment leaves of a connection.
 pub fn stopped(
     alloc: Global,
     conn: Connection<FileStore<Stumbling<Fuse<Memory>>>>,
     stop: Stop,
-) -> Result<Disks, Fail> {
+) -> Result<Left, Fail> {
     let Files { log, db } = conn.into_store().close();
+    let syncs = log.syncs();
     let mut log = log.into_inner();
     let mut db = db.into_inner();
     if stop == Stop::OfMachine {
@@ -225,5 +235,6 @@ pub fn stopped(
         log: Stumbling::new(log, 0),
         db: Stumbling::new(db, 0),
     };
-    refusing(alloc, &left, Which::Log, Refusal::Nothing)
+    let files = refusing(alloc, &left, Which::Log, Refusal::Nothing)?;
+    Ok(Left { files, syncs })
 }

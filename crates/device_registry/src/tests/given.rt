@@ -45,6 +45,11 @@ pub fn sensor(id: u32) -> Device {
     }
 }
 
+/// A contact or a sensor, in turn.
+pub fn either(id: u32) -> Device {
+    if id % 2 == 0 { contact(id) } else { sensor(id) }
+}
+
 pub fn is_store(fault: &StoreFault) -> bool {
     !fault.is_memory()
 }

@@ -1,27 +1,19 @@
 //! What a refusal of the disk leaves in the registry, and what a stop behind it leaves in the files.
+use super::acts::{Act, take_all};
 use super::disks::{
     Disks, Refusal, Stop, Stumbling, Which, connected, empty_files, refusing, stopped,
 };
-use super::given::{
-    contact, forget, is_learn_store, is_open_store, is_store, learn, prepare_idle, sensor,
+use super::given::sensor;
+use super::steps::{
+    CALLS, Call, Met, Outcome, changed, filled, first_met, found, is_prepare_refused,
+    is_told_apart, opened_and_closed, opened_idle, refused_to_learn,
 };
 use crate::Registry;
-use sqlite::{Alter, Connection, FileStore, Files, params};
+use sqlite::FileStore;
 use sqlite_disk::{Fuse, Memory};
 use std::alloc::Global;
 use std::process::Abort;
 use std::test::Fail;
-
-/// The calls of a registry that ask the store.
-#[derive(Clone, Copy, Debug, PartialEq, Eq)]
-enum Call {
-    Find,
-    Learn,
-    Forget,
-    All,
-}
-
-const CALLS: [Call; 4] = [Call::Find, Call::Learn, Call::Forget, Call::All];
 
 /// So many devices that their table has more than one page, and so many that it has one.
 const MANY: i64 = 350;
@@ -31,12 +23,7 @@ const FEW: i64 = 10;
 // The files of a closed registry of so many contacts, with the IDs from 0 on.
 fn made(alloc: Global, devices: i64) -> Result<Disks, Fail> {
     let registry = opened(alloc, empty_files(alloc), 9)?.ok_or("no registry")?;
-    let mut conn = registry.close();
-    conn.execute(
-        "INSERT INTO enogate_device WITH RECURSIVE n (i) AS (SELECT 0 UNION ALL SELECT i + 1 FROM n) \
-        SELECT i, 13959169, -1 FROM n LIMIT ?1",
-        params![devices],
-    )?;
+    let conn = filled(registry, devices)?;
     Ok(conn.close_files().ok().ok_or("not closed")?)
 }
 
@@ -46,100 +33,10 @@ fn opened(
     files: Disks,
     pages: usize,
 ) -> Result<Option<Registry<FileStore<Stumbling<Fuse<Memory>>>>>, Fail> {
-    let Some(conn) = connected(alloc, files, pages)? else {
-        return Ok(None);
-    };
-    if !conn.is_autocommit() {
-        return Err(Fail::from("a transaction is open"));
+    match connected(alloc, files, pages)? {
+        Some(conn) => opened_idle(alloc, conn),
+        None => Ok(None),
     }
-    Ok(Registry::open(alloc, conn).ok())
-}
-
-// Whether a call is refused by the store. Else it answers what is wanted.
-fn is_call_refused<S: Alter>(
-    rt: &impl Abort,
-    registry: &mut Registry<S>,
-    call: Call,
-) -> Result<bool, Fail> {
-    match call {
-        Call::Find => match registry.find(7) {
-            Ok(found) => assert_eq!(rt; found, Some(contact(7))),
-            Err(fault) => {
-                assert!(rt; is_store(&fault));
-                return Ok(true);
-            }
-        },
-        Call::Learn => {
-            if let Err(fault) = learn(registry, sensor(3)) {
-                assert!(rt; is_learn_store(&fault));
-                return Ok(true);
-            }
-        }
-        Call::Forget => {
-            if let Err(fault) = forget(registry, 5) {
-                assert!(rt; is_store(&fault));
-                return Ok(true);
-            }
-        }
-        Call::All => match registry.all() {
-            Ok(all) => assert!(rt; all.contains(&sensor(3)) && !all.contains(&contact(5))),
-            Err(fault) => {
-                assert!(rt; is_store(&fault));
-                return Ok(true);
-            }
-        },
-    }
-    Ok(false)
-}
-
-/// Where a registry meets the first refusal of its disk.
-#[derive(Clone, Copy, Debug, PartialEq, Eq)]
-enum Met {
-    Opening,
-    At(Call),
-    Nowhere,
-}
-
-// Whether a sender is found behind a refusal. Then it is found as it was before.
-fn is_found_behind<S: Alter>(
-    rt: &impl Abort,
-    registry: &mut Registry<S>,
-    id: u32,
-) -> Result<bool, Fail> {
-    assert_eq!(rt; registry.cache.peek(&id).copied(), None);
-    match registry.find(id) {
-        Ok(found) => {
-            assert_eq!(rt; found, Some(contact(id)));
-            Ok(true)
-        }
-        Err(fault) => {
-            assert!(rt; is_store(&fault));
-            Ok(false)
-        }
-    }
-}
-
-// Where the calls meet the first refusal, and whether the sender of a refused change is found behind it.
-fn first_met(
-    alloc: Global,
-    rt: &impl Abort,
-    files: Disks,
-    pages: usize,
-) -> Result<(Met, bool), Fail> {
-    let Some(mut registry) = opened(alloc, files, pages)? else {
-        return Ok((Met::Opening, false));
-    };
-    for call in CALLS {
-        if is_call_refused(rt, &mut registry, call)? {
-            let is_found = match call {
-                Call::Learn => is_found_behind(rt, &mut registry, 3)?,
-                Call::Forget => is_found_behind(rt, &mut registry, 5)?,
-                Call::Find | Call::All => false,
-            };
-            return Ok((Met::At(call), is_found));
-        }
-    }
-    Ok((Met::Nowhere, false))
 }
 
 // Fuses of 0 calls, 1 call and so on, until nothing is refused: the calls that were refused first, and those of them
@@ -155,12 +52,12 @@ fn all_met(
     let mut refused = Vec::new(alloc);
     let mut found = Vec::new(alloc);
     for calls in 0..5000 {
-        match first_met(
-            alloc,
-            rt,
-            refusing(alloc, &files, which, Refusal::From(calls))?,
-            pages,
-        )? {
+        let refusing = refusing(alloc, &files, which, Refusal::From(calls))?;
+        let met = match opened(alloc, refusing, pages)? {
+            Some(mut registry) => first_met(rt, &mut registry)?,
+            None => (Met::Opening, false),
+        };
+        match met {
             (Met::Opening, _) => {}
             (Met::At(call), is_found) => {
                 refused.push(call)?;
@@ -193,92 +90,55 @@ fn a_refused_change_is_not_remembered(rt: HostRuntime) -> Result<(), Fail> {
     Ok(())
 }
 
-// Whether the disk refuses a sender that was not looked up, where one that was is answered. None: it refuses nothing.
-fn is_told_apart(alloc: Global, rt: &impl Abort, files: Disks) -> Result<Option<bool>, Fail> {
-    let Some(mut registry) = opened(alloc, files, 1)? else {
-        return Ok(Some(false));
-    };
-    let Ok(first) = registry.find(7) else {
-        return Ok(Some(false));
-    };
-    assert_eq!(rt; first, Some(contact(7)));
-    assert_eq!(rt; registry.find(7)?, Some(contact(7)));
-    match registry.find(340) {
-        Ok(other) => {
-            assert_eq!(rt; other, Some(contact(340)));
-            Ok(None)
-        }
-        Err(_) => Ok(Some(true)),
-    }
-}
-
 #[test]
 fn what_is_remembered_asks_nothing_of_the_disk(rt: HostRuntime) -> Result<(), Fail> {
     let files = made(rt.alloc(), MANY)?;
     let mut is_ever = false;
     for calls in 0..5000 {
-        match is_told_apart(
-            rt.alloc(),
-            &rt,
-            refusing(rt.alloc(), &files, Which::Database, Refusal::From(calls))?,
-        )? {
-            Some(is_now) => is_ever = is_ever || is_now,
-            None => {
-                assert!(rt; is_ever);
-                return Ok(());
+        let refusing = refusing(rt.alloc(), &files, Which::Database, Refusal::From(calls))?;
+        if let Some(mut registry) = opened(rt.alloc(), refusing, 1)? {
+            match is_told_apart(&rt, &mut registry)? {
+                Some(is_now) => is_ever = is_ever || is_now,
+                None => {
+                    assert!(rt; is_ever);
+                    return Ok(());
+                }
             }
         }
     }
     Err(Fail::from("refusals without end"))
 }
 
+// What was told of a change is found behind this stop.
+fn is_kept_behind(alloc: Global, rt: &impl Abort, files: &Disks, stop: Stop) -> Result<(), Fail> {
+    let files = refusing(alloc, files, Which::Log, Refusal::Nothing)?;
+    let conn = changed(opened(alloc, files, 9)?.ok_or("no registry")?)?;
+    let mut registry = opened(alloc, stopped(alloc, conn, stop)?.files, 9)?.ok_or("no registry")?;
+    let acts = [
+        Act::Finds(600, Some(sensor(600))),
+        Act::Finds(7, None),
+        Act::Counts(10),
+    ];
+    take_all(rt, &mut registry, &acts)
+}
+
 #[test]
 fn what_was_told_is_found_behind_a_stop(rt: HostRuntime) -> Result<(), Fail> {
     let files = made(rt.alloc(), FEW)?;
-    for stop in [Stop::OfProcess, Stop::OfMachine] {
-        let files = refusing(rt.alloc(), &files, Which::Log, Refusal::Nothing)?;
-        let mut registry = opened(rt.alloc(), files, 9)?.ok_or("no registry")?;
-        learn(&mut registry, sensor(600))?;
-        forget(&mut registry, 7)?;
-        let files = stopped(rt.alloc(), registry.close(), stop)?;
-        let mut registry = opened(rt.alloc(), files, 9)?.ok_or("no registry")?;
-        assert_eq!(rt; registry.find(600)?, Some(sensor(600)));
-        assert_eq!(rt; registry.find(7)?, None);
-        assert_eq!(rt; registry.all()?.len(), 10);
-    }
-    Ok(())
-}
-
-// How many syncs of the log a connection made, at whose end the process dies.
-fn syncs(conn: Connection<FileStore<Stumbling<Fuse<Memory>>>>) -> u64 {
-    let Files { log, db: _ } = conn.into_store().close();
-    log.syncs()
+    is_kept_behind(rt.alloc(), &rt, &files, Stop::OfProcess)?;
+    is_kept_behind(rt.alloc(), &rt, &files, Stop::OfMachine)
 }
 
 #[test]
 fn an_open_answers_behind_a_sync(rt: HostRuntime) -> Result<(), Fail> {
     let files = made(rt.alloc(), FEW)?;
     let first = refusing(rt.alloc(), &files, Which::Log, Refusal::Nothing)?;
-    let before = syncs(connected(rt.alloc(), first, 9)?.ok_or("no connection")?);
+    let conn = connected(rt.alloc(), first, 9)?.ok_or("no connection")?;
+    let before = stopped(rt.alloc(), conn, Stop::OfProcess)?.syncs;
     let second = refusing(rt.alloc(), &files, Which::Log, Refusal::Nothing)?;
     let registry = opened(rt.alloc(), second, 9)?.ok_or("no registry")?;
-    assert!(rt; syncs(registry.close()) > before);
+    assert!(rt; stopped(rt.alloc(), registry.close(), Stop::OfProcess)?.syncs > before);
     Ok(())
-}
-
-/// What became of a `learn` over a disk that tells one write as failed.
-#[derive(Clone, Copy, Debug, PartialEq, Eq)]
-enum Outcome {
-    /// No registry was opened.
-    Unopened,
-    /// It answered that the sender is learned.
-    Learned,
-    /// It was refused, and so was the next open on its connection.
-    Shut,
-    /// It was refused, and behind a stop the sender is found.
-    Found,
-    /// It was refused, and behind a stop the sender is not found.
-    NotFound,
 }
 
 // The outcome over these files, where the connection is opened again before the stop, or is not.
@@ -289,32 +149,20 @@ fn end_of(
     opens_again: bool,
     stop: Stop,
 ) -> Result<Outcome, Fail> {
-    let Some(mut registry) = opened(alloc, files, 20)? else {
+    let Some(registry) = opened(alloc, files, 20)? else {
         return Ok(Outcome::Unopened);
     };
-    match learn(&mut registry, sensor(600)) {
-        Ok(()) => return Ok(Outcome::Learned),
-        Err(fault) => assert!(rt; is_learn_store(&fault)),
-    }
-    let mut conn = registry.close();
+    let Some(mut conn) = refused_to_learn(rt, registry)? else {
+        return Ok(Outcome::Learned);
+    };
     if opens_again {
-        match Registry::open(alloc, conn) {
-            Ok(again) => conn = again.close(),
-            Err(fault) => {
-                assert!(rt; is_open_store(&fault));
-                return Ok(Outcome::Shut);
-            }
+        match opened_and_closed(alloc, rt, conn)? {
+            Some(again) => conn = again,
+            None => return Ok(Outcome::Shut),
         }
     }
-    let mut registry = opened(alloc, stopped(alloc, conn, stop)?, 20)?.ok_or("no registry")?;
-    assert_eq!(rt; registry.find(7)?, Some(contact(7)));
-    match registry.find(600)? {
-        Some(found) => {
-            assert_eq!(rt; found, sensor(600));
-            Ok(Outcome::Found)
-        }
-        None => Ok(Outcome::NotFound),
-    }
+    let mut registry = opened(alloc, stopped(alloc, conn, stop)?.files, 20)?.ok_or("no registry")?;
+    found(rt, &mut registry)
 }
 
 // The outcomes where the first write is told as failed, the second, and so on, until the sender is learned.
@@ -364,15 +212,15 @@ fn is_made_behind_a_stop(
     let Some(mut conn) = connected(alloc, files, 9)? else {
         return Ok(true);
     };
-    let answer = prepare_idle(&mut conn)?;
-    if let Err(fault) = &answer {
-        assert!(rt; is_open_store(fault));
-    }
-    let mut registry = opened(alloc, stopped(alloc, conn, stop)?, 9)?.ok_or("no registry")?;
-    assert!(rt; registry.all()?.is_empty());
-    learn(&mut registry, sensor(600))?;
-    assert_eq!(rt; registry.find(600)?, Some(sensor(600)));
-    Ok(answer.is_err())
+    let is_refused = is_prepare_refused(rt, &mut conn)?;
+    let mut registry = opened(alloc, stopped(alloc, conn, stop)?.files, 9)?.ok_or("no registry")?;
+    let acts = [
+        Act::Counts(0),
+        Act::Learns(sensor(600)),
+        Act::Finds(600, Some(sensor(600))),
+    ];
+    take_all(rt, &mut registry, &acts)?;
+    Ok(is_refused)
 }
 
 // How many refusals there are, each call of the file being refused in turn.

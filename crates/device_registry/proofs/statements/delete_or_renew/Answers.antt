@@ -1,3 +1,4 @@
+use Rattle.std.proofs.Common.{rules}
 use Rattle.std.proofs.Common.{arith, ◌≡◌, []}
 use Rattle.std.proofs.lemmas.Grind.{common_steps}
 use Rattle.device_registry.proofs.FindAnswer.{unknown_is_removed}
@@ -9,3 +10,6 @@ returns-then-is_empty g c =
     let none : c.args.rows.now ≡ [] = grind (arith, common_steps, c.is_empty.ensures, c.if-is_empty.true) in
     c.renew.ensures.turns (forgotten c.args.id) (λ clean devices shows.
     unknown_is_removed devices c.args.id c.args.rows.now (c.requires.found clean devices shows) none)
+
+pub returns : goal.returns
+returns g c = search rules

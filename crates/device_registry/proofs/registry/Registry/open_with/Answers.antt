@@ -1,3 +1,4 @@
+use Rattle.std.proofs.Common.{rules}
 use Rattle.std.proofs.Common.{sym, subst}
 use Rattle.std.proofs.lemmas.Result.{err_from_is_err_and}
 use Rattle.sqlite.specs.Held.{state}
@@ -27,3 +28,6 @@ invariant_of-result-2 g c = (
   c.in_ok-prepare.ensures.registries,
   none_recalled (state g.S.Store c.prepare.new.conn) c.in_ok-cache.cache.entries c.in_ok-cache.ensures,
 )
+
+pub new_cache-requires : goal.new_cache-requires
+new_cache-requires g c = search rules

@@ -1,0 +1,232 @@
+//! Calls of a registry as data, each with the answer that is wanted of it.
+ghost use Rattle.std.specs.Prelude.{◌≤◌};
+
+use super::given::{contact, either, in_memory, is_full};
+use crate::{Device, Registry};
+use sqlite::Alter;
+use std::alloc::Global;
+use std::process::Abort;
+use std::test::Fail;
+
+/// A call of a registry, or a look at what it remembers.
+#[derive(Clone, Copy, Debug)]
+pub enum Act {
+    /// A sender is this device, or is not learned.
+    Finds(u32, Option<Device>),
+    /// No sender below this one is learned.
+    FindsNoneBelow(u32),
+    /// The device is learned.
+    Learns(Device),
+    /// So many contacts are learned, with the IDs from 0 on.
+    LearnsContacts(u32),
+    /// So many devices are learned, contacts and sensors in turn.
+    LearnsInTurn(u32),
+    /// So many devices are found, contacts and sensors in turn, twice each, and behind them as many senders are not.
+    FindsInTurn(u32),
+    /// The device is one too many.
+    IsFullFor(Device),
+    /// The sender is not learned from then on.
+    Forgets(u32),
+    /// So many devices are listed.
+    Counts(usize),
+    /// At this place of the list, from 0 on, stands this device.
+    Lists(usize, Device),
+    /// What is remembered of a sender, if it is.
+    Remembers(u32, Option<Option<Device>>),
+    /// So many contacts are remembered, with the IDs from 0 on.
+    RemembersContacts(u32),
+    /// So many senders are remembered.
+    RemembersSoMany(usize),
+}
+
+/// Takes the acts in turn, over a new registry in memory with a cache of so many senders, and those behind them once its
+/// database is opened again.
+pub fn play(
+    alloc: Global,
+    rt: &impl Abort,
+    cache: usize,
+    acts: &[Act],
+    behind: &[Act],
+) -> Result<(), Fail>
+    requires { (1 ≤ cache) × (cache ≤ 1024) }
+{
+    let mut registry = in_memory(alloc, cache)?;
+    take_all(rt, &mut registry, acts)?;
+    let mut registry = opened_again(alloc, rt, registry)?;
+    take_all(rt, &mut registry, behind)
+}
+
+fn opened_again<S: Alter + Drop>(
+    alloc: Global,
+    rt: &impl Abort,
+    registry: Registry<S>,
+) -> Result<Registry<S>, Fail> {
+    let conn = registry.close();
+    assert!(rt; conn.is_autocommit());
+    Ok(Registry::open(alloc, conn)?)
+}
+
+/// Takes the acts in turn.
+pub fn take_all<S: Alter>(
+    rt: &impl Abort,
+    registry: &mut Registry<S>,
+    acts: &[Act],
+) -> Result<(), Fail> {
+    for act in acts {
+        take(rt, registry, *act)?;
+    }
+    Ok(())
+}
+
+fn take<S: Alter>(rt: &impl Abort, registry: &mut Registry<S>, act: Act) -> Result<(), Fail> {
+    match act {
+        Act::Finds(id, wanted) => find(rt, registry, id, wanted),
+        Act::FindsNoneBelow(end) => find_none_below(rt, registry, end),
+        Act::Learns(device) => learn(rt, registry, device),
+        Act::LearnsContacts(count) => learn_contacts(rt, registry, count),
+        Act::LearnsInTurn(count) => learn_in_turn(rt, registry, count),
+        Act::FindsInTurn(count) => find_in_turn(rt, registry, count),
+        Act::IsFullFor(device) => be_full_for(rt, registry, device),
+        Act::Forgets(id) => forget(rt, registry, id),
+        Act::Counts(wanted) => count(rt, registry, wanted),
+        Act::Lists(at, wanted) => list(rt, registry, at, wanted),
+        Act::Remembers(id, wanted) => remember(rt, registry, id, wanted),
+        Act::RemembersContacts(count) => remember_contacts(rt, registry, count),
+        Act::RemembersSoMany(wanted) => remember_so_many(rt, registry, wanted),
+    }
+}
+
+fn find<S: Alter>(
+    rt: &impl Abort,
+    registry: &mut Registry<S>,
+    id: u32,
+    wanted: Option<Device>,
+) -> Result<(), Fail> {
+    assert_eq!(rt; registry.find(id)?, wanted, "{id}");
+    Ok(())
+}
+
+fn find_none_below<S: Alter>(
+    rt: &impl Abort,
+    registry: &mut Registry<S>,
+    end: u32,
+) -> Result<(), Fail> {
+    for id in 0..end {
+        find(rt, registry, id, None)?;
+    }
+    Ok(())
+}
+
+fn learn<S: Alter>(
+    rt: &impl Abort,
+    registry: &mut Registry<S>,
+    device: Device,
+) -> Result<(), Fail> {
+    let receipt = registry.learn(device)?;
+    assert_eq!(rt; receipt.spend(), (device.id, true));
+    Ok(())
+}
+
+fn learn_contacts<S: Alter>(
+    rt: &impl Abort,
+    registry: &mut Registry<S>,
+    count: u32,
+) -> Result<(), Fail> {
+    for id in 0..count {
+        learn(rt, registry, contact(id))?;
+    }
+    Ok(())
+}
+
+fn learn_in_turn<S: Alter>(
+    rt: &impl Abort,
+    registry: &mut Registry<S>,
+    count: u32,
+) -> Result<(), Fail> {
+    for id in 0..count {
+        learn(rt, registry, either(id))?;
+    }
+    Ok(())
+}
+
+fn find_in_turn<S: Alter>(
+    rt: &impl Abort,
+    registry: &mut Registry<S>,
+    count: u32,
+) -> Result<(), Fail> {
+    for id in 0..count {
+        find(rt, registry, id, Some(either(id)))?;
+        find(rt, registry, id, Some(either(id)))?;
+        find(rt, registry, id.saturating_add(count), None)?;
+    }
+    Ok(())
+}
+
+fn be_full_for<S: Alter>(
+    rt: &impl Abort,
+    registry: &mut Registry<S>,
+    device: Device,
+) -> Result<(), Fail> {
+    match registry.learn(device) {
+        Ok(receipt) => {
+            let (_id, _is_learned) = receipt.spend();
+            Err(Fail::from("one too many"))
+        }
+        Err(fault) => {
+            assert!(rt; is_full(&fault));
+            Ok(())
+        }
+    }
+}
+
+fn forget<S: Alter>(rt: &impl Abort, registry: &mut Registry<S>, id: u32) -> Result<(), Fail> {
+    let receipt = registry.forget(id)?;
+    assert_eq!(rt; receipt.spend(), (id, false));
+    Ok(())
+}
+
+fn count<S: Alter>(rt: &impl Abort, registry: &mut Registry<S>, wanted: usize) -> Result<(), Fail> {
+    assert_eq!(rt; registry.all()?.len(), wanted);
+    Ok(())
+}
+
+fn list<S: Alter>(
+    rt: &impl Abort,
+    registry: &mut Registry<S>,
+    at: usize,
+    wanted: Device,
+) -> Result<(), Fail> {
+    assert_eq!(rt; registry.all()?.get(at).copied(), Some(wanted), "{at}");
+    Ok(())
+}
+
+// The look leaves the order of the entries.
+fn remember<S: Alter>(
+    rt: &impl Abort,
+    registry: &Registry<S>,
+    id: u32,
+    wanted: Option<Option<Device>>,
+) -> Result<(), Fail> {
+    assert_eq!(rt; registry.cache.peek(&id).copied(), wanted, "{id}");
+    Ok(())
+}
+
+fn remember_contacts<S: Alter>(
+    rt: &impl Abort,
+    registry: &Registry<S>,
+    count: u32,
+) -> Result<(), Fail> {
+    for id in 0..count {
+        remember(rt, registry, id, Some(Some(contact(id))))?;
+    }
+    Ok(())
+}
+
+fn remember_so_many<S: Alter>(
+    rt: &impl Abort,
+    registry: &Registry<S>,
+    wanted: usize,
+) -> Result<(), Fail> {
+    assert_eq!(rt; registry.cache.len(), wanted);
+    Ok(())
+}
