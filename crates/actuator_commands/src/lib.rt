@@ -12,8 +12,3 @@ pub use lines::parse;
 pub use orders::{Order, OrderFault, Quantity};
 pub use packets::packet_of;
 pub use words::id_of;
-
-#[cfg(test)]
-mod packet_tests;
-#[cfg(test)]
-mod tests;

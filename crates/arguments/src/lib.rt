@@ -3,8 +3,6 @@
 
 mod commands;
 mod given;
-#[cfg(test)]
-mod tests;
 
 ghost use Rattle.std.specs.Prelude.{◌≡◌, ◌⊎◌, IfOk, IfErr, OnOk, Some, map, option_map, true};
 ghost use Rattle.std.specs.String.{string_bytes};

@@ -24,6 +24,3 @@ pub use reading::reading_line;
 pub use response::response_line;
 pub use status::status_line;
 pub use teach::{Draft, teach_line};
-
-#[cfg(test)]
-mod tests;

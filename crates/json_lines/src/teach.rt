@@ -114,6 +114,3 @@ pub fn teach_line(
     let line = line_of(alloc, &told)?;
     Ok(Draft { id, outcome, line })
 }
-
-#[cfg(test)]
-mod tests;

@@ -13,6 +13,3 @@ mod room_operating_panel;
 mod temperature;
 
 pub use crate::profiles::{read, supports};
-
-#[cfg(test)]
-mod tests;

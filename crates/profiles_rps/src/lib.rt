@@ -12,6 +12,3 @@ mod unreadable;
 pub use crate::profiles::{read, supports};
 pub use crate::reading::{Reading, Readings, What};
 pub use crate::unreadable::Unreadable;
-
-#[cfg(test)]
-mod tests;

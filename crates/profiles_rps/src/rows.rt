@@ -111,6 +111,3 @@ pub fn reserved(raw: u32) -> What
 {
     What::OutOfRange(raw)
 }
-
-#[cfg(test)]
-mod tests;

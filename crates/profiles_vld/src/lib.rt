@@ -6,6 +6,3 @@ mod electronic_switches;
 mod profiles;
 
 pub use crate::profiles::{read, supports};
-
-#[cfg(test)]
-mod tests;

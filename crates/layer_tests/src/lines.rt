@@ -1,9 +1,9 @@
 //! Lines whose bytes are known, and the counts.
-use crate::{
-    Count, Counts, ErrorName, device_lines, done_line, reading_line, response_line, status_line,
-};
 use erp1_telegrams::{BROADCAST, Eep, Telegram};
 use exact_values::{over, scale};
+use json_lines::{
+    Count, Counts, ErrorName, device_lines, done_line, reading_line, response_line, status_line,
+};
 use learned_devices::Device;
 use profiles_rps::{Reading, Readings, What};
 use std::process::Abort;

@@ -1,6 +1,10 @@
-//! A number of each kind of row, with what it means.
-use super::{number, over, over_power, parted, percent_or, range, readings_where, reserved, words};
-use crate::{Reading, What};
+//! A number of each kind of row, with what it means, and which profiles an arm reads.
+use erp1_telegrams::Eep;
+use profiles_rps::profile::is_one_of;
+use profiles_rps::rows::{
+    number, over, over_power, parted, percent_or, range, readings_where, reserved, words,
+};
+use profiles_rps::{Reading, What};
 
 #[test]
 fn values(rt: HostRuntime) {
@@ -47,4 +51,19 @@ fn rows_that_hold(rt: HostRuntime) {
     };
     let readings = readings_where(&[(true, first), (false, first), (true, last)]);
     assert_eq!(rt; readings.as_slice(), [first, last].as_slice());
+}
+
+#[test]
+fn two_types(rt: HostRuntime) {
+    let cases: [((u8, u8, u8), bool); 5] = [
+        ((0xA5, 0x12, 0x02), true),
+        ((0xA5, 0x12, 0x03), true),
+        ((0xA5, 0x12, 0x01), false),
+        ((0xA5, 0x10, 0x03), false),
+        ((0xD2, 0x12, 0x03), false),
+    ];
+    for ((rorg, func, typ), wanted) in cases {
+        let eep = Eep { rorg, func, typ };
+        assert_eq!(rt; is_one_of(eep, 0xA5, 0x12, &[0x02, 0x03]), wanted);
+    }
 }

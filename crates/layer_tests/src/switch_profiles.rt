@@ -1,6 +1,6 @@
 //! Telegrams whose readings are known, and each refusal.
-use crate::{Reading, Readings, Unreadable, What, read, supports};
 use erp1_telegrams::{BROADCAST, Eep, Telegram};
+use profiles_rps::{Reading, Readings, Unreadable, What, read, supports};
 use std::test::Fail;
 
 const TWO_ROCKERS: Eep = Eep {

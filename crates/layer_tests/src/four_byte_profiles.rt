@@ -1,6 +1,8 @@
 //! Telegrams whose readings are known, and each refusal.
-use crate::{read, supports};
+use crate::wanted::Wanted::{OutOfRange, Raw, Value, Word};
+use crate::wanted::{Wanted, say};
 use erp1_telegrams::{BROADCAST, Eep, Telegram};
+use profiles_4bs::{read, supports};
 use profiles_rps::{Reading, Readings, Unreadable, What};
 use std::process::Abort;
 use std::test::Fail;
@@ -31,27 +33,6 @@ fn telegram(payload: u32) -> Result<Telegram, Fail> {
     )?)
 }
 
-/// What a reading is expected to say: a value has a numerator, a denominator and a unit.
-#[derive(Clone, Copy, Debug, PartialEq, Eq)]
-enum Wanted {
-    Value(i64, i64, &'static str),
-    Word(&'static str),
-    Raw(u32),
-    OutOfRange(u32),
-}
-
-use Wanted::{OutOfRange, Raw, Value, Word};
-
-fn said(reading: &Reading) -> (&'static str, Wanted) {
-    let said = match reading.what {
-        What::Value(fraction, unit) => Value(fraction.num(), fraction.den(), unit),
-        What::Word(word) => Word(word),
-        What::Raw(raw) => Raw(raw),
-        What::OutOfRange(raw) => OutOfRange(raw),
-    };
-    (reading.name, said)
-}
-
 /// A payload, its first byte the highest, is read as it is expected.
 fn check(
     rt: &impl Abort,
@@ -61,10 +42,7 @@ fn check(
 ) -> Result<(), Fail> {
     let mut readings = Readings::new();
     assert_eq!(rt; read(eep, &telegram(payload)?, &mut readings), Ok(()));
-    assert_eq!(rt; readings.len(), expected.len());
-    for (reading, wanted) in readings.as_slice().iter().zip(expected.iter()) {
-        assert_eq!(rt; said(reading), *wanted);
-    }
+    say(rt, &readings, expected);
     Ok(())
 }
 

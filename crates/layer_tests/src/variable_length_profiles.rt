@@ -1,7 +1,9 @@
 //! Telegrams whose readings are known, and each refusal.
-use crate::{read, supports};
+use crate::wanted::Wanted::{OutOfRange, Raw, Value, Word};
+use crate::wanted::{Wanted, say};
 use erp1_telegrams::{BROADCAST, Eep, Telegram};
 use profiles_rps::{Reading, Readings, Unreadable, What};
+use profiles_vld::{read, supports};
 use std::process::Abort;
 use std::test::Fail;
 
@@ -19,27 +21,6 @@ const BLINDS: Eep = Eep {
     typ: 0x00,
 };
 
-/// What a reading is expected to say: a value has a numerator, a denominator and a unit.
-#[derive(Clone, Copy, Debug, PartialEq, Eq)]
-enum Wanted {
-    Value(i64, i64, &'static str),
-    Word(&'static str),
-    Raw(u32),
-    OutOfRange(u32),
-}
-
-use Wanted::{OutOfRange, Raw, Value, Word};
-
-fn said(reading: &Reading) -> (&'static str, Wanted) {
-    let said = match reading.what {
-        What::Value(fraction, unit) => Value(fraction.num(), fraction.den(), unit),
-        What::Word(word) => Word(word),
-        What::Raw(raw) => Raw(raw),
-        What::OutOfRange(raw) => OutOfRange(raw),
-    };
-    (reading.name, said)
-}
-
 fn telegram(rorg: u8, payload: &[u8]) -> Result<Telegram, Fail> {
     Ok(Telegram::new(rorg, payload, 0x0180_0ABC, 0x00, BROADCAST, None)?)
 }
@@ -53,10 +34,7 @@ fn check(
 ) -> Result<(), Fail> {
     let mut readings = Readings::new();
     assert_eq!(rt; read(eep, &telegram(0xD2, payload)?, &mut readings), Ok(()));
-    assert_eq!(rt; readings.len(), expected.len());
-    for (reading, wanted) in readings.as_slice().iter().zip(expected.iter()) {
-        assert_eq!(rt; said(reading), *wanted);
-    }
+    say(rt, &readings, expected);
     Ok(())
 }
 

@@ -2,7 +2,7 @@
 ghost use Rattle.std.specs.Prelude.{◌≡◌, true};
 ghost use Rattle.erp1_telegrams.specs.Address.{is_base};
 
-use crate::{Order, OrderFault, Quantity, packet_of, parse};
+use actuator_commands::{Order, OrderFault, Quantity, packet_of, parse};
 use arrayvec::ArrayVec;
 use erp1_telegrams::{BROADCAST, Eep, Telegram, read, write};
 use esp3_frames::read_packet;

@@ -1,6 +1,6 @@
 //! The lines of each order, the ends of each range, and lines that are none.
-use crate::laws::{ids_are_spelled, lines_have_two_faults, orders_are_spelled};
-use crate::{Order, OrderFault, Quantity, id_of, parse};
+use actuator_commands::laws::{ids_are_spelled, lines_have_two_faults, orders_are_spelled};
+use actuator_commands::{Order, OrderFault, Quantity, id_of, parse};
 use erp1_telegrams::Eep;
 
 const CONTACT: Eep = Eep {

@@ -1,5 +1,5 @@
 //! Command lines that are taken and that are refused, and what help and the version tell.
-use super::{LiveOptions, Options, Refused, Task, read};
+use arguments::{LiveOptions, Options, Refused, Task, read};
 use clap::error::ErrorKind;
 use std::test::Fail;
 
