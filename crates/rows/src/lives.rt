@@ -138,8 +138,8 @@ fn tell_order_of_sides(rt: &HostRuntime, telling: &mut Telling) -> Result<()> {
     )
 }
 
-// The reply goes out by radio as it is, and the desk is told what was learned. With 0 turns it ends well, and readers and
-// writers that fail are not asked.
+// The reply goes out by radio as it is, and the desk is told what was learned. With 0 turns it ends well, and readers
+// and writers that fail are not asked.
 fn tell_both_outputs(rt: &HostRuntime, telling: &mut Telling) -> Result<()> {
     let alloc = rt.alloc();
     let desk = [b"learn on\r\nba".as_slice(), b"se\n"];

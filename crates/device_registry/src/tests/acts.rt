@@ -1,7 +1,7 @@
 //! Calls of a registry as data, each with the answer that is wanted of it.
 ghost use Rattle.std.specs.Prelude.{◌≤◌};
 
-use super::given::{contact, either, in_memory, is_full};
+use super::given::{Fresh, contact, either, fresh_registry, is_full, open_idle};
 use crate::{Device, Registry};
 use sqlite::Alter;
 use std::alloc::Global;
@@ -39,9 +39,9 @@ pub enum Act {
     RemembersSoMany(usize),
 }
 
-/// Takes the acts in turn, over a new registry in memory with a cache of so many senders, and those behind them once its
-/// database is opened again.
-pub fn play(
+/// Takes the acts in turn, over a new registry with a cache of so many senders, and those behind them once its database
+/// is opened again.
+pub fn play<S: Fresh>(
     alloc: Global,
     rt: &impl Abort,
     cache: usize,
@@ -50,20 +50,10 @@ pub fn play(
 ) -> Result<(), Fail>
     requires { (1 ≤ cache) × (cache ≤ 1024) }
 {
-    let mut registry = in_memory(alloc, cache)?;
+    let mut registry = fresh_registry::<S>(alloc, cache)?;
     take_all(rt, &mut registry, acts)?;
-    let mut registry = opened_again(alloc, rt, registry)?;
+    let mut registry = open_idle(alloc, registry.close())??;
     take_all(rt, &mut registry, behind)
-}
-
-fn opened_again<S: Alter + Drop>(
-    alloc: Global,
-    rt: &impl Abort,
-    registry: Registry<S>,
-) -> Result<Registry<S>, Fail> {
-    let conn = registry.close();
-    assert!(rt; conn.is_autocommit());
-    Ok(Registry::open(alloc, conn)?)
 }
 
 /// Takes the acts in turn.

@@ -4,6 +4,7 @@ ghost use Rattle.std.specs.Prelude.{◌≤◌};
 use super::acts::{Act, play};
 use super::given::{contact, sensor};
 use crate::Device;
+use sqlite::MemStore;
 use std::alloc::Global;
 use std::process::Abort;
 use std::test::Fail;
@@ -27,7 +28,7 @@ fn a_look_up_is_remembered(rt: HostRuntime) -> Result<(), Fail> {
         Act::Lists(0, contact(5)),
         Act::RemembersSoMany(2),
     ];
-    play(rt.alloc(), &rt, 64, &before, &behind)
+    play::<MemStore>(rt.alloc(), &rt, 64, &before, &behind)
 }
 
 #[test]
@@ -47,7 +48,7 @@ fn a_change_is_remembered(rt: HostRuntime) -> Result<(), Fail> {
         Act::Learns(contact(9)),
         Act::Finds(9, Some(contact(9))),
     ];
-    play(rt.alloc(), &rt, 64, &acts, &[])
+    play::<MemStore>(rt.alloc(), &rt, 64, &acts, &[])
 }
 
 #[test]
@@ -68,7 +69,7 @@ fn one_place_is_for_the_last_sender(rt: HostRuntime) -> Result<(), Fail> {
         Act::RemembersSoMany(1),
         Act::Finds(6, Some(sensor(6))),
     ];
-    play(rt.alloc(), &rt, 1, &acts, &[])
+    play::<MemStore>(rt.alloc(), &rt, 1, &acts, &[])
 }
 
 #[test]
@@ -79,7 +80,7 @@ fn an_open_remembers_64(rt: HostRuntime) -> Result<(), Fail> {
         Act::Remembers(0, None),
         Act::Remembers(1, NOT_LEARNED),
     ];
-    play(rt.alloc(), &rt, 1, &[], &behind)
+    play::<MemStore>(rt.alloc(), &rt, 1, &[], &behind)
 }
 
 #[test]
@@ -93,7 +94,7 @@ fn the_sender_of_long_ago_goes_first(rt: HostRuntime) -> Result<(), Fail> {
         Act::Remembers(2, None),
         Act::Remembers(3, NOT_LEARNED),
     ];
-    play(rt.alloc(), &rt, 2, &acts, &[])
+    play::<MemStore>(rt.alloc(), &rt, 2, &acts, &[])
 }
 
 #[test]
@@ -107,7 +108,7 @@ fn a_full_registry_goes_on_remembering(rt: HostRuntime) -> Result<(), Fail> {
         Act::Remembers(2000, NOT_LEARNED),
         Act::Finds(1000, None),
     ];
-    play(rt.alloc(), &rt, 1024, &acts, &[])
+    play::<MemStore>(rt.alloc(), &rt, 1024, &acts, &[])
 }
 
 // A cache of so many senders answers as any other, and remembers so many behind it.
@@ -124,7 +125,7 @@ fn answers_the_same(
         Act::FindsInTurn(200),
         Act::RemembersSoMany(remembered),
     ];
-    play(alloc, rt, cache, &acts, &[])
+    play::<MemStore>(alloc, rt, cache, &acts, &[])
 }
 
 #[test]

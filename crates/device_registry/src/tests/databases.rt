@@ -1,9 +1,11 @@
 //! Which databases are taken, and that the others are left as they were.
 use super::acts::{Act, take_all};
-use super::given::{DEVICE_TABLE, META_TABLE, VERSION_ROW, number, prepare_idle, run, sensor};
+use super::given::{
+    DEVICE_TABLE, Fresh, META_TABLE, VERSION_ROW, number, open_idle, prepare_idle, run, sensor,
+};
 use crate::listing::{devices_rise, is_version};
-use crate::{OpenFault, Registry, prepare};
-use sqlite::{Alter, Connection};
+use crate::{OpenFault, Registry};
+use sqlite::{Alter, Connection, MemStore};
 use std::alloc::Global;
 use std::process::Abort;
 use std::test::Fail;
@@ -198,64 +200,60 @@ fn is_refused_to_open<S: Alter + Drop>(
     rt: &impl Abort,
     conn: Connection<S>,
 ) -> Result<(), Fail> {
-    if !conn.is_autocommit() {
-        return Err(Fail::from("a transaction is open"));
-    }
     assert_eq!(rt;
-        Registry::open(alloc, conn).err(),
+        open_idle(alloc, conn)?.err(),
         Some(OpenFault::NotARegistry)
     );
     Ok(())
 }
 
-// A database is refused, and shows the same before and behind it.
-fn is_refused<S: Alter + Drop>(
+// `prepare` refuses a database, which shows the same before and behind it.
+fn is_left_by_prepare<S: Alter>(
     alloc: Global,
     rt: &impl Abort,
-    conn: Connection<S>,
+    conn: &mut Connection<S>,
     query: &str,
     shown: i64,
 ) -> Result<(), Fail> {
-    let mut conn = conn;
-    let before = objects(alloc, &mut conn)?;
+    let before = objects(alloc, conn)?;
     assert!(rt; before.contains("CREATE "));
-    show(rt, &mut conn, query, shown)?;
-    is_refused_to_prepare(rt, &mut conn)?;
-    let behind = objects(alloc, &mut conn)?;
-    assert_eq!(rt; behind.as_str(), before.as_str());
-    show(rt, &mut conn, query, shown)?;
-    is_refused_to_open(alloc, rt, conn)
+    show(rt, conn, query, shown)?;
+    is_refused_to_prepare(rt, conn)?;
+    assert_eq!(rt; objects(alloc, conn)?.as_str(), before.as_str());
+    show(rt, conn, query, shown)
 }
 
 // Each of these databases is refused.
-fn are_refused(alloc: Global, rt: &impl Abort, cases: &str) -> Result<(), Fail> {
+fn are_refused<S: Fresh>(alloc: Global, rt: &impl Abort, cases: &str) -> Result<(), Fail> {
     for case in cases.split("\n\n") {
         let (statements, shows) = case.split_once("\n? ").ok_or("no query")?;
         let (query, shown) = shows.split_once("\n= ").ok_or("no number")?;
-        let mut conn = Connection::open_in_memory(alloc)?;
+        let mut conn = S::fresh(alloc)?;
         run_lines(&mut conn, statements)?;
-        is_refused(alloc, rt, conn, query, shown.parse()?)?;
+        is_left_by_prepare(alloc, rt, &mut conn, query, shown.parse()?)?;
+        is_refused_to_open(alloc, rt, conn)?;
     }
     Ok(())
 }
 
 #[test]
 fn databases_without_our_tables(rt: HostRuntime) -> Result<(), Fail> {
-    are_refused(rt.alloc(), &rt, WITHOUT_OURS)
+    are_refused::<MemStore>(rt.alloc(), &rt, WITHOUT_OURS)
 }
 
 #[test]
 fn our_tables_with_something_wrong(rt: HostRuntime) -> Result<(), Fail> {
-    are_refused(rt.alloc(), &rt, BESIDE_OURS)
+    are_refused::<MemStore>(rt.alloc(), &rt, BESIDE_OURS)
 }
 
 // Whether each of these rows may stand in the table of the devices.
-fn are_devices<S: Alter>(
+fn are_devices<S: Fresh>(
+    alloc: Global,
     rt: &impl Abort,
-    conn: &mut Connection<S>,
     wanted: bool,
     selects: &str,
 ) -> Result<(), Fail> {
+    let mut conn = S::fresh(alloc)?;
     for sql in selects.lines() {
         let rows = conn.query_all(sql, &[])?;
         assert_eq!(rt; devices_rise(rows.as_slice()), wanted, "{sql}");
@@ -264,12 +262,13 @@ fn are_devices<S: Alter>(
 }
 
 // Whether each of these rows may stand in the table of the version.
-fn are_version<S: Alter>(
+fn are_version<S: Fresh>(
+    alloc: Global,
     rt: &impl Abort,
-    conn: &mut Connection<S>,
     wanted: bool,
     selects: &str,
 ) -> Result<(), Fail> {
+    let mut conn = S::fresh(alloc)?;
     for sql in selects.lines() {
         let rows = conn.query_all(sql, &[])?;
         assert_eq!(rt; is_version(rows.as_slice()), wanted, "{sql}");
@@ -301,11 +300,10 @@ SELECT 1, 1 UNION ALL SELECT 1, 1";
 
 #[test]
 fn rows_that_may_stand(rt: HostRuntime) -> Result<(), Fail> {
-    let mut conn = Connection::open_in_memory(rt.alloc())?;
-    are_devices(&rt, &mut conn, true, DEVICES)?;
-    are_version(&rt, &mut conn, true, "SELECT 1, 1")?;
-    are_devices(&rt, &mut conn, false, NO_DEVICES)?;
-    are_version(&rt, &mut conn, false, NO_VERSION)
+    are_devices::<MemStore>(rt.alloc(), &rt, true, DEVICES)?;
+    are_version::<MemStore>(rt.alloc(), &rt, true, "SELECT 1, 1")?;
+    are_devices::<MemStore>(rt.alloc(), &rt, false, NO_DEVICES)?;
+    are_version::<MemStore>(rt.alloc(), &rt, false, NO_VERSION)
 }
 
 const DEVICES_OUT_OF_RANGE: &str = "\
@@ -325,41 +323,65 @@ SELECT -1, 1";
 
 #[test]
 fn rows_out_of_range(rt: HostRuntime) -> Result<(), Fail> {
-    let mut conn = Connection::open_in_memory(rt.alloc())?;
-    are_devices(&rt, &mut conn, false, DEVICES_OUT_OF_RANGE)?;
-    are_version(&rt, &mut conn, false, VERSIONS_OUT_OF_RANGE)
+    are_devices::<MemStore>(rt.alloc(), &rt, false, DEVICES_OUT_OF_RANGE)?;
+    are_version::<MemStore>(rt.alloc(), &rt, false, VERSIONS_OUT_OF_RANGE)
 }
 
-// The objects and the rows of a database that was prepared when it was empty.
-fn is_made<S: Alter>(alloc: Global, rt: &impl Abort, conn: &mut Connection<S>) -> Result<(), Fail> {
+fn prepares<S: Alter>(rt: &impl Abort, conn: &mut Connection<S>) -> Result<(), Fail> {
+    assert_eq!(rt; prepare_idle(conn)?, Ok(()));
+    Ok(())
+}
+
+// The objects and the rows of an empty database, once it is prepared.
+fn is_made<S: Fresh>(alloc: Global, rt: &impl Abort) -> Result<(), Fail> {
+    let mut conn = S::fresh(alloc)?;
+    prepares(rt, &mut conn)?;
     let wanted = format!(in alloc;
         "table\nenogate_meta\n{}\ntable\nenogate_device\n{}\n",
         META_TABLE.trim_end_matches(';'),
         DEVICE_TABLE.trim_end_matches(';'),
     )?;
-    assert_eq!(rt; objects(alloc, conn)?.as_str(), wanted.as_str());
-    show(rt, conn, "SELECT k * 10 + version FROM enogate_meta", 11)?;
-    show(rt, conn, "SELECT count(*) FROM enogate_device", 0)
+    assert_eq!(rt; objects(alloc, &mut conn)?.as_str(), wanted.as_str());
+    show(
+        rt,
+        &mut conn,
+        "SELECT k * 10 + version FROM enogate_meta",
+        11,
+    )?;
+    show(rt, &mut conn, "SELECT count(*) FROM enogate_device", 0)
 }
 
 #[test]
 fn an_empty_database_is_made_one(rt: HostRuntime) -> Result<(), Fail> {
-    let mut conn = Connection::open_in_memory(rt.alloc())?;
-    prepare(&mut conn)?;
-    is_made(rt.alloc(), &rt, &mut conn)
+    is_made::<MemStore>(rt.alloc(), &rt)
 }
 
 // A second `prepare` leaves each row.
-fn is_taken_again<S: Alter>(rt: &impl Abort, conn: &mut Connection<S>) -> Result<(), Fail> {
+fn is_taken_again<S: Fresh>(alloc: Global, rt: &impl Abort) -> Result<(), Fail> {
+    let mut conn = S::fresh(alloc)?;
+    prepares(rt, &mut conn)?;
     run(
-        conn,
+        &mut conn,
         "INSERT INTO enogate_device VALUES (7, 13959169, -1); INSERT INTO enogate_device VALUES (3, 10813957, 70);
         CREATE TABLE room (name TEXT) STRICT; INSERT INTO room VALUES ('hall'), ('attic');
         INSERT INTO enogate_device VALUES (5, 0, 2047)",
     )?;
-    assert_eq!(rt; prepare_idle(conn)?, Ok(()));
+    prepares(rt, &mut conn)?;
     assert!(rt; conn.is_autocommit());
-    Ok(())
+    have_three_devices(alloc, rt, &mut conn)?;
+    show(
+        rt,
+        &mut conn,
+        "SELECT k * 10 + version FROM enogate_meta",
+        11,
+    )?;
+    show(
+        rt,
+        &mut conn,
+        "SELECT count(*) FROM room WHERE name IN ('hall', 'attic')",
+        2,
+    )?;
+    show(rt, &mut conn, "SELECT count(*) FROM room", 2)
 }
 
 // The three devices that it leaves, in the order of their IDs.
@@ -382,31 +404,7 @@ fn have_three_devices<S: Alter>(
 
 #[test]
 fn a_second_prepare_leaves_every_row(rt: HostRuntime) -> Result<(), Fail> {
-    let mut conn = Connection::open_in_memory(rt.alloc())?;
-    prepare(&mut conn)?;
-    is_taken_again(&rt, &mut conn)?;
-    have_three_devices(rt.alloc(), &rt, &mut conn)?;
-    show(
-        &rt,
-        &mut conn,
-        "SELECT k * 10 + version FROM enogate_meta",
-        11,
-    )?;
-    show(
-        &rt,
-        &mut conn,
-        "SELECT count(*) FROM room WHERE name IN ('hall', 'attic')",
-        2,
-    )?;
-    show(&rt, &mut conn, "SELECT count(*) FROM room", 2)
-}
-
-// A registry over the connection of another hand.
-fn opened<S: Alter + Drop>(alloc: Global, conn: Connection<S>) -> Result<Registry<S>, Fail> {
-    if !conn.is_autocommit() {
-        return Err(Fail::from("a transaction is open"));
-    }
-    Ok(Registry::open(alloc, conn)?)
+    is_taken_again::<MemStore>(rt.alloc(), &rt)
 }
 
 // The first device of a thousand, and the last.
@@ -421,49 +419,54 @@ fn have_a_thousand_sensors<S: Alter>(
     Ok(())
 }
 
-#[test]
-fn a_thousand_devices_of_another_hand(rt: HostRuntime) -> Result<(), Fail> {
-    let mut conn = Connection::open_in_memory(rt.alloc())?;
+// A database of another hand is taken.
+fn a_thousand_are_taken<S: Fresh>(alloc: Global, rt: &impl Abort) -> Result<(), Fail> {
+    let mut conn = S::fresh(alloc)?;
     run_lines(&mut conn, "META\nDEVICE\nVERSION")?;
     run(
         &mut conn,
         "INSERT INTO enogate_device WITH RECURSIVE n (i) AS (SELECT 4294967294 UNION ALL SELECT i - 1 FROM n) \
         SELECT i, 10813957, 70 FROM n LIMIT 1000",
     )?;
-    have_a_thousand_sensors(&rt, &mut opened(rt.alloc(), conn)?)
+    have_a_thousand_sensors(rt, &mut open_idle(alloc, conn)??)
+}
+
+#[test]
+fn a_thousand_devices_of_another_hand(rt: HostRuntime) -> Result<(), Fail> {
+    a_thousand_are_taken::<MemStore>(rt.alloc(), &rt)
 }
 
 // `prepare` of a database that has other objects, and once more with a device in it.
-fn is_prepared_beside_others<S: Alter>(
-    rt: &impl Abort,
-    conn: &mut Connection<S>,
-) -> Result<(), Fail> {
+fn is_prepared_beside_others<S: Fresh>(alloc: Global, rt: &impl Abort) -> Result<(), Fail> {
+    let mut conn = S::fresh(alloc)?;
     run(
-        conn,
+        &mut conn,
         "CREATE TABLE room (id INTEGER PRIMARY KEY, name TEXT NOT NULL UNIQUE) STRICT;
         INSERT INTO room VALUES (1, 'hall');
         CREATE TABLE bed (id INTEGER PRIMARY KEY AUTOINCREMENT, room INTEGER REFERENCES room (id)) STRICT;
         CREATE INDEX by_room ON bed (room); CREATE VIEW enogate AS SELECT name FROM room",
     )?;
-    assert_eq!(rt; prepare_idle(conn)?, Ok(()));
-    run(conn, "INSERT INTO enogate_device VALUES (1, 10813957, 70)")?;
-    assert_eq!(rt; prepare_idle(conn)?, Ok(()));
+    prepares(rt, &mut conn)?;
+    run(
+        &mut conn,
+        "INSERT INTO enogate_device VALUES (1, 10813957, 70)",
+    )?;
+    prepares(rt, &mut conn)?;
     show(
         rt,
-        conn,
+        &mut conn,
         "SELECT count(*) FROM enogate WHERE name = 'hall'",
         1,
+    )?;
+    let mut registry = open_idle(alloc, conn)??;
+    take_all(
+        rt,
+        &mut registry,
+        &[Act::Counts(1), Act::Lists(0, sensor(1))],
     )
 }
 
 #[test]
 fn other_objects_beside_ours(rt: HostRuntime) -> Result<(), Fail> {
-    let mut conn = Connection::open_in_memory(rt.alloc())?;
-    is_prepared_beside_others(&rt, &mut conn)?;
-    let mut registry = opened(rt.alloc(), conn)?;
-    take_all(
-        &rt,
-        &mut registry,
-        &[Act::Counts(1), Act::Lists(0, sensor(1))],
-    )
+    is_prepared_beside_others::<MemStore>(rt.alloc(), &rt)
 }

@@ -1,9 +1,9 @@
 //! What is learned is found, listed and forgotten, also by the next open.
 use super::acts::{Act, play, take_all};
-use super::given::{contact, in_memory, run, sensor};
-use crate::{Device, Registry};
+use super::given::{Fresh, contact, fresh_registry, open_idle, run, sensor};
+use crate::Device;
 use erp1_telegrams::Eep;
-use sqlite::Alter;
+use sqlite::{Alter, Connection, MemStore};
 use std::alloc::Global;
 use std::process::Abort;
 use std::test::Fail;
@@ -21,7 +21,7 @@ fn learns_finds_and_forgets(rt: HostRuntime) -> Result<(), Fail> {
         Act::Finds(0x0180_0ABC, None),
         Act::Forgets(0x0180_0ABC),
     ];
-    play(rt.alloc(), &rt, 64, &acts, &[])
+    play::<MemStore>(rt.alloc(), &rt, 64, &acts, &[])
 }
 
 #[test]
@@ -52,7 +52,7 @@ fn numbers_at_their_ends(rt: HostRuntime) -> Result<(), Fail> {
         Act::Lists(0, least),
         Act::Lists(1, greatest),
     ];
-    play(rt.alloc(), &rt, 64, &before, &behind)
+    play::<MemStore>(rt.alloc(), &rt, 64, &before, &behind)
 }
 
 #[test]
@@ -72,31 +72,28 @@ fn the_next_open_finds_all(rt: HostRuntime) -> Result<(), Fail> {
         Act::Finds(3, None),
         Act::Finds(0xFFFF_FFFE, Some(sensor(0xFFFF_FFFE))),
     ];
-    play(rt.alloc(), &rt, 64, &before, &behind)
+    play::<MemStore>(rt.alloc(), &rt, 64, &before, &behind)
 }
 
-// The rows that the last statement changed: none, and then the one that an open wrote.
-fn open_writes_one_row<S: Alter + Drop>(
-    alloc: Global,
-    rt: &impl Abort,
-    registry: Registry<S>,
-) -> Result<(), Fail> {
+// Of how many rows the last statement changed.
+fn has_changed<S: Alter>(rt: &impl Abort, conn: &Connection<S>, wanted: usize) -> Result<(), Fail> {
+    assert_eq!(rt; conn.changes(), wanted);
+    Ok(())
+}
+
+// A statement changes no row, and then an open the one of the version.
+fn open_writes_one_row<S: Fresh>(alloc: Global, rt: &impl Abort) -> Result<(), Fail> {
+    let mut registry = fresh_registry::<S>(alloc, 64)?;
+    take_all(rt, &mut registry, &[Act::Learns(contact(1))])?;
     let mut conn = registry.close();
     run(&mut conn, "DELETE FROM enogate_device WHERE id > 1")?;
-    assert_eq!(rt; conn.changes(), 0);
-    if !conn.is_autocommit() {
-        return Err(Fail::from("a transaction is open"));
-    }
-    let conn = Registry::open(alloc, conn)?.close();
-    assert_eq!(rt; conn.changes(), 1);
-    Ok(())
+    has_changed(rt, &conn, 0)?;
+    has_changed(rt, &open_idle(alloc, conn)??.close(), 1)
 }
 
 #[test]
 fn an_open_commits_the_version_row(rt: HostRuntime) -> Result<(), Fail> {
-    let mut registry = in_memory(rt.alloc(), 64)?;
-    take_all(&rt, &mut registry, &[Act::Learns(contact(1))])?;
-    open_writes_one_row(rt.alloc(), &rt, registry)
+    open_writes_one_row::<MemStore>(rt.alloc(), &rt)
 }
 
 #[test]
@@ -116,5 +113,5 @@ fn a_thousand_devices_and_no_more(rt: HostRuntime) -> Result<(), Fail> {
         Act::Finds(1000, Some(sensor(1000))),
         Act::Finds(8, None),
     ];
-    play(rt.alloc(), &rt, 64, &before, &behind)
+    play::<MemStore>(rt.alloc(), &rt, 64, &before, &behind)
 }

@@ -194,6 +194,15 @@ pub fn refusing(
     })
 }
 
+/// What a stop leaves.
+#[derive(Drop)]
+pub struct Left {
+    /// The files. They are copies, and refuse nothing any more.
+    pub files: Disks,
+    /// How many syncs of the log there were.
+    pub syncs: u64,
+}
+
 /// A connection that keeps so many pages in memory, or none where the disk refuses.
 pub fn connected(
     alloc: Global,
@@ -208,22 +217,18 @@ pub fn connected(
     Ok(Connection::open_files(alloc, files, options).ok())
 }
 
-/// What a stop leaves.
-#[derive(Drop)]
-pub struct Left {
-    /// The files. They are copies, and refuse nothing any more.
-    pub files: Disks,
-    /// How many syncs of the log there were.
-    pub syncs: u64,
-}
-
 /// What a stop at this moment leaves of a connection.
 pub fn stopped(
     alloc: Global,
     conn: Connection<FileStore<Stumbling<Fuse<Memory>>>>,
     stop: Stop,
 ) -> Result<Left, Fail> {
-    let Files { log, db } = conn.into_store().close();
+    left_by(alloc, conn.into_store().close(), stop)
+}
+
+// What a stop leaves of these files.
+fn left_by(alloc: Global, files: Disks, stop: Stop) -> Result<Left, Fail> {
+    let Files { log, db } = files;
     let syncs = log.syncs();
     let mut log = log.into_inner();
     let mut db = db.into_inner();

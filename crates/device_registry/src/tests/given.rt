@@ -82,12 +82,37 @@ pub fn forget<S: Alter>(registry: &mut Registry<S>, id: u32) -> Result<(), Store
     Ok(())
 }
 
-/// A new registry in memory, with a cache of so many senders.
-pub fn in_memory(alloc: Global, cache: usize) -> Result<Registry<MemStore>, Fail>
+/// A store of which a test gets a new database: so all else of a test is generic in the store.
+pub trait Fresh: Alter + Drop + Sized {
+    fn fresh(alloc: Global) -> Result<Connection<Self>, Fail>;
+}
+
+impl Fresh for MemStore {
+    fn fresh(alloc: Global) -> Result<Connection<MemStore>, Fail> {
+        Ok(Connection::open_in_memory(alloc)?)
+    }
+}
+
+/// A new registry with a cache of so many senders.
+pub fn fresh_registry<S: Fresh>(alloc: Global, cache: usize) -> Result<Registry<S>, Fail>
     requires { (1 ≤ cache) × (cache ≤ 1024) }
 {
-    let conn = Connection::open_in_memory(alloc)?;
+    let conn = S::fresh(alloc)?;
+    if !conn.is_autocommit() {
+        return Err(Fail::from("a transaction is open"));
+    }
     Ok(Registry::open_with(alloc, conn, cache)?)
+}
+
+/// `Registry::open`, of a connection that no statement has left in a transaction.
+pub fn open_idle<S: Alter + Drop>(
+    alloc: Global,
+    conn: Connection<S>,
+) -> Result<Result<Registry<S>, OpenFault>, Fail> {
+    if !conn.is_autocommit() {
+        return Err(Fail::from("a transaction is open"));
+    }
+    Ok(Registry::open(alloc, conn))
 }
 
 /// `prepare`, of a connection that no statement has left in a transaction.

@@ -1,6 +1,8 @@
 //! What a registry does over a disk that refuses, one step each.
+use super::acts::{Act, take_all};
 use super::given::{
-    contact, forget, is_learn_store, is_open_store, is_store, learn, prepare_idle, sensor,
+    contact, forget, is_learn_store, is_open_store, is_store, learn, open_idle, prepare_idle,
+    sensor,
 };
 use crate::Registry;
 use sqlite::{Alter, Connection, params};
@@ -19,43 +21,36 @@ pub enum Call {
 
 pub const CALLS: [Call; 4] = [Call::Find, Call::Learn, Call::Forget, Call::All];
 
-/// Where a registry meets the first refusal of its disk.
+/// What became of calls over a disk that refuses.
 #[derive(Clone, Copy, Debug, PartialEq, Eq)]
-pub enum Met {
-    Opening,
-    At(Call),
-    Nowhere,
-}
-
-/// What became of a `learn` over a disk that tells one write as failed.
-#[derive(Clone, Copy, Debug, PartialEq, Eq)]
-pub enum Outcome {
-    /// No registry was opened.
-    Unopened,
-    /// It answered that the sender is learned.
-    Learned,
-    /// It was refused, and so was the next open on its connection.
+pub enum End {
+    /// Nothing was refused.
+    NoRefusal,
+    /// No registry was opened, or the first call was refused.
+    Early,
+    /// This call was refused first, and behind it the sender that it was to change was found, or was not.
+    At(Call, bool),
+    /// A sender that was not looked up was refused, where one that was looked up was answered.
+    ToldApart,
+    /// A change was refused, and so was the next open on its connection.
     Shut,
-    /// It was refused, and behind a stop the sender is found.
+    /// A change was refused, and behind a stop its sender was found.
     Found,
-    /// It was refused, and behind a stop the sender is not found.
+    /// A change was refused, and behind a stop its sender was not found.
     NotFound,
-}
-
-/// A registry over a connection that no statement has left in a transaction, or none where the disk refuses.
-pub fn opened_idle<S: Alter + Drop>(
-    alloc: Global,
-    conn: Connection<S>,
-) -> Result<Option<Registry<S>>, Fail> {
-    if !conn.is_autocommit() {
-        return Err(Fail::from("a transaction is open"));
-    }
-    Ok(Registry::open(alloc, conn).ok())
+    /// An empty database was not prepared, and was behind a stop.
+    MadeBehind,
+    /// A change that was told was found behind a stop.
+    Kept,
 }
 
 /// The connection of a closed registry with so many contacts, with the IDs from 0 on.
-pub fn filled<S: Alter + Drop>(registry: Registry<S>, devices: i64) -> Result<Connection<S>, Fail> {
-    let mut conn = registry.close();
+pub fn filled<S: Alter + Drop>(
+    alloc: Global,
+    conn: Connection<S>,
+    devices: i64,
+) -> Result<Connection<S>, Fail> {
+    let mut conn = open_idle(alloc, conn)??.close();
     conn.execute(
         "INSERT INTO enogate_device WITH RECURSIVE n (i) AS (SELECT 0 UNION ALL SELECT i + 1 FROM n) \
         SELECT i, 13959169, -1 FROM n LIMIT ?1",
@@ -150,43 +145,43 @@ fn is_found_behind<S: Alter>(
     Ok(!is_find_refused(rt, registry, id)?)
 }
 
-/// Where the calls meet the first refusal, and whether the sender of a refused change is found behind it.
-pub fn first_met<S: Alter>(
-    rt: &impl Abort,
-    registry: &mut Registry<S>,
-) -> Result<(Met, bool), Fail> {
+// Where the calls meet the first refusal.
+fn first_refusal<S: Alter>(rt: &impl Abort, registry: &mut Registry<S>) -> Result<End, Fail> {
     for call in CALLS {
         if is_refused(rt, registry, call)? {
-            return Ok((Met::At(call), is_found_behind(rt, registry, call)?));
+            return Ok(End::At(call, is_found_behind(rt, registry, call)?));
         }
     }
-    Ok((Met::Nowhere, false))
+    Ok(End::NoRefusal)
 }
 
-/// Whether the disk refuses a sender that was not looked up, where one that was is answered. None: it refuses nothing.
-pub fn is_told_apart<S: Alter>(
-    rt: &impl Abort,
-    registry: &mut Registry<S>,
-) -> Result<Option<bool>, Fail> {
+// Whether the disk refuses a sender that was not looked up, where one that was is answered.
+fn look_ups<S: Alter>(rt: &impl Abort, registry: &mut Registry<S>) -> Result<End, Fail> {
     if is_find_refused(rt, registry, 7)? {
-        return Ok(Some(false));
+        return Ok(End::Early);
     }
     if is_find_refused(rt, registry, 7)? {
         return Err(Fail::from("a remembered sender is refused"));
     }
-    Ok(is_find_refused(rt, registry, 340)?.then_some(true))
+    if is_find_refused(rt, registry, 340)? {
+        return Ok(End::ToldApart);
+    }
+    Ok(End::NoRefusal)
 }
 
-/// The connection of a closed registry that has learned a sender and forgotten another.
-pub fn changed<S: Alter + Drop>(registry: Registry<S>) -> Result<Connection<S>, Fail> {
+// The connection of a closed registry that has learned a sender and forgotten another.
+fn changed<S: Alter + Drop>(rt: &impl Abort, registry: Registry<S>) -> Result<Connection<S>, Fail> {
     let mut registry = registry;
-    learn(&mut registry, sensor(600))?;
-    forget(&mut registry, 7)?;
+    take_all(
+        rt,
+        &mut registry,
+        &[Act::Learns(sensor(600)), Act::Forgets(7)],
+    )?;
     Ok(registry.close())
 }
 
-/// The connection of a closed registry that has refused to learn a sender, or none where it has learned it.
-pub fn refused_to_learn<S: Alter + Drop>(
+// The connection of a closed registry that has refused to learn a sender, or none where it has learned it.
+fn refused_to_learn<S: Alter + Drop>(
     rt: &impl Abort,
     registry: Registry<S>,
 ) -> Result<Option<Connection<S>>, Fail> {
@@ -201,10 +196,7 @@ pub fn opened_and_closed<S: Alter + Drop>(
     rt: &impl Abort,
     conn: Connection<S>,
 ) -> Result<Option<Connection<S>>, Fail> {
-    if !conn.is_autocommit() {
-        return Err(Fail::from("a transaction is open"));
-    }
-    match Registry::open(alloc, conn) {
+    match open_idle(alloc, conn)? {
         Ok(again) => Ok(Some(again.close())),
         Err(fault) => {
             assert!(rt; is_open_store(&fault));
@@ -213,26 +205,173 @@ pub fn opened_and_closed<S: Alter + Drop>(
     }
 }
 
-/// Whether the sender that was to be learned is found.
-pub fn found<S: Alter>(rt: &impl Abort, registry: &mut Registry<S>) -> Result<Outcome, Fail> {
-    assert_eq!(rt; registry.find(7)?, Some(contact(7)));
+// Whether the sender that was to be learned is found.
+fn found<S: Alter>(rt: &impl Abort, registry: &mut Registry<S>) -> Result<End, Fail> {
+    take_all(rt, registry, &[Act::Finds(7, Some(contact(7)))])?;
     match registry.find(600)? {
         Some(found) => {
             assert_eq!(rt; found, sensor(600));
-            Ok(Outcome::Found)
+            Ok(End::Found)
         }
-        None => Ok(Outcome::NotFound),
+        None => Ok(End::NotFound),
     }
 }
 
-/// Whether `prepare` of an empty database is refused by the store.
-pub fn is_prepare_refused<S: Alter>(
-    rt: &impl Abort,
-    conn: &mut Connection<S>,
-) -> Result<bool, Fail> {
-    let answer = prepare_idle(conn)?;
-    if let Err(fault) = &answer {
-        assert!(rt; is_open_store(fault));
+// `prepare` of an empty database.
+fn prepared<S: Alter>(rt: &impl Abort, conn: &mut Connection<S>) -> Result<End, Fail> {
+    match prepare_idle(conn)? {
+        Ok(()) => Ok(End::NoRefusal),
+        Err(fault) => {
+            assert!(rt; is_open_store(&fault));
+            Ok(End::MadeBehind)
+        }
     }
-    Ok(answer.is_err())
+}
+
+/// What is tried over files that refuse.
+#[derive(Clone, Copy, Debug)]
+pub enum Trial {
+    /// Each call that asks the store, where so many pages are kept in memory.
+    Calls(usize),
+    /// A sender that was looked up, and one that was not.
+    LookUps,
+    /// A `learn`, behind which the connection is opened again, or is not; and a stop.
+    Learning(bool),
+    /// `prepare` of an empty database, and a stop.
+    Preparing,
+    /// A `learn` and a `forget`, and a stop.
+    Changing,
+}
+
+/// How many pages are kept in memory.
+pub fn pages(trial: Trial) -> usize {
+    match trial {
+        Trial::Calls(pages) => pages,
+        Trial::LookUps => 1,
+        Trial::Learning(_) => 20,
+        Trial::Preparing | Trial::Changing => 9,
+    }
+}
+
+/// What the trial does before its stop, over a connection that it hands back where it goes on behind the stop. The end
+/// stays as it is where the disk refuses to open a registry.
+pub fn before_stop<S: Alter + Drop>(
+    alloc: Global,
+    rt: &impl Abort,
+    conn: Connection<S>,
+    trial: Trial,
+    end: &mut End,
+) -> Result<Option<Connection<S>>, Fail> {
+    match trial {
+        Trial::Calls(_) => calling(alloc, rt, conn, end),
+        Trial::LookUps => looking_up(alloc, rt, conn, end),
+        Trial::Learning(opens_again) => learning(alloc, rt, conn, opens_again, end),
+        Trial::Preparing => preparing(rt, conn, end),
+        Trial::Changing => changing(alloc, rt, conn),
+    }
+}
+
+fn calling<S: Alter + Drop>(
+    alloc: Global,
+    rt: &impl Abort,
+    conn: Connection<S>,
+    end: &mut End,
+) -> Result<Option<Connection<S>>, Fail> {
+    if let Ok(mut registry) = open_idle(alloc, conn)? {
+        *end = first_refusal(rt, &mut registry)?;
+    }
+    Ok(None)
+}
+
+fn looking_up<S: Alter + Drop>(
+    alloc: Global,
+    rt: &impl Abort,
+    conn: Connection<S>,
+    end: &mut End,
+) -> Result<Option<Connection<S>>, Fail> {
+    if let Ok(mut registry) = open_idle(alloc, conn)? {
+        *end = look_ups(rt, &mut registry)?;
+    }
+    Ok(None)
+}
+
+fn learning<S: Alter + Drop>(
+    alloc: Global,
+    rt: &impl Abort,
+    conn: Connection<S>,
+    opens_again: bool,
+    end: &mut End,
+) -> Result<Option<Connection<S>>, Fail> {
+    let Ok(registry) = open_idle(alloc, conn)? else {
+        return Ok(None);
+    };
+    *end = End::NoRefusal;
+    let Some(conn) = refused_to_learn(rt, registry)? else {
+        return Ok(None);
+    };
+    if !opens_again {
+        return Ok(Some(conn));
+    }
+    *end = End::Shut;
+    opened_and_closed(alloc, rt, conn)
+}
+
+fn preparing<S: Alter + Drop>(
+    rt: &impl Abort,
+    conn: Connection<S>,
+    end: &mut End,
+) -> Result<Option<Connection<S>>, Fail> {
+    let mut conn = conn;
+    *end = prepared(rt, &mut conn)?;
+    Ok(Some(conn))
+}
+
+fn changing<S: Alter + Drop>(
+    alloc: Global,
+    rt: &impl Abort,
+    conn: Connection<S>,
+) -> Result<Option<Connection<S>>, Fail> {
+    let registry = open_idle(alloc, conn)??;
+    Ok(Some(changed(rt, registry)?))
+}
+
+/// What the trial does behind its stop, over a new connection, and how it ends.
+pub fn behind_stop<S: Alter + Drop>(
+    alloc: Global,
+    rt: &impl Abort,
+    conn: Connection<S>,
+    trial: Trial,
+    end: End,
+) -> Result<End, Fail> {
+    let mut registry = open_idle(alloc, conn)??;
+    match trial {
+        Trial::Learning(_) => found(rt, &mut registry),
+        Trial::Preparing => is_empty_and_learns(rt, &mut registry, end),
+        Trial::Changing => keeps_changes(rt, &mut registry),
+        Trial::Calls(_) | Trial::LookUps => Ok(end),
+    }
+}
+
+fn is_empty_and_learns<S: Alter>(
+    rt: &impl Abort,
+    registry: &mut Registry<S>,
+    end: End,
+) -> Result<End, Fail> {
+    let acts = [
+        Act::Counts(0),
+        Act::Learns(sensor(600)),
+        Act::Finds(600, Some(sensor(600))),
+    ];
+    take_all(rt, registry, &acts)?;
+    Ok(end)
+}
+
+fn keeps_changes<S: Alter>(rt: &impl Abort, registry: &mut Registry<S>) -> Result<End, Fail> {
+    let acts = [
+        Act::Finds(600, Some(sensor(600))),
+        Act::Finds(7, None),
+        Act::Counts(10),
+    ];
+    take_all(rt, registry, &acts)?;
+    Ok(End::Kept)
 }
