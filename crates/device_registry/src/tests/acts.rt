@@ -9,7 +9,7 @@ use std::process::Abort;
 use std::test::Fail;
 
 /// A call of a registry, or a look at what it remembers.
-#[derive(Clone, Copy, Debug)]
+#[derive(Clone, Copy)]
 pub enum Act {
     /// A sender is this device, or is not learned.
     Finds(u32, Option<Device>),

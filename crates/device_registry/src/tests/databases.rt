@@ -3,8 +3,8 @@ use super::acts::{Act, take_all};
 use super::given::{
     DEVICE_TABLE, Fresh, META_TABLE, VERSION_ROW, number, open_idle, prepare_idle, run, sensor,
 };
+use crate::OpenFault;
 use crate::listing::{devices_rise, is_version};
-use crate::{OpenFault, Registry};
 use sqlite::{Alter, Connection, MemStore};
 use std::alloc::Global;
 use std::process::Abort;
@@ -180,6 +180,16 @@ fn objects<S: Alter>(alloc: Global, conn: &mut Connection<S>) -> Result<String, 
     Ok(told)
 }
 
+fn has_objects<S: Alter>(
+    alloc: Global,
+    rt: &impl Abort,
+    conn: &mut Connection<S>,
+    wanted: &str,
+) -> Result<(), Fail> {
+    assert_eq!(rt; objects(alloc, conn)?.as_str(), wanted);
+    Ok(())
+}
+
 fn show<S: Alter>(
     rt: &impl Abort,
     conn: &mut Connection<S>,
@@ -207,7 +217,19 @@ fn is_refused_to_open<S: Alter + Drop>(
     Ok(())
 }
 
-// `prepare` refuses a database, which shows the same before and behind it.
+// `prepare` refuses a database, whose query shows the same before and behind it.
+fn is_refused_showing<S: Alter>(
+    rt: &impl Abort,
+    conn: &mut Connection<S>,
+    query: &str,
+    shown: i64,
+) -> Result<(), Fail> {
+    show(rt, conn, query, shown)?;
+    is_refused_to_prepare(rt, conn)?;
+    show(rt, conn, query, shown)
+}
+
+// `prepare` refuses a database, which has the same objects before and behind it.
 fn is_left_by_prepare<S: Alter>(
     alloc: Global,
     rt: &impl Abort,
@@ -217,10 +239,8 @@ fn is_left_by_prepare<S: Alter>(
 ) -> Result<(), Fail> {
     let before = objects(alloc, conn)?;
     assert!(rt; before.contains("CREATE "));
-    show(rt, conn, query, shown)?;
-    is_refused_to_prepare(rt, conn)?;
-    assert_eq!(rt; objects(alloc, conn)?.as_str(), before.as_str());
-    show(rt, conn, query, shown)
+    is_refused_showing(rt, conn, query, shown)?;
+    has_objects(alloc, rt, conn, before.as_str())
 }
 
 // Each of these databases is refused.
@@ -341,7 +361,7 @@ fn is_made<S: Fresh>(alloc: Global, rt: &impl Abort) -> Result<(), Fail> {
         META_TABLE.trim_end_matches(';'),
         DEVICE_TABLE.trim_end_matches(';'),
     )?;
-    assert_eq!(rt; objects(alloc, &mut conn)?.as_str(), wanted.as_str());
+    has_objects(alloc, rt, &mut conn, wanted.as_str())?;
     show(
         rt,
         &mut conn,
@@ -407,18 +427,6 @@ fn a_second_prepare_leaves_every_row(rt: HostRuntime) -> Result<(), Fail> {
     is_taken_again::<MemStore>(rt.alloc(), &rt)
 }
 
-// The first device of a thousand, and the last.
-fn have_a_thousand_sensors<S: Alter>(
-    rt: &impl Abort,
-    registry: &mut Registry<S>,
-) -> Result<(), Fail> {
-    let all = registry.all()?;
-    assert_eq!(rt; all.len(), 1000);
-    assert_eq!(rt; all.first().copied(), Some(sensor(4_294_966_295)));
-    assert_eq!(rt; all.last().copied(), Some(sensor(4_294_967_294)));
-    Ok(())
-}
-
 // A database of another hand is taken.
 fn a_thousand_are_taken<S: Fresh>(alloc: Global, rt: &impl Abort) -> Result<(), Fail> {
     let mut conn = S::fresh(alloc)?;
@@ -428,7 +436,12 @@ fn a_thousand_are_taken<S: Fresh>(alloc: Global, rt: &impl Abort) -> Result<(), 
         "INSERT INTO enogate_device WITH RECURSIVE n (i) AS (SELECT 4294967294 UNION ALL SELECT i - 1 FROM n) \
         SELECT i, 10813957, 70 FROM n LIMIT 1000",
     )?;
-    have_a_thousand_sensors(rt, &mut open_idle(alloc, conn)??)
+    let acts = [
+        Act::Counts(1000),
+        Act::Lists(0, sensor(4_294_966_295)),
+        Act::Lists(999, sensor(4_294_967_294)),
+    ];
+    take_all(rt, &mut open_idle(alloc, conn)??, &acts)
 }
 
 #[test]

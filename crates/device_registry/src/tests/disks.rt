@@ -132,7 +132,7 @@ pub enum Which {
 }
 
 /// What a file refuses.
-#[derive(Clone, Copy, Debug, PartialEq, Eq)]
+#[derive(Clone, Copy)]
 pub enum Refusal {
     Nothing,
     /// Each call but the first ones, of which there are so many.
@@ -217,6 +217,26 @@ pub fn connected(
     Ok(Connection::open_files(alloc, files, options).ok())
 }
 
+/// A connection where the disk is not to refuse.
+pub fn surely_connected(
+    alloc: Global,
+    files: Disks,
+    pages: usize,
+) -> Result<Connection<FileStore<Stumbling<Fuse<Memory>>>>, Fail> {
+    match connected(alloc, files, pages)? {
+        Some(conn) => Ok(conn),
+        None => Err(Fail::from("no connection")),
+    }
+}
+
+/// The files of a connection that is closed.
+pub fn closed(conn: Connection<FileStore<Stumbling<Fuse<Memory>>>>) -> Result<Disks, Fail> {
+    match conn.close_files() {
+        Ok(files) => Ok(files),
+        Err(_) => Err(Fail::from("not closed")),
+    }
+}
+
 /// What a stop at this moment leaves of a connection.
 pub fn stopped(
     alloc: Global,
@@ -226,19 +246,22 @@ pub fn stopped(
     left_by(alloc, conn.into_store().close(), stop)
 }
 
+// What a stop leaves of a disk, which refuses nothing any more.
+fn left_of(disk: Stumbling<Fuse<Memory>>, stop: Stop) -> Stumbling<Fuse<Memory>> {
+    let mut file = disk.into_inner();
+    if stop == Stop::OfMachine {
+        file.crash();
+    }
+    Stumbling::new(file, 0)
+}
+
 // What a stop leaves of these files.
 fn left_by(alloc: Global, files: Disks, stop: Stop) -> Result<Left, Fail> {
+    let syncs = files.log.syncs();
     let Files { log, db } = files;
-    let syncs = log.syncs();
-    let mut log = log.into_inner();
-    let mut db = db.into_inner();
-    if stop == Stop::OfMachine {
-        log.crash();
-        db.crash();
-    }
     let left = Files {
-        log: Stumbling::new(log, 0),
-        db: Stumbling::new(db, 0),
+        log: left_of(log, stop),
+        db: left_of(db, stop),
     };
     let files = refusing(alloc, &left, Which::Log, Refusal::Nothing)?;
     Ok(Left { files, syncs })

@@ -130,7 +130,7 @@ fn is_refused<S: Alter>(
     }
 }
 
-// Whether a sender is found behind a refusal, where nothing is remembered of it. Then it is found as it was before.
+// Whether a sender is found behind the refusal of its change. Then it is found as it was before.
 fn is_found_behind<S: Alter>(
     rt: &impl Abort,
     registry: &mut Registry<S>,
@@ -141,21 +141,22 @@ fn is_found_behind<S: Alter>(
         Call::Forget => 5,
         Call::Find | Call::All => return Ok(false),
     };
-    assert_eq!(rt; registry.cache.peek(&id).copied(), None);
     Ok(!is_find_refused(rt, registry, id)?)
 }
 
-// Where the calls meet the first refusal.
+// Where the calls meet the first refusal. Behind it nothing is remembered.
 fn first_refusal<S: Alter>(rt: &impl Abort, registry: &mut Registry<S>) -> Result<End, Fail> {
     for call in CALLS {
         if is_refused(rt, registry, call)? {
+            take_all(rt, registry, &[Act::RemembersSoMany(0)])?;
             return Ok(End::At(call, is_found_behind(rt, registry, call)?));
         }
     }
     Ok(End::NoRefusal)
 }
 
-// Whether the disk refuses a sender that was not looked up, where one that was is answered.
+// Whether the disk refuses a sender that was not looked up, where one that was is answered. Behind it nothing is
+// remembered.
 fn look_ups<S: Alter>(rt: &impl Abort, registry: &mut Registry<S>) -> Result<End, Fail> {
     if is_find_refused(rt, registry, 7)? {
         return Ok(End::Early);
@@ -164,6 +165,7 @@ fn look_ups<S: Alter>(rt: &impl Abort, registry: &mut Registry<S>) -> Result<End
         return Err(Fail::from("a remembered sender is refused"));
     }
     if is_find_refused(rt, registry, 340)? {
+        take_all(rt, registry, &[Act::RemembersSoMany(0)])?;
         return Ok(End::ToldApart);
     }
     Ok(End::NoRefusal)
@@ -229,7 +231,7 @@ fn prepared<S: Alter>(rt: &impl Abort, conn: &mut Connection<S>) -> Result<End, 
 }
 
 /// What is tried over files that refuse.
-#[derive(Clone, Copy, Debug)]
+#[derive(Clone, Copy)]
 pub enum Trial {
     /// Each call that asks the store, where so many pages are kept in memory.
     Calls(usize),
