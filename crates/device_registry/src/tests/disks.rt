@@ -231,10 +231,7 @@ pub fn surely_connected(
 
 /// The files of a connection that is closed.
 pub fn closed(conn: Connection<FileStore<Stumbling<Fuse<Memory>>>>) -> Result<Disks, Fail> {
-    match conn.close_files() {
-        Ok(files) => Ok(files),
-        Err(_) => Err(Fail::from("not closed")),
-    }
+    Ok(conn.close_files().ok().ok_or("not closed")?)
 }
 
 /// What a stop at this moment leaves of a connection.
