@@ -2,18 +2,8 @@
 use Rattle.std.proofs.Common.{◌≡◌, ℕ, ◌+◌, ◌<◌, ◌≤◌, ap, ◌∙◌, arith, false}
 use Rattle.std.specs.Prelude.{Result, Ok, Err, ◌==◌, if◌then◌else◌}
 use Rattle.std.proofs.lemmas.Bool.{ne_eqb}
-use Rattle.json_lines.specs.Counts.{one_more}
-use Rattle.gateway_main.specs.Counts.{Counts, counted, Went, WentWell, Made}
+use Rattle.byte_streams.specs.Counts.{Counts, counted, Went, WentWell, Made, one_more}
 use Rattle.gateway_main.specs.Behind.{well_behind, wrong_behind}
-
--- a call that answers some bytes went well
-pub went_well : (E : Type 0) (old mid new : Counts) (n : ℕ) → WentWell old mid → new ≡ counted {E = E} mid (Ok n)
-    → (n ≡ 0 → ⊥) → WentWell old new
-went_well E old mid new n before e some =
-    let none : (n == 0) ≡ false = ne_eqb n 0 some in (
-      ap (λ c. c.failed) e ∙ before.0,
-      ap (λ c. c.empty) e ∙ ap (λ b. if b then one_more mid.empty else mid.empty) none ∙ before.1,
-    )
 
 pub made_none : (old : Counts) → Made old old 0
 made_none old fits = omega arith

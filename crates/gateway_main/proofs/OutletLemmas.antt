@@ -3,8 +3,8 @@ use Rattle.std.proofs.Common.{ℕ, List, [], ◌∷◌, sym, append-nil, subst, 
 use Rattle.std.specs.Prelude.{Result, MatchResult}
 use Rattle.std.specs.Io.KnownBytes.{Appends}
 use Rattle.gateway_core.specs.Step.{Answer}
-use Rattle.gateway_main.specs.Counts.{Counts, Went}
-use Rattle.gateway_main.specs.Writes.{Writes}
+use Rattle.byte_streams.specs.Counts.{Counts, Went}
+use Rattle.byte_streams.specs.Writes.{Writes}
 use Rattle.gateway_main.specs.Written.{text_of}
 use Rattle.gateway_main.specs.TextOutlet.{PutsText, BreaksText}
 

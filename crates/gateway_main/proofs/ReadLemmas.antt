@@ -7,10 +7,10 @@ use Rattle.std.specs.List.{concat, flat_map}
 use Rattle.std.proofs.KnownBytes.{Consumes-nil, Consumes-trans, Consumes-kept}
 use Rattle.std.proofs.lemmas.List.{length-take}
 use Rattle.std.proofs.lemmas.List.Concat.{concat_is, flat_map-append}
-use Rattle.json_lines.specs.Counts.{one_more}
-use Rattle.gateway_main.specs.declared.tally.Failed.{Failed}
-use Rattle.gateway_main.specs.Counts.{Counts, counted}
-use Rattle.gateway_main.specs.Reads.{AreReads, Gave, IsRead, MakesReads, ReadsFail, ReadsWell, longest_read}
+use Rattle.byte_streams.specs.declared.tally.Failed.{Failed}
+use Rattle.byte_streams.specs.Counts.{Counts, counted, one_more}
+use Rattle.gateway_main.specs.Reads.{AreReads, Gave, IsRead, MakesReads, ReadsFail, ReadsWell}
+use Rattle.byte_streams.specs.Reads.{longest_read}
 use Rattle.gateway_main.proofs.CountLemmas.{made_at, made_more, made_none}
 
 -- one read more behind others

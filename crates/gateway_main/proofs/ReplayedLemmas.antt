@@ -5,7 +5,7 @@ use Rattle.gateway_core.specs.Step.{Answer}
 use Rattle.gateway_core.specs.Calls.{Value}
 use Rattle.gateway_core.specs.Events.{Event}
 use Rattle.gateway_main.specs.Script.{script}
-use Rattle.gateway_main.specs.Counts.{Counts, OneFailed, OneEmpty}
+use Rattle.byte_streams.specs.Counts.{Counts, OneFailed, OneEmpty}
 use Rattle.gateway_main.specs.Written.{WritesAll, WritesPart}
 use Rattle.gateway_main.specs.TextOutlet.{PutsText, BreaksText}
 use Rattle.gateway_main.specs.Played.{Plays, PlaysClosed, PlaysPart}

@@ -4,7 +4,7 @@ use Rattle.std.specs.Prelude.{◌⊎◌}
 use Rattle.gateway_core.specs.Step.{Answer}
 use Rattle.gateway_core.specs.Calls.{Value}
 use Rattle.gateway_core.specs.Events.{Event}
-use Rattle.gateway_main.specs.Counts.{Counts, HasRoom, OneEmpty, OneFailed, OneMoreFailed, NoneFailed, WentWell}
+use Rattle.byte_streams.specs.Counts.{Counts, HasRoom, OneEmpty, OneFailed, OneMoreFailed, NoneFailed, WentWell}
 use Rattle.gateway_main.specs.Outlets.{IsOutlet}
 use Rattle.gateway_main.specs.Played.{Plays}
 use Rattle.gateway_main.specs.Reads.{BreaksTurn}

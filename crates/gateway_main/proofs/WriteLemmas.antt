@@ -8,27 +8,7 @@ use Rattle.std.proofs.KnownBytes.{Appends-trans}
 use Rattle.std.proofs.lemmas.List.{take-append-drop}
 use Rattle.std.proofs.Math.Seq.{take-length}
 use Rattle.std.proofs.lemmas.Result.{MatchResult-weaker, err_from_is_err_and}
-use Rattle.gateway_main.specs.Writes.{AppendsPart, Writes}
-
--- what is written so far, and what is left
-pub record Left (old new : Option (List ℕ)) (text rest : List ℕ) : Type 0 where
-  pub done : List ℕ
-  pub whole : text ≡ done ++ rest
-  pub grown : Appends old new done
-
-pub left_after : (old mid new : Option (List ℕ)) (text rest : List ℕ) (n : ℕ) → Left old mid text rest
-    → Appends mid new (take n rest) → Left old new text (take (length rest - n) (drop n rest))
-left_after old mid new text rest n before more = record {
-  done = before.done ++ take n rest;
-  whole =
-      before.whole ∙ ap (λ s. before.done ++ s) (sym (take-append-drop n rest))
-      ∙ sym (append_assoc before.done (take n rest) (drop n rest))
-      ∙ ap (λ s. (before.done ++ take n rest) ++ s) (sym (all_taken rest n));
-  grown = Appends-trans old mid new before.done (take n rest) before.grown more;
-}
-  where
-    all_taken : (rest : List ℕ) (n : ℕ) → take (length rest - n) (drop n rest) ≡ drop n rest
-    all_taken rest n = rw (← length-drop n rest) (take-length (drop n rest))
+use Rattle.byte_streams.specs.Writes.{AppendsPart, Writes}
 
 -- a first part of the front is a first part of all
 pub part_of_front : (old new : Option (List ℕ)) (front back : List ℕ) → AppendsPart old new [] front

@@ -7,9 +7,8 @@ use Rattle.std.proofs.Common.{ap, sym, ◌∙◌, append_assoc, subst, inl, inr}
 use Rattle.std.proofs.KnownBytes.{Appends-trans}
 use Rattle.std.proofs.lemmas.List.Concat.{flat_map-append}
 use Rattle.gateway_core.specs.Step.{Answer}
-use Rattle.json_lines.specs.Counts.{one_more}
-use Rattle.gateway_main.specs.Counts.{Counts, WentWell, OneFailed, OneEmpty}
-use Rattle.gateway_main.specs.Writes.{AppendsPart}
+use Rattle.byte_streams.specs.Counts.{Counts, WentWell, OneFailed, OneEmpty, one_more}
+use Rattle.byte_streams.specs.Writes.{AppendsPart}
 
 -- more text of answers behind text
 pub all_behind : (text : Answer → List ℕ) (old mid new : Option (List ℕ)) (first second : List Answer)

@@ -1,5 +1,3 @@
-pub mod Counts
-pub mod Writes
 pub mod Written
 pub mod Behind
 pub mod Script

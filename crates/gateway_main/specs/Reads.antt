@@ -5,14 +5,11 @@ use Rattle.std.specs.List.{concat}
 use Rattle.gateway_core.specs.Step.{Answer}
 use Rattle.gateway_core.specs.Calls.{Value}
 use Rattle.gateway_core.specs.Events.{Event, Piece}
-use Rattle.gateway_main.specs.Counts.{Counts, Made, NoneFailed, OneMoreFailed}
+use Rattle.byte_streams.specs.Counts.{Counts, Made, NoneFailed, OneMoreFailed}
+use Rattle.byte_streams.specs.Reads.{longest_read}
 use Rattle.gateway_main.specs.Played.{Breaks}
 use Rattle.gateway_main.specs.Turns.{Turn, pieces, desks, events_of_turns}
 use Rattle.sqlite_trees.specs.declared.store.Store.{Ghosts}
-
--- how many bytes one read gives at most
-abbrev pub longest_read : ℕ
-longest_read = 256
 
 -- The bytes of one read: `left` is what the source had left before all reads, where that is known, and `before` what
 -- the reads before this one gave. A read gives nothing only where they gave all.

@@ -5,7 +5,7 @@ use Rattle.std.proofs.Common.{refl}
 use Rattle.std.proofs.KnownBytes.{Appends-nil}
 use Rattle.gateway_core.specs.Step.{Answer}
 use Rattle.gateway_main.specs.Behind.{all_behind, last_behind, well_behind, wrong_behind}
-use Rattle.gateway_main.specs.Counts.{Counts, WentWell, OneFailed, OneEmpty}
+use Rattle.byte_streams.specs.Counts.{Counts, WentWell, OneFailed, OneEmpty}
 use Rattle.gateway_main.specs.Outlets.{IsOutlet}
 use Rattle.gateway_main.specs.Written.{text_of, WritesAll, WritesPart}
 

@@ -7,9 +7,9 @@ use Rattle.std.proofs.Common.{refl, sym, append_assoc, subst, inl, inr}
 use Rattle.std.proofs.KnownBytes.{Appends-nil}
 use Rattle.gateway_core.specs.Step.{Answer}
 use Rattle.gateway_main.specs.Behind.{all_behind, last_behind, well_behind, wrong_behind}
-use Rattle.gateway_main.specs.Counts.{Counts, WentWell, OneFailed, OneEmpty}
+use Rattle.byte_streams.specs.Counts.{Counts, WentWell, OneFailed, OneEmpty}
 use Rattle.gateway_main.specs.Outlets.{IsOutlet}
-use Rattle.gateway_main.specs.Writes.{AppendsPart}
+use Rattle.byte_streams.specs.Writes.{AppendsPart}
 
 -- the radio bytes of an answer, if there are any
 abbrev pub radio_bytes : Option (List ℕ) → List ℕ

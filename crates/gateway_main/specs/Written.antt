@@ -4,7 +4,7 @@ use Rattle.std.specs.Io.KnownBytes.{Appends}
 use Rattle.std.specs.List.{flat_map}
 use Rattle.hex.specs.Hex.{encode_lower}
 use Rattle.gateway_core.specs.Step.{Answer}
-use Rattle.gateway_main.specs.Writes.{AppendsPart}
+use Rattle.byte_streams.specs.Writes.{AppendsPart}
 
 -- the radio bytes as a serial piece, if there are any
 abbrev pub radio_text : Option (List ℕ) → List ℕ

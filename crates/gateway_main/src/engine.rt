@@ -7,7 +7,7 @@ ghost use Rattle.gateway_main.specs.Played.{IsIdle};
 ghost use Rattle.gateway_main.specs.Taking.{Drains, DrainsPart, TakesOrBreaks};
 
 use crate::outlet::Outlet;
-use crate::tally::Failed;
+use byte_streams::Failed;
 use gateway_core::{Gateway, Reply};
 use sqlite::Alter;
 

@@ -4,7 +4,7 @@ ghost use Rattle.gateway_main.specs.Lived.{BrokenPlaysAreLives, PlaysAreLives};
 ghost use Rattle.gateway_main.specs.Wires.{BreaksWires, PutsWires};
 ghost use Rattle.gateway_main.specs.Written.{WritesAll, WritesPart};
 
-use crate::sink::Sink;
+use byte_streams::Sink;
 use sqlite::Alter;
 
 /// What a stop leaves after `replay` or `live`, by a gateway that `start` made, is what a life may leave that found the

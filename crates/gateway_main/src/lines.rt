@@ -6,7 +6,7 @@ ghost use Rattle.gateway_main.specs.Taking.{TakesOrBreaks};
 
 use crate::engine::Engine;
 use crate::outlet::Outlet;
-use crate::tally::Failed;
+use byte_streams::Failed;
 use sqlite::Alter;
 
 /// Whose lines are taken.

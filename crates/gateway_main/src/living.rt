@@ -2,7 +2,7 @@
 ghost use Rattle.std.specs.Prelude.{◌≡◌, ◌↔◌, ◌+◌, ◌-◌, ◌^◌, ◌≤◌, min, Err, [], ℕ, List, Option, length};
 ghost use Rattle.std.specs.Prelude.{IfOk, IsOk};
 ghost use Rattle.gateway_core.specs.Events.{items_of};
-ghost use Rattle.gateway_main.specs.Counts.{HasRoom, Made, NoneFailed, WentWell};
+ghost use Rattle.byte_streams.specs.Counts.{HasRoom, Made, NoneFailed, WentWell};
 ghost use Rattle.gateway_main.specs.Played.{Plays};
 ghost use Rattle.gateway_main.specs.Reads.{BreaksTurn, NextReadFails, ReadsWell, events_with, pieces_with};
 ghost use Rattle.gateway_main.specs.Turns.{Turn, desks, events_of_turns, pieces};
@@ -12,10 +12,9 @@ use crate::engine::Engine;
 use crate::lines::Lines;
 use crate::player::Player;
 use crate::replaying::{LONGEST_READ, RunFault, Summary};
-use crate::sink::Sink;
-use crate::source::Source;
 use crate::unended::UnendedLine;
 use crate::wires::Wires;
+use byte_streams::{Sink, Source};
 use gateway_core::Gateway;
 use sqlite::Alter;
 

@@ -4,7 +4,7 @@ ghost use Rattle.gateway_core.specs.Replies.{answer_of};
 ghost use Rattle.gateway_core.specs.Step.{Answer};
 ghost use Rattle.gateway_main.specs.Outlets.{IsOutlet};
 
-use crate::tally::Failed;
+use byte_streams::Failed;
 use gateway_core::Reply;
 
 /// Where replies go.

@@ -9,8 +9,8 @@ ghost use Rattle.gateway_main.specs.Taking.{TakesOrBreaks, TakesOrStops};
 use crate::engine::Engine;
 use crate::lines::Lines;
 use crate::outlet::Outlet;
-use crate::tally::Failed;
 use crate::unended::UnendedLine;
+use byte_streams::Failed;
 use memchr::memchr;
 use sqlite::Alter;
 

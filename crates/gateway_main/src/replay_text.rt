@@ -1,14 +1,12 @@
 //! Replies are written to a sink, as the text of a replay.
 ghost use Rattle.std.specs.Prelude.{[], ◌∷◌, ◌≤◌, Some, length};
-ghost use Rattle.gateway_main.specs.Counts.{Went};
-ghost use Rattle.gateway_main.specs.Writes.{Writes};
+ghost use Rattle.byte_streams.specs.Counts.{Went};
+ghost use Rattle.byte_streams.specs.Writes.{Writes};
 ghost use Rattle.gateway_main.specs.TextOutlet.{BreaksText, PutsText, text_outlet};
 ghost use Rattle.gateway_main.specs.Written.{radio_text};
 
 use crate::outlet::Outlet;
-use crate::sink::Sink;
-use crate::tally::Failed;
-use crate::writing::write_text;
+use byte_streams::{Failed, Sink, write_text};
 use gateway_core::Reply;
 
 /// The text of a replay: of each reply its radio bytes as a serial piece, if there are any, and then the desk's text.

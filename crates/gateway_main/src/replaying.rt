@@ -3,7 +3,7 @@ ghost use Rattle.std.specs.Prelude.{◌≡◌, ◌↔◌, ◌⊎◌, ◌+◌, �
 ghost use Rattle.std.specs.Prelude.{IfOk, OnOk};
 ghost use Rattle.std.specs.Io.KnownBytes.{Consumes, IsAtEnd};
 ghost use Rattle.gateway_core.specs.Events.{items_of};
-ghost use Rattle.gateway_main.specs.Counts.{HasRoom, OneEmpty, OneFailed, WentWell};
+ghost use Rattle.byte_streams.specs.Counts.{HasRoom, OneEmpty, OneFailed, WentWell};
 ghost use Rattle.gateway_main.specs.Reads.{MakesReads};
 ghost use Rattle.gateway_main.specs.Replayed.{Replays, ReplaysClosed, ReplaysPart};
 ghost use Rattle.gateway_main.specs.Script.{script};
@@ -12,9 +12,8 @@ use crate::engine::Engine;
 use crate::lines::Lines;
 use crate::player::Player;
 use crate::replay_text::ReplayText;
-use crate::sink::Sink;
-use crate::source::Source;
 use crate::unended::UnendedLine;
+use byte_streams::{Sink, Source};
 use gateway_core::Gateway;
 use sqlite::Alter;
 

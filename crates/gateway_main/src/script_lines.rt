@@ -8,7 +8,7 @@ ghost use Rattle.gateway_main.specs.Script.{event_of, spelled};
 
 use crate::engine::Engine;
 use crate::outlet::Outlet;
-use crate::tally::Failed;
+use byte_streams::Failed;
 use gateway_core::LONGEST_LINE;
 use sqlite::Alter;
 

@@ -3,9 +3,7 @@ ghost use Rattle.std.specs.Prelude.{[], ◌∷◌};
 ghost use Rattle.gateway_main.specs.Wires.{BreaksWires, PutsWires, wires_outlet};
 
 use crate::outlet::Outlet;
-use crate::sink::Sink;
-use crate::tally::Failed;
-use crate::writing::write_text;
+use byte_streams::{Failed, Sink, write_text};
 use gateway_core::Reply;
 
 /// The two ways out of a live gateway: of each reply its radio bytes go to the serial line, if there are any, and then

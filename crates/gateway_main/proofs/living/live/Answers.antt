@@ -1,5 +1,5 @@
+use Rattle.byte_streams.specs.Counts.{one_more}
 use Rattle.std.proofs.Common.{rules, [], ◌∷◌, ◌++◌, ◌+◌, refl, take, ap, arith, None, Some, ◌∙◌, length-append}
-use Rattle.json_lines.specs.Counts.{one_more}
 use Rattle.gateway_main.specs.Played.{IsIdle}
 use Rattle.gateway_main.specs.Turns.{Turn, desks, pieces}
 use Rattle.gateway_main.proofs.CountLemmas.{made_both, made_first, made_more, made_none}

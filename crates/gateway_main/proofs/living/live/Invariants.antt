@@ -1,5 +1,5 @@
 use Rattle.std.proofs.Common.{◌≡◌, List, length}
-use Rattle.gateway_main.specs.Counts.{Made}
+use Rattle.byte_streams.specs.Counts.{Made}
 use Rattle.gateway_main.specs.Played.{IsIdle}
 use Rattle.gateway_main.specs.Reads.{ReadsWell}
 use Rattle.gateway_main.specs.Turns.{Turn, desks, pieces}

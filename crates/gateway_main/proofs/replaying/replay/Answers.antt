@@ -3,13 +3,13 @@ use Rattle.std.proofs.Common.{length-append}
 use Rattle.std.specs.Prelude.{◌⊎◌}
 use Rattle.std.specs.Io.KnownBytes.{Consumes}
 use Rattle.std.proofs.KnownBytes.{Consumes-nil, Consumes-trans, Consumes-kept}
-use Rattle.gateway_main.specs.declared.tally.Failed.{Failed}
-use Rattle.gateway_main.specs.Counts.{WentWell, OneFailed, OneEmpty}
+use Rattle.byte_streams.specs.declared.tally.Failed.{Failed}
+use Rattle.byte_streams.specs.Counts.{WentWell, OneFailed, OneEmpty}
+use Rattle.byte_streams.proofs.ForCallers.{went_well}
 use Rattle.gateway_main.specs.Played.{IsIdle}
 use Rattle.gateway_main.specs.declared.lines.Lines.TheVariants.{OfScript}
 use Rattle.gateway_main.specs.Behind.{well_behind, wrong_behind}
 use Rattle.gateway_main.specs.TextOutlet.{PutsText, text_outlet}
-use Rattle.gateway_main.proofs.CountLemmas.{went_well}
 use Rattle.gateway_main.proofs.BytesLemmas.{bytes_none, bytes_behind, closes, keeps_none, part_at_line, script_stops}
 use Rattle.gateway_main.proofs.BytesLemmas.{script_taken, stops_behind}
 use Rattle.gateway_main.proofs.ReadLemmas.{one_read_more, reads_fail, reads_more, reads_none}

@@ -1,6 +1,6 @@
 use Rattle.std.proofs.Common.{◌≡◌, List, [], ℕ, length}
 use Rattle.std.specs.Io.KnownBytes.{Consumes}
-use Rattle.gateway_main.specs.Counts.{WentWell}
+use Rattle.byte_streams.specs.Counts.{WentWell}
 use Rattle.gateway_main.specs.Played.{IsIdle}
 use Rattle.gateway_main.specs.Bytes.{TakesBytes}
 use Rattle.gateway_main.specs.Reads.{ReadsWell}

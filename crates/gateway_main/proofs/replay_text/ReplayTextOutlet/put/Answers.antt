@@ -3,8 +3,8 @@ use Rattle.std.specs.Io.KnownBytes.{Appends}
 use Rattle.std.specs.Option.{option_map}
 use Rattle.std.proofs.lemmas.Result.{err_from_is_err_and}
 use Rattle.gateway_core.specs.Replies.{answer_of}
-use Rattle.gateway_main.specs.Counts.{Went}
-use Rattle.gateway_main.specs.Writes.{AppendsPart, Writes}
+use Rattle.byte_streams.specs.Counts.{Went}
+use Rattle.byte_streams.specs.Writes.{AppendsPart, Writes}
 use Rattle.gateway_main.specs.Written.{radio_text}
 use Rattle.gateway_main.proofs.CountLemmas.{went_behind}
 use Rattle.gateway_main.proofs.OutletLemmas.{puts_one}

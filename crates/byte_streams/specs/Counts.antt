@@ -1,7 +1,13 @@
 -- How the calls of a source or of a sink went.
-use Rattle.std.specs.Prelude.{◌≡◌, ℕ, ◌+◌, ◌^◌, ◌==◌, ◌<◌, ◌⊎◌, if◌then◌else◌, Result, Ok, Err}
+use Rattle.std.specs.Prelude.{◌≡◌, ℕ, ◌+◌, ◌-◌, ◌^◌, min, ◌==◌, ◌<◌, ◌⊎◌, if◌then◌else◌, Result, Ok, Err}
 use Rattle.std.specs.Prelude.{MatchResult}
-use Rattle.json_lines.specs.Counts.{count_with, one_more}
+
+-- a count of 64 bits, and n more: at its greatest value it stays
+abbrev pub count_with : ℕ → ℕ → ℕ
+count_with count n = min (count + n) (2 ^ 64 - 1)
+
+abbrev pub one_more : ℕ → ℕ
+one_more count = count_with count 1
 
 -- how many calls were made, how many of them failed, and how many answered 0 bytes; each stays at its greatest value
 pub record Counts : Type 0 where

@@ -1,6 +1,6 @@
 //! How the calls of a reader or of a writer went.
 ghost use Rattle.std.specs.Prelude.{◌≡◌};
-ghost use Rattle.gateway_main.specs.Counts.{counted, none_yet};
+ghost use Rattle.byte_streams.specs.Counts.{counted, none_yet};
 
 use std::marker::Model;
 
@@ -17,7 +17,7 @@ pub(crate) struct Tally {
 }
 
 impl Model for Tally {
-    ghost use Rattle.gateway_main.specs.Counts.{Counts};
+    ghost use Rattle.byte_streams.specs.Counts.{Counts};
 
     ghost Value = { Counts };
 

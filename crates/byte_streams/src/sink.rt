@@ -1,7 +1,7 @@
 //! Where bytes go.
 ghost use Rattle.std.specs.Prelude.{◌≡◌, ◌≤◌, ◌<◌, ℕ, List, Option, IfOk, length};
 ghost use Rattle.std.specs.Io.KnownBytes.{WriteAppends};
-ghost use Rattle.gateway_main.specs.Counts.{Counts, counted, none_yet};
+ghost use Rattle.byte_streams.specs.Counts.{Counts, counted, none_yet};
 
 use crate::tally::{Failed, Tally};
 use std::io::Write;

@@ -1,7 +1,7 @@
-use Rattle.gateway_main.specs.declared.tally.Failed.{Failed}
-use Rattle.gateway_main.proofs.CountLemmas.{went_well}
-use Rattle.gateway_main.proofs.WriteLemmas.{left_after}
-use Rattle.gateway_main.proofs.writing.write_text.Goals as goal
+use Rattle.byte_streams.specs.declared.tally.Failed.{Failed}
+use Rattle.byte_streams.proofs.CountLemmas.{went_well}
+use Rattle.byte_streams.proofs.WriteLemmas.{left_after}
+use Rattle.byte_streams.proofs.writing.write_text.Goals as goal
 
 pub loop-rest-preserved : goal.loop-rest-preserved
 loop-rest-preserved g c =

@@ -1,7 +1,7 @@
 use Rattle.std.proofs.Common.{length}
-use Rattle.gateway_main.specs.Counts.{WentWell}
-use Rattle.gateway_main.proofs.WriteLemmas.{Left}
-use Rattle.gateway_main.proofs.writing.write_text.Given as goal
+use Rattle.byte_streams.specs.Counts.{WentWell}
+use Rattle.byte_streams.proofs.WriteLemmas.{Left}
+use Rattle.byte_streams.proofs.writing.write_text.Given as goal
 
 abbrev pub invariant-loop-rest : goal.invariant-loop-rest
 invariant-loop-rest g l =

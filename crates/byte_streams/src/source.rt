@@ -1,8 +1,8 @@
 //! Where bytes come from.
 ghost use Rattle.std.specs.Prelude.{◌≡◌, ◌≤◌, ◌<◌, ℕ, List, Option, IfOk, length};
 ghost use Rattle.std.specs.Io.KnownBytes.{ReadConsumes};
-ghost use Rattle.gateway_main.specs.Counts.{Counts, counted, none_yet};
-ghost use Rattle.gateway_main.specs.Reads.{longest_read};
+ghost use Rattle.byte_streams.specs.Counts.{Counts, counted, none_yet};
+ghost use Rattle.byte_streams.specs.Reads.{longest_read};
 
 use crate::tally::{Failed, Tally};
 use std::io::Read;
@@ -15,7 +15,7 @@ pub trait Source {
     /// How the reads so far went.
     ghost counts: { Self → Counts };
 
-    /// Reads some bytes into the front of the buffer, which has room for 1 to `LONGEST_READ`, and says how many. 0
+    /// Reads some bytes into the front of the buffer, which has room for 1 to 256, and says how many. 0
     /// bytes say that none is left; of a terminal, which may bring more later, that none came in time. After `Failed`
     /// nothing is lost: no byte was taken from the source.
     fn read(&mut self, buffer: &mut [u8]) -> Result<usize, Failed>

@@ -1,12 +1,12 @@
 //! Texts are written to a sink.
-ghost use Rattle.gateway_main.specs.Counts.{Went};
-ghost use Rattle.gateway_main.specs.Writes.{Writes};
+ghost use Rattle.byte_streams.specs.Counts.{Went};
+ghost use Rattle.byte_streams.specs.Writes.{Writes};
 
 use crate::sink::Sink;
 use crate::tally::Failed;
 
 /// Writes the whole text. After `Failed` a first part of it is written, and not all.
-pub(crate) fn write_text<W: Sink>(writer: &mut W, text: &[u8]) -> Result<(), Failed>
+pub fn write_text<W: Sink>(writer: &mut W, text: &[u8]) -> Result<(), Failed>
     ensures written { Writes (W.held writer.old) (W.held writer.new) result text.now }
     ensures told { Went result (W.counts writer.old) (W.counts writer.new) }
 {

@@ -1,0 +1,5 @@
+use Rattle.std.proofs.Common.{rules}
+use Rattle.gateway_core.proofs.handler.teaching.told_by.Goals as goal
+
+pub returns-in-Ute : goal.returns-in-Ute
+returns-in-Ute c = search rules
