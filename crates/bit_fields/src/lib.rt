@@ -6,7 +6,5 @@
 mod big_endian;
 mod fields;
 pub mod laws;
-#[cfg(test)]
-mod tests;
 
 pub use fields::{get, put};

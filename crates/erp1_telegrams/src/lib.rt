@@ -12,6 +12,3 @@ pub use address::{is_base, is_own, is_passed_over};
 pub use eep::Eep;
 pub use serial::{read, write};
 pub use telegram::{BROADCAST, Telegram, TelegramFault};
-
-#[cfg(test)]
-mod tests;

@@ -6,8 +6,6 @@
 mod check;
 pub mod laws;
 mod packet;
-#[cfg(test)]
-mod tests;
 
 pub use check::{check8, check8_between, check8_next};
 pub use packet::{

@@ -7,8 +7,6 @@ mod divisor;
 mod fraction;
 pub mod laws;
 mod linear_scale;
-#[cfg(test)]
-mod tests;
 
 pub use fraction::{Fraction, over};
 pub use linear_scale::scale;

@@ -6,7 +6,7 @@ use std::alloc::AllocError;
 
 /// What was wanting: memory, or the store of the registry. It is made by conversion alone, of a fault of the registry
 /// or an error of the allocator, and keeps its cause.
-#[derive(Clone, Copy, Debug, PartialEq, Eq)]
+#[derive(Clone, Copy)]
 pub struct Cause {
     is_memory: bool,
 }
@@ -21,7 +21,7 @@ impl Cause {
 }
 
 /// Whether an item was refused before its write to the registry, or at that write.
-#[derive(Clone, Copy, Debug, PartialEq, Eq)]
+#[derive(Clone, Copy)]
 pub enum Refusal {
     /// Nothing was written.
     Before(Cause),

@@ -10,7 +10,7 @@ use esp3_frames::PacketRef;
 const RESPONSE: u8 = 2;
 
 /// A response of the radio module: a return code, and the bytes behind it.
-#[derive(Clone, Copy, Debug, PartialEq, Eq)]
+#[derive(Clone, Copy)]
 pub struct ResponseRef<'a> {
     pub code: u8,
     pub bytes: &'a [u8],

@@ -10,7 +10,7 @@ use byte_streams::Failed;
 use sqlite::Alter;
 
 /// Whose lines are taken.
-#[derive(Clone, Copy, Debug, PartialEq, Eq)]
+#[derive(Clone, Copy)]
 pub enum Lines {
     /// Those of a script: serial pieces and orders.
     OfScript,

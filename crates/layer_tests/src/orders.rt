@@ -2,6 +2,9 @@
 use actuator_commands::laws::{ids_are_spelled, lines_have_two_faults, orders_are_spelled};
 use actuator_commands::{Order, OrderFault, Quantity, id_of, parse};
 use erp1_telegrams::Eep;
+use std::process::Abort;
+
+const DEVICE: u32 = 0x0180_0ABC;
 
 const CONTACT: Eep = Eep {
     rorg: 0xD5,
@@ -35,11 +38,11 @@ fn orders(rt: HostRuntime) {
         (b"learn as ff-Ff-fF", Order::LearnAs(last)),
         (b"learn as 00-00-00", Order::LearnAs(first)),
         (b"learn off", Order::LearnOff),
-        (b"add 01800ABC D5-00-01", Order::Add(0x0180_0ABC, CONTACT)),
-        (b"add 01800abc d5-00-01", Order::Add(0x0180_0ABC, CONTACT)),
-        (b"add 01800aBc a5-38-08", Order::Add(0x0180_0ABC, lamp)),
+        (b"add 01800ABC D5-00-01", Order::Add(DEVICE, CONTACT)),
+        (b"add 01800abc d5-00-01", Order::Add(DEVICE, CONTACT)),
+        (b"add 01800aBc a5-38-08", Order::Add(DEVICE, lamp)),
         (b"add FFFFFFFE A5-38-08", Order::Add(0xFFFF_FFFE, lamp)),
-        (b"remove 01800ABC", Order::Remove(0x0180_0ABC)),
+        (b"remove 01800ABC", Order::Remove(DEVICE)),
         (b"remove 00000000", Order::Remove(0)),
         (b"remove fffffffe", Order::Remove(0xFFFF_FFFE)),
         (b"list", Order::List),
@@ -53,34 +56,48 @@ fn orders(rt: HostRuntime) {
 }
 
 #[test]
-fn orders_to_switches(rt: HostRuntime) {
-    let id = 0x0180_0ABC;
-    let switches: [(&[u8], u32, u32, bool); 4] = [
-        (b"switch 01800ABC 0 on", id, 0, true),
-        (b"switch 01800abc 30 off", id, 30, false),
+fn switch_orders(rt: HostRuntime) {
+    let cases: [(&[u8], u32, u32, bool); 4] = [
+        (b"switch 01800ABC 0 on", DEVICE, 0, true),
+        (b"switch 01800abc 30 off", DEVICE, 30, false),
         (b"switch 00000000 9 on", 0, 9, true),
         (b"switch FFFFFFFE 10 on", 0xFFFF_FFFE, 10, true),
     ];
-    for (line, id, channel, on) in switches {
+    for (line, id, channel, on) in cases {
         assert_eq!(rt; parse(line), Ok(Order::Switch { id, channel, on }));
     }
-    let dimmers: [(&[u8], u32, u32); 3] = [
+}
+
+#[test]
+fn dim_orders(rt: HostRuntime) {
+    let id = DEVICE;
+    let cases: [(&[u8], u32, u32); 3] = [
         (b"dim 01800ABC 0 100", 0, 100),
         (b"dim 01800ABC 30 0", 30, 0),
         (b"dim 01800ABC 0 7", 0, 7),
     ];
-    for (line, channel, value) in dimmers {
+    for (line, channel, value) in cases {
         assert_eq!(rt; parse(line), Ok(Order::Dim { id, channel, value }));
     }
-    let queries: [(&[u8], u32); 2] = [(b"query 01800ABC 0", 0), (b"query 01800ABC 30", 30)];
-    for (line, channel) in queries {
+}
+
+#[test]
+fn query_orders(rt: HostRuntime) {
+    let id = DEVICE;
+    let cases: [(&[u8], u32); 2] = [(b"query 01800ABC 0", 0), (b"query 01800ABC 30", 30)];
+    for (line, channel) in cases {
         assert_eq!(rt; parse(line), Ok(Order::Query { id, channel }));
     }
-    let meters: [(&[u8], u32, Quantity); 2] = [
+}
+
+#[test]
+fn meter_orders(rt: HostRuntime) {
+    let id = DEVICE;
+    let cases: [(&[u8], u32, Quantity); 2] = [
         (b"meter 01800ABC 0 energy", 0, Quantity::Energy),
         (b"meter 01800ABC 30 power", 30, Quantity::Power),
     ];
-    for (line, channel, quantity) in meters {
+    for (line, channel, quantity) in cases {
         assert_eq!(rt;
             parse(line),
             Ok(Order::Meter {
@@ -94,7 +111,7 @@ fn orders_to_switches(rt: HostRuntime) {
 
 #[test]
 fn orders_to_blinds(rt: HostRuntime) {
-    let id = 0x0180_0ABC;
+    let id = DEVICE;
     let blinds: [(&[u8], u32); 2] = [(b"blind 01800ABC 0", 0), (b"blind 01800ABC 100", 100)];
     for (line, value) in blinds {
         assert_eq!(rt; parse(line), Ok(Order::Blind { id, value }));
@@ -131,287 +148,113 @@ fn orders_to_all(rt: HostRuntime) {
     }
 }
 
+/// Lines with a number out of its range. Here as below `|` stands between two lines.
+const OUT_OF_RANGE: &str = "\
+    add FFFFFFFF D5-00-01|add ffffFFFF ff-ff-ff|remove FFFFFFFF|remove ffffffff|\
+    switch FFFFFFFF 0 on|switch 01800ABC 31 on|switch 01800ABC 99999 off|dim FFFFFFFF 0 0|\
+    dim 01800ABC 31 0|dim 01800ABC 0 101|dim 01800ABC 0 99999|query FFFFFFFF 0|query 01800ABC 31|\
+    meter FFFFFFFF 0 power|meter 01800ABC 31 energy|blind FFFFFFFF 0|blind 01800ABC 101|\
+    blind 01800ABC 127|stop FFFFFFFF|central 128 on|central 10000 off|level 128 0 0|level 0 101 0|\
+    level 0 0 256|level 99999 99999 99999|teach 128|teach 1000|teach 99999";
+
 #[test]
 fn out_of_range(rt: HostRuntime) {
-    let cases: [&[u8]; 28] = [
-        b"add FFFFFFFF D5-00-01",
-        b"add ffffFFFF ff-ff-ff",
-        b"remove FFFFFFFF",
-        b"remove ffffffff",
-        b"switch FFFFFFFF 0 on",
-        b"switch 01800ABC 31 on",
-        b"switch 01800ABC 99999 off",
-        b"dim FFFFFFFF 0 0",
-        b"dim 01800ABC 31 0",
-        b"dim 01800ABC 0 101",
-        b"dim 01800ABC 0 99999",
-        b"query FFFFFFFF 0",
-        b"query 01800ABC 31",
-        b"meter FFFFFFFF 0 power",
-        b"meter 01800ABC 31 energy",
-        b"blind FFFFFFFF 0",
-        b"blind 01800ABC 101",
-        b"blind 01800ABC 127",
-        b"stop FFFFFFFF",
-        b"central 128 on",
-        b"central 10000 off",
-        b"level 128 0 0",
-        b"level 0 101 0",
-        b"level 0 0 256",
-        b"level 99999 99999 99999",
-        b"teach 128",
-        b"teach 1000",
-        b"teach 99999",
-    ];
-    for line in cases {
-        assert_eq!(rt; parse(line), Err(OrderFault::Range));
+    for line in OUT_OF_RANGE.split('|') {
+        assert_eq!(rt; parse(line.as_bytes()), Err(OrderFault::Range), "{line}");
     }
     lines_have_two_faults();
 }
 
+/// Lines of no word, and orders with one letter changed, or in upper case.
+const OTHER_LETTERS: &str = "\
+    | |\r|aad 01800ABC D5-00-01|adds 01800ABC D5-00-01|ADD 01800ABC D5-00-01|renove 01800ABC|\
+    remov 01800ABC|lists|List|lisT|statut|statu|learm on|Learn on|learn of|learn onn|learn On|\
+    learn on Answer|learn on answers|learn at D5-00-01|learn AS D5-00-01|learn offf";
+
+/// Words that are missing, that are too many, or that stand in another order.
+const OTHER_WORDS: &str = "\
+    add|add 01800ABC|add 01800ABC D5-00-01 D5-00-01|add D5-00-01 01800ABC|remove|\
+    remove 01800ABC D5-00-01|remove D5-00-01|01800ABC|list 01800ABC|status list|learn|learn as|\
+    learn as on|learn answer|learn answer on|learn D5-00-01|learn on as D5-00-01|learn on D5-00-01|\
+    learn on answer x|learn as D5-00-01 x|learn off x|learn off answer|on learn|on";
+
+/// Spaces that are too many, and other bytes in the place of one.
+const OTHER_SPACES: &str = "\
+    add  01800ABC D5-00-01|add 01800ABC  D5-00-01|add 01800ABC D5-00-01 | add 01800ABC D5-00-01|\
+    remove |remove 01800ABC | list|status |remove\t01800ABC|add 01800ABC\tD5-00-01|list\t|list\r|\
+    learn |learn  on|learn on  answer| learn on|learn on |learn on answer |learn as  D5-00-01|\
+    learn as D5-00-01 |learn\t|learn\ton|learn on\tanswer|learn off\r|add 01800ABC D5-00-01\n";
+
+/// Digits that are too few, too many or none, the last beside an ID that is out of range.
+const OTHER_DIGITS: &str = "\
+    remove 1800ABC|remove 001800ABC|remove 01800ABG|remove 0x1800AB|add 01800ABC D5-00-1|\
+    add 01800ABC D5-00-001|add 01800ABC D5_00-01|add 01800ABC D5-00_01|add 01800ABC D5-0G-01|\
+    learn as D5-00|learn as D5-00-1|learn as D50001|add FFFFFFFF D5-00-0";
+
+// None of these lines is an order.
+fn are_no_orders(rt: &impl Abort, lines: &str) {
+    for line in lines.split('|') {
+        assert_eq!(rt; parse(line.as_bytes()), Err(OrderFault::Syntax), "{line}");
+    }
+}
+
 #[test]
 fn lines_that_are_no_order(rt: HostRuntime) {
-    let cases: [&[u8]; 85] = [
-        b"",
-        b" ",
-        b"\r",
-        // A word with one letter changed, or in upper case.
-        b"aad 01800ABC D5-00-01",
-        b"adds 01800ABC D5-00-01",
-        b"ADD 01800ABC D5-00-01",
-        b"renove 01800ABC",
-        b"remov 01800ABC",
-        b"lists",
-        b"List",
-        b"lisT",
-        b"statut",
-        b"statu",
-        b"learm on",
-        b"Learn on",
-        b"learn of",
-        b"learn onn",
-        b"learn On",
-        b"learn on Answer",
-        b"learn on answers",
-        b"learn at D5-00-01",
-        b"learn AS D5-00-01",
-        b"learn offf",
-        // Words that are missing, that are too many, or that stand in another order.
-        b"add",
-        b"add 01800ABC",
-        b"add 01800ABC D5-00-01 D5-00-01",
-        b"add D5-00-01 01800ABC",
-        b"remove",
-        b"remove 01800ABC D5-00-01",
-        b"remove D5-00-01",
-        b"01800ABC",
-        b"list 01800ABC",
-        b"status list",
-        b"learn",
-        b"learn as",
-        b"learn as on",
-        b"learn answer",
-        b"learn answer on",
-        b"learn D5-00-01",
-        b"learn on as D5-00-01",
-        b"learn on D5-00-01",
-        b"learn on answer x",
-        b"learn as D5-00-01 x",
-        b"learn off x",
-        b"learn off answer",
-        b"on learn",
-        b"on",
-        // Spaces that are too many, and other bytes in the place of one.
-        b"add  01800ABC D5-00-01",
-        b"add 01800ABC  D5-00-01",
-        b"add 01800ABC D5-00-01 ",
-        b" add 01800ABC D5-00-01",
-        b"remove ",
-        b"remove 01800ABC ",
-        b" list",
-        b"status ",
-        b"remove\t01800ABC",
-        b"add 01800ABC\tD5-00-01",
-        b"list\t",
-        b"list\r",
-        b"learn ",
-        b"learn  on",
-        b"learn on  answer",
-        b" learn on",
-        b"learn on ",
-        b"learn on answer ",
-        b"learn as  D5-00-01",
-        b"learn as D5-00-01 ",
-        b"learn\t",
-        b"learn\ton",
-        b"learn on\tanswer",
-        b"learn off\r",
-        b"add 01800ABC D5-00-01\n",
-        // Digits that are too few, too many or none.
-        b"remove 1800ABC",
-        b"remove 001800ABC",
-        b"remove 01800ABG",
-        b"remove 0x1800AB",
-        b"add 01800ABC D5-00-1",
-        b"add 01800ABC D5-00-001",
-        b"add 01800ABC D5_00-01",
-        b"add 01800ABC D5-00_01",
-        b"add 01800ABC D5-0G-01",
-        b"learn as D5-00",
-        b"learn as D5-00-1",
-        b"learn as D50001",
-        // What is out of range besides.
-        b"add FFFFFFFF D5-00-0",
-    ];
-    for line in cases {
-        assert_eq!(rt; parse(line), Err(OrderFault::Syntax));
+    for lines in [OTHER_LETTERS, OTHER_WORDS, OTHER_SPACES, OTHER_DIGITS] {
+        are_no_orders(&rt, lines);
     }
 }
 
-// A word of another length or with another letter, words that are missing or too many, and other bytes between them.
+/// Orders to devices with a word of another length or with another letter, or with words that are missing or too many.
+const OTHER_WORDS_TO_DEVICES: &str = "\
+    bass|bases|base 0|swatch 01800ABC 0 on|Switch 01800ABC 0 on|switch 01800ABC 0 an|\
+    switch 01800ABC 0 onn|switch 01800ABC 0 of|switch 01800ABC 0 ofg|switch 01800ABC 0 ON|\
+    switch 01800ABC 0|switch 01800ABC on|switch 01800ABC on 0|switch 0 01800ABC on|\
+    switch 01800ABC 0 on on|switch 0180 0 on|switch|dime 01800ABC 0 7|dom 01800ABC 0 7|\
+    dim 01800ABC 0|dim 01800ABC 0 7 7|dim 01800ABC 0 on|quary 01800ABC 0|query 01800ABC|\
+    query 01800ABC 0 0|query 01800ABC on|meder 01800ABC 0 energy|meter 01800ABC 0 energie|\
+    meter 01800ABC 0 enargy|meter 01800ABC 0 pover|meter 01800ABC 0 powers|meter 01800ABC 0|\
+    meter 01800ABC 0 on|meter 01800ABC energy 0|blend 01800ABC 50|blind 01800ABC|\
+    blind 01800ABC 0 50|blind 50 01800ABC|shop 01800ABC|stop|stop 0|stop 01800ABC 0|centrel 5 on|\
+    central 5 in|central 5 off off|central on 5|central 5|central on|central 01800ABC on|\
+    lever 0 0 0|level 0 0|level 0 0 0 0|level 0 0 on|level 01800ABC 0 0|teech 5|teach|teach 5 5|\
+    teach on|teach 01800ABC|5 teach";
+
+/// The same, with texts that are no number.
+const NO_NUMBERS: &str = "\
+    teach |teach 00|teach 05|teach 007|teach 0127|teach 00000|teach 000000|teach +5|teach +|\
+    teach -5|teach -0|teach 5.|teach 5.0|teach 5e1|teach 0x5|teach 5a|teach a|teach /|teach :|\
+    teach 1/|teach 1:|teach 5_0|teach 100000|teach 999999|teach 4294967296|teach 4294967301|\
+    dim 01800ABC 0 007|dim 01800ABC 00 7";
+
+/// The same, with other bytes between the words.
+const OTHER_SPACES_TO_DEVICES: &str = "\
+    dim 01800ABC  0 7|dim 01800ABC 0  7|dim  01800ABC 0 7| dim 01800ABC 0 7|dim 01800ABC 0 7 |\
+    switch 01800ABC 0  on|switch\t01800ABC 0 on|switch 01800ABC\t0 on|switch 01800ABC 0\ton|\
+    switch 01800ABC 0 on\r|level 0 0 0 |teach  5|teach 5 |base ";
+
+/// Lines that are no order by their shape, and so not out of range, though their numbers are.
+const SHAPE_BEFORE_RANGE: &str = "\
+    dim FFFFFFFF 31 007|dim 01800ABC 0 0101|switch 01800ABC 31 onn|switch FFFFFFFF 0 on 1|\
+    level 128 101 0256|teach 128 ";
+
 #[test]
-fn lines_of_other_words(rt: HostRuntime) {
-    let cases: [&[u8]; 60] = [
-        b"bass",
-        b"bases",
-        b"base 0",
-        b"swatch 01800ABC 0 on",
-        b"Switch 01800ABC 0 on",
-        b"switch 01800ABC 0 an",
-        b"switch 01800ABC 0 onn",
-        b"switch 01800ABC 0 of",
-        b"switch 01800ABC 0 ofg",
-        b"switch 01800ABC 0 ON",
-        b"switch 01800ABC 0",
-        b"switch 01800ABC on",
-        b"switch 01800ABC on 0",
-        b"switch 0 01800ABC on",
-        b"switch 01800ABC 0 on on",
-        b"switch 0180 0 on",
-        b"switch",
-        b"dime 01800ABC 0 7",
-        b"dom 01800ABC 0 7",
-        b"dim 01800ABC 0",
-        b"dim 01800ABC 0 7 7",
-        b"dim 01800ABC 0 on",
-        b"quary 01800ABC 0",
-        b"query 01800ABC",
-        b"query 01800ABC 0 0",
-        b"query 01800ABC on",
-        b"meder 01800ABC 0 energy",
-        b"meter 01800ABC 0 energie",
-        b"meter 01800ABC 0 enargy",
-        b"meter 01800ABC 0 pover",
-        b"meter 01800ABC 0 powers",
-        b"meter 01800ABC 0",
-        b"meter 01800ABC 0 on",
-        b"meter 01800ABC energy 0",
-        b"blend 01800ABC 50",
-        b"blind 01800ABC",
-        b"blind 01800ABC 0 50",
-        b"blind 50 01800ABC",
-        b"shop 01800ABC",
-        b"stop",
-        b"stop 0",
-        b"stop 01800ABC 0",
-        b"centrel 5 on",
-        b"central 5 in",
-        b"central 5 off off",
-        b"central on 5",
-        b"central 5",
-        b"central on",
-        b"central 01800ABC on",
-        b"lever 0 0 0",
-        b"level 0 0",
-        b"level 0 0 0 0",
-        b"level 0 0 on",
-        b"level 01800ABC 0 0",
-        b"teech 5",
-        b"teach",
-        b"teach 5 5",
-        b"teach on",
-        b"teach 01800ABC",
-        b"5 teach",
+fn lines_that_are_no_order_to_devices(rt: HostRuntime) {
+    let tables = [
+        OTHER_WORDS_TO_DEVICES,
+        NO_NUMBERS,
+        OTHER_SPACES_TO_DEVICES,
+        SHAPE_BEFORE_RANGE,
     ];
-    for line in cases {
-        assert_eq!(rt; parse(line), Err(OrderFault::Syntax));
+    for lines in tables {
+        are_no_orders(&rt, lines);
     }
 }
 
 #[test]
-fn texts_that_are_no_number(rt: HostRuntime) {
-    let cases: [&[u8]; 30] = [
-        b"teach ",
-        b"teach 00",
-        b"teach 05",
-        b"teach 007",
-        b"teach 0127",
-        b"teach 00000",
-        b"teach 000000",
-        b"teach +5",
-        b"teach +",
-        b"teach -5",
-        b"teach -0",
-        b"teach 5.",
-        b"teach 5.0",
-        b"teach 5e1",
-        b"teach 0x5",
-        b"teach 5a",
-        b"teach a",
-        b"teach /",
-        b"teach :",
-        b"teach 1/",
-        b"teach 1:",
-        b"teach 5_0",
-        b"teach 100000",
-        b"teach 999999",
-        b"teach 4294967296",
-        b"teach 4294967301",
-        b"teach \xB2",
-        b"teach 5\xFF",
-        b"dim 01800ABC 0 007",
-        b"dim 01800ABC 00 7",
-    ];
-    for line in cases {
-        assert_eq!(rt; parse(line), Err(OrderFault::Syntax));
-    }
-}
-
-#[test]
-fn other_spaces_of_orders_to_devices(rt: HostRuntime) {
-    let cases: [&[u8]; 14] = [
-        b"dim 01800ABC  0 7",
-        b"dim 01800ABC 0  7",
-        b"dim  01800ABC 0 7",
-        b" dim 01800ABC 0 7",
-        b"dim 01800ABC 0 7 ",
-        b"switch 01800ABC 0  on",
-        b"switch\t01800ABC 0 on",
-        b"switch 01800ABC\t0 on",
-        b"switch 01800ABC 0\ton",
-        b"switch 01800ABC 0 on\r",
-        b"level 0 0 0 ",
-        b"teach  5",
-        b"teach 5 ",
-        b"base ",
-    ];
-    for line in cases {
-        assert_eq!(rt; parse(line), Err(OrderFault::Syntax));
-    }
-}
-
-// A line that is no order by its shape is not out of range, though its numbers are.
-#[test]
-fn shape_before_range(rt: HostRuntime) {
-    let cases: [&[u8]; 6] = [
-        b"dim FFFFFFFF 31 007",
-        b"dim 01800ABC 0 0101",
-        b"switch 01800ABC 31 onn",
-        b"switch FFFFFFFF 0 on 1",
-        b"level 128 101 0256",
-        b"teach 128 ",
-    ];
-    for line in cases {
+fn bytes_that_are_no_text(rt: HostRuntime) {
+    let lines: [&[u8]; 2] = [b"teach \xB2", b"teach 5\xFF"];
+    for line in lines {
         assert_eq!(rt; parse(line), Err(OrderFault::Syntax));
     }
 }

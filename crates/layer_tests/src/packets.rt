@@ -2,11 +2,13 @@
 ghost use Rattle.std.specs.Prelude.{◌≡◌, true};
 ghost use Rattle.erp1_telegrams.specs.Address.{is_base};
 
-use actuator_commands::{Order, OrderFault, Quantity, packet_of, parse};
+use actuator_commands::{Order, OrderFault, Quantity, id_of, packet_of, parse};
 use arrayvec::ArrayVec;
 use erp1_telegrams::{BROADCAST, Eep, Telegram, read, write};
 use esp3_frames::read_packet;
 use learned_devices::Device;
+use std::alloc::Global;
+use std::process::Abort;
 use std::test::Fail;
 
 const DEVICE: u32 = 0x0180_0ABC;
@@ -39,122 +41,89 @@ fn telegram(
     Ok(packet_of(&order, device.as_ref(), base))
 }
 
-// Each packet is the one that was made by hand, and is read back as the telegram that was sent.
-#[test]
-fn packets(rt: HostRuntime) -> Result<(), Fail> {
-    let cases: [(&[u8], Option<(u8, u8, u8)>, &str); 11] = [
-        (
-            b"switch 01800ABC 0 on",
-            Some(SWITCH),
-            "550009070156d2010064ff800000000301800abcff0024",
-        ),
-        (
-            b"dim 01800ABC 1 40",
-            Some(SWITCH),
-            "550009070156d2010128ff800000000301800abcff00d8",
-        ),
-        (
-            b"query 01800ABC 30",
-            Some(SWITCH),
-            "55000807013dd2031eff800000000301800abcff007d",
-        ),
-        (
-            b"query 01800ABC 0",
-            Some(BLIND),
-            "55000707017ad203ff800000000301800abcff0053",
-        ),
-        (
-            b"meter 01800ABC 0 energy",
-            Some(SWITCH),
-            "55000807013dd20600ff800000000301800abcff00b7",
-        ),
-        (
-            b"meter 01800ABC 2 power",
-            Some(SWITCH),
-            "55000807013dd20682ff800000000301800abcff0069",
-        ),
-        (
-            b"blind 01800ABC 50",
-            Some(BLIND),
-            "55000a0701ebd2327f0001ff800000000301800abcff0068",
-        ),
-        (
-            b"stop 01800ABC",
-            Some(BLIND),
-            "55000707017ad202ff800000000301800abcff00c7",
-        ),
-        (
-            b"central 5 on",
-            None,
-            "55000a0701eba501000009ff8000050003ffffffffff0063",
-        ),
-        (
-            b"level 5 40 2",
-            None,
-            "55000a0701eba50228020dff8000050003ffffffffff0087",
-        ),
-        (
-            b"teach 5",
-            None,
-            "55000a0701eba5e047ff80ff8000050003ffffffffff00ce",
-        ),
-    ];
-    for (line, profile, packet) in cases {
+/// Orders to a switch, and the packets that were made by hand of them. Here as below `|` stands between two cases.
+const PACKETS_TO_SWITCHES: &str = "\
+    switch 01800ABC 0 on = 550009070156d2010064ff800000000301800abcff0024|\
+    dim 01800ABC 1 40 = 550009070156d2010128ff800000000301800abcff00d8|\
+    query 01800ABC 30 = 55000807013dd2031eff800000000301800abcff007d|\
+    meter 01800ABC 0 energy = 55000807013dd20600ff800000000301800abcff00b7|\
+    meter 01800ABC 2 power = 55000807013dd20682ff800000000301800abcff0069";
+
+const PACKETS_TO_BLINDS: &str = "\
+    query 01800ABC 0 = 55000707017ad203ff800000000301800abcff0053|\
+    blind 01800ABC 50 = 55000a0701ebd2327f0001ff800000000301800abcff0068|\
+    stop 01800ABC = 55000707017ad202ff800000000301800abcff00c7";
+
+const PACKETS_TO_ALL: &str = "\
+    central 5 on = 55000a0701eba501000009ff8000050003ffffffffff0063|\
+    level 5 40 2 = 55000a0701eba50228020dff8000050003ffffffffff0087|\
+    teach 5 = 55000a0701eba5e047ff80ff8000050003ffffffffff00ce";
+
+// These are the packets of the orders, and each is read back as the telegram that was sent.
+fn are_packets(
+    alloc: Global,
+    rt: &impl Abort,
+    profile: Option<(u8, u8, u8)>,
+    cases: &str,
+) -> Result<(), Fail> {
+    for case in cases.split('|') {
+        let (line, packet) = case.split_once(" = ").ok_or("no packet")?;
         let mut out = ArrayVec::<u8, 64>::new();
-        let sent = telegram(line, profile, BASE)??;
+        let sent = telegram(line.as_bytes(), profile, BASE)??;
         write(&sent, &mut out)?;
-        let digits = hex::encode(rt.alloc(), out.as_slice())?;
-        assert_eq!(rt; digits.as_str(), packet);
-        let Some(whole) = read_packet(out.as_slice()) else {
-            return Err(Fail::from("no packet"));
-        };
-        let heard = read(&whole)?;
-        assert_eq!(rt; heard.rorg(), sent.rorg());
-        assert_eq!(rt; heard.payload(), sent.payload());
-        assert_eq!(rt; heard.sender(), sent.sender());
-        assert_eq!(rt; heard.status(), sent.status());
-        assert_eq!(rt; heard.dest(), sent.dest());
+        assert_eq!(rt; hex::encode(alloc, out.as_slice())?.as_str(), packet);
+        is_heard(rt, &sent, out.as_slice())?;
     }
     Ok(())
 }
 
+// The bytes are the packet of this telegram.
+fn is_heard(rt: &impl Abort, sent: &Telegram, bytes: &[u8]) -> Result<(), Fail> {
+    let Some(whole) = read_packet(bytes) else {
+        return Err(Fail::from("no packet"));
+    };
+    let heard = read(&whole)?;
+    assert_eq!(rt; heard.rorg(), sent.rorg());
+    assert_eq!(rt; heard.payload(), sent.payload());
+    assert_eq!(rt; heard.sender(), sent.sender());
+    assert_eq!(rt; heard.status(), sent.status());
+    assert_eq!(rt; heard.dest(), sent.dest());
+    Ok(())
+}
+
 #[test]
-fn payloads_for_devices(rt: HostRuntime) -> Result<(), Fail> {
-    let cases: [(&[u8], (u8, u8, u8), &[u8]); 21] = [
-        (b"switch 01800ABC 0 on", SWITCH, &[0x01, 0x00, 0x64]),
-        (b"switch 01800ABC 0 off", SWITCH, &[0x01, 0x00, 0x00]),
-        (b"switch 01800ABC 30 on", SWITCH, &[0x01, 0x1E, 0x64]),
-        (
-            b"switch 01800ABC 1 off",
-            (0xD2, 0x01, 0x00),
-            &[0x01, 0x01, 0x00],
-        ),
-        (
-            b"switch 01800ABC 1 off",
-            (0xD2, 0x01, 0xFF),
-            &[0x01, 0x01, 0x00],
-        ),
-        (b"dim 01800ABC 0 0", SWITCH, &[0x01, 0x00, 0x00]),
-        (b"dim 01800ABC 5 50", SWITCH, &[0x01, 0x05, 0x32]),
-        (b"dim 01800ABC 30 100", SWITCH, &[0x01, 0x1E, 0x64]),
-        (b"query 01800ABC 0", SWITCH, &[0x03, 0x00]),
-        (b"query 01800ABC 1", SWITCH, &[0x03, 0x01]),
-        (b"query 01800ABC 30", SWITCH, &[0x03, 0x1E]),
-        (b"query 01800ABC 0", BLIND, &[0x03]),
-        (b"meter 01800ABC 0 energy", SWITCH, &[0x06, 0x00]),
-        (b"meter 01800ABC 30 energy", SWITCH, &[0x06, 0x1E]),
-        (b"meter 01800ABC 0 power", SWITCH, &[0x06, 0x80]),
-        (b"meter 01800ABC 30 power", SWITCH, &[0x06, 0x9E]),
-        (b"blind 01800ABC 0", BLIND, &[0x00, 0x7F, 0x00, 0x01]),
-        (b"blind 01800ABC 1", BLIND, &[0x01, 0x7F, 0x00, 0x01]),
-        (b"blind 01800ABC 50", BLIND, &[0x32, 0x7F, 0x00, 0x01]),
-        (b"blind 01800ABC 100", BLIND, &[0x64, 0x7F, 0x00, 0x01]),
-        (b"stop 01800ABC", BLIND, &[0x02]),
-    ];
-    for (line, profile, payload) in cases {
-        let telegram = telegram(line, Some(profile), LAST_BASE)??;
+fn packets(rt: HostRuntime) -> Result<(), Fail> {
+    are_packets(rt.alloc(), &rt, Some(SWITCH), PACKETS_TO_SWITCHES)?;
+    are_packets(rt.alloc(), &rt, Some(BLIND), PACKETS_TO_BLINDS)?;
+    are_packets(rt.alloc(), &rt, None, PACKETS_TO_ALL)
+}
+
+/// Orders to a device, and what the telegrams say.
+const TO_SWITCHES: &str = "\
+    switch 01800ABC 0 on = 010064|switch 01800ABC 0 off = 010000|switch 01800ABC 30 on = 011e64|\
+    dim 01800ABC 0 0 = 010000|dim 01800ABC 5 50 = 010532|dim 01800ABC 30 100 = 011e64|\
+    query 01800ABC 0 = 0300|query 01800ABC 1 = 0301|query 01800ABC 30 = 031e|\
+    meter 01800ABC 0 energy = 0600|meter 01800ABC 30 energy = 061e|\
+    meter 01800ABC 0 power = 0680|meter 01800ABC 30 power = 069e";
+
+const TO_OTHER_SWITCHES: &str = "switch 01800ABC 1 off = 010100";
+
+const TO_BLINDS: &str = "\
+    query 01800ABC 0 = 03|blind 01800ABC 0 = 007f0001|blind 01800ABC 1 = 017f0001|\
+    blind 01800ABC 50 = 327f0001|blind 01800ABC 100 = 647f0001|stop 01800ABC = 02";
+
+// So the telegrams to a device of this profile say.
+fn are_payloads(
+    alloc: Global,
+    rt: &impl Abort,
+    profile: (u8, u8, u8),
+    cases: &str,
+) -> Result<(), Fail> {
+    for case in cases.split('|') {
+        let (line, payload) = case.split_once(" = ").ok_or("no payload")?;
+        let telegram = telegram(line.as_bytes(), Some(profile), LAST_BASE)??;
         assert_eq!(rt; telegram.rorg(), 0xD2);
-        assert_eq!(rt; telegram.payload(), payload);
+        assert_eq!(rt; hex::encode(alloc, telegram.payload())?.as_str(), payload);
         assert_eq!(rt; telegram.sender(), LAST_BASE);
         assert_eq!(rt; telegram.status(), 0);
         assert_eq!(rt; telegram.dest(), DEVICE);
@@ -163,31 +132,41 @@ fn payloads_for_devices(rt: HostRuntime) -> Result<(), Fail> {
 }
 
 #[test]
-fn payloads_for_all(rt: HostRuntime) -> Result<(), Fail> {
-    let cases: [(&[u8], u32, [u8; 4]); 10] = [
-        (b"central 0 on", 0xFF80_0000, [0x01, 0x00, 0x00, 0x09]),
-        (b"central 127 off", 0xFF80_007F, [0x01, 0x00, 0x00, 0x08]),
-        (b"level 0 0 0", 0xFF80_0000, [0x02, 0x00, 0x00, 0x0C]),
-        (b"level 1 0 255", 0xFF80_0001, [0x02, 0x00, 0xFF, 0x0C]),
-        (b"level 2 1 0", 0xFF80_0002, [0x02, 0x01, 0x00, 0x0D]),
-        (b"level 3 50 10", 0xFF80_0003, [0x02, 0x32, 0x0A, 0x0D]),
-        (b"level 127 100 255", 0xFF80_007F, [0x02, 0x64, 0xFF, 0x0D]),
-        (b"teach 0", 0xFF80_0000, [0xE0, 0x47, 0xFF, 0x80]),
-        (b"teach 126", 0xFF80_007E, [0xE0, 0x47, 0xFF, 0x80]),
-        (b"teach 127", 0xFF80_007F, [0xE0, 0x47, 0xFF, 0x80]),
-    ];
-    for (line, sender, payload) in cases {
-        // A device that is known changes nothing.
-        for profile in [None, Some(SWITCH)] {
-            let telegram = telegram(line, profile, BASE)??;
-            assert_eq!(rt; telegram.rorg(), 0xA5);
-            assert_eq!(rt; telegram.payload(), payload.as_slice());
-            assert_eq!(rt; telegram.sender(), sender);
-            assert_eq!(rt; telegram.status(), 0);
-            assert_eq!(rt; telegram.dest(), BROADCAST);
-        }
+fn payloads_for_devices(rt: HostRuntime) -> Result<(), Fail> {
+    are_payloads(rt.alloc(), &rt, SWITCH, TO_SWITCHES)?;
+    for typ in [0x00, 0xFF] {
+        are_payloads(rt.alloc(), &rt, (0xD2, 0x01, typ), TO_OTHER_SWITCHES)?;
+    }
+    are_payloads(rt.alloc(), &rt, BLIND, TO_BLINDS)
+}
+
+/// Orders to all, each with its sender and what its telegram says.
+const TO_ALL: &str = "\
+    central 0 on = FF800000 01000009|central 127 off = FF80007F 01000008|\
+    level 0 0 0 = FF800000 0200000c|level 1 0 255 = FF800001 0200ff0c|\
+    level 2 1 0 = FF800002 0201000d|level 3 50 10 = FF800003 02320a0d|\
+    level 127 100 255 = FF80007F 0264ff0d|\
+    teach 0 = FF800000 e047ff80|teach 126 = FF80007E e047ff80|teach 127 = FF80007F e047ff80";
+
+// So the telegrams to all say, whatever device is known.
+fn say_to_all(alloc: Global, rt: &impl Abort, profile: Option<(u8, u8, u8)>) -> Result<(), Fail> {
+    for case in TO_ALL.split('|') {
+        let (line, wanted) = case.split_once(" = ").ok_or("no telegram")?;
+        let (sender, payload) = wanted.split_once(' ').ok_or("no payload")?;
+        let telegram = telegram(line.as_bytes(), profile, BASE)??;
+        assert_eq!(rt; telegram.rorg(), 0xA5);
+        assert_eq!(rt; hex::encode(alloc, telegram.payload())?.as_str(), payload);
+        assert_eq!(rt; Some(telegram.sender()), id_of(sender.as_bytes()));
+        assert_eq!(rt; telegram.status(), 0);
+        assert_eq!(rt; telegram.dest(), BROADCAST);
     }
     Ok(())
+}
+
+#[test]
+fn payloads_for_all(rt: HostRuntime) -> Result<(), Fail> {
+    say_to_all(rt.alloc(), &rt, None)?;
+    say_to_all(rt.alloc(), &rt, Some(SWITCH))
 }
 
 // The last of the last base ID's offsets is the ID that no sender has.
@@ -207,73 +186,81 @@ fn senders_out_of_range(rt: HostRuntime) -> Result<(), Fail> {
     Ok(())
 }
 
-#[test]
-fn devices_that_have_no_such_order(rt: HostRuntime) -> Result<(), Fail> {
-    let of_switches: [&[u8]; 4] = [
-        b"switch 01800ABC 0 on",
-        b"dim 01800ABC 0 7",
-        b"meter 01800ABC 0 power",
-        b"query 01800ABC 1",
-    ];
-    let of_blinds: [&[u8]; 2] = [b"blind 01800ABC 50", b"stop 01800ABC"];
-    let others = [
-        (0xD5, 0x00, 0x01),
-        (0xA5, 0x38, 0x08),
-        (0xA5, 0x01, 0x12),
-        (0xA5, 0x05, 0x00),
-        (0xD2, 0x02, 0x12),
-        (0xD2, 0x05, 0x01),
-    ];
-    for line in of_switches {
-        assert_eq!(rt;
-            telegram(line, None, BASE)?.err(),
-            Some(OrderFault::UnknownDevice)
-        );
-        assert_eq!(rt;
-            telegram(line, Some(BLIND), BASE)?.err(),
-            Some(OrderFault::WrongProfile)
-        );
-        for profile in others {
-            assert_eq!(rt;
-                telegram(line, Some(profile), BASE)?.err(),
-                Some(OrderFault::WrongProfile)
-            );
-        }
-    }
-    for line in of_blinds {
-        assert_eq!(rt;
-            telegram(line, None, BASE)?.err(),
-            Some(OrderFault::UnknownDevice)
-        );
-        assert_eq!(rt;
-            telegram(line, Some(SWITCH), BASE)?.err(),
-            Some(OrderFault::WrongProfile)
-        );
-        for profile in others {
-            assert_eq!(rt;
-                telegram(line, Some(profile), BASE)?.err(),
-                Some(OrderFault::WrongProfile)
-            );
-        }
+const ORDERS_TO_SWITCHES: &str =
+    "switch 01800ABC 0 on|dim 01800ABC 0 7|meter 01800ABC 0 power|query 01800ABC 1";
+
+const ORDERS_TO_BLINDS: &str = "blind 01800ABC 50|stop 01800ABC";
+
+/// Profiles of devices that have no orders.
+const OTHERS: [(u8, u8, u8); 6] = [
+    (0xD5, 0x00, 0x01),
+    (0xA5, 0x38, 0x08),
+    (0xA5, 0x01, 0x12),
+    (0xA5, 0x05, 0x00),
+    (0xD2, 0x02, 0x12),
+    (0xD2, 0x05, 0x01),
+];
+
+// The orders have no telegram to a device of this profile, or to none, and this is why.
+fn are_refused(
+    rt: &impl Abort,
+    lines: &str,
+    profile: Option<(u8, u8, u8)>,
+    fault: OrderFault,
+) -> Result<(), Fail> {
+    for line in lines.split('|') {
+        let refused = telegram(line.as_bytes(), profile, BASE)?.err();
+        assert_eq!(rt; refused, Some(fault), "{line}");
     }
     Ok(())
 }
 
 #[test]
+fn devices_that_are_not_known(rt: HostRuntime) -> Result<(), Fail> {
+    for lines in [ORDERS_TO_SWITCHES, ORDERS_TO_BLINDS] {
+        are_refused(&rt, lines, None, OrderFault::UnknownDevice)?;
+    }
+    Ok(())
+}
+
+#[test]
+fn devices_that_have_no_such_order(rt: HostRuntime) -> Result<(), Fail> {
+    are_refused(
+        &rt,
+        ORDERS_TO_SWITCHES,
+        Some(BLIND),
+        OrderFault::WrongProfile,
+    )?;
+    are_refused(
+        &rt,
+        ORDERS_TO_BLINDS,
+        Some(SWITCH),
+        OrderFault::WrongProfile,
+    )?;
+    for profile in OTHERS {
+        are_refused(
+            &rt,
+            ORDERS_TO_SWITCHES,
+            Some(profile),
+            OrderFault::WrongProfile,
+        )?;
+        are_refused(
+            &rt,
+            ORDERS_TO_BLINDS,
+            Some(profile),
+            OrderFault::WrongProfile,
+        )?;
+    }
+    Ok(())
+}
+
+const ORDERS_OF_NO_TELEGRAM: &str = "\
+    learn on|learn on answer|learn as D5-00-01|learn off|add 01800ABC D5-00-01|remove 01800ABC|list|status|base";
+
+#[test]
 fn orders_of_no_telegram(rt: HostRuntime) -> Result<(), Fail> {
-    let lines: [&[u8]; 9] = [
-        b"learn on",
-        b"learn on answer",
-        b"learn as D5-00-01",
-        b"learn off",
-        b"add 01800ABC D5-00-01",
-        b"remove 01800ABC",
-        b"list",
-        b"status",
-        b"base",
-    ];
-    for line in lines {
-        assert!(rt; !parse(line)?.sends());
+    for line in ORDERS_OF_NO_TELEGRAM.split('|') {
+        assert!(rt; !parse(line.as_bytes())?.sends(), "{line}");
     }
     let order = Order::Meter {
         id: DEVICE,
@@ -284,21 +271,28 @@ fn orders_of_no_telegram(rt: HostRuntime) -> Result<(), Fail> {
     Ok(())
 }
 
+/// Orders to devices, each with the device.
+const RECIPIENTS: &str = "\
+    switch 01800ABC 0 on = 01800ABC|dim 01800ABC 1 40 = 01800ABC|query 01800ABC 30 = 01800ABC|\
+    meter 01800ABC 2 power = 01800ABC|blind FFFFFFFE 50 = FFFFFFFE|stop 00000000 = 00000000";
+
 #[test]
 fn recipients(rt: HostRuntime) -> Result<(), Fail> {
-    let cases: [(&[u8], Option<u32>); 9] = [
-        (b"switch 01800ABC 0 on", Some(DEVICE)),
-        (b"dim 01800ABC 1 40", Some(DEVICE)),
-        (b"query 01800ABC 30", Some(DEVICE)),
-        (b"meter 01800ABC 2 power", Some(DEVICE)),
-        (b"blind FFFFFFFE 50", Some(0xFFFF_FFFE)),
-        (b"stop 00000000", Some(0)),
-        (b"central 5 on", None),
-        (b"remove 01800ABC", None),
-        (b"base", None),
-    ];
-    for (line, recipient) in cases {
-        assert_eq!(rt; parse(line)?.recipient(), recipient);
+    for case in RECIPIENTS.split('|') {
+        let (line, device) = case.split_once(" = ").ok_or("no device")?;
+        assert_eq!(rt;
+            parse(line.as_bytes())?.recipient(),
+            id_of(device.as_bytes()),
+            "{case}"
+        );
+    }
+    Ok(())
+}
+
+#[test]
+fn orders_to_no_device(rt: HostRuntime) -> Result<(), Fail> {
+    for line in "central 5 on|remove 01800ABC|base".split('|') {
+        assert_eq!(rt; parse(line.as_bytes())?.recipient(), None, "{line}");
     }
     Ok(())
 }

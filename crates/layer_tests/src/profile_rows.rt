@@ -26,15 +26,23 @@ fn values(rt: HostRuntime) {
 }
 
 #[test]
-fn words_and_numbers(rt: HostRuntime) {
+fn words_of_numbers(rt: HostRuntime) {
     let contact = [(0, "open"), (1, "closed")];
     assert_eq!(rt; words(1, &contact), What::Word("closed"));
     assert_eq!(rt; words(2, &contact), What::OutOfRange(2));
-    assert_eq!(rt; range(251, 0, 250, 0, 1000, "%"), What::OutOfRange(251));
     assert_eq!(rt; percent_or(127, "unknown"), What::Word("unknown"));
-    assert_eq!(rt; percent_or(101, "unknown"), What::OutOfRange(101));
+}
+
+#[test]
+fn parts_of_ranges(rt: HostRuntime) {
     assert_eq!(rt; parted(127, 128, "off", "on"), What::Word("off"));
     assert_eq!(rt; parted(128, 128, "off", "on"), What::Word("on"));
+    assert_eq!(rt; range(251, 0, 250, 0, 1000, "%"), What::OutOfRange(251));
+}
+
+#[test]
+fn numbers_as_they_are(rt: HostRuntime) {
+    assert_eq!(rt; percent_or(101, "unknown"), What::OutOfRange(101));
     assert_eq!(rt; number(255), What::Raw(255));
     assert_eq!(rt; reserved(5), What::OutOfRange(5));
 }

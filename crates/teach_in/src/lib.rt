@@ -22,6 +22,3 @@ pub use telegrams::{Teach, classify};
 pub use ute::{UteQuery, ute_reply};
 pub use verdict::Verdict;
 pub use verdicts::plan;
-
-#[cfg(test)]
-mod tests;

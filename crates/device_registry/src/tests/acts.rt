@@ -13,16 +13,8 @@ use std::test::Fail;
 pub enum Act {
     /// A sender is this device, or is not learned.
     Finds(u32, Option<Device>),
-    /// No sender below this one is learned.
-    FindsNoneBelow(u32),
     /// The device is learned.
     Learns(Device),
-    /// So many contacts are learned, with the IDs from 0 on.
-    LearnsContacts(u32),
-    /// So many devices are learned, contacts and sensors in turn.
-    LearnsInTurn(u32),
-    /// So many devices are found, contacts and sensors in turn, twice each, and behind them as many senders are not.
-    FindsInTurn(u32),
     /// The device is one too many.
     IsFullFor(Device),
     /// The sender is not learned from then on.
@@ -33,10 +25,25 @@ pub enum Act {
     Lists(usize, Device),
     /// What is remembered of a sender, if it is.
     Remembers(u32, Option<Option<Device>>),
-    /// So many contacts are remembered, with the IDs from 0 on.
-    RemembersContacts(u32),
     /// So many senders are remembered.
     RemembersSoMany(usize),
+    /// An act with so many senders, with the IDs from 0 on.
+    Many(Many, u32),
+}
+
+/// Acts with many senders.
+#[derive(Clone, Copy)]
+pub enum Many {
+    /// None of them is learned.
+    FindsNone,
+    /// Contacts are learned.
+    LearnsContacts,
+    /// Contacts and sensors are learned in turn.
+    LearnsInTurn,
+    /// Contacts and sensors are found in turn, twice each, and of as many senders behind them none is.
+    FindsInTurn,
+    /// Contacts are remembered.
+    RemembersContacts,
 }
 
 /// Takes the acts in turn, over a new registry with a cache of so many senders, and those behind them once its database
@@ -71,18 +78,29 @@ pub fn take_all<S: Alter>(
 fn take<S: Alter>(rt: &impl Abort, registry: &mut Registry<S>, act: Act) -> Result<(), Fail> {
     match act {
         Act::Finds(id, wanted) => find(rt, registry, id, wanted),
-        Act::FindsNoneBelow(end) => find_none_below(rt, registry, end),
         Act::Learns(device) => learn(rt, registry, device),
-        Act::LearnsContacts(count) => learn_contacts(rt, registry, count),
-        Act::LearnsInTurn(count) => learn_in_turn(rt, registry, count),
-        Act::FindsInTurn(count) => find_in_turn(rt, registry, count),
         Act::IsFullFor(device) => be_full_for(rt, registry, device),
         Act::Forgets(id) => forget(rt, registry, id),
         Act::Counts(wanted) => count(rt, registry, wanted),
         Act::Lists(at, wanted) => list(rt, registry, at, wanted),
         Act::Remembers(id, wanted) => remember(rt, registry, id, wanted),
-        Act::RemembersContacts(count) => remember_contacts(rt, registry, count),
         Act::RemembersSoMany(wanted) => remember_so_many(rt, registry, wanted),
+        Act::Many(act, count) => take_many(rt, registry, act, count),
+    }
+}
+
+fn take_many<S: Alter>(
+    rt: &impl Abort,
+    registry: &mut Registry<S>,
+    act: Many,
+    count: u32,
+) -> Result<(), Fail> {
+    match act {
+        Many::FindsNone => find_none(rt, registry, count),
+        Many::LearnsContacts => learn_contacts(rt, registry, count),
+        Many::LearnsInTurn => learn_in_turn(rt, registry, count),
+        Many::FindsInTurn => find_in_turn(rt, registry, count),
+        Many::RemembersContacts => remember_contacts(rt, registry, count),
     }
 }
 
@@ -96,12 +114,12 @@ fn find<S: Alter>(
     Ok(())
 }
 
-fn find_none_below<S: Alter>(
+fn find_none<S: Alter>(
     rt: &impl Abort,
     registry: &mut Registry<S>,
-    end: u32,
+    count: u32,
 ) -> Result<(), Fail> {
-    for id in 0..end {
+    for id in 0..count {
         find(rt, registry, id, None)?;
     }
     Ok(())

@@ -1,7 +1,7 @@
 //! What is remembered of looked-up senders.
 ghost use Rattle.std.specs.Prelude.{◌≤◌};
 
-use super::acts::{Act, play};
+use super::acts::{Act, Many, play};
 use super::given::{contact, sensor};
 use crate::Device;
 use sqlite::MemStore;
@@ -75,7 +75,7 @@ fn one_place_is_for_the_last_sender(rt: HostRuntime) -> Result<(), Fail> {
 #[test]
 fn an_open_remembers_64(rt: HostRuntime) -> Result<(), Fail> {
     let behind = [
-        Act::FindsNoneBelow(65),
+        Act::Many(Many::FindsNone, 65),
         Act::RemembersSoMany(64),
         Act::Remembers(0, None),
         Act::Remembers(1, NOT_LEARNED),
@@ -100,11 +100,11 @@ fn the_sender_of_long_ago_goes_first(rt: HostRuntime) -> Result<(), Fail> {
 #[test]
 fn a_full_registry_goes_on_remembering(rt: HostRuntime) -> Result<(), Fail> {
     let acts = [
-        Act::LearnsContacts(1000),
+        Act::Many(Many::LearnsContacts, 1000),
         Act::Finds(2000, None),
         Act::IsFullFor(sensor(1000)),
         Act::RemembersSoMany(1001),
-        Act::RemembersContacts(1000),
+        Act::Many(Many::RemembersContacts, 1000),
         Act::Remembers(2000, NOT_LEARNED),
         Act::Finds(1000, None),
     ];
@@ -121,8 +121,8 @@ fn answers_the_same(
     requires { (1 ≤ cache) × (cache ≤ 1024) }
 {
     let acts = [
-        Act::LearnsInTurn(200),
-        Act::FindsInTurn(200),
+        Act::Many(Many::LearnsInTurn, 200),
+        Act::Many(Many::FindsInTurn, 200),
         Act::RemembersSoMany(remembered),
     ];
     play::<MemStore>(alloc, rt, cache, &acts, &[])

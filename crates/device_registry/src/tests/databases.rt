@@ -5,7 +5,7 @@ use super::given::{
 };
 use crate::OpenFault;
 use crate::listing::{devices_rise, is_version};
-use sqlite::{Alter, Connection, MemStore};
+use sqlite::{Alter, Connection, MemStore, Row};
 use std::alloc::Global;
 use std::process::Abort;
 use std::test::Fail;
@@ -171,13 +171,18 @@ fn objects<S: Alter>(alloc: Global, conn: &mut Connection<S>) -> Result<String, 
         "SELECT type, name, sql FROM sqlite_schema ORDER BY rowid",
         &[],
     )? {
-        for at in 0..3 {
-            let text: Option<String> = row.get(at)?;
-            told.push_str(text.as_deref().unwrap_or("no text"))?;
-            told.push('\n')?;
-        }
+        tell_object(row, &mut told)?;
     }
     Ok(told)
+}
+
+fn tell_object(row: &Row, told: &mut String) -> Result<(), Fail> {
+    for at in 0..3 {
+        let text: Option<String> = row.get(at)?;
+        told.push_str(text.as_deref().unwrap_or("no text"))?;
+        told.push('\n')?;
+    }
+    Ok(())
 }
 
 fn has_objects<S: Alter>(
@@ -388,37 +393,24 @@ fn is_taken_again<S: Fresh>(alloc: Global, rt: &impl Abort) -> Result<(), Fail> 
     )?;
     prepares(rt, &mut conn)?;
     assert!(rt; conn.is_autocommit());
-    have_three_devices(alloc, rt, &mut conn)?;
-    show(
-        rt,
-        &mut conn,
-        "SELECT k * 10 + version FROM enogate_meta",
-        11,
-    )?;
-    show(
-        rt,
-        &mut conn,
-        "SELECT count(*) FROM room WHERE name IN ('hall', 'attic')",
-        2,
-    )?;
-    show(rt, &mut conn, "SELECT count(*) FROM room", 2)
+    show_each(rt, &mut conn, LEFT)
 }
 
-// The three devices that it leaves, in the order of their IDs.
-fn have_three_devices<S: Alter>(
-    alloc: Global,
-    rt: &impl Abort,
-    conn: &mut Connection<S>,
-) -> Result<(), Fail> {
-    let mut devices = Vec::new(alloc);
-    for row in &conn.query_all("SELECT id, eep, maker FROM enogate_device ORDER BY id", &[])? {
-        let numbers: (i64, i64, i64) = (row.get(0)?, row.get(1)?, row.get(2)?);
-        devices.push(numbers)?;
+// Queries, each with the number that it shows behind a second `prepare`.
+const LEFT: &str = "\
+SELECT k * 10 + version FROM enogate_meta = 11
+SELECT count(*) FROM enogate_device = 3
+SELECT count(*) FROM enogate_device WHERE id = 3 AND eep = 10813957 AND maker = 70 = 1
+SELECT count(*) FROM enogate_device WHERE id = 5 AND eep = 0 AND maker = 2047 = 1
+SELECT count(*) FROM enogate_device WHERE id = 7 AND eep = 13959169 AND maker = -1 = 1
+SELECT count(*) FROM room WHERE name IN ('hall', 'attic') = 2
+SELECT count(*) FROM room = 2";
+
+fn show_each<S: Alter>(rt: &impl Abort, conn: &mut Connection<S>, table: &str) -> Result<(), Fail> {
+    for line in table.lines() {
+        let (query, shown) = line.rsplit_once(" = ").ok_or("no number")?;
+        show(rt, conn, query, shown.parse()?)?;
     }
-    assert_eq!(rt;
-        devices.as_slice(),
-        [(3, 10_813_957, 70), (5, 0, 2047), (7, 13_959_169, -1)].as_slice()
-    );
     Ok(())
 }
 

@@ -1,5 +1,5 @@
 //! What is learned is found, listed and forgotten, also by the next open.
-use super::acts::{Act, play, take_all};
+use super::acts::{Act, Many, play, take_all};
 use super::given::{Fresh, contact, fresh_registry, open_idle, run, sensor};
 use crate::Device;
 use erp1_telegrams::Eep;
@@ -99,7 +99,7 @@ fn an_open_commits_the_version_row(rt: HostRuntime) -> Result<(), Fail> {
 #[test]
 fn a_thousand_devices_and_no_more(rt: HostRuntime) -> Result<(), Fail> {
     let before = [
-        Act::LearnsContacts(1000),
+        Act::Many(Many::LearnsContacts, 1000),
         Act::IsFullFor(sensor(1000)),
         Act::Finds(1000, None),
         Act::Learns(sensor(7)),

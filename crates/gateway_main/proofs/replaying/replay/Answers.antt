@@ -254,3 +254,12 @@ pub returns-clause-reads : goal.returns-clause-reads
 returns-clause-reads g c =
     let (parts, count, well) = c.loop-turn.invariant.gave in
     (parts, inl (well, omega (arith, count)))
+
+pub returns-clause-ok : goal.returns-clause-ok
+returns-clause-ok g c = search rules
+
+pub returns-clause-ended : goal.returns-clause-ended
+returns-clause-ended g c = search rules
+
+pub returns-clause-too_many : goal.returns-clause-too_many
+returns-clause-too_many g c = search rules

@@ -1,7 +1,7 @@
 //! What a 4BS query tells, and the reply to it.
 use super::given::{BASE, SENDER, eep, kind};
-use crate::{FourByteQuery, Outcome, Teach, Verdict, four_byte_reply};
 use std::test::Fail;
+use teach_in::{FourByteQuery, Outcome, Teach, Verdict, four_byte_reply};
 
 // The query in a 4BS telegram with these first three bytes.
 fn query(db3: u8, db2: u8, db1: u8) -> Result<FourByteQuery, Fail> {

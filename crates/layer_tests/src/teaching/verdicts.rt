@@ -1,7 +1,7 @@
 //! What is planned about a sender, but for universal teach-in.
 use super::given::{add, eep, planned};
-use crate::{Mode, Outcome, Plan};
 use std::test::Fail;
+use teach_in::{Mode, Outcome, Plan};
 
 // By what a telegram tells, the answering mode is as the other; a known sender is learned anew.
 #[test]

@@ -1,7 +1,7 @@
 //! The framer beside the plain one: after each byte of 10,000 made-up streams both hold the same packets.
 use crate::plain::PlainFramer;
-use crate::{Framer, PacketBuf};
 use esp3_frames::{check8, read_packet};
+use esp3_resync::{Framer, PacketBuf};
 use std::alloc::{AllocError, Global};
 use std::test::Fail;
 

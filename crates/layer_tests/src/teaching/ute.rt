@@ -1,7 +1,7 @@
 //! What a query of universal teach-in tells and asks for, and the reply to it.
 use super::given::{BASE, SENDER, add, eep, kind, planned};
-use crate::{Mode, Outcome, Plan, Teach, UteQuery, Verdict, ute_reply};
 use std::test::Fail;
+use teach_in::{Mode, Outcome, Plan, Teach, UteQuery, Verdict, ute_reply};
 
 // The query in a UTE telegram with these bytes.
 fn query(payload: [u8; 7]) -> Result<UteQuery, Fail> {

@@ -1,7 +1,8 @@
 //! What telegrams are at teach-in.
-use super::given::{SENDER, kind};
-use crate::{Teach, UteQuery};
+use super::given::{BASE, SENDER, kind};
+use std::process::Abort;
 use std::test::Fail;
+use teach_in::{Outcome, Teach, Verdict, ute_reply};
 
 #[test]
 fn contacts(rt: HostRuntime) -> Result<(), Fail> {
@@ -41,7 +42,30 @@ fn four_bytes(rt: HostRuntime) -> Result<(), Fail> {
     Ok(())
 }
 
-// Each first byte: the low half alone tells a query from a reply. A query has its sender and all of its bytes.
+// The query has its sender and these bytes: the reply has them all but in DB6, of which it has the highest bit. What is
+// requested there besides makes another query.
+fn is_query(rt: &impl Abort, found: Teach, payload: [u8; 7]) -> Result<(), Fail> {
+    let Teach::Ute(query) = found else {
+        return Err(Fail::from("no query"));
+    };
+    let [db6, db5, db4, db3, db2, db1, db0] = payload;
+    assert_eq!(rt; query.id(), SENDER);
+    assert_eq!(rt; query.wants_reply(), db6 & 0x40 == 0, "at {db6}");
+    let verdict = Verdict::refused(query.id(), Outcome::Unsupported);
+    let wanted = [db6 & 0x80 | 0x31, db5, db4, db3, db2, db1, db0];
+    assert_eq!(rt;
+        ute_reply(&query, &verdict, BASE).payload(),
+        wanted.as_slice(),
+        "at {db6}"
+    );
+    for bit in [0x10, 0x20] {
+        let other = kind(0xD4, &[db6 ^ bit, db5, db4, db3, db2, db1, db0])?;
+        assert!(rt; found != other, "at {db6}");
+    }
+    Ok(())
+}
+
+// Each first byte: the low half alone tells a query from a reply.
 #[test]
 fn universal_teach_in(rt: HostRuntime) -> Result<(), Fail> {
     for high in 0..16_u8 {
@@ -52,15 +76,12 @@ fn universal_teach_in(rt: HostRuntime) -> Result<(), Fail> {
                 [first, 0x01, 0x46, 0x00, 0x12, 0x01, 0xD2],
                 [first, 0xFF, 0xFF, 0xFF, 0xFF, 0xFF, 0xFF],
             ] {
-                let wanted = if low == 0 {
-                    Teach::Ute(UteQuery {
-                        id: SENDER,
-                        payload,
-                    })
+                let kind = kind(0xD4, &payload)?;
+                if low == 0 {
+                    is_query(&rt, kind, payload)?;
                 } else {
-                    Teach::Answer
-                };
-                assert_eq!(rt; kind(0xD4, &payload)?, wanted, "at {first}");
+                    assert_eq!(rt; kind, Teach::Answer, "at {first}");
+                }
             }
         }
     }

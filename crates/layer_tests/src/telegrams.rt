@@ -1,6 +1,8 @@
 //! Telegrams whose packets are known, each fault, the room that a packet needs, and the IDs of a gateway.
-use crate::{BROADCAST, Telegram, TelegramFault, is_base, is_own, is_passed_over, read, write};
 use arrayvec::ArrayVec;
+use erp1_telegrams::{
+    BROADCAST, Telegram, TelegramFault, is_base, is_own, is_passed_over, read, write,
+};
 use esp3_frames::{PacketFault, PacketRef, read_packet};
 use std::test::Fail;
 

@@ -1,8 +1,8 @@
 //! A sender, its telegrams and what is planned about it, which the tests share.
-use crate::{Mode, Plan, Teach, classify, plan};
 use erp1_telegrams::{BROADCAST, Eep, Telegram};
 use learned_devices::Device;
 use std::test::Fail;
+use teach_in::{Mode, Plan, Teach, classify, plan};
 
 pub const SENDER: u32 = 0x0180_0ABC;
 

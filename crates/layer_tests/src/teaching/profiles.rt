@@ -1,6 +1,6 @@
 //! Which profiles can be learned.
 use super::given::eep;
-use crate::supported;
+use teach_in::supported;
 
 #[test]
 fn profiles(rt: HostRuntime) {

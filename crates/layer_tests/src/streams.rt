@@ -1,5 +1,5 @@
 //! Streams whose packets are known: false headers, the greatest packet, and what stands before and behind.
-use crate::{Framer, PacketBuf};
+use esp3_resync::{Framer, PacketBuf};
 use std::test::Fail;
 
 const CONTACT: [u8; 21] = [

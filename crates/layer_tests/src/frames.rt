@@ -1,9 +1,9 @@
 //! Headers and packets of the standard, and of this gateway's limits.
-use crate::{
+use arrayvec::ArrayVec;
+use esp3_frames::{
     Header, HeaderFault, LONGEST_PACKET, PacketFault, check8, check8_between, check8_next,
     read_header, read_packet, write_packet,
 };
-use arrayvec::ArrayVec;
 use std::test::Fail;
 
 const CONTACT: [u8; 21] = [

@@ -1,5 +1,5 @@
 //! Values that are known: inside the bounds, at them and one past them, in either order of the bounds.
-use crate::{Fraction, over, scale};
+use exact_values::{Fraction, over, scale};
 
 /// The numerator and the denominator.
 fn parts(fraction: Fraction) -> (i64, i64) {

@@ -1,5 +1,5 @@
 //! Fields whose values are known: in the middle of bytes, across them, at both ends, and as long as a field can be.
-use crate::{get, put};
+use bit_fields::{get, put};
 
 #[test]
 fn fields_read(rt: HostRuntime) {
