@@ -203,63 +203,54 @@ pub struct Left {
     pub syncs: u64,
 }
 
-/// The store over these files.
-pub type OverDisks = FileStore<Stumbling<Fuse<Memory>>>;
-
-/// A store over these files: so all else of a test is generic in the store.
-pub trait OverFiles: Alter + Drop + Sized {
-    /// A connection that keeps so many pages in memory, or none where the disk refuses.
-    fn connected(
-        alloc: Global,
-        files: Disks,
-        pages: usize,
-    ) -> Result<Option<Connection<Self>>, Fail>;
-
-    /// The files of a connection that is closed.
-    fn closed(conn: Connection<Self>) -> Result<Disks, Fail>;
-
-    /// The files of a store that nothing uses any more.
-    fn files(self) -> Disks;
-}
-
-impl OverFiles for OverDisks {
-    fn connected(
-        alloc: Global,
-        files: Disks,
-        pages: usize,
-    ) -> Result<Option<Connection<OverDisks>>, Fail> {
-        if !files.may_be_used() {
-            return Err(Fail::from("a sync has failed"));
-        }
-        let mut options = Options::new(7);
-        options.cache_pages = pages;
-        Ok(Connection::open_files(alloc, files, options).ok())
-    }
-
-    fn closed(conn: Connection<OverDisks>) -> Result<Disks, Fail> {
-        Ok(conn.close_files().ok().ok_or("not closed")?)
-    }
-
-    fn files(self) -> Disks {
-        self.close()
-    }
-}
-
-/// A connection where the disk is not to refuse.
-pub fn surely_connected<S: OverFiles>(
+/// A connection that keeps so many pages in memory, or none where the disk refuses.
+pub fn connected(
     alloc: Global,
     files: Disks,
     pages: usize,
-) -> Result<Connection<S>, Fail> {
-    match S::connected(alloc, files, pages)? {
+) -> Result<Option<Connection<FileStore<Stumbling<Fuse<Memory>>>>>, Fail> {
+    if !files.may_be_used() {
+        return Err(Fail::from("a sync has failed"));
+    }
+    let mut options = Options::new(7);
+    options.cache_pages = pages;
+    Ok(Connection::open_files(alloc, files, options).ok())
+}
+
+/// A connection where the disk is not to refuse.
+pub fn surely_connected(
+    alloc: Global,
+    files: Disks,
+    pages: usize,
+) -> Result<Connection<FileStore<Stumbling<Fuse<Memory>>>>, Fail> {
+    match connected(alloc, files, pages)? {
         Some(conn) => Ok(conn),
         None => Err(Fail::from("no connection")),
     }
 }
 
+/// The files of a connection that is closed.
+pub fn closed(conn: Connection<FileStore<Stumbling<Fuse<Memory>>>>) -> Result<Disks, Fail> {
+    Ok(conn.close_files().ok().ok_or("not closed")?)
+}
+
 /// What a stop at this moment leaves of a connection.
-pub fn stopped<S: OverFiles>(alloc: Global, conn: Connection<S>, stop: Stop) -> Result<Left, Fail> {
-    left_by(alloc, conn.into_store().files(), stop)
+pub fn stopped(
+    alloc: Global,
+    conn: Connection<FileStore<Stumbling<Fuse<Memory>>>>,
+    stop: Stop,
+) -> Result<Left, Fail> {
+    left_by(alloc, files_of(store_of(conn)), stop)
+}
+
+// The store of a connection that nothing uses any more.
+fn store_of<S: Alter + Drop>(conn: Connection<S>) -> S {
+    conn.into_store()
+}
+
+// The files of a store that nothing uses any more.
+fn files_of<D: Disk + Drop>(store: FileStore<D>) -> Files<D> {
+    store.close()
 }
 
 // What a stop leaves of a disk, which refuses nothing any more.

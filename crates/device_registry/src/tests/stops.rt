@@ -1,6 +1,6 @@
 //! What a refusal of the disk leaves in the registry, and what a stop behind it leaves in the files.
 use super::disks::{
-    Disks, OverDisks, OverFiles, Refusal, Stop, Which, empty_files, refusing, stopped,
+    Disks, Refusal, Stop, Which, closed, connected, empty_files, refusing, stopped,
     surely_connected,
 };
 use super::steps::{
@@ -19,31 +19,42 @@ const FEW: i64 = 10;
 const DEATH: Stop = Stop::OfProcess;
 
 // The files of a closed registry of so many contacts, with the IDs from 0 on.
-fn made<S: OverFiles>(alloc: Global, devices: i64) -> Result<Disks, Fail> {
-    let conn = surely_connected::<S>(alloc, empty_files(alloc), 9)?;
-    S::closed(filled(alloc, conn, devices)?)
+fn made(alloc: Global, devices: i64) -> Result<Disks, Fail> {
+    let conn = surely_connected(alloc, empty_files(alloc), 9)?;
+    closed(filled(alloc, conn, devices)?)
 }
 
 // How a trial over these files ends.
-fn end_of<S: OverFiles>(
+fn end_of(
     alloc: Global,
     rt: &impl Abort,
     files: Disks,
     trial: Trial,
     stop: Stop,
 ) -> Result<End, Fail> {
-    let Some(conn) = S::connected(alloc, files, pages(trial))? else {
+    let Some(conn) = connected(alloc, files, pages(trial))? else {
         return Ok(End::Early);
     };
     let mut end = End::Early;
     match before_stop(alloc, rt, conn, trial, &mut end)? {
         Some(conn) => {
             let files = stopped(alloc, conn, stop)?.files;
-            let conn = surely_connected::<S>(alloc, files, pages(trial))?;
-            behind_stop(alloc, rt, conn, trial, end)
+            end_behind(alloc, rt, files, trial, end)
         }
         None => Ok(end),
     }
+}
+
+// How a trial ends over the files that its stop left.
+fn end_behind(
+    alloc: Global,
+    rt: &impl Abort,
+    files: Disks,
+    trial: Trial,
+    end: End,
+) -> Result<End, Fail> {
+    let conn = surely_connected(alloc, files, pages(trial))?;
+    behind_stop(alloc, rt, conn, trial, end)
 }
 
 // What is refused at a turn: one write is told as failed, or each call is refused from one on.
@@ -57,7 +68,7 @@ fn refusal(trial: Trial, turn: u64) -> Refusal {
 }
 
 // The ends of a trial over copies of these files, where each call or write is refused in turn, until nothing is.
-fn each_refused<S: OverFiles>(
+fn each_refused(
     alloc: Global,
     rt: &impl Abort,
     files: &Disks,
@@ -68,7 +79,7 @@ fn each_refused<S: OverFiles>(
     let mut ends = Vec::new(alloc);
     for turn in 0..5000 {
         let refusing = refusing(alloc, files, which, refusal(trial, turn))?;
-        match end_of::<S>(alloc, rt, refusing, trial, stop)? {
+        match end_of(alloc, rt, refusing, trial, stop)? {
             End::NoRefusal => return Ok(ends),
             end => ends.push(end)?,
         }
@@ -77,14 +88,9 @@ fn each_refused<S: OverFiles>(
 }
 
 // How many syncs of the log a connection over these files makes, with a registry opened on it or without.
-fn syncs<S: OverFiles>(
-    alloc: Global,
-    rt: &impl Abort,
-    files: &Disks,
-    opens: bool,
-) -> Result<u64, Fail> {
+fn syncs(alloc: Global, rt: &impl Abort, files: &Disks, opens: bool) -> Result<u64, Fail> {
     let files = refusing(alloc, files, Which::Log, Refusal::Nothing)?;
-    let conn = surely_connected::<S>(alloc, files, 9)?;
+    let conn = surely_connected(alloc, files, 9)?;
     if !opens {
         return Ok(stopped(alloc, conn, DEATH)?.syncs);
     }
@@ -96,8 +102,8 @@ fn syncs<S: OverFiles>(
 
 #[test]
 fn each_call_meets_a_refusal(rt: HostRuntime) -> Result<(), Fail> {
-    let files = made::<OverDisks>(rt.alloc(), MANY)?;
-    let ends = each_refused::<OverDisks>(
+    let files = made(rt.alloc(), MANY)?;
+    let ends = each_refused(
         rt.alloc(),
         &rt,
         &files,
@@ -114,15 +120,8 @@ fn each_call_meets_a_refusal(rt: HostRuntime) -> Result<(), Fail> {
 
 #[test]
 fn a_refused_change_is_not_remembered(rt: HostRuntime) -> Result<(), Fail> {
-    let files = made::<OverDisks>(rt.alloc(), FEW)?;
-    let ends = each_refused::<OverDisks>(
-        rt.alloc(),
-        &rt,
-        &files,
-        Which::Log,
-        Trial::Calls(20),
-        DEATH,
-    )?;
+    let files = made(rt.alloc(), FEW)?;
+    let ends = each_refused(rt.alloc(), &rt, &files, Which::Log, Trial::Calls(20), DEATH)?;
     for call in [Call::Learn, Call::Forget] {
         assert!(rt; ends.contains(&End::At(call, true)), "{call:?}");
     }
@@ -131,8 +130,8 @@ fn a_refused_change_is_not_remembered(rt: HostRuntime) -> Result<(), Fail> {
 
 #[test]
 fn what_is_remembered_asks_nothing_of_the_disk(rt: HostRuntime) -> Result<(), Fail> {
-    let files = made::<OverDisks>(rt.alloc(), MANY)?;
-    let ends = each_refused::<OverDisks>(
+    let files = made(rt.alloc(), MANY)?;
+    let ends = each_refused(
         rt.alloc(),
         &rt,
         &files,
@@ -146,11 +145,11 @@ fn what_is_remembered_asks_nothing_of_the_disk(rt: HostRuntime) -> Result<(), Fa
 
 #[test]
 fn what_was_told_is_found_behind_a_stop(rt: HostRuntime) -> Result<(), Fail> {
-    let files = made::<OverDisks>(rt.alloc(), FEW)?;
+    let files = made(rt.alloc(), FEW)?;
     for stop in [Stop::OfProcess, Stop::OfMachine] {
         let files = refusing(rt.alloc(), &files, Which::Log, Refusal::Nothing)?;
         assert_eq!(rt;
-            end_of::<OverDisks>(rt.alloc(), &rt, files, Trial::Changing, stop)?,
+            end_of(rt.alloc(), &rt, files, Trial::Changing, stop)?,
             End::Kept
         );
     }
@@ -159,24 +158,24 @@ fn what_was_told_is_found_behind_a_stop(rt: HostRuntime) -> Result<(), Fail> {
 
 #[test]
 fn an_open_answers_behind_a_sync(rt: HostRuntime) -> Result<(), Fail> {
-    let files = made::<OverDisks>(rt.alloc(), FEW)?;
-    let before = syncs::<OverDisks>(rt.alloc(), &rt, &files, false)?;
-    assert!(rt; syncs::<OverDisks>(rt.alloc(), &rt, &files, true)? > before);
+    let files = made(rt.alloc(), FEW)?;
+    let before = syncs(rt.alloc(), &rt, &files, false)?;
+    assert!(rt; syncs(rt.alloc(), &rt, &files, true)? > before);
     Ok(())
 }
 
 #[test]
 fn an_open_ends_what_a_refused_write_left(rt: HostRuntime) -> Result<(), Fail> {
-    let files = made::<OverDisks>(rt.alloc(), FEW)?;
+    let files = made(rt.alloc(), FEW)?;
     // With no open behind it, a change that was refused may be found again. There the store has shut the connection, so
     // that no open on it answers Ok.
     let trial = Trial::Learning(false);
-    let ends = each_refused::<OverDisks>(rt.alloc(), &rt, &files, Which::Log, trial, DEATH)?;
+    let ends = each_refused(rt.alloc(), &rt, &files, Which::Log, trial, DEATH)?;
     assert!(rt; ends.contains(&End::Found));
     assert!(rt; ends.contains(&End::NotFound));
     for stop in [Stop::OfProcess, Stop::OfMachine] {
         let trial = Trial::Learning(true);
-        let ends = each_refused::<OverDisks>(rt.alloc(), &rt, &files, Which::Log, trial, stop)?;
+        let ends = each_refused(rt.alloc(), &rt, &files, Which::Log, trial, stop)?;
         assert!(rt; ends.contains(&End::NotFound));
         assert!(rt; ends.contains(&End::Shut));
         assert!(rt; !ends.contains(&End::Found));
@@ -189,14 +188,7 @@ fn an_empty_database_is_prepared_behind_each_stop(rt: HostRuntime) -> Result<(),
     let files = empty_files(rt.alloc());
     for which in [Which::Log, Which::Database] {
         for stop in [Stop::OfProcess, Stop::OfMachine] {
-            let ends = each_refused::<OverDisks>(
-                rt.alloc(),
-                &rt,
-                &files,
-                which,
-                Trial::Preparing,
-                stop,
-            )?;
+            let ends = each_refused(rt.alloc(), &rt, &files, which, Trial::Preparing, stop)?;
             assert!(rt; !ends.is_empty(), "{which:?}, {stop:?}");
             // Of the file of the database `prepare` asks nothing: its pages stay in the log.
             assert!(rt;
