@@ -1,8 +1,7 @@
 -- How counts of calls go on.
-use Rattle.std.proofs.Common.{◌≡◌, ℕ, ◌+◌, ◌<◌, ◌≤◌, ap, ◌∙◌, arith, false}
-use Rattle.std.specs.Prelude.{Result, Ok, Err, ◌==◌, if◌then◌else◌}
-use Rattle.std.proofs.lemmas.Bool.{ne_eqb}
-use Rattle.byte_streams.specs.Counts.{Counts, counted, Went, WentWell, Made, one_more}
+use Rattle.std.proofs.Common.{◌≡◌, ℕ, ◌+◌, ◌<◌, ◌≤◌, arith}
+use Rattle.std.specs.Prelude.{Result, Ok, Err}
+use Rattle.byte_streams.specs.Counts.{Counts, Went, WentWell, Made, one_more}
 use Rattle.gateway_main.specs.Behind.{well_behind, wrong_behind}
 
 pub made_none : (old : Counts) → Made old old 0
