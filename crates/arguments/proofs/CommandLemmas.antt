@@ -1,5 +1,6 @@
 -- What `clap` found on a command line that it takes.
-use Rattle.std.proofs.Common.{◌≡◌, ◌∙◌, ◌||◌, ◌&&◌, ◌<◌, ℕ, Bool, cond, true, false, not, refl, sym, ap, ap₂, subst}
+use Rattle.std.proofs.Common.{◌≡◌, ◌∙◌, ◌||◌, ◌&&◌, ◌<◌, ℕ, Bool, cond}
+use Rattle.std.proofs.Common.{true, false, not, refl, sym, ap, ap₂, subst}
 use Rattle.std.proofs.Common.{arith, inl, inr}
 use Rattle.std.proofs.Common.{List, [], ◌∷◌, Option, Some, None, Result, Ok, Err, is_some, codes, slice_index_or}
 use Rattle.std.proofs.Common.{slice_get}

@@ -1,6 +1,7 @@
 -- Where `clap` takes the words of a command whose options have one value each, what is found of each option is one
 -- value that its parser lets through, and each option that is required is found.
-use Rattle.std.proofs.Common.{◌≡◌, ◌∙◌, ◌⊎◌, ◌++◌, ◌&&◌, ◌||◌, ◌==◌, ℕ, Bool, cond, true, false, not, zero, suc}
+use Rattle.std.proofs.Common.{◌≡◌, ◌∙◌, ◌⊎◌, ◌++◌, ◌&&◌, ◌||◌, ◌==◌}
+use Rattle.std.proofs.Common.{ℕ, Bool, cond, true, false, not, zero, suc}
 use Rattle.std.proofs.Common.{refl, sym, ap, subst, arith, inl, inr, List, [], ◌∷◌, length, drop, Option, Some, None}
 use Rattle.std.proofs.Common.{is_some}
 use Rattle.std.specs.Prelude.{encode_utf8, find, fold, slice_get, unwrap_or}

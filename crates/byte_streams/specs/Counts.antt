@@ -1,5 +1,6 @@
 -- How the calls of a source or of a sink went.
-use Rattle.std.specs.Prelude.{◌≡◌, ℕ, ◌+◌, ◌-◌, ◌^◌, min, ◌==◌, ◌<◌, ◌⊎◌, if◌then◌else◌, Result, Ok, Err}
+use Rattle.std.specs.Prelude.{◌≡◌, ℕ, ◌+◌, ◌-◌, ◌^◌, min}
+use Rattle.std.specs.Prelude.{◌==◌, ◌<◌, ◌⊎◌, if◌then◌else◌, Result, Ok, Err}
 use Rattle.std.specs.Prelude.{MatchResult}
 
 -- a count of 64 bits, and n more: at its greatest value it stays

@@ -1,5 +1,6 @@
 -- How an engine goes on with events.
-use Rattle.std.proofs.Common.{◌≡◌, ℕ, ◌<◌, ◌^◌, List, [], ◌∷◌, ◌++◌, ap, sym, ◌∙◌, append_assoc, append-nil, map}
+use Rattle.std.proofs.Common.{◌≡◌, ℕ, ◌<◌, ◌^◌, List, [], ◌∷◌}
+use Rattle.std.proofs.Common.{◌++◌, ap, sym, ◌∙◌, append_assoc, append-nil, map}
 use Rattle.std.proofs.Common.{arith, length, length-append}
 use Rattle.esp3_frames.specs.Frames.{rest_of}
 use Rattle.esp3_frames.proofs.ForCallers.{frames_of-may_become}

@@ -1,5 +1,6 @@
 -- What a replay and a live gateway read, and how their reads go. Own choice.
-use Rattle.std.specs.Prelude.{◌≡◌, ◌≤◌, ◌+◌, ◌⊎◌, ⊤, IfSome, Option, None, Some, ℕ, List, [], ◌∷◌, ◌++◌, length}
+use Rattle.std.specs.Prelude.{◌≡◌, ◌≤◌, ◌+◌, ◌⊎◌, ⊤, IfSome, Option}
+use Rattle.std.specs.Prelude.{None, Some, ℕ, List, [], ◌∷◌, ◌++◌, length}
 use Rattle.std.specs.Io.KnownBytes.{Consumes}
 use Rattle.std.specs.List.{concat}
 use Rattle.gateway_core.specs.Step.{Answer}
