@@ -8,7 +8,6 @@ use Rattle.sqlite.proofs.Callers.{unchanged_then}
 use Rattle.sqlite.specs.State.{HasCleanDisk, Survives}
 use Rattle.sqlite.proofs.StateLemmas.{survives_weaker, survives_then}
 use Rattle.sqlite_trees.specs.Tree.{Trees}
-use Rattle.sqlite_trees.specs.declared.store.Store.{Ghosts}
 use Rattle.sqlite.specs.Held.{state}
 use Rattle.std.specs.FinMap.{empty}
 use Rattle.device_registry.specs.declared.fault.OpenFault.{OpenFault}
@@ -286,7 +285,7 @@ found_again trees devices found holds (inl other) = held_once trees devices foun
 found_again trees devices found holds (inr bare) =
     absurd (not_bare trees devices holds bare.0)
 
-pub handed_on : {S : Type 0} (g : Ghosts S) → HandedOn g
-handed_on g closed opened devices found clean committed has opens =
-    let last = state g closed in
+pub handed_on : {C : Type 0} (state : C → State) → HandedOn state
+handed_on state closed opened devices found clean committed has opens =
+    let last = state closed in
     sym (found_again last.committed.trees devices found (committed clean opens.was_open devices has) opens.found)

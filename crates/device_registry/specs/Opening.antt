@@ -7,12 +7,10 @@ use Rattle.sqlite.specs.Schema.{Schema}
 use Rattle.sqlite.specs.Does.{lacks_sequence}
 use Rattle.sqlite.specs.Effect.{Database, IsDatabase}
 use Rattle.sqlite.specs.State.{State, HasCleanDisk, IsUnchanged}
-use Rattle.sqlite.specs.Held.{Held, state}
 use Rattle.sqlite_catalog.specs.Change.{is_used}
 use Rattle.sqlite_rules.specs.Lists.{Has}
 use Rattle.sqlite_trees.specs.Objects.{catalog_tree}
 use Rattle.sqlite_trees.specs.Tree.{Trees, IsTable}
-use Rattle.sqlite_trees.specs.declared.store.Store.{Ghosts}
 use Rattle.device_registry.specs.declared.fault.OpenFault.{OpenFault}
 use Rattle.device_registry.specs.declared.fault.OpenFault.TheVariants.{NotARegistry}
 use Rattle.device_registry.specs.Devices.{Devices, most_devices}
@@ -103,7 +101,7 @@ abbrev pub FoundAgain : Type 0
 FoundAgain = (trees : Trees) (left found : Devices) → Holds trees left → Finds trees found → left ≡ found
 
 -- what is closed and handed on is what the next open finds
-abbrev pub HandedOn : {S : Type 0} → Ghosts S → Type 0
-HandedOn {S} g = (closed opened : Held S) (devices found : Devices) → HasCleanDisk (state g closed)
-    → IsCommitted (state g closed)
-    → HasDevices (state g closed) devices → Opens (state g closed) (state g opened) found → found ≡ devices
+abbrev pub HandedOn : {C : Type 0} → (C → State) → Type 0
+HandedOn {C} state = (closed opened : C) (devices found : Devices) → HasCleanDisk (state closed)
+    → IsCommitted (state closed)
+    → HasDevices (state closed) devices → Opens (state closed) (state opened) found → found ≡ devices

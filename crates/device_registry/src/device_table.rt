@@ -1,6 +1,5 @@
 //! The devices in the store, with nothing beside it.
 ghost use Rattle.std.specs.Prelude.{◌≡◌, OnOk, Err};
-ghost use Rattle.sqlite.specs.Held.{state};
 ghost use Rattle.sqlite.specs.State.{HasCleanDisk};
 ghost use Rattle.device_registry.specs.Holding.{LooksUp, Learns, Forgets, ListsAll, HandsOn};
 ghost use Rattle.device_registry.specs.Ready.{AreReady};
@@ -8,42 +7,41 @@ ghost use Rattle.device_registry.specs.Ready.{AreReady};
 use crate::fault::{LearnFault, StoreFault};
 use crate::receipt::Receipt;
 use crate::rows::{all_listed, found};
+use crate::sql_store::SqlStore;
 use crate::statements::{delete_or_renew, has_no_room, list, look_up, write};
 use learned_devices::Device;
-use sqlite::{Alter, Connection};
 use std::alloc::Global;
 use std::marker::Model;
 
 /// The learned devices, over a connection that no one else uses. Each answer says besides that the connection is open.
 #[derive(Drop)]
-pub struct DeviceTable<S: Alter> {
+pub struct DeviceTable<C: SqlStore> {
     pub(crate) alloc: Global,
-    pub(crate) conn: Connection<S>,
+    pub(crate) conn: C,
 }
 
-impl<S: Alter> Model for DeviceTable<S> {
-    ghost use Rattle.sqlite.specs.Held.{Held, held_code, state};
+impl<C: SqlStore> Model for DeviceTable<C> {
     ghost use Rattle.sqlite.specs.State.{HasCleanDisk};
     ghost use Rattle.device_registry.specs.Holding.{AreRegistries};
     ghost use Rattle.device_registry.specs.Ready.{StaysReady};
 
-    ghost Value = { Held S };
+    ghost Value = { C };
 
-    ghost coded = { held_code S.code };
+    ghost coded = { C.code };
 
     ghost view = { λ table. table.conn };
 
-    ghost invariant = { λ table. (HasCleanDisk (state S.Store table.conn) →
-        AreRegistries (state S.Store table.conn).may_leave)
-        × StaysReady (state S.Store table.conn) };
+    ghost invariant = { λ table. (HasCleanDisk (C.state table.conn) →
+        AreRegistries (C.state table.conn).may_leave)
+        × StaysReady (C.state table.conn) };
 }
 
-impl<S: Alter> DeviceTable<S> {
+impl<C: SqlStore> DeviceTable<C> {
     /// The device of a sender, if it is learned.
     pub fn find(&mut self, id: u32) -> Result<Option<Device>, StoreFault>
-        ensures looks_up { LooksUp (state S.Store self.old) (state S.Store self.new) id result }
-        ensures ready { HasCleanDisk (state S.Store self.new) → OnOk result (AreReady (state S.Store self.old)
-            (state S.Store self.new)) }
+        ensures looks_up { LooksUp (C.state self.old) (C.state self.new) id result }
+        ensures ready { HasCleanDisk (C.state self.new) → OnOk result (AreReady (C.state self.old)
+            (C.state self.new)) }
     {
         let rows = look_up(&mut self.conn, id)?;
         found(id, &rows)
@@ -51,11 +49,11 @@ impl<S: Alter> DeviceTable<S> {
 
     /// Learns a device, in place of what was known of its sender.
     pub fn learn(&mut self, device: Device) -> Result<Receipt, LearnFault>
-        ensures learns { Learns (state S.Store self.old) (state S.Store self.new) device result }
-        ensures ready { HasCleanDisk (state S.Store self.new) → OnOk result (AreReady (state S.Store self.old)
-            (state S.Store self.new)) }
-        ensures ready_if_full { HasCleanDisk (state S.Store self.new) → result ≡ Err LearnFault.Full →
-            AreReady (state S.Store self.old) (state S.Store self.new) }
+        ensures learns { Learns (C.state self.old) (C.state self.new) device result }
+        ensures ready { HasCleanDisk (C.state self.new) → OnOk result (AreReady (C.state self.old)
+            (C.state self.new)) }
+        ensures ready_if_full { HasCleanDisk (C.state self.new) → result ≡ Err LearnFault.Full →
+            AreReady (C.state self.old) (C.state self.new) }
     {
         if has_no_room(&mut self.conn, device.id)? {
             return Err(LearnFault::Full);
@@ -69,9 +67,9 @@ impl<S: Alter> DeviceTable<S> {
 
     /// Forgets a sender. It commits also where nothing is known of it.
     pub fn forget(&mut self, id: u32) -> Result<Receipt, StoreFault>
-        ensures forgets { Forgets (state S.Store self.old) (state S.Store self.new) id result }
-        ensures ready { HasCleanDisk (state S.Store self.new) → OnOk result (AreReady (state S.Store self.old)
-            (state S.Store self.new)) }
+        ensures forgets { Forgets (C.state self.old) (C.state self.new) id result }
+        ensures ready { HasCleanDisk (C.state self.new) → OnOk result (AreReady (C.state self.old)
+            (C.state self.new)) }
     {
         let rows = look_up(&mut self.conn, id)?;
         delete_or_renew(&mut self.conn, id, &rows)?;
@@ -83,18 +81,18 @@ impl<S: Alter> DeviceTable<S> {
 
     /// All devices, by rising ID.
     pub fn all(&mut self) -> Result<Vec<Device>, StoreFault>
-        ensures lists { ListsAll (state S.Store self.old) (state S.Store self.new) result }
-        ensures ready { HasCleanDisk (state S.Store self.new) → OnOk result (AreReady (state S.Store self.old)
-            (state S.Store self.new)) }
+        ensures lists { ListsAll (C.state self.old) (C.state self.new) result }
+        ensures ready { HasCleanDisk (C.state self.new) → OnOk result (AreReady (C.state self.old)
+            (C.state self.new)) }
     {
         let rows = list(&mut self.conn)?;
         all_listed(self.alloc, &rows)
     }
 
     /// Hands the connection on, as it is.
-    pub fn close(self) -> Connection<S>
+    pub fn close(self) -> C
         ensures same { result ≡ self }
-        ensures hands_on { HandsOn (state S.Store self) }
+        ensures hands_on { HandsOn (C.state self) }
     {
         let DeviceTable { alloc: _, conn } = self;
         conn

@@ -1,46 +1,48 @@
 //! The registry.
 ghost use Rattle.std.specs.Prelude.{◌≡◌};
-ghost use Rattle.sqlite.specs.Held.{state};
 ghost use Rattle.device_registry.specs.Holding.{LooksUp, Learns, Forgets, ListsAll, HandsOn};
 
 use crate::cache::{Cache, cached, forget_entry, remember};
 use crate::device_table::DeviceTable;
 use crate::fault::{LearnFault, StoreFault};
 use crate::receipt::Receipt;
+use crate::sql_store::SqlStore;
 use learned_devices::Device;
-use sqlite::{Alter, Connection};
+use sqlite::Connection;
 use std::marker::Model;
 
 /// The learned devices, over a connection that no one else uses, and a cache of the senders that were looked up last,
 /// known or not. A sender in the cache is answered with no call of the store. The cache is emptied where the store
 /// does not answer, so an entry tells that the connection is open.
 #[derive(Drop)]
-pub struct Registry<S: Alter> {
-    pub(crate) table: DeviceTable<S>,
+pub struct RegistryOver<C: SqlStore> {
+    pub(crate) table: DeviceTable<C>,
     pub(crate) cache: Cache,
 }
 
-impl<S: Alter> Model for Registry<S> {
-    ghost use Rattle.sqlite.specs.Held.{Held, held_code, state};
+/// A registry over a connection of SQLite.
+pub type Registry<S> = RegistryOver<Connection<S>>;
+
+impl<C: SqlStore> Model for RegistryOver<C> {
     ghost use Rattle.sqlite.specs.State.{HasCleanDisk};
     ghost use Rattle.device_registry.specs.Holding.{AreRegistries};
     ghost use Rattle.device_registry.specs.Cached.{CacheAgrees};
 
-    ghost Value = { Held S };
+    ghost Value = { C };
 
-    ghost coded = { held_code S.code };
+    ghost coded = { C.code };
 
     ghost view = { λ registry. registry.table };
 
-    ghost invariant = { λ registry. (HasCleanDisk (state S.Store registry.table) →
-        AreRegistries (state S.Store registry.table).may_leave)
-        × CacheAgrees (state S.Store registry.table) registry.cache.entries };
+    ghost invariant = { λ registry. (HasCleanDisk (C.state registry.table) →
+        AreRegistries (C.state registry.table).may_leave)
+        × CacheAgrees (C.state registry.table) registry.cache.entries };
 }
 
-impl<S: Alter> Registry<S> {
+impl<C: SqlStore> RegistryOver<C> {
     /// The device of a sender, if it is learned.
     pub fn find(&mut self, id: u32) -> Result<Option<Device>, StoreFault>
-        ensures { LooksUp (state S.Store self.old) (state S.Store self.new) id result }
+        ensures { LooksUp (C.state self.old) (C.state self.new) id result }
     {
         if let Some(known) = cached(&mut self.cache, id) {
             return Ok(known);
@@ -59,7 +61,7 @@ impl<S: Alter> Registry<S> {
 
     /// Learns a device, in place of what was known of its sender. `Full` says that 1,000 others are learned.
     pub fn learn(&mut self, device: Device) -> Result<Receipt, LearnFault>
-        ensures { Learns (state S.Store self.old) (state S.Store self.new) device result }
+        ensures { Learns (C.state self.old) (C.state self.new) device result }
     {
         forget_entry(&mut self.cache, device.id);
         match self.table.learn(device) {
@@ -77,7 +79,7 @@ impl<S: Alter> Registry<S> {
 
     /// Forgets a sender. It commits also where nothing is known of it.
     pub fn forget(&mut self, id: u32) -> Result<Receipt, StoreFault>
-        ensures { Forgets (state S.Store self.old) (state S.Store self.new) id result }
+        ensures { Forgets (C.state self.old) (C.state self.new) id result }
     {
         forget_entry(&mut self.cache, id);
         match self.table.forget(id) {
@@ -94,7 +96,7 @@ impl<S: Alter> Registry<S> {
 
     /// All devices, by rising ID.
     pub fn all(&mut self) -> Result<Vec<Device>, StoreFault>
-        ensures { ListsAll (state S.Store self.old) (state S.Store self.new) result }
+        ensures { ListsAll (C.state self.old) (C.state self.new) result }
     {
         match self.table.all() {
             Ok(all) => Ok(all),
@@ -106,11 +108,11 @@ impl<S: Alter> Registry<S> {
     }
 
     /// Hands the connection on, as it is, with no open transaction. What the registry holds is committed.
-    pub fn close(self) -> Connection<S>
+    pub fn close(self) -> C
         ensures same { result ≡ self }
-        ensures hands_on { HandsOn (state S.Store self) }
+        ensures hands_on { HandsOn (C.state self) }
     {
-        let Registry { table, cache: _ } = self;
+        let RegistryOver { table, cache: _ } = self;
         table.close()
     }
 }

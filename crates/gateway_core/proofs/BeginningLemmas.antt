@@ -1,7 +1,6 @@
 -- One life, from its calls.
 use Rattle.std.proofs.Common.{◌≡◌, inl, inr, sym, subst}
-use Rattle.sqlite.specs.Held.{state}
-use Rattle.sqlite_trees.specs.declared.store.Store.{Ghosts}
+use Rattle.sqlite.specs.State.{State as Stored}
 use Rattle.device_registry.specs.Devices.{Devices}
 use Rattle.device_registry.specs.Holding.{MayFind}
 use Rattle.gateway_core.specs.Step.{change_of}
@@ -10,8 +9,8 @@ use Rattle.gateway_core.specs.Lives.{begun}
 use Rattle.gateway_core.specs.Beginnings.{CallsLeaveALife, StopsLeaveALife}
 use Rattle.gateway_core.proofs.StopLemmas.{safe-weaker, safe-pending}
 
-module _ {S : Type 0} (g : Ghosts S) where
-  pub calls_leave_a_life : CallsLeaveALife g
+module _ {S : Type 0} (stored : S → Stored) where
+  pub calls_leave_a_life : CallsLeaveALife stored
   calls_leave_a_life old new found items answers honest begins handles left may =
       let went = handles.went honest (begun old.base found) begins.at in
       record {
@@ -19,12 +18,12 @@ module _ {S : Type 0} (g : Ghosts S) where
         last = went.last;
         is = record {
           run = went.run;
-          safe = safe-weaker (MayFind (state g old.registry)) (λ d. d ≡ found) begins.stop _ left
+          safe = safe-weaker (MayFind (stored old.registry)) (λ d. d ≡ found) begins.stop _ left
               (went.stop left may);
         };
       }
 
-  pub stops_leave_a_life : StopsLeaveALife g
+  pub stops_leave_a_life : StopsLeaveALife stored
   stops_leave_a_life old new within found items answers item change honest early begins handles asks tries left may =
       let went = handles.went early (begun old.base found) begins.at in
       let leaves = tries went.last.devices went.at.2 in
@@ -34,7 +33,7 @@ module _ {S : Type 0} (g : Ghosts S) where
       let safe : Safe Before (pending so_far went.last.devices (change_of went.last item)) left =
       elim (leaves left may) [
         | inl before ↦ safe-pending Before so_far went.last.devices (change_of went.last item) left
-            (safe-weaker (MayFind (state g old.registry)) Before begins.stop so_far left (went.stop left before))
+            (safe-weaker (MayFind (stored old.registry)) Before begins.stop so_far left (went.stop left before))
         | inr made ↦ subst (λ o. Safe Before (pending so_far went.last.devices o) left) (sym is) (inl (inl made))
       ] in
       record { fates = went.fates; last = went.last; is = record { run = went.run; safe = safe } }

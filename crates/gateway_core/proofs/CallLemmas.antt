@@ -2,7 +2,7 @@
 use Rattle.std.proofs.Common.{◌≡◌, ℕ, List, [], ◌∷◌, ◌++◌, refl, ap, sym, subst, ◌∙◌, append_assoc}
 use Rattle.std.proofs.Common.{append-nil, Some}
 use Rattle.std.proofs.Common.{None}
-use Rattle.sqlite_trees.specs.declared.store.Store.{Ghosts}
+use Rattle.sqlite.specs.State.{State as Stored}
 use Rattle.esp3_frames.specs.Packet.{Packet}
 use Rattle.esp3_frames.specs.Frames.{packets_in, rest_of}
 use Rattle.esp3_frames.proofs.ForCallers.{framing_in_parts, frames_of-may_become, empty_may_become}
@@ -12,7 +12,7 @@ use Rattle.gateway_core.specs.Calls.{Value, Call, Byte, Next, Order, Moves, AllM
 use Rattle.gateway_core.specs.Calls.{CallsAreARun}
 use Rattle.gateway_core.proofs.RunLemmas.{handles-nothing, handles-append}
 
-module _ {S : Type 0} (g : Ghosts S) where
+module _ {S : Type 0} (stored : S → Stored) where
   -- the stream so far holds the packets handled and those that wait, and the rest
   record Stands (stream : List ℕ) (before : List Packet) (v : Value S) : Type 0 where
     pub packets : packets_in stream ≡ before ++ v.ready
@@ -26,10 +26,10 @@ module _ {S : Type 0} (g : Ghosts S) where
     pub packets : packets_in (stream ++ bytes_of calls) ≡ before ++ (handled ++ new.ready)
     pub rest : rest_of (stream ++ bytes_of calls) ≡ new.rest
     pub in_order : AreItems calls handled items
-    pub run : Handles g old.handler items (answers_of calls) new.handler
+    pub run : Handles stored old.handler items (answers_of calls) new.handler
 
   stands_after_byte : (stream : List ℕ) (before : List Packet) (old mid : Value S) (byte : ℕ) → Stands stream before old
-      → Moves g old (Byte byte) mid → Stands (stream ++ byte ∷ []) before mid
+      → Moves stored old (Byte byte) mid → Stands (stream ++ byte ∷ []) before mid
   stands_after_byte stream before old mid byte stands (none, same, ready, rest) =
       let parts = framing_in_parts stream (byte ∷ []) in
       record {
@@ -41,7 +41,7 @@ module _ {S : Type 0} (g : Ghosts S) where
       }
 
   goes_on : (stream : List ℕ) (before : List Packet) (old : Value S) (calls : List Call) (new : Value S)
-      → Stands stream before old → AllMove g old calls new → GoesOn stream before old calls new
+      → Stands stream before old → AllMove stored old calls new → GoesOn stream before old calls new
   goes_on stream before old [] new stands move = record {
     handled = [];
     items = [];
@@ -49,7 +49,7 @@ module _ {S : Type 0} (g : Ghosts S) where
     rest = rw (append-nil, move) stands.rest;
     in_order = (refl, refl);
     run = let P : Value S → Type 0 =
-        λ v. Handles g old.handler [] [] v.handler in subst P (sym move) (handles-nothing g old.handler);
+        λ v. Handles stored old.handler [] [] v.handler in subst P (sym move) (handles-nothing stored old.handler);
   }
   goes_on stream before old (Byte byte ∷ calls) new stands (mid, move, moves) =
       let on =
@@ -64,7 +64,7 @@ module _ {S : Type 0} (g : Ghosts S) where
         rest = ap rest_of (sym along) ∙ on.rest;
         in_order = on.in_order;
         run = let P : HandlerValue S → Type 0 =
-            λ s. Handles g s on.items (answers_of calls) new.handler in subst P move.1 on.run;
+            λ s. Handles stored s on.items (answers_of calls) new.handler in subst P move.1 on.run;
       }
   goes_on stream before old (Next None ∷ calls) new stands (mid, (none, same), moves) =
       let from : Stands stream before mid =
@@ -77,7 +77,7 @@ module _ {S : Type 0} (g : Ghosts S) where
         rest = on.rest;
         in_order = on.in_order;
         run = let P : Value S → Type 0 =
-            λ v. Handles g v.handler on.items (answers_of calls) new.handler in subst P same on.run;
+            λ v. Handles stored v.handler on.items (answers_of calls) new.handler in subst P same on.run;
       }
   goes_on stream before old (Next (Some answer) ∷ calls) new stands (mid, (packet, first, rest, handles), moves) =
       let from : Stands stream (before ++ packet ∷ []) mid = record {
@@ -91,7 +91,7 @@ module _ {S : Type 0} (g : Ghosts S) where
         packets = on.packets ∙ append_assoc before (packet ∷ []) (on.handled ++ new.ready);
         rest = on.rest;
         in_order = (refl, on.in_order);
-        run = handles-append g old.handler mid.handler new.handler (Received packet ∷ []) on.items (answer ∷ [])
+        run = handles-append stored old.handler mid.handler new.handler (Received packet ∷ []) on.items (answer ∷ [])
             (answers_of calls) handles on.run;
       }
   goes_on stream before old (Order line answer ∷ calls) new stands (mid, (ready, rest, handles), moves) =
@@ -104,11 +104,11 @@ module _ {S : Type 0} (g : Ghosts S) where
         packets = on.packets;
         rest = on.rest;
         in_order = (refl, on.in_order);
-        run = handles-append g old.handler mid.handler new.handler (Ordered line ∷ []) on.items (answer ∷ [])
+        run = handles-append stored old.handler mid.handler new.handler (Ordered line ∷ []) on.items (answer ∷ [])
             (answers_of calls) handles on.run;
       }
 
-  pub calls_are_a_run : CallsAreARun g
+  pub calls_are_a_run : CallsAreARun stored
   calls_are_a_run base registry calls new moves =
       let empty = frames_of-may_become [] empty_may_become in
       let on = goes_on [] [] _ calls new (record { packets = sym empty.0; rest = sym empty.1 }) moves in

@@ -2,8 +2,7 @@
 use Rattle.std.proofs.Common.{◌≡◌, ℕ, ◌<◌, List, [], ◌∷◌, length, refl, ap, sym, subst, ◌∙◌}
 use Rattle.std.specs.Prelude.{if◌then◌else◌, IsTrue, IsSome}
 use Rattle.std.proofs.lemmas.Bool.{lt-ltb}
-use Rattle.sqlite.specs.Held.{state}
-use Rattle.sqlite_trees.specs.declared.store.Store.{Ghosts}
+use Rattle.sqlite.specs.State.{State as Stored}
 use Rattle.device_registry.specs.Holding.{MayFind}
 use Rattle.json_lines.specs.Counts.{raised}
 use Rattle.json_lines.specs.declared.fixed.ErrorName.TheVariants.{TooLong}
@@ -51,24 +50,24 @@ left_alike old item other (Refused cause ∷ fates) e = refl
 left_alike old item other (RefusedAtWrite cause ∷ fates) e =
     ap (λ (d : Effect). pending nothing_left old.devices d.change) e
 
-module _ {S : Type 0} (g : Ghosts S) where
+module _ {S : Type 0} (stored : S → Stored) where
   went_alike : (old new : HandlerValue S) (start : State) (item other : Item) (answers : List Answer)
-      → effect start item ≡ effect start other → Went g old start (item ∷ []) answers new
-      → Went g old start (other ∷ []) answers new
+      → effect start item ≡ effect start other → Went stored old start (item ∷ []) answers new
+      → Went stored old start (other ∷ []) answers new
   went_alike old new start item other answers e went = record {
     fates = went.fates;
     last = went.last;
     run = run_alike start went.last item other went.fates answers e went.run;
     at = went.at;
-    stop = λ left may. let P : Left → Type 0 = λ l. Safe (MayFind (state g old.registry)) l left in
+    stop = λ left may. let P : Left → Type 0 = λ l. Safe (MayFind (stored old.registry)) l left in
         subst P (left_alike start item other went.fates e) (went.stop left may);
   }
 
   -- two lines that are too long are handled alike
   pub handles_alike : (old new : HandlerValue S) (short long : List ℕ) (answers : List Answer)
       → longest_line < length short
-      → longest_line < length long → Handles g old (Ordered short ∷ []) answers new
-      → Handles g old (Ordered long ∷ []) answers new
+      → longest_line < length long → Handles stored old (Ordered short ∷ []) answers new
+      → Handles stored old (Ordered long ∷ []) answers new
   handles_alike old new short long answers a b handled = record {
     base = handled.base;
     clean = handled.clean;

@@ -1,7 +1,6 @@
 -- Runs of many items.
 use Rattle.std.proofs.Common.{◌≡◌, inr, List, [], ◌∷◌, ◌++◌, refl, sym, ap, subst, ◌∙◌}
-use Rattle.sqlite.specs.Held.{state}
-use Rattle.sqlite_trees.specs.declared.store.Store.{Ghosts}
+use Rattle.sqlite.specs.State.{State as Stored}
 use Rattle.device_registry.specs.Holding.{MayFind}
 use Rattle.gateway_core.specs.Step.{State, Item, Answer, said}
 use Rattle.gateway_core.specs.Run.{Fate, Taken, Refused, RefusedAtWrite, Run, cause_of, cause_text, answer_with}
@@ -23,8 +22,8 @@ run-append old mid new [] more (fate ∷ fates) others answers after first secon
 run-append old mid new (item ∷ items) more [] others answers after first second = absurd first
 run-append old mid new (item ∷ items) more (fate ∷ fates) others [] after first second = absurd first
 
-module _ {S : Type 0} (g : Ghosts S) where
-  pub handles-nothing : (handler : HandlerValue S) → Handles g handler [] [] handler
+module _ {S : Type 0} (stored : S → Stored) where
+  pub handles-nothing : (handler : HandlerValue S) → Handles stored handler [] [] handler
   handles-nothing handler = record {
     base = refl;
     clean = λ honest. honest;
@@ -39,8 +38,8 @@ module _ {S : Type 0} (g : Ghosts S) where
   }
 
   pub handles-append : (old mid new : HandlerValue S) (items more : List Item) (answers after : List Answer)
-      → Handles g old items answers mid → Handles g mid more after new
-      → Handles g old (items ++ more) (answers ++ after) new
+      → Handles stored old items answers mid → Handles stored mid more after new
+      → Handles stored old (items ++ more) (answers ++ after) new
   handles-append old mid new items more answers after first second = record {
     base = second.base ∙ first.base;
     clean = λ honest. first.clean (second.clean honest);
@@ -48,14 +47,14 @@ module _ {S : Type 0} (g : Ghosts S) where
     went = λ honest start at.
         let a = first.went (second.clean honest) start at in
         let b = second.went honest a.last a.at in
-        let Before = MayFind (state g old.registry) in
+        let Before = MayFind (stored old.registry) in
         record {
           fates = a.fates ++ b.fates;
           last = b.last;
           run = run-append start a.last b.last items more a.fates b.fates answers after a.run b.run;
           at = b.at;
           stop = λ left may. safe_joins Before start a.last items more a.fates b.fates answers left a.run
-              (safe-weaker (MayFind (state g mid.registry)) (Safe Before (left_by nothing_left start items a.fates))
+              (safe-weaker (MayFind (stored mid.registry)) (Safe Before (left_by nothing_left start items a.fates))
               a.stop _ left (b.stop left may));
         };
   }

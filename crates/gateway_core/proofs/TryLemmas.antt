@@ -8,9 +8,7 @@ use Rattle.std.specs.Ordering.{nat_cmp}
 use Rattle.std.specs.Cmp.{nat_cmp_total}
 use Rattle.std.specs.FinMap.{len, insert, contains_key, from_entries, len-empty, len-insert, len-remove}
 use Rattle.std.proofs.lemmas.Bool.{leb-true, le-ltb}
-use Rattle.sqlite.specs.Held.{Held, state}
-use Rattle.sqlite.specs.State.{State as Known, HasCleanDisk}
-use Rattle.sqlite_trees.specs.declared.store.Store.{Ghosts}
+use Rattle.sqlite.specs.State.{State as Stored, HasCleanDisk}
 use Rattle.erp1_telegrams.specs.declared.eep.Eep.{Eep}
 use Rattle.erp1_telegrams.specs.Telegram.{Telegram}
 use Rattle.profiles_rps.specs.Reading.{Entry}
@@ -61,11 +59,11 @@ known_with base mode counts devices = record { base = base; mode = mode; counts 
 
 -- ---- what is kept
 
-pub keeps-same : (s : Known) (devices : Devices) → HasDevices s devices → Keeps s s devices
+pub keeps-same : (s : Stored) (devices : Devices) → HasDevices s devices → Keeps s s devices
 keeps-same s devices has = record { now = has; stop = λ left may. may }
 
 -- a look behind a look
-pub keeps-after : (old mid new : Known) (devices : Devices) → Keeps old mid devices → Keeps mid new devices
+pub keeps-after : (old mid new : Stored) (devices : Devices) → Keeps old mid devices → Keeps mid new devices
     → Keeps old new devices
 keeps-after old mid new devices first second = record {
   now = second.now;
@@ -73,7 +71,7 @@ keeps-after old mid new devices first second = record {
 }
 
 -- a write that is tried behind a look
-pub pends-after : (old mid new : Known) (change : Change) (devices : Devices) → Keeps old mid devices
+pub pends-after : (old mid new : Stored) (change : Change) (devices : Devices) → Keeps old mid devices
     → Pends mid new change devices → Pends old new change devices
 pends-after old mid new change devices keeps pends = record {
   now = pends.now;
@@ -106,7 +104,7 @@ len-full devices id it full =
     one n m k false is less many = omega (arith, is, less, many)
 
 -- where the registry is full, a write that is tried leaves nothing
-pub keeps-full : (old new : Known) (it : Device) (devices : Devices) → is_full devices it.id ≡ true
+pub keeps-full : (old new : Stored) (it : Device) (devices : Devices) → is_full devices it.id ≡ true
     → Pends old new (learned it) devices → Keeps old new devices
 keeps-full old new it devices full pends = record {
   now = pends.now;
@@ -199,43 +197,43 @@ pub by-radio : (state : State) (kind : Teach) (known : Device)
     → Adds known (tells_sender state kind (told_of known Full)) (accepts state kind known)
 by-radio state kind known = record { full_needs = refl; stays = refl; done_needs = refl; learns = refl }
 
-module _ {S : Type 0} (g : Ghosts S) where
+module _ {S : Type 0} (stored : S → Stored) where
   -- ---- an effect that comes behind a look
 
-  made-after : (old mid new : Held S) (devices : Devices) (change : Option Change)
-      → Keeps (state g old) (state g mid) devices → IsMade g mid new devices change → IsMade g old new devices change
+  made-after : (old mid new : S) (devices : Devices) (change : Option Change)
+      → Keeps (stored old) (stored mid) devices → IsMade stored mid new devices change → IsMade stored old new devices change
   made-after old mid new devices None keeps made =
-      keeps-after (state g old) (state g mid) (state g new) devices keeps made
+      keeps-after (stored old) (stored mid) (stored new) devices keeps made
   made-after old mid new devices (Some change) keeps made = made
 
-  pending-after : (old mid new : Held S) (devices : Devices) (need : Bool) (change : Option Change)
-      → Keeps (state g old) (state g mid) devices → IsPending g mid new devices need change
-      → IsPending g old new devices need change
+  pending-after : (old mid new : S) (devices : Devices) (need : Bool) (change : Option Change)
+      → Keeps (stored old) (stored mid) devices → IsPending stored mid new devices need change
+      → IsPending stored old new devices need change
   pending-after old mid new devices need None keeps (needed, kept) =
-      (needed, keeps-after (state g old) (state g mid) (state g new) devices keeps kept)
+      (needed, keeps-after (stored old) (stored mid) (stored new) devices keeps kept)
   pending-after old mid new devices need (Some change) keeps pends =
-      pends-after (state g old) (state g mid) (state g new) change devices keeps pends
+      pends-after (stored old) (stored mid) (stored new) change devices keeps pends
 
-  pub comes-after : (old mid new : Held S) (devices : Devices) (effect : Effect) (r : Result Done Refusal)
-      → Keeps (state g old) (state g mid) devices → Comes g mid new devices effect r → Comes g old new devices effect r
+  pub comes-after : (old mid new : S) (devices : Devices) (effect : Effect) (r : Result Done Refusal)
+      → Keeps (stored old) (stored mid) devices → Comes stored mid new devices effect r → Comes stored old new devices effect r
   comes-after old mid new devices effect (Ok done) keeps (gives, made) =
       (gives, made-after old mid new devices effect.change keeps made)
   comes-after old mid new devices effect (Err (Before cause)) keeps (needed, kept) =
-      (needed, keeps-after (state g old) (state g mid) (state g new) devices keeps kept)
+      (needed, keeps-after (stored old) (stored mid) (stored new) devices keeps kept)
   comes-after old mid new devices effect (Err (AtWrite cause)) keeps pending =
       pending-after old mid new devices effect.need effect.change keeps pending
 
   -- ---- an item that is tried
 
   -- over another registry, where all else stays
-  pub tries : (base : ℕ) (mode : Mode) (counts : Counts) (old new : Held S) (effect : State → Effect)
+  pub tries : (base : ℕ) (mode : Mode) (counts : Counts) (old new : S) (effect : State → Effect)
       (r : Result Done Refusal)
-      → (HasCleanDisk (state g new) → HasCleanDisk (state g old))
-      → (HasCleanDisk (state g new) → AreRegistries (state g new).may_leave)
-      → (HasCleanDisk (state g new) → (devices : Devices) → HasDevices (state g old) devices
-      → Comes g old new devices
+      → (HasCleanDisk (stored new) → HasCleanDisk (stored old))
+      → (HasCleanDisk (stored new) → AreRegistries (stored new).may_leave)
+      → (HasCleanDisk (stored new) → (devices : Devices) → HasDevices (stored old) devices
+      → Comes stored old new devices
       (effect (record { base = base; mode = mode; counts = counts; devices = devices })) r)
-      → Tries g (record { base = base; mode = mode; counts = counts; registry = old }) effect r
+      → Tries stored (record { base = base; mode = mode; counts = counts; registry = old }) effect r
       (record { base = base; mode = mode; counts = counts; registry = new })
   tries base mode counts old new effect r clean registries comes =
       record {
@@ -249,21 +247,21 @@ module _ {S : Type 0} (g : Ghosts S) where
 
   -- with nothing asked of the registry
   pub tries-alone : (v : HandlerValue S) (effect : State → Effect) (r : Result Done Refusal)
-      → ((devices : Devices) → Keeps (state g v.registry) (state g v.registry) devices
-      → Comes g v.registry v.registry devices (effect (state_of v devices)) r) → Tries g v effect r v
+      → ((devices : Devices) → Keeps (stored v.registry) (stored v.registry) devices
+      → Comes stored v.registry v.registry devices (effect (state_of v devices)) r) → Tries stored v effect r v
   tries-alone v effect r comes = record {
     base = refl;
     mode = refl;
     counts = refl;
     clean = λ honest. honest;
     registries = λ honest before. before;
-    comes = λ honest devices has. comes devices (keeps-same (state g v.registry) devices has);
+    comes = λ honest devices has. comes devices (keeps-same (stored v.registry) devices has);
   }
 
   -- where the effects are equal
   pub tries-same : (old new : HandlerValue S) (effect other : State → Effect) (r : Result Done Refusal)
       → ((devices : Devices) → effect (state_of old devices) ≡ other (state_of old devices))
-      → Tries g old other r new → Tries g old effect r new
+      → Tries stored old other r new → Tries stored old effect r new
   tries-same old new effect other r same tries = record {
     base = tries.base;
     mode = tries.mode;
@@ -271,23 +269,23 @@ module _ {S : Type 0} (g : Ghosts S) where
     clean = tries.clean;
     registries = tries.registries;
     comes = λ honest devices has.
-        subst (λ e. Comes g old.registry new.registry devices e r) (sym (same devices))
+        subst (λ e. Comes stored old.registry new.registry devices e r) (sym (same devices))
         (tries.comes honest devices has);
   }
 
   -- behind a look at the registry
-  pub tries-behind : (v mid new : HandlerValue S) (registry : Held S) (effect other : State → Effect)
+  pub tries-behind : (v mid new : HandlerValue S) (registry : S) (effect other : State → Effect)
       (r : Result Done Refusal)
       → mid ≡ record v { registry = registry }
-      → (HasCleanDisk (state g registry) → HasCleanDisk (state g v.registry))
-      → (HasCleanDisk (state g registry) → AreRegistries (state g registry).may_leave)
-      → (HasCleanDisk (state g registry) → (devices : Devices) → HasDevices (state g v.registry) devices
+      → (HasCleanDisk (stored registry) → HasCleanDisk (stored v.registry))
+      → (HasCleanDisk (stored registry) → AreRegistries (stored registry).may_leave)
+      → (HasCleanDisk (stored registry) → (devices : Devices) → HasDevices (stored v.registry) devices
       → (effect (state_of v devices) ≡ other (state_of v devices))
-      × Keeps (state g v.registry) (state g registry) devices)
-      → Tries g mid other r new → Tries g v effect r new
+      × Keeps (stored v.registry) (stored registry) devices)
+      → Tries stored mid other r new → Tries stored v effect r new
   tries-behind v mid new registry effect other r is clean registries found tried =
-      let over : Tries g (record v { registry = registry }) other r new =
-      subst (λ (m : HandlerValue S). Tries g m other r new) is tried in
+      let over : Tries stored (record v { registry = registry }) other r new =
+      subst (λ (m : HandlerValue S). Tries stored m other r new) is tried in
       record {
         base = over.base;
         mode = over.mode;
@@ -296,47 +294,47 @@ module _ {S : Type 0} (g : Ghosts S) where
         registries = λ honest before. over.registries honest (registries (over.clean honest));
         comes = λ honest devices has.
             let f = found (over.clean honest) devices has in
-            subst (λ e. Comes g v.registry new.registry devices e r) (sym f.0)
+            subst (λ e. Comes stored v.registry new.registry devices e r) (sym f.0)
             (comes-after v.registry registry new.registry devices (other (state_of v devices)) r f.1
             (over.comes honest devices f.1.now));
       }
 
   -- a telegram that is read gives a line or none, and changes nothing
-  pub reading-comes : (old new : Held S) (devices : Devices) (t : Telegram) (eep : Eep)
+  pub reading-comes : (old new : S) (devices : Devices) (t : Telegram) (eep : Eep)
       (readings : Option (List Entry)) (done : Done) → Gives done (reading_effect t eep readings)
-      → Keeps (state g old) (state g new) devices → Comes g old new devices (reading_effect t eep readings) (Ok done)
+      → Keeps (stored old) (stored new) devices → Comes stored old new devices (reading_effect t eep readings) (Ok done)
   reading-comes old new devices t eep None done gives keeps = (gives, keeps)
   reading-comes old new devices t eep (Some readings) done gives keeps = (gives, keeps)
 
   -- ---- a device that is entered or erased
 
   -- over another registry
-  pub alone : (base : ℕ) (mode : Mode) (counts : Counts) (old new : Held S) (IsSo : Devices → Type 0)
-      → (HasCleanDisk (state g new) → HasCleanDisk (state g old))
-      → (HasCleanDisk (state g new) → AreRegistries (state g new).may_leave)
-      → (HasCleanDisk (state g new) → (devices : Devices) → HasDevices (state g old) devices → IsSo devices)
-      → RegistryAlone g (record { base = base; mode = mode; counts = counts; registry = old }) IsSo
+  pub alone : (base : ℕ) (mode : Mode) (counts : Counts) (old new : S) (IsSo : Devices → Type 0)
+      → (HasCleanDisk (stored new) → HasCleanDisk (stored old))
+      → (HasCleanDisk (stored new) → AreRegistries (stored new).may_leave)
+      → (HasCleanDisk (stored new) → (devices : Devices) → HasDevices (stored old) devices → IsSo devices)
+      → RegistryAlone stored (record { base = base; mode = mode; counts = counts; registry = old }) IsSo
       (record { base = base; mode = mode; counts = counts; registry = new })
   alone base mode counts old new IsSo clean registries is_so =
       record { same = refl; clean = clean; registries = λ honest before. registries honest; is_so = is_so }
 
   -- with nothing asked of the registry
   pub alone-unasked : (v : HandlerValue S) (IsSo : Devices → Type 0)
-      → ((devices : Devices) → Keeps (state g v.registry) (state g v.registry) devices → IsSo devices)
-      → RegistryAlone g v IsSo v
+      → ((devices : Devices) → Keeps (stored v.registry) (stored v.registry) devices → IsSo devices)
+      → RegistryAlone stored v IsSo v
   alone-unasked v IsSo is_so = record {
     same = refl;
     clean = λ honest. honest;
     registries = λ honest before. before;
-    is_so = λ honest devices has. is_so devices (keeps-same (state g v.registry) devices has);
+    is_so = λ honest devices has. is_so devices (keeps-same (stored v.registry) devices has);
   }
 
   -- where the registry alone has changed
   tries-registry : (old new : HandlerValue S) (IsSo : Devices → Type 0) (effect : State → Effect)
-      (r : Result Done Refusal) → RegistryAlone g old IsSo new
+      (r : Result Done Refusal) → RegistryAlone stored old IsSo new
       → ((devices : Devices) → IsSo devices
-      → Comes g old.registry new.registry devices (effect (state_of old devices)) r)
-      → Tries g old effect r new
+      → Comes stored old.registry new.registry devices (effect (state_of old devices)) r)
+      → Tries stored old effect r new
   tries-registry old new IsSo effect r alone comes =
       record {
         base = ap (λ (v : HandlerValue S). v.base) alone.same;
@@ -355,28 +353,28 @@ module _ {S : Type 0} (g : Ghosts S) where
       subst (λ s. Gives done (effect s)) (ap (λ v. state_of v devices) same)
 
   -- a change that is refused
-  refused-comes : (old new : Held S) (devices : Devices) (effect : Effect) (change : Change) (refusal : Refusal)
-      → IsTrue effect.need → effect.change ≡ Some change → IsRefused g old new devices change refusal
-      → Comes g old new devices effect (Err refusal)
+  refused-comes : (old new : S) (devices : Devices) (effect : Effect) (change : Change) (refusal : Refusal)
+      → IsTrue effect.need → effect.change ≡ Some change → IsRefused stored old new devices change refusal
+      → Comes stored old new devices effect (Err refusal)
   refused-comes old new devices effect change (Before cause) need changes keeps = (need, keeps)
   refused-comes old new devices effect change (AtWrite cause) need changes pends = rw changes pends
 
   -- a device is not learned: the write was tried, though the registry is full perhaps
-  addition-pending : (old new : Held S) (devices : Devices) (known : Device) (full done : Effect) → Adds known full done
-      → Pends (state g old) (state g new) (learned known) devices
-      → IsPending g old new devices (addition devices known full done).need (addition devices known full done).change
+  addition-pending : (old new : S) (devices : Devices) (known : Device) (full done : Effect) → Adds known full done
+      → Pends (stored old) (stored new) (learned known) devices
+      → IsPending stored old new devices (addition devices known full done).need (addition devices known full done).change
   addition-pending old new devices known full done adds pends = one (is_full devices known.id) refl
     where
       one : (b : Bool) → is_full devices known.id ≡ b
-          → let e : Effect = if b then full else done in IsPending g old new devices e.need e.change
+          → let e : Effect = if b then full else done in IsPending stored old new devices e.need e.change
       one true is =
-          rw adds.stays (adds.full_needs, keeps-full (state g old) (state g new) known devices is pends)
+          rw adds.stays (adds.full_needs, keeps-full (stored old) (stored new) known devices is pends)
       one false is = rw adds.learns pends
 
   module _ (old new : HandlerValue S) (known : Device) (full done : State → Effect)
       (adds : (devices : Devices) → Adds known (full (state_of old devices)) (done (state_of old devices))) where
-    pub tries-refused : (refusal : Refusal) → Enters g old known (Err refusal) new
-        → Tries g old (λ state. addition state.devices known (full state) (done state)) (Err refusal) new
+    pub tries-refused : (refusal : Refusal) → Enters stored old known (Err refusal) new
+        → Tries stored old (λ state. addition state.devices known (full state) (done state)) (Err refusal) new
     tries-refused (Before cause) enters =
         tries-registry old new _ _ _ enters.alone
         (λ devices keeps.
@@ -387,9 +385,9 @@ module _ {S : Type 0} (g : Ghosts S) where
         addition-pending old.registry new.registry devices known (full (state_of old devices))
         (done (state_of old devices)) (adds devices) pends)
 
-    pub tries-full : (told : Done) → Enters g old known (Ok None) new
+    pub tries-full : (told : Done) → Enters stored old known (Ok None) new
         → ((devices : Devices) → Gives told (full (state_of new devices)))
-        → Tries g old (λ state. addition state.devices known (full state) (done state)) (Ok told) new
+        → Tries stored old (λ state. addition state.devices known (full state) (done state)) (Ok told) new
     tries-full told enters gives =
         tries-registry old new _ _ _ enters.alone
         (λ devices (is, keeps).
@@ -397,16 +395,16 @@ module _ {S : Type 0} (g : Ghosts S) where
         (gives-before old new told full devices enters.alone.same (gives devices), keeps))
 
     -- there is no memory to tell it
-    pub tries-untold : (cause : told.Cause) → Enters g old known (Ok None) new
-        → Tries g old (λ state. addition state.devices known (full state) (done state)) (Err (Before cause)) new
+    pub tries-untold : (cause : told.Cause) → Enters stored old known (Ok None) new
+        → Tries stored old (λ state. addition state.devices known (full state) (done state)) (Err (Before cause)) new
     tries-untold cause enters =
         tries-registry old new _ _ _ enters.alone
         (λ devices (is, keeps).
         let all = adds devices in (addition-need devices known _ _ all.full_needs all.done_needs, keeps))
 
-    pub tries-entered : (committed : Committed) (told : Done) → Enters g old known (Ok (Some committed)) new
+    pub tries-entered : (committed : Committed) (told : Done) → Enters stored old known (Ok (Some committed)) new
         → ((devices : Devices) → Gives told (done (state_of new devices)))
-        → Tries g old (λ state. addition state.devices known (full state) (done state)) (Ok told) new
+        → Tries stored old (λ state. addition state.devices known (full state) (done state)) (Ok told) new
     tries-entered committed told enters gives =
         tries-registry old new _ _ _ enters.alone
         (λ devices (is, commits).
@@ -415,8 +413,8 @@ module _ {S : Type 0} (g : Ghosts S) where
 
   module _ (old new : HandlerValue S) (line : TeachLine) (effect : State → Effect)
       (erases : (devices : Devices) → Drops line.id (effect (state_of old devices))) where
-    pub tries-unerased : (refusal : Refusal) → Erases g old line (Err refusal) new
-        → Tries g old effect (Err refusal) new
+    pub tries-unerased : (refusal : Refusal) → Erases stored old line (Err refusal) new
+        → Tries stored old effect (Err refusal) new
     tries-unerased refusal erased =
         tries-registry old new _ _ _ erased.alone
         (λ devices.
@@ -424,9 +422,9 @@ module _ {S : Type 0} (g : Ghosts S) where
         refused-comes old.registry new.registry devices (effect (state_of old devices)) (forgotten line.id) refusal
         all.needs all.forgets)
 
-    pub tries-erased : (committed : Committed) (told : Done) → Erases g old line (Ok committed) new
+    pub tries-erased : (committed : Committed) (told : Done) → Erases stored old line (Ok committed) new
         → ((devices : Devices) → Gives told (effect (state_of new devices)))
-        → Tries g old effect (Ok told) new
+        → Tries stored old effect (Ok told) new
     tries-erased committed told erased gives =
         tries-registry old new _ _ _ erased.alone
         (λ devices commits.
@@ -434,29 +432,29 @@ module _ {S : Type 0} (g : Ghosts S) where
         (gives-before old new told effect devices erased.alone.same (gives devices), commits))
 
   -- an order's telegram is sent, or it is told why there is none
-  pub telegram-comes : (old new : Held S) (devices : Devices) (asked : Bool)
+  pub telegram-comes : (old new : S) (devices : Devices) (asked : Bool)
       (telegram : Option (Result Telegram OrderFault)) (done : Done) → Gives done (telegram_sent asked telegram)
-      → Keeps (state g old) (state g new) devices → Comes g old new devices (telegram_sent asked telegram) (Ok done)
+      → Keeps (stored old) (stored new) devices → Comes stored old new devices (telegram_sent asked telegram) (Ok done)
   telegram-comes old new devices asked (Some (Ok t)) done gives keeps = (gives, keeps)
   telegram-comes old new devices asked (Some (Err fault)) done gives keeps = (gives, keeps)
   telegram-comes old new devices asked None done gives keeps = (gives, keeps)
 
   -- the window is opened, or the profile is not supported
-  pub opens-comes : (old new : Held S) (devices : Devices) (eep : Eep) (done : Done)
-      → Gives done (if_supported eep (sets (LearnAs eep))) → Keeps (state g old) (state g new) devices
-      → Comes g old new devices (if_supported eep (sets (LearnAs eep))) (Ok done)
+  pub opens-comes : (old new : S) (devices : Devices) (eep : Eep) (done : Done)
+      → Gives done (if_supported eep (sets (LearnAs eep))) → Keeps (stored old) (stored new) devices
+      → Comes stored old new devices (if_supported eep (sets (LearnAs eep))) (Ok done)
   opens-comes old new devices eep done gives keeps =
       one (supported eep) gives
     where
       one : (b : Bool) → let e : Effect = if b then sets (LearnAs eep) else denied error.UnsupportedProfile in
-          Gives done e → Comes g old new devices e (Ok done)
+          Gives done e → Comes stored old new devices e (Ok done)
       one true gives = (gives, keeps)
       one false gives = (gives, keeps)
 
   -- an order behind a line
   pub tries-order : (old new : HandlerValue S) (line : List ℕ) (r : Result Done Refusal)
       (order : Result Order OrderFault) → length line ≤ longest_line → order_of line ≡ order
-      → Tries g old (λ state. order_effect state order) r new → Tries g old (λ state. line_effect state line) r new
+      → Tries stored old (λ state. order_effect state order) r new → Tries stored old (λ state. line_effect state line) r new
   tries-order old new line r order short is tried =
       tries-same old new (λ state. line_effect state line) (λ state. order_effect state order) r
       (λ devices. rw (le-ltb longest_line (length line) short, is) refl) tried
@@ -464,14 +462,14 @@ module _ {S : Type 0} (g : Ghosts S) where
   -- ---- an item that was tried is handled
 
   -- a change that is committed, if any
-  made-now : (old new : Held S) (devices : Devices) (change : Option Change) → IsMade g old new devices change
-      → HasDevices (state g new) (with_change devices change)
+  made-now : (old new : S) (devices : Devices) (change : Option Change) → IsMade stored old new devices change
+      → HasDevices (stored new) (with_change devices change)
   made-now old new devices None keeps = keeps.now
   made-now old new devices (Some change) commits = commits.now
 
-  made-safe : (old new : Held S) (devices : Devices) (change : Option Change) → IsMade g old new devices change
-      → (left : Devices) → MayFind (state g new) left
-      → Safe (MayFind (state g old)) (told nothing_left devices change) left
+  made-safe : (old new : S) (devices : Devices) (change : Option Change) → IsMade stored old new devices change
+      → (left : Devices) → MayFind (stored new) left
+      → Safe (MayFind (stored old)) (told nothing_left devices change) left
   made-safe old new devices None keeps left may = inr (refl, keeps.stop left may)
   made-safe old new devices (Some change) commits left may = inl (inl (commits.stop left may))
 
@@ -479,8 +477,8 @@ module _ {S : Type 0} (g : Ghosts S) where
   at_write-went : (old new : HandlerValue S) (start : State) (item : Item) (cause : Cause) (change : Option Change)
       → change_of start item ≡ change → new.base ≡ start.base → new.mode ≡ start.mode
       → new.counts ≡ (refused start).counts
-      → IsPending g old.registry new.registry start.devices (needs start item) change
-      → Went g old start (item ∷ []) (said (cause_text cause) ∷ []) new
+      → IsPending stored old.registry new.registry start.devices (needs start item) change
+      → Went stored old start (item ∷ []) (said (cause_text cause) ∷ []) new
   at_write-went old new start item cause None asks base mode counts (need, keeps) = record {
     fates = Refused cause ∷ [];
     last = refused start;
@@ -493,7 +491,7 @@ module _ {S : Type 0} (g : Ghosts S) where
     last = refused start;
     run = (subst (λ o. IsSome o) (sym asks) refl, refl, refl);
     at = (base, mode, pends.now, counts);
-    stop = λ left may. subst (λ o. Safe (MayFind (state g old.registry)) (pending nothing_left start.devices o) left)
+    stop = λ left may. subst (λ o. Safe (MayFind (stored old.registry)) (pending nothing_left start.devices o) left)
         (sym asks)
         (elim (pends.stop left may) [ inl before ↦ inr (refl, before) | inr is ↦ inl (inl is) ]);
   }
@@ -502,8 +500,8 @@ module _ {S : Type 0} (g : Ghosts S) where
       → new.base ≡ start.base
       → new.mode ≡ mode_from start.mode r
       → new.counts ≡ counts_from start.counts r
-      → Comes g old.registry new.registry start.devices (effect start item) r
-      → Went g old start (item ∷ []) (answer_from r ∷ []) new
+      → Comes stored old.registry new.registry start.devices (effect start item) r
+      → Went stored old start (item ∷ []) (answer_from r ∷ []) new
   comes-went old new start item (Ok done) base mode counts ((says, counted, sets), made) = record {
     fates = Taken ∷ [];
     last = state_after start item;
@@ -538,11 +536,11 @@ module _ {S : Type 0} (g : Ghosts S) where
 
   pub tries-handles : (old mid new : HandlerValue S) (item : Item) (r : Result Done Refusal) (answer : Answer)
       → Settles mid r answer new
-      → Tries g old (λ state. effect state item) r mid
-      → Handles g old (item ∷ []) (answer ∷ []) new
+      → Tries stored old (λ state. effect state item) r mid
+      → Handles stored old (item ∷ []) (answer ∷ []) new
   tries-handles old mid new item r answer settles tried =
       let Over =
-      λ (registry : Held S). Tries g old (λ state. effect state item) r (record mid { registry = registry }) in
+      λ (registry : S). Tries stored old (λ state. effect state item) r (record mid { registry = registry }) in
       let over : Over new.registry = subst Over (sym settles.registry) tried in
       record {
         base = settles.base ∙ over.base;
@@ -550,9 +548,9 @@ module _ {S : Type 0} (g : Ghosts S) where
         registries = over.registries;
         went = λ honest start at.
             let come = over.comes honest start.devices at.2 in
-            let Here = λ (s : State). Comes g old.registry new.registry start.devices (effect s item) r in
+            let Here = λ (s : State). Comes stored old.registry new.registry start.devices (effect s item) r in
             let here : Here start = subst Here (same old start at.0 at.1 at.3) come in
-            subst (λ a. Went g old start (item ∷ []) (a ∷ []) new) (sym settles.answer_is)
+            subst (λ a. Went stored old start (item ∷ []) (a ∷ []) new) (sym settles.answer_is)
             (comes-went old new start item r (settles.base ∙ tried.base ∙ at.0)
             (settles.mode ∙ ap (λ m. mode_from m r) (tried.mode ∙ at.1))
             (settles.counts ∙ ap (λ c. counts_from c r) (tried.counts ∙ at.3)) here);

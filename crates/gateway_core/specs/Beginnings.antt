@@ -1,8 +1,6 @@
 -- How the gateway's calls make a life: from the open that begins it to the stop that ends it.
 use Rattle.std.specs.Prelude.{◌≡◌, ℕ, List, Option, Some, None}
-use Rattle.sqlite.specs.Held.{Held, state}
-use Rattle.sqlite.specs.State.{HasCleanDisk}
-use Rattle.sqlite_trees.specs.declared.store.Store.{Ghosts}
+use Rattle.sqlite.specs.State.{State as Stored, HasCleanDisk}
 use Rattle.device_registry.specs.Devices.{Devices, Change}
 use Rattle.device_registry.specs.Holding.{HasDevices, MayFind, MayLeave}
 use Rattle.gateway_core.specs.Step.{State, Item, Answer, change_of}
@@ -26,27 +24,27 @@ pub record LeavesALife (base : ℕ) (found : Devices) (items : List Item) (answe
     left = left;
   })
 
-module _ {S : Type 0} (g : Ghosts S) where
+module _ {S : Type 0} (stored : S → Stored) where
   -- a life begins: the gateway knows what was found, and a stop leaves that and nothing else
   pub record BeginsAt (v : HandlerValue S) (found : Devices) : Type 0 where
-    pub at : IsAt g v (begun v.base found)
-    pub stop : (left : Devices) → MayFind (state g v.registry) left → left ≡ found
+    pub at : IsAt stored v (begun v.base found)
+    pub stop : (left : Devices) → MayFind (stored v.registry) left → left ≡ found
 
   -- whatever is handled from there on, what a stop leaves then is what a life may leave
   abbrev pub CallsLeaveALife : Type 0
   CallsLeaveALife = (old new : HandlerValue S) (found : Devices) (items : List Item) (answers : List Answer)
-      → HasCleanDisk (state g new.registry) → BeginsAt old found → Handles g old items answers new
-      → (left : Devices) → MayFind (state g new.registry) left → LeavesALife old.base found items answers None left
+      → HasCleanDisk (stored new.registry) → BeginsAt old found → Handles stored old items answers new
+      → (left : Devices) → MayFind (stored new.registry) left → LeavesALife old.base found items answers None left
 
   -- and so it is within the next item, from the moment that its write is tried: while it runs, where it is refused, and
   -- once it is committed and not yet answered
   abbrev pub StopsLeaveALife : Type 0
   StopsLeaveALife =
-      (old new : HandlerValue S) (within : Held S) (found : Devices) (items : List Item) (answers : List Answer)
+      (old new : HandlerValue S) (within : S) (found : Devices) (items : List Item) (answers : List Answer)
       (item : Item)
-      (change : Change) → HasCleanDisk (state g within) → HasCleanDisk (state g new.registry)
-      → BeginsAt old found → Handles g old items answers new
-      → ((start : State) → IsAt g new start → change_of start item ≡ Some change)
-      → ((devices : Devices) → HasDevices (state g new.registry) devices
-      → MayLeave (state g new.registry) (state g within) change devices)
-      → (left : Devices) → MayFind (state g within) left → LeavesALife old.base found items answers (Some item) left
+      (change : Change) → HasCleanDisk (stored within) → HasCleanDisk (stored new.registry)
+      → BeginsAt old found → Handles stored old items answers new
+      → ((start : State) → IsAt stored new start → change_of start item ≡ Some change)
+      → ((devices : Devices) → HasDevices (stored new.registry) devices
+      → MayLeave (stored new.registry) (stored within) change devices)
+      → (left : Devices) → MayFind (stored within) left → LeavesALife old.base found items answers (Some item) left

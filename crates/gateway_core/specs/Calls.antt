@@ -1,7 +1,6 @@
 -- What a gateway's value is, how each call moves it, and what all calls together do.
 use Rattle.std.specs.Prelude.{◌≡◌, ℕ, List, [], ◌∷◌, ◌++◌, Option, Some, None}
-use Rattle.sqlite.specs.Held.{Held}
-use Rattle.sqlite_trees.specs.declared.store.Store.{Ghosts}
+use Rattle.sqlite.specs.State.{State as Stored}
 use Rattle.esp3_frames.specs.Packet.{Packet}
 use Rattle.esp3_frames.specs.Frames.{packets_in, rest_of}
 use Rattle.teach_in.specs.declared.mode.Mode.TheVariants.{Closed}
@@ -17,11 +16,11 @@ pub record Value (S : Type 0) : Type 0 where
   pub rest : List ℕ
 
 -- a handler with this base ID over this registry, which learns from nobody and has counted nothing
-abbrev pub new_handler : {S : Type 0} → ℕ → Held S → HandlerValue S
+abbrev pub new_handler : {S : Type 0} → ℕ → S → HandlerValue S
 new_handler base registry = record { base = base; mode = Closed; counts = none_counted; registry = registry }
 
 -- a gateway with such a handler, to which no byte has come
-abbrev pub new_value : {S : Type 0} → ℕ → Held S → Value S
+abbrev pub new_value : {S : Type 0} → ℕ → S → Value S
 new_value base registry = record { handler = new_handler base registry; ready = []; rest = [] }
 
 -- a call, with what it was given and what it answered
@@ -30,7 +29,7 @@ pub data Call : Type 0 where
   Next : (answer : Option Answer) → Call
   Order : (line : List ℕ) (answer : Answer) → Call
 
-module _ {S : Type 0} (g : Ghosts S) where
+module _ {S : Type 0} (stored : S → Stored) where
   -- the call takes the gateway from old to new
   abbrev pub Moves : Value S → Call → Value S → Type 0
   -- a byte goes behind the rest, which is framed anew; this is allowed where no packet waits
@@ -40,13 +39,13 @@ module _ {S : Type 0} (g : Ghosts S) where
   -- the first packet that waits is handled
   Moves old (Next (Some answer)) new =
       (packet : Packet) × (old.ready ≡ packet ∷ new.ready) × (new.rest ≡ old.rest)
-      × Handles g old.handler (Received packet ∷ []) (answer ∷ []) new.handler
+      × Handles stored old.handler (Received packet ∷ []) (answer ∷ []) new.handler
   -- no packet waits
   Moves old (Next None) new = (old.ready ≡ []) × (new ≡ old)
   -- a line is handled
   Moves old (Order line answer) new =
       (new.ready ≡ old.ready) × (new.rest ≡ old.rest)
-      × Handles g old.handler (Ordered line ∷ []) (answer ∷ []) new.handler
+      × Handles stored old.handler (Ordered line ∷ []) (answer ∷ []) new.handler
 
   -- the calls take the gateway from old to new, one after another
   abbrev pub AllMove : Value S → List Call → Value S → Type 0
@@ -81,15 +80,15 @@ AreItems calls packets items = ⊥
 -- The packets handled, and behind them those that wait, are the packets of the bytes given. So those handled are a
 -- first part of these, and all of them where none waits. The answers are a run on packets and lines, in the order of
 -- the calls.
-pub record IsARun {S : Type 0} (g : Ghosts S) (old : Value S) (calls : List Call) (new : Value S) : Type 0 where
+pub record IsARun {S : Type 0} (stored : S → Stored) (old : Value S) (calls : List Call) (new : Value S) : Type 0 where
   pub handled : List Packet
   pub items : List Item
   pub packets : packets_in (bytes_of calls) ≡ handled ++ new.ready
   pub rest : rest_of (bytes_of calls) ≡ new.rest
   pub in_order : AreItems calls handled items
-  pub run : Handles g old.handler items (answers_of calls) new.handler
+  pub run : Handles stored old.handler items (answers_of calls) new.handler
 
 -- whatever is called of a new gateway
-abbrev pub CallsAreARun : {S : Type 0} → Ghosts S → Type 0
-CallsAreARun {S} g = (base : ℕ) (registry : Held S) (calls : List Call) (new : Value S) →
-    AllMove g (new_value base registry) calls new → IsARun g (new_value base registry) calls new
+abbrev pub CallsAreARun : {S : Type 0} → (S → Stored) → Type 0
+CallsAreARun {S} stored = (base : ℕ) (registry : S) (calls : List Call) (new : Value S) →
+    AllMove stored (new_value base registry) calls new → IsARun stored (new_value base registry) calls new

@@ -1,7 +1,6 @@
--- Codes of the values that contracts see, as the checker wants them of a type with a store in it.
+-- Codes of the values that contracts see, as the checker wants them of a type with another in it.
 use Rattle.std.specs.Prelude.{◌≡◌, ℕ, List, Option, Some, None, refl}
 use Rattle.std.specs.Coded.{Coded, code_by, coded×, coded_list, coded_option, coded_ℕ}
-use Rattle.sqlite.specs.Held.{Held, held_code}
 use Rattle.erp1_telegrams.specs.declared.eep.Eep.{Eep}
 use Rattle.teach_in.specs.declared.mode.Mode.{Mode}
 use Rattle.teach_in.specs.declared.mode.Mode.TheVariants.{Closed, Learn, LearnAnswer, LearnAs}
@@ -47,9 +46,9 @@ mode_code =
     mode_back
 
 abbrev pub handler_code : {S : Type 0} → Coded S → Coded (HandlerValue S)
-handler_code {S} store =
-    code_by (ℕ × (Mode × (Counts × Held S)))
-    (coded× coded_ℕ (coded× mode_code (coded× counts_code (held_code store))))
+handler_code {S} devices =
+    code_by (ℕ × (Mode × (Counts × S)))
+    (coded× coded_ℕ (coded× mode_code (coded× counts_code devices)))
     (λ v. (v.base, (v.mode, (v.counts, v.registry))))
     (λ p. record { base = p.0; mode = p.1.0; counts = p.1.1.0; registry = p.1.1.1 }) (λ _. refl)
 
@@ -60,8 +59,8 @@ packet_code =
     (λ p. record { kind = p.0; body = p.1.0; opt = p.1.1 }) (λ _. refl)
 
 abbrev pub value_code : {S : Type 0} → Coded S → Coded (Value S)
-value_code {S} store =
+value_code {S} devices =
     code_by (HandlerValue S × (List Packet × List ℕ))
-    (coded× (handler_code store) (coded× (coded_list packet_code) (coded_list coded_ℕ)))
+    (coded× (handler_code devices) (coded× (coded_list packet_code) (coded_list coded_ℕ)))
     (λ v. (v.handler, (v.ready, v.rest)))
     (λ p. record { handler = p.0; ready = p.1.0; rest = p.1.1 }) (λ _. refl)

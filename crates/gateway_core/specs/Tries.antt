@@ -1,8 +1,6 @@
 -- For private clauses: what comes of an item that is tried.
 use Rattle.std.specs.Prelude.{◌≡◌, ℕ, Bool, true, false, IsTrue, IsSome, Option, Some, None, Result, Ok, Err}
-use Rattle.sqlite.specs.Held.{Held, state}
-use Rattle.sqlite.specs.State.{HasCleanDisk}
-use Rattle.sqlite_trees.specs.declared.store.Store.{Ghosts}
+use Rattle.sqlite.specs.State.{State as Stored, HasCleanDisk}
 use Rattle.learned_devices.specs.declared.Device.{Device}
 use Rattle.device_registry.specs.Devices.{Devices, Change, is_full, learned, forgotten}
 use Rattle.device_registry.specs.Holding.{HasDevices, AreRegistries, Keeps, Commits, Pends}
@@ -36,34 +34,34 @@ Gives done effect =
 abbrev pub state_of : {S : Type 0} → HandlerValue S → Devices → State
 state_of v devices = record { base = v.base; mode = v.mode; counts = v.counts; devices = devices }
 
-module _ {S : Type 0} (g : Ghosts S) (old new : Held S) (devices : Devices) where
+module _ {S : Type 0} (stored : S → Stored) (old new : S) (devices : Devices) where
   -- the change, if any, is committed
   abbrev pub IsMade : Option Change → Type 0
-  IsMade None = Keeps (state g old) (state g new) devices
-  IsMade (Some change) = Commits (state g new) change devices
+  IsMade None = Keeps (stored old) (stored new) devices
+  IsMade (Some change) = Commits (stored new) change devices
 
   -- what takes memory or the store was refused at its write; where nothing was to be written, nothing is
   abbrev pub IsPending : Bool → Option Change → Type 0
-  IsPending need None = IsTrue need × Keeps (state g old) (state g new) devices
-  IsPending need (Some change) = Pends (state g old) (state g new) change devices
+  IsPending need None = IsTrue need × Keeps (stored old) (stored new) devices
+  IsPending need (Some change) = Pends (stored old) (stored new) change devices
 
   -- the effect comes, or it is refused
   abbrev pub Comes : Effect → Result Done Refusal → Type 0
   Comes effect (Ok done) = Gives done effect × IsMade effect.change
-  Comes effect (Err (Before cause)) = IsTrue effect.need × Keeps (state g old) (state g new) devices
+  Comes effect (Err (Before cause)) = IsTrue effect.need × Keeps (stored old) (stored new) devices
   Comes effect (Err (AtWrite cause)) = IsPending effect.need effect.change
 
 -- the effect, by what the handler knows, comes or is refused; it is not counted yet, nor is its mode set
-pub record Tries {S : Type 0} (g : Ghosts S) (old : HandlerValue S) (effect : State → Effect)
+pub record Tries {S : Type 0} (stored : S → Stored) (old : HandlerValue S) (effect : State → Effect)
     (result : Result Done Refusal) (new : HandlerValue S) : Type 0 where
   pub base : new.base ≡ old.base
   pub mode : new.mode ≡ old.mode
   pub counts : new.counts ≡ old.counts
-  pub clean : HasCleanDisk (state g new.registry) → HasCleanDisk (state g old.registry)
-  pub registries : HasCleanDisk (state g new.registry) → AreRegistries (state g old.registry).may_leave
-      → AreRegistries (state g new.registry).may_leave
-  pub comes : HasCleanDisk (state g new.registry) → (devices : Devices) → HasDevices (state g old.registry) devices
-      → Comes g old.registry new.registry devices (effect (state_of old devices)) result
+  pub clean : HasCleanDisk (stored new.registry) → HasCleanDisk (stored old.registry)
+  pub registries : HasCleanDisk (stored new.registry) → AreRegistries (stored old.registry).may_leave
+      → AreRegistries (stored new.registry).may_leave
+  pub comes : HasCleanDisk (stored new.registry) → (devices : Devices) → HasDevices (stored old.registry) devices
+      → Comes stored old.registry new.registry devices (effect (state_of old devices)) result
 
 -- ---- a device that is entered or erased
 
@@ -80,13 +78,13 @@ IsCommittedAs line committed =
     × (committed.line ≡ text (TeachOf line))
 
 -- the registry alone has changed, and this is so of the devices that it had
-pub record RegistryAlone {S : Type 0} (g : Ghosts S) (old : HandlerValue S) (IsSo : Devices → Type 0)
+pub record RegistryAlone {S : Type 0} (stored : S → Stored) (old : HandlerValue S) (IsSo : Devices → Type 0)
     (new : HandlerValue S) : Type 0 where
   pub same : new ≡ record old { registry = new.registry }
-  pub clean : HasCleanDisk (state g new.registry) → HasCleanDisk (state g old.registry)
-  pub registries : HasCleanDisk (state g new.registry) → AreRegistries (state g old.registry).may_leave
-      → AreRegistries (state g new.registry).may_leave
-  pub is_so : HasCleanDisk (state g new.registry) → (devices : Devices) → HasDevices (state g old.registry) devices
+  pub clean : HasCleanDisk (stored new.registry) → HasCleanDisk (stored old.registry)
+  pub registries : HasCleanDisk (stored new.registry) → AreRegistries (stored old.registry).may_leave
+      → AreRegistries (stored new.registry).may_leave
+  pub is_so : HasCleanDisk (stored new.registry) → (devices : Devices) → HasDevices (stored old.registry) devices
       → IsSo devices
 
 abbrev pub WasEntered : Device → Result (Option Committed) Refusal → Type 0
@@ -97,35 +95,35 @@ abbrev pub WasErased : TeachLine → Result Committed Refusal → Type 0
 WasErased line (Ok committed) = IsCommittedAs line committed
 WasErased line result = Unit {0}
 
-module _ {S : Type 0} (g : Ghosts S) (old new : Held S) (devices : Devices) where
+module _ {S : Type 0} (stored : S → Stored) (old new : S) (devices : Devices) where
   -- what is refused leaves what was known, and perhaps the change, if its write was tried
   abbrev pub IsRefused : Change → Refusal → Type 0
-  IsRefused change (Before cause) = Keeps (state g old) (state g new) devices
-  IsRefused change (AtWrite cause) = Pends (state g old) (state g new) change devices
+  IsRefused change (Before cause) = Keeps (stored old) (stored new) devices
+  IsRefused change (AtWrite cause) = Pends (stored old) (stored new) change devices
 
   -- a device is committed, or there is no room, or it is refused
   abbrev pub IsEntering : Device → Result (Option Committed) Refusal → Type 0
   IsEntering known (Ok (Some committed)) =
-      (is_full devices known.id ≡ false) × Commits (state g new) (learned known) devices
-  IsEntering known (Ok None) = (is_full devices known.id ≡ true) × Keeps (state g old) (state g new) devices
+      (is_full devices known.id ≡ false) × Commits (stored new) (learned known) devices
+  IsEntering known (Ok None) = (is_full devices known.id ≡ true) × Keeps (stored old) (stored new) devices
   IsEntering known (Err refusal) = IsRefused (learned known) refusal
 
   -- that a sender is forgotten is committed, or it is refused
   abbrev pub IsErasing : ℕ → Result Committed Refusal → Type 0
-  IsErasing id (Ok committed) = Commits (state g new) (forgotten id) devices
+  IsErasing id (Ok committed) = Commits (stored new) (forgotten id) devices
   IsErasing id (Err refusal) = IsRefused (forgotten id) refusal
 
 -- a device is entered in the registry
-pub record Enters {S : Type 0} (g : Ghosts S) (old : HandlerValue S) (known : Device)
+pub record Enters {S : Type 0} (stored : S → Stored) (old : HandlerValue S) (known : Device)
     (result : Result (Option Committed) Refusal) (new : HandlerValue S) : Type 0 where
   pub told : WasEntered known result
-  pub alone : RegistryAlone g old (λ devices. IsEntering g old.registry new.registry devices known result) new
+  pub alone : RegistryAlone stored old (λ devices. IsEntering stored old.registry new.registry devices known result) new
 
 -- a sender is erased there, which this line tells
-pub record Erases {S : Type 0} (g : Ghosts S) (old : HandlerValue S) (line : TeachLine)
+pub record Erases {S : Type 0} (stored : S → Stored) (old : HandlerValue S) (line : TeachLine)
     (result : Result Committed Refusal) (new : HandlerValue S) : Type 0 where
   pub told : WasErased line result
-  pub alone : RegistryAlone g old (λ devices. IsErasing g old.registry new.registry devices line.id result) new
+  pub alone : RegistryAlone stored old (λ devices. IsErasing stored old.registry new.registry devices line.id result) new
 
 -- ---- what is answered and known
 

@@ -1,19 +1,18 @@
 //! The gateway.
 ghost use Rattle.std.specs.Prelude.{◌≡◌, ◌≢◌, ◌↔◌, [], IfOk, MatchBool, false};
 ghost use Rattle.std.specs.Option.{option_map};
-ghost use Rattle.sqlite.specs.Held.{state};
 ghost use Rattle.esp3_frames.specs.Framing.{MayBecomePacket};
 ghost use Rattle.device_registry.specs.Holding.{HandsOn};
 ghost use Rattle.erp1_telegrams.specs.Address;
 ghost use Rattle.gateway_core.specs.Calls.{Byte as ByteCall, Moves, Next as NextCall, Order as OrderCall, new_value};
 ghost use Rattle.gateway_core.specs.Replies.{answer_of};
 
+use crate::device_store::DeviceStore;
 use crate::handler::Handler;
 use crate::reply::Reply;
-use device_registry::Registry;
+use device_registry::{Registry, RegistryOver, SqlStore};
 use erp1_telegrams::is_base;
 use esp3_resync::{Framer, PacketBuf};
-use sqlite::{Alter, Connection};
 use std::alloc::{AllocError, Global};
 use std::marker::Model;
 
@@ -36,16 +35,16 @@ impl From<AllocError> for StartFault {
     }
 }
 
-/// A gateway: what it knows, the packets that wait to be handled, and the bytes behind them, of which one more packet
-/// may come.
+/// A gateway over what keeps its devices: what it knows, the packets that wait to be handled, and the bytes behind them,
+/// of which one more packet may come.
 #[derive(Drop)]
-pub struct Gateway<S: Alter> {
+pub struct GatewayOver<S> {
     pub(crate) handler: Handler<S>,
     framer: Framer,
     packet: PacketBuf,
 }
 
-impl<S: Alter> Model for Gateway<S> {
+impl<S> Model for GatewayOver<S> {
     ghost use Rattle.gateway_core.specs.Calls.{Value as GatewayValue};
     ghost use Rattle.gateway_core.specs.Codes.{value_code};
 
@@ -57,17 +56,20 @@ impl<S: Alter> Model for Gateway<S> {
         record { handler = gateway.handler; ready = gateway.framer.ready; rest = gateway.framer.rest } };
 }
 
-impl<S: Alter + Drop> Gateway<S> {
+/// A gateway over a registry.
+pub type Gateway<S> = GatewayOver<Registry<S>>;
+
+impl<S: DeviceStore + Drop> GatewayOver<S> {
     /// A gateway over this registry, for a radio module with this base ID. An ID that is no base ID is refused first;
     /// then that there is no memory for the framer.
-    pub fn new(alloc: Global, registry: Registry<S>, base: u32) -> Result<Gateway<S>, StartFault>
+    pub fn new(alloc: Global, registry: S, base: u32) -> Result<GatewayOver<S>, StartFault>
         ensures bad_base { (result ≡ Err StartFault.BadBase) ↔ (Address.is_base base ≡ false) }
         ensures ok { IfOk result (λ gateway. gateway ≡ new_value base registry) }
     {
         if !is_base(base) {
             return Err(StartFault::BadBase);
         }
-        Ok(Gateway {
+        Ok(GatewayOver {
             handler: Handler::new(alloc, registry, base),
             framer: Framer::new(alloc)?,
             packet: PacketBuf::new(alloc)?,
@@ -75,7 +77,7 @@ impl<S: Alter + Drop> Gateway<S> {
     }
 }
 
-impl<S: Alter> Gateway<S> {
+impl<S: DeviceStore> GatewayOver<S> {
     /// Whether a packet waits to be handled. Of the bytes behind it one more may come.
     pub fn is_ready(&self) -> bool
         ensures ready { MatchBool result (self.now.ready ≢ []) (self.now.ready ≡ []) }
@@ -87,14 +89,14 @@ impl<S: Alter> Gateway<S> {
     /// Takes the next byte of the serial line. One byte can make several packets ready. It takes no memory.
     pub fn byte(&mut self, b: u8)
         requires { self.old.ready ≡ [] }
-        ensures { Moves S.Store self.old (ByteCall b) self.new }
+        ensures { Moves S.stored self.old (ByteCall b) self.new }
     {
         self.framer.push(b);
     }
 
     /// Handles the first packet that waits. `None` says that none does.
     pub fn next(&mut self) -> Option<Reply>
-        ensures { Moves S.Store self.old (NextCall (option_map answer_of result)) self.new }
+        ensures { Moves S.stored self.old (NextCall (option_map answer_of result)) self.new }
     {
         if !self.framer.take(&mut self.packet) {
             return None;
@@ -105,18 +107,20 @@ impl<S: Alter> Gateway<S> {
 
     /// Handles a line of the desk, without its line end.
     pub fn order(&mut self, line: &[u8]) -> Reply
-        ensures { Moves S.Store self.old (OrderCall line.now (answer_of result)) self.new }
+        ensures { Moves S.stored self.old (OrderCall line.now (answer_of result)) self.new }
     {
         self.handler.line(line)
     }
+}
 
+impl<C: SqlStore> GatewayOver<RegistryOver<C>> {
     /// Hands on the connection of the registry, as it is, with no open transaction. What the gateway knows of devices
     /// is committed.
-    pub fn close(self) -> Connection<S>
+    pub fn close(self) -> C
         ensures same { result ≡ self.handler.registry }
-        ensures hands_on { HandsOn (state S.Store self.handler.registry) }
+        ensures hands_on { HandsOn (C.state self.handler.registry) }
     {
-        let Gateway { handler, .. } = self;
-        handler.close()
+        let GatewayOver { handler, .. } = self;
+        handler.into_registry().close()
     }
 }

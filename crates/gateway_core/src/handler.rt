@@ -1,9 +1,7 @@
 //! What the gateway knows, and how it handles one item.
 ghost use Rattle.std.specs.Prelude.{◌≡◌, true, [], ◌∷◌};
-ghost use Rattle.sqlite.specs.Held.{state};
 ghost use Rattle.erp1_telegrams.specs.Address.{is_base};
 ghost use Rattle.esp3_frames.specs.Outcome.{packet_of};
-ghost use Rattle.device_registry.specs.Holding.{HandsOn};
 ghost use Rattle.gateway_core.specs.Calls.{new_handler};
 ghost use Rattle.gateway_core.specs.Handling.{Handles};
 ghost use Rattle.gateway_core.specs.Replies.{answer_of};
@@ -17,13 +15,12 @@ mod packets;
 mod sending;
 mod teaching;
 
+use crate::device_store::DeviceStore;
 use crate::handler::done::{Done, refused};
 use crate::refusal::Refusal;
 use crate::reply::Reply;
-use device_registry::Registry;
 use esp3_frames::PacketRef;
 use json_lines::{Count, Counts};
-use sqlite::{Alter, Connection};
 use std::alloc::Global;
 use std::marker::Model;
 use teach_in::Mode;
@@ -31,15 +28,15 @@ use teach_in::Mode;
 /// What the gateway knows: the base ID of its radio module, the mode in which it learns, what it has counted, and the
 /// registry of the learned devices.
 #[derive(Drop)]
-pub struct Handler<S: Alter> {
+pub struct Handler<S> {
     alloc: Global,
     base: u32,
     mode: Mode,
     counts: Counts,
-    pub(crate) registry: Registry<S>,
+    pub(crate) registry: S,
 }
 
-impl<S: Alter> Model for Handler<S> {
+impl<S> Model for Handler<S> {
     ghost use Rattle.std.specs.Prelude.{◌≡◌, true};
     ghost use Rattle.erp1_telegrams.specs.Address.{is_base};
     ghost use Rattle.gateway_core.specs.Codes.{handler_code};
@@ -59,9 +56,9 @@ impl<S: Alter> Model for Handler<S> {
     ghost invariant = { λ handler. is_base handler.base ≡ true };
 }
 
-impl<S: Alter> Handler<S> {
+impl<S: DeviceStore> Handler<S> {
     /// Knows what the registry holds, learns from nobody, and has counted nothing.
-    pub fn new(alloc: Global, registry: Registry<S>, base: u32) -> Handler<S>
+    pub fn new(alloc: Global, registry: S, base: u32) -> Handler<S>
         requires { is_base base ≡ true }
         ensures { result ≡ new_handler base registry }
     {
@@ -74,13 +71,12 @@ impl<S: Alter> Handler<S> {
         }
     }
 
-    /// Hands on the connection of the registry.
-    pub fn close(self) -> Connection<S>
-        ensures same { result ≡ self.registry }
-        ensures hands_on { HandsOn (state S.Store self.registry) }
+    /// Hands on the registry.
+    pub fn into_registry(self) -> S
+        ensures { result ≡ self.registry }
     {
         let Handler { registry, .. } = self;
-        registry.close()
+        registry
     }
 
     // Counts what is done or refused, sets its mode, and answers it.
@@ -110,7 +106,7 @@ impl<S: Alter> Handler<S> {
 
     /// Handles a packet of the serial line.
     pub fn packet(&mut self, packet: &PacketRef<'_>) -> Reply
-        ensures { Handles S.Store self.old (Received (packet_of packet.now) ∷ []) (answer_of result ∷ []) self.new }
+        ensures { Handles S.stored self.old (Received (packet_of packet.now) ∷ []) (answer_of result ∷ []) self.new }
     {
         let tried = self.try_packet(packet);
         self.reply_to(tried)
@@ -118,7 +114,7 @@ impl<S: Alter> Handler<S> {
 
     /// Handles a line of the desk.
     pub fn line(&mut self, line: &[u8]) -> Reply
-        ensures { Handles S.Store self.old (Ordered line.now ∷ []) (answer_of result ∷ []) self.new }
+        ensures { Handles S.stored self.old (Ordered line.now ∷ []) (answer_of result ∷ []) self.new }
     {
         let tried = self.try_line(line);
         self.reply_to(tried)

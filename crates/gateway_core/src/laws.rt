@@ -1,6 +1,5 @@
 //! Laws of the definitions, and of every gateway. Each function does nothing: its contract is the law.
 ghost use Rattle.std.specs.Prelude.{◌≡◌, ℕ, List, [], ◌++◌};
-ghost use Rattle.sqlite.specs.Held.{Held, state};
 ghost use Rattle.esp3_frames.specs.Frames.{packets_in, rest_of};
 ghost use Rattle.device_registry.specs.Holding.{MayFind};
 ghost use Rattle.gateway_core.specs.Beginnings.{CallsLeaveALife, StopsLeaveALife};
@@ -16,9 +15,10 @@ ghost use Rattle.gateway_core.specs.Stops.{SafeJoins};
 ghost use Rattle.gateway_core.specs.Telling.{ChangesAreTold, RadioIsTold, TeachLinesAreTold};
 ghost use Rattle.gateway_core.specs.Windows.{PacketsChangeInWindows};
 
-use crate::gateway::Gateway;
+use crate::device_store::DeviceStore;
+use crate::gateway::GatewayOver;
 use device_registry::laws::devices_are_held;
-use sqlite::Alter;
+use device_registry::{RegistryOver, SqlStore};
 
 /// However the bytes between two lines are cut into pieces, the items are the same.
 pub fn independent_of_cuts()
@@ -34,11 +34,11 @@ pub fn items_in_parts()
 {}
 
 /// Items that are handled, and then others, are handled one after another.
-pub fn handles_join<S: Alter>()
-    ensures nothing { (handler : HandlerValue S) → Handles S.Store handler [] [] handler }
+pub fn handles_join<S: DeviceStore>()
+    ensures nothing { (handler : HandlerValue S) → Handles S.stored handler [] [] handler }
     ensures join { (old mid new : HandlerValue S) (items more : List Item) (answers after : List Answer) →
-        Handles S.Store old items answers mid → Handles S.Store mid more after new
-        → Handles S.Store old (items ++ more) (answers ++ after) new }
+        Handles S.stored old items answers mid → Handles S.stored mid more after new
+        → Handles S.stored old (items ++ more) (answers ++ after) new }
 {}
 
 /// Where the same items are refused, each for the same cause, the answers are the same, be they refused before their
@@ -66,13 +66,13 @@ pub fn taken_are_counted()
 
 /// Whatever is called of a new gateway, in whatever order: the packets handled, and behind them those that wait, are
 /// the packets of the bytes given, and the answers are a run on packets and lines in the order of the calls.
-pub fn calls_are_a_run<S: Alter>()
-    ensures { CallsAreARun S.Store }
+pub fn calls_are_a_run<S: DeviceStore>()
+    ensures { CallsAreARun S.stored }
 {}
 
 /// What is safe for a second list of items, behind what is safe for a first, is safe for both joined.
-pub fn safe_joins<S: Alter>()
-    ensures { (registry : Held S) → SafeJoins (MayFind (state S.Store registry)) }
+pub fn safe_joins<S: DeviceStore>()
+    ensures { (registry : S) → SafeJoins (MayFind (S.stored registry)) }
 {}
 
 /// What is told learned or forgotten is found so by every later life, until an item learns the sender otherwise, or
@@ -125,19 +125,19 @@ pub fn packets_change_in_windows()
 {}
 
 /// What a stop leaves after the calls of a life is what a life may leave.
-pub fn calls_leave_a_life<S: Alter>()
-    ensures { CallsLeaveALife S.Store }
+pub fn calls_leave_a_life<S: DeviceStore>()
+    ensures { CallsLeaveALife S.stored }
 {}
 
 /// What a stop leaves from the moment that the write of the next item is tried, also once it is committed and not yet
 /// answered, is what a life that is stopped in that item may leave.
-pub fn stops_leave_a_life<S: Alter>()
-    ensures { StopsLeaveALife S.Store }
+pub fn stops_leave_a_life<S: DeviceStore>()
+    ensures { StopsLeaveALife S.stored }
 {}
 
 /// Whatever gateway there is knows a state, while the disk has returned what was written and the connection is open.
-pub fn a_state_is_known<S: Alter>(gateway: &Gateway<S>)
-    ensures { KnowsState S.Store gateway.now.handler }
+pub fn a_state_is_known<C: SqlStore>(gateway: &GatewayOver<RegistryOver<C>>)
+    ensures { KnowsState C.state gateway.now.handler }
 {
     devices_are_held(&gateway.handler.registry);
 }

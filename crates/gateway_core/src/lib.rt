@@ -3,6 +3,7 @@
 //! registry, and what becomes of one is told once it is committed.
 #![tactic(auto)]
 
+mod device_store;
 mod gateway;
 mod handler;
 pub mod laws;
@@ -12,7 +13,8 @@ mod reply;
 mod response;
 
 pub use actuator_commands::id_of;
+pub use device_store::DeviceStore;
 pub use erp1_telegrams::is_base;
-pub use gateway::{Gateway, StartFault};
+pub use gateway::{Gateway, GatewayOver, StartFault};
 pub use handler::lines::LONGEST_LINE;
 pub use reply::{Desk, Reply};

@@ -1,19 +1,17 @@
 //! The program.
 ghost use Rattle.std.specs.Prelude.{◌≡◌, true};
-ghost use Rattle.sqlite.specs.Held.{state};
 ghost use Rattle.device_registry.specs.Ready.{IsBetweenTransactions};
 ghost use Rattle.erp1_telegrams.specs.Address;
-ghost use Rattle.gateway_main.specs.Played.{IsIdle};
+ghost use Rattle.engines.specs.Played.{IsIdle};
 
 use crate::command_line::{self, LiveOptions, Options, Task};
-use crate::ending::{Ending, Served, done, status, without_arguments};
-use crate::fault::Fault;
-use crate::living::live;
-use crate::replaying::{RunFault, Summary, replay};
-use crate::starting::start;
 use byte_streams::{OverRead, OverWrite};
-use gateway_core::Gateway;
-use sqlite::{Alter, Connection};
+use device_registry::SqlStore;
+use engines::ending::{Ending, Served, done, status, without_arguments};
+use engines::fault::Fault;
+use engines::{RunFault, Summary, live, replay, start};
+use gateway_core::{DeviceStore, GatewayOver};
+use sqlite::Connection;
 use std::fs::{File, OpenOptions};
 use std::process::ExitCode;
 use std::{env, io};
@@ -60,13 +58,13 @@ fn run(rt: &HostRuntime, options: Options<'_>) -> Result<(), Fault>
 }
 
 /// Does the task by a gateway over a database, and hands the connection back.
-fn serve<S: Alter + Drop>(
+fn serve<C: SqlStore + Drop>(
     rt: &HostRuntime,
-    conn: Connection<S>,
+    conn: C,
     options: Options<'_>,
-) -> Result<(Connection<S>, Served), Fault>
+) -> Result<(C, Served), Fault>
     requires base { Address.is_base options.base ≡ true }
-    requires idle { IsBetweenTransactions (state S.Store conn) }
+    requires idle { IsBetweenTransactions (C.state conn) }
 {
     let mut gateway = start(rt.alloc(), conn, options.base)?;
     let served = match options.task {
@@ -77,9 +75,9 @@ fn serve<S: Alter + Drop>(
 }
 
 /// Replays standard input to standard output.
-fn replay_standard<S: Alter>(
+fn replay_standard<S: DeviceStore>(
     rt: &HostRuntime,
-    gateway: &mut Gateway<S>,
+    gateway: &mut GatewayOver<S>,
 ) -> Result<Summary, RunFault>
     requires { IsIdle gateway.old }
 {
@@ -89,10 +87,10 @@ fn replay_standard<S: Alter>(
 }
 
 /// Opens the serial line, then the desk's file and then the file of the answers, and serves them.
-fn live_on_paths<S: Alter>(
+fn live_on_paths<S: DeviceStore>(
     rt: &HostRuntime,
     options: LiveOptions<'_>,
-    gateway: &mut Gateway<S>,
+    gateway: &mut GatewayOver<S>,
 ) -> Served
     requires { IsIdle gateway.old }
 {

@@ -5,9 +5,9 @@ use crate::scripts::row;
 use crate::telling::Telling;
 use anyhow::Result;
 use device_registry::Registry;
-use gateway_core::Gateway;
+use gateway_core::{DeviceStore, GatewayOver};
 use gateway_main::{OverRead, OverWrite, replay};
-use sqlite::{Alter, Connection};
+use sqlite::Connection;
 use std::alloc::Global;
 
 /// More reads than these rows take.
@@ -37,13 +37,13 @@ fn tell_of(rt: &HostRuntime, telling: &mut Telling, name: &str, cache: usize) ->
 }
 
 /// Whether this is what is written for a script over this registry.
-fn is_written<S: Alter + Drop>(
+fn is_written<S: DeviceStore + Drop>(
     alloc: Global,
-    registry: Registry<S>,
+    registry: S,
     script: &[u8],
     wanted: &[u8],
 ) -> bool {
-    let Ok(mut gateway) = Gateway::new(alloc, registry, 0xFF80_0000) else {
+    let Ok(mut gateway) = GatewayOver::new(alloc, registry, 0xFF80_0000) else {
         return false;
     };
     let mut written = Vec::new(alloc);

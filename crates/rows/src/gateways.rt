@@ -1,11 +1,11 @@
 //! New gateways over databases in memory, and one over what another has learned.
 use crate::telling::Telling;
 use anyhow::Result;
-use device_registry::Registry;
-use gateway_core::{Gateway, Reply, StartFault};
+use device_registry::{Registry, RegistryOver, SqlStore};
+use gateway_core::{Gateway, GatewayOver, Reply, StartFault};
 use gateway_main::fault::Fault;
 use gateway_main::{RunFault, Sink, Source, Summary, live, replay, start};
-use sqlite::{Alter, Connection};
+use sqlite::Connection;
 use std::alloc::Global;
 
 /// The base ID of the radio module in every case.
@@ -76,14 +76,17 @@ fn finds_what_was_learned_before(alloc: Global) -> Result<bool> {
     Ok(lists_what_it_learned(alloc, first))
 }
 
-fn lists_what_it_learned<S: Alter + Drop>(alloc: Global, first: Gateway<S>) -> bool {
+fn lists_what_it_learned<C: SqlStore + Drop>(
+    alloc: Global,
+    first: GatewayOver<RegistryOver<C>>,
+) -> bool {
     let mut first = first;
     let is_learned = tells(&first.order(b"add 01800ABC D5-00-01"), ACCEPTED)
         && tells(&first.order(b"add 00000001 D5-00-01"), SECOND_ACCEPTED);
-    let Ok(registry) = Registry::open(alloc, first.close()) else {
+    let Ok(registry) = RegistryOver::open(alloc, first.close()) else {
         return false;
     };
-    match Gateway::new(alloc, registry, BASE) {
+    match GatewayOver::new(alloc, registry, BASE) {
         Ok(mut second) => is_learned && tells(&second.order(b"list"), BOTH_LISTED),
         Err(_) => false,
     }

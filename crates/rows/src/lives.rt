@@ -3,9 +3,9 @@ use crate::fakes::{Parts, Sips, TakesNothing};
 use crate::gateways::{BASE, serve_new};
 use crate::telling::Telling;
 use anyhow::{Result, bail};
-use gateway_core::Gateway;
+use gateway_core::{DeviceStore, GatewayOver};
 use gateway_main::{OverRead, OverWrite, RunFault, Summary, live, start};
-use sqlite::{Alter, Connection};
+use sqlite::Connection;
 use std::alloc::Global;
 
 const OK: &[u8] = b"{\"type\":\"ok\"}\n";
@@ -170,7 +170,11 @@ fn drops_what_is_not_ended(alloc: Global) -> Result<bool> {
 }
 
 /// What the desk is told in one more turn, in which it gives these bytes and the serial line none.
-fn desk_after<S: Alter>(alloc: Global, gateway: &mut Gateway<S>, bytes: &[u8]) -> Result<Vec<u8>> {
+fn desk_after<S: DeviceStore>(
+    alloc: Global,
+    gateway: &mut GatewayOver<S>,
+    bytes: &[u8],
+) -> Result<Vec<u8>> {
     if gateway.is_ready() {
         bail!("a packet waits");
     }

@@ -6,6 +6,7 @@ ghost use Rattle.json_lines.specs.declared.fixed.ErrorName.{ErrorName};
 ghost use Rattle.gateway_core.specs.Step.{addition, forgets, learns, tells};
 ghost use Rattle.gateway_core.specs.Tries.{Enters, Erases, Tries};
 
+use crate::device_store::DeviceStore;
 use crate::handler::Handler;
 use crate::handler::done::{Done, denied, told};
 use crate::refusal::{Cause, Refusal};
@@ -13,7 +14,6 @@ use crate::reply::Desk;
 use device_registry::{Device, LearnFault};
 use erp1_telegrams::Eep;
 use json_lines::{ErrorName, Line, teach_line};
-use sqlite::Alter;
 use teach_in::{Outcome, Verdict};
 
 // What came of a device that is learned or forgotten, and the line that tells it.
@@ -23,10 +23,10 @@ pub(crate) struct Committed {
     pub(crate) line: Line,
 }
 
-impl<S: Alter> Handler<S> {
+impl<S: DeviceStore> Handler<S> {
     // Learns a device. It is `None` where the registry is full, which tells so before it writes.
     pub(crate) fn enter(&mut self, device: Device) -> Result<Option<Committed>, Refusal>
-        ensures { Enters S.Store self.old device result self.new }
+        ensures { Enters S.stored self.old device result self.new }
     {
         let draft = teach_line(
             self.alloc,
@@ -52,7 +52,7 @@ impl<S: Alter> Handler<S> {
         eep: Option<Eep>,
         maker: Option<u16>,
     ) -> Result<Committed, Refusal>
-        ensures { Erases S.Store self.old
+        ensures { Erases S.stored self.old
             (record { eep = eep; id = id; maker = maker; outcome = Outcome.Deleted }) result self.new }
     {
         let draft = teach_line(self.alloc, id, eep, maker, Outcome::Deleted)?;
@@ -67,7 +67,7 @@ impl<S: Alter> Handler<S> {
 
     // Learns a device that the desk names.
     pub(crate) fn learn(&mut self, device: Device) -> Result<Done, Refusal>
-        ensures { Tries S.Store self.old (λ state. addition state.devices device
+        ensures { Tries S.stored self.old (λ state. addition state.devices device
             (tells (Error ErrorName.Full ∷ [])) (learns device)) result self.new }
     {
         match self.enter(device)? {
@@ -78,7 +78,7 @@ impl<S: Alter> Handler<S> {
 
     // Forgets a device that the desk names.
     pub(crate) fn forget(&mut self, device: Device) -> Result<Done, Refusal>
-        ensures { Tries S.Store self.old (λ state. forgets device) result self.new }
+        ensures { Tries S.stored self.old (λ state. forgets device) result self.new }
     {
         let committed = self.erase(device.id, Some(device.eep), device.maker)?;
         Ok(told(Desk::Owned(committed.line)))

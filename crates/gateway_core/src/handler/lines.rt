@@ -5,6 +5,7 @@ ghost use Rattle.actuator_commands.specs.Orders.{IsInRange};
 ghost use Rattle.gateway_core.specs.Step.{if_supported, line_effect, order_effect, sets};
 ghost use Rattle.gateway_core.specs.Tries.{Gives, Tries};
 
+use crate::device_store::DeviceStore;
 use crate::handler::Handler;
 use crate::handler::done::{Done, denied, sets, told};
 use crate::handler::sending::{ask_base, error_of};
@@ -14,7 +15,6 @@ use actuator_commands::{Order, parse};
 use device_registry::Device;
 use erp1_telegrams::Eep;
 use json_lines::{ErrorName, device_lines, status_line};
-use sqlite::Alter;
 use teach_in::{Mode, supported};
 
 /// The longest line of the desk, in bytes. Own choice.
@@ -31,10 +31,10 @@ fn open_as(eep: Eep) -> Done
     }
 }
 
-impl<S: Alter> Handler<S> {
+impl<S: DeviceStore> Handler<S> {
     // Learns a device that the desk names.
     fn try_add(&mut self, id: u32, eep: Eep) -> Result<Done, Refusal>
-        ensures { Tries S.Store self.old (λ state. order_effect state (Ok (Order.Add id eep))) result self.new }
+        ensures { Tries S.stored self.old (λ state. order_effect state (Ok (Order.Add id eep))) result self.new }
     {
         if !supported(eep) {
             return Ok(denied(ErrorName::UnsupportedProfile));
@@ -48,7 +48,7 @@ impl<S: Alter> Handler<S> {
 
     // Forgets a device that the desk names.
     fn try_remove(&mut self, id: u32) -> Result<Done, Refusal>
-        ensures { Tries S.Store self.old (λ state. order_effect state (Ok (Order.Remove id))) result self.new }
+        ensures { Tries S.stored self.old (λ state. order_effect state (Ok (Order.Remove id))) result self.new }
     {
         match self.registry.find(id)? {
             Some(device) => self.forget(device),
@@ -58,7 +58,7 @@ impl<S: Alter> Handler<S> {
 
     // Tells all devices.
     fn try_list(&mut self) -> Result<Done, Refusal>
-        ensures { Tries S.Store self.old (λ state. order_effect state (Ok Order.List)) result self.new }
+        ensures { Tries S.stored self.old (λ state. order_effect state (Ok Order.List)) result self.new }
     {
         let all = self.registry.all()?;
         let lines = device_lines(self.alloc, all.as_slice())?;
@@ -67,7 +67,7 @@ impl<S: Alter> Handler<S> {
 
     // Tells the counts and the mode.
     fn try_status(&self) -> Result<Done, Refusal>
-        ensures { Tries S.Store self.now (λ state. order_effect state (Ok Order.Status)) result self.now }
+        ensures { Tries S.stored self.now (λ state. order_effect state (Ok Order.Status)) result self.now }
     {
         let line = status_line(self.alloc, &self.counts, self.mode)?;
         Ok(told(Desk::Owned(line)))
@@ -76,7 +76,7 @@ impl<S: Alter> Handler<S> {
     // Does an order.
     fn try_order(&mut self, order: Order) -> Result<Done, Refusal>
         requires { IsInRange order }
-        ensures { Tries S.Store self.old (λ state. order_effect state (Ok order)) result self.new }
+        ensures { Tries S.stored self.old (λ state. order_effect state (Ok order)) result self.new }
     {
         match order {
             Order::LearnOn => Ok(sets(Mode::Learn)),
@@ -102,7 +102,7 @@ impl<S: Alter> Handler<S> {
 
     // Handles a line, or refuses it.
     pub(crate) fn try_line(&mut self, line: &[u8]) -> Result<Done, Refusal>
-        ensures { Tries S.Store self.old (λ state. line_effect state line.now) result self.new }
+        ensures { Tries S.stored self.old (λ state. line_effect state line.now) result self.new }
     {
         if line.len() > LONGEST_LINE {
             return Ok(denied(ErrorName::TooLong));

@@ -6,6 +6,7 @@ ghost use Rattle.gateway_core.specs.Profiles.{readings_of};
 ghost use Rattle.gateway_core.specs.Step.{case_effect, data_case, packet_effect, reading_effect, telegram_effect};
 ghost use Rattle.gateway_core.specs.Tries.{Gives, Tries};
 
+use crate::device_store::DeviceStore;
 use crate::handler::Handler;
 use crate::handler::done::{Done, counted, ignored};
 use crate::profiles;
@@ -16,7 +17,6 @@ use device_registry::Device;
 use erp1_telegrams::{Telegram, is_passed_over, read};
 use esp3_frames::PacketRef;
 use json_lines::{Count, reading_line, response_line};
-use sqlite::Alter;
 use std::alloc::{AllocError, Global};
 use teach_in::{Teach, classify};
 
@@ -32,10 +32,10 @@ fn reading(alloc: Global, telegram: &Telegram, device: Device) -> Result<Done, A
     Ok(counted(Count::Reading, Desk::Owned(line)))
 }
 
-impl<S: Alter> Handler<S> {
+impl<S: DeviceStore> Handler<S> {
     // Tells what a data telegram of a learned sender says. Another sender is learned by it, where that is planned.
     fn try_data(&mut self, telegram: &Telegram) -> Result<Done, Refusal>
-        ensures { Tries S.Store self.old (λ state. case_effect state telegram.now
+        ensures { Tries S.stored self.old (λ state. case_effect state telegram.now
             (data_case (device_of state.devices telegram.now.sender))) result self.new }
     {
         let Some(device) = self.registry.find(telegram.sender())? else {
@@ -48,7 +48,7 @@ impl<S: Alter> Handler<S> {
     // Handles a telegram by the first of its five cases: it is passed over, it is a reply to a telegram of teach-in or
     // such a telegram itself, or it is data, of a learned sender or of another.
     fn try_telegram(&mut self, telegram: &Telegram) -> Result<Done, Refusal>
-        ensures { Tries S.Store self.old (λ state. telegram_effect state telegram.now) result self.new }
+        ensures { Tries S.stored self.old (λ state. telegram_effect state telegram.now) result self.new }
     {
         if is_passed_over(self.base, telegram) {
             return Ok(ignored());
@@ -64,7 +64,7 @@ impl<S: Alter> Handler<S> {
 
     // Handles a packet, or refuses it.
     pub(crate) fn try_packet(&mut self, packet: &PacketRef<'_>) -> Result<Done, Refusal>
-        ensures { Tries S.Store self.old (λ state. packet_effect state (packet_of packet.now)) result self.new }
+        ensures { Tries S.stored self.old (λ state. packet_effect state (packet_of packet.now)) result self.new }
     {
         if let Some(response) = response_in(packet) {
             let line = response_line(self.alloc, response.code, response.bytes)?;

@@ -10,6 +10,7 @@ ghost use Rattle.gateway_core.specs.Step;
 ghost use Rattle.gateway_core.specs.Step.{order_effect, telegram_sent};
 ghost use Rattle.gateway_core.specs.Tries.{Gives, Tries};
 
+use crate::device_store::DeviceStore;
 use crate::handler::Handler;
 use crate::handler::done::{Done, denied, sends_packet};
 use crate::refusal::Refusal;
@@ -19,7 +20,6 @@ use device_registry::Device;
 use erp1_telegrams::{Telegram, write};
 use esp3_frames::write_packet;
 use json_lines::ErrorName;
-use sqlite::Alter;
 
 /// The packet type COMMON_COMMAND (EnOcean Serial Protocol 3, "Packet types").
 const COMMON_COMMAND: u8 = 5;
@@ -74,12 +74,12 @@ fn send(order: &Order, device: Option<&Device>, base: u32) -> Done
     }
 }
 
-impl<S: Alter> Handler<S> {
+impl<S: DeviceStore> Handler<S> {
     // Does an order that goes to devices.
     pub(crate) fn try_send(&mut self, order: &Order) -> Result<Done, Refusal>
         requires sends { sends order.now ≡ true }
         requires in_range { IsInRange order.now }
-        ensures { Tries S.Store self.old (λ state. order_effect state (Ok order.now)) result self.new }
+        ensures { Tries S.stored self.old (λ state. order_effect state (Ok order.now)) result self.new }
     {
         let Some(id) = order.recipient() else {
             return Ok(send(order, None, self.base));

@@ -10,6 +10,7 @@ ghost use Rattle.gateway_core.specs.Step.{accepts, addition, deletes, line_with,
 ghost use Rattle.gateway_core.specs.Step.{told_of};
 ghost use Rattle.gateway_core.specs.Tries.{Gives, MayReply, Tries, state_of};
 
+use crate::device_store::DeviceStore;
 use crate::handler::Handler;
 use crate::handler::changes::Committed;
 use crate::handler::done::{Done, ignored};
@@ -20,7 +21,6 @@ use arrayvec::ArrayVec;
 use device_registry::Device;
 use erp1_telegrams::{Eep, Telegram};
 use json_lines::{Count, Line, teach_line};
-use sqlite::Alter;
 use std::alloc::AllocError;
 use teach_in::{Mode, Outcome, Plan, Teach, Verdict, classify, four_byte_reply, plan, ute_reply};
 
@@ -46,7 +46,7 @@ fn mode_after_one(mode: Mode) -> Option<Mode>
     }
 }
 
-impl<S: Alter> Handler<S> {
+impl<S: DeviceStore> Handler<S> {
     // The packet that replies to a telegram of teach-in, if it gets one: a query of universal teach-in does that waits
     // for one, and a 4BS query in the mode that answers.
     fn reply_packet(&self, teach: &Teach, verdict: &Verdict) -> Option<ArrayVec<u8, 64>>
@@ -110,7 +110,7 @@ impl<S: Alter> Handler<S> {
     fn try_accept(&mut self, teach: &Teach, device: Device) -> Result<Done, Refusal>
         requires accepted { MayReply teach.now device.id outcome.Accepted }
         requires full { MayReply teach.now device.id outcome.Full }
-        ensures { Tries S.Store self.old (λ state. addition state.devices device
+        ensures { Tries S.stored self.old (λ state. addition state.devices device
             (Step.tells_sender state teach.now (told_of device outcome.Full)) (accepts state teach.now device))
             result self.new }
     {
@@ -132,7 +132,7 @@ impl<S: Alter> Handler<S> {
     // Forgets the sender of a telegram, learned or not.
     fn try_forget(&mut self, teach: &Teach, id: u32) -> Result<Done, Refusal>
         requires { MayReply teach.now id outcome.Deleted }
-        ensures { Tries S.Store self.old (λ state. deletes state teach.now id) result self.new }
+        ensures { Tries S.stored self.old (λ state. deletes state teach.now id) result self.new }
     {
         let (eep, maker) = told_by(teach);
         let Committed { verdict, line } = self.erase(id, eep, maker)?;
@@ -141,7 +141,7 @@ impl<S: Alter> Handler<S> {
 
     // Does what is planned about the sender of a telegram of teach-in, or of data whose sender is not learned.
     pub(crate) fn try_plan(&mut self, telegram: &Telegram) -> Result<Done, Refusal>
-        ensures { (asked : Bool) → Tries S.Store self.old (λ state. plan_effect state telegram.now asked
+        ensures { (asked : Bool) → Tries S.stored self.old (λ state. plan_effect state telegram.now asked
             (plan_of telegram.now state.mode false)) result self.new }
     {
         let teach = classify(telegram);

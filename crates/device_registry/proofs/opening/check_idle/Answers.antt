@@ -1,14 +1,13 @@
 use Rattle.std.proofs.Common.{rules, arith, codes, [], IsTrue}
 use Rattle.sqlite.specs.State.{HasCleanDisk}
-use Rattle.sqlite.specs.Held.{state}
 use Rattle.device_registry.specs.Opening.{IsAtRest}
 use Rattle.device_registry.proofs.RefusalKeeps.{err_told, not_run_kept}
 use Rattle.device_registry.proofs.opening.check_idle.Goals as goal
 
 pub returns-in_err-_statement-clause-kept : goal.returns-in_err-_statement-clause-kept
 returns-in_err-_statement-clause-kept g c clean =
-    let old = state g.S.Store c.args.conn.now in
-    let new = state g.S.Store c.prepare.new.self in
+    let old = g.C.SqlStore.state c.args.conn.now in
+    let new = g.C.SqlStore.state c.prepare.new.self in
     let early : HasCleanDisk old = omega (arith, clean, c.prepare.ensures.survives.clean) in
     let auto : IsTrue c.is_autocommit.result = search rules in
     let at_rest = λ (is_open : IsTrue old.is_open).

@@ -1,7 +1,6 @@
 use Rattle.std.proofs.Common.{arith, subst}
 use Rattle.std.specs.FinMap.{get}
 use Rattle.sqlite.specs.State.{HasCleanDisk, Shown}
-use Rattle.sqlite.specs.Held.{state}
 use Rattle.device_registry.specs.Devices.{Devices}
 use Rattle.device_registry.specs.Ready.{Shows, IsReady, AreFound}
 use Rattle.device_registry.specs.Tables.{find_text}
@@ -12,17 +11,17 @@ use Rattle.device_registry.proofs.statements.look_up.Goals as goal
 
 pub returns-clause-stays : goal.returns-clause-stays
 returns-clause-stays g c =
-    let mid = state g.S.Store c.compiled.new.conn in
-    compiled_query_stays find_text c.in_ok-find.find.text (asked c.args.id) (state g.S.Store c.args.conn.now) mid
-    (state g.S.Store c.rows_of.new.conn) (λ v. v.items) c.rows_of.result c.compiled.ensures.stays
+    let mid = g.C.SqlStore.state c.compiled.new.conn in
+    compiled_query_stays find_text c.in_ok-find.find.text (asked c.args.id) (g.C.SqlStore.state c.args.conn.now) mid
+    (g.C.SqlStore.state c.rows_of.new.conn) (λ v. v.items) c.rows_of.result c.compiled.ensures.stays
     c.in_ok-find.ensures.text (λ clean. find_plain mid (c.in_ok-find.ensures.ready clean))
     c.rows_of.ensures.survives c.rows_of.ensures.shown c.rows_of.ensures.failed
 
 pub returns-clause-found : goal.returns-clause-found
 returns-clause-found g c clean =
-    let old = state g.S.Store c.args.conn.now in
-    let mid = state g.S.Store c.compiled.new.conn in
-    let new = state g.S.Store c.rows_of.new.conn in
+    let old = g.C.SqlStore.state c.args.conn.now in
+    let mid = g.C.SqlStore.state c.compiled.new.conn in
+    let new = g.C.SqlStore.state c.rows_of.new.conn in
     let id = c.args.id in
     let text = c.in_ok-find.find.text in
     let early : HasCleanDisk mid = omega (arith, clean, c.rows_of.ensures.survives.clean) in

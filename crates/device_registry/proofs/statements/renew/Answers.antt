@@ -1,4 +1,3 @@
-use Rattle.sqlite.specs.Held.{state}
 use Rattle.device_registry.proofs.WritesTurn.{renew_turns}
 use Rattle.device_registry.proofs.VersionWrites.{renewed_if, renew_stop, rows_if}
 use Rattle.std.proofs.Common.{[]}
@@ -7,22 +6,22 @@ use Rattle.device_registry.proofs.RefusalKeeps.{executed_if}
 use Rattle.device_registry.proofs.statements.renew.Goals as goal
 
 pub returns-clause-renewed : goal.returns-clause-renewed
-returns-clause-renewed g c clean = renewed_if (state g.S.Store c.args.conn.now)
-    (state g.S.Store c.execute.new.self) c.execute.result (c.execute.ensures.runs clean)
+returns-clause-renewed g c clean = renewed_if (g.C.SqlStore.state c.args.conn.now)
+    (g.C.SqlStore.state c.execute.new.self) c.execute.result (c.execute.ensures.runs clean)
 
 pub returns-clause-stop : goal.returns-clause-stop
 returns-clause-stop g c =
-    renew_stop (state g.S.Store c.args.conn.now) (state g.S.Store c.execute.new.self) c.execute.ensures.survives
+    renew_stop (g.C.SqlStore.state c.args.conn.now) (g.C.SqlStore.state c.execute.new.self) c.execute.ensures.survives
 
 pub returns-clause-turns : goal.returns-clause-turns
 returns-clause-turns g c change same =
-    renew_turns change (state g.S.Store c.args.conn.now) (state g.S.Store c.execute.new.self) c.execute.result
+    renew_turns change (g.C.SqlStore.state c.args.conn.now) (g.C.SqlStore.state c.execute.new.self) c.execute.result
     c.requires same c.execute.ensures.survives c.execute.ensures.runs
 
 pub returns-clause-rows : goal.returns-clause-rows
-returns-clause-rows g c clean = rows_if (state g.S.Store c.args.conn.now)
-    (state g.S.Store c.execute.new.self) c.execute.result (c.execute.ensures.runs clean)
+returns-clause-rows g c clean = rows_if (g.C.SqlStore.state c.args.conn.now)
+    (g.C.SqlStore.state c.execute.new.self) c.execute.result (c.execute.ensures.runs clean)
 
 pub returns-clause-remains : goal.returns-clause-remains
-returns-clause-remains g c clean = executed_if renew_text [] (state g.S.Store c.args.conn.now)
-    (state g.S.Store c.execute.new.self) c.execute.result (c.execute.ensures.runs clean)
+returns-clause-remains g c clean = executed_if renew_text [] (g.C.SqlStore.state c.args.conn.now)
+    (g.C.SqlStore.state c.execute.new.self) c.execute.result (c.execute.ensures.runs clean)

@@ -1,6 +1,5 @@
 use Rattle.std.proofs.Common.{rules, ◌<◌, SFits, w64, to_z-of_z}
 use Rattle.sqlite.specs.State.{HasCleanDisk, Executes, CommitsBy, Survives}
-use Rattle.sqlite.specs.Held.{state}
 use Rattle.device_registry.specs.Devices.{Learned}
 use Rattle.device_registry.specs.Tables.{learn_text}
 use Rattle.device_registry.proofs.LearnEffect.{learn_params}
@@ -9,8 +8,8 @@ use Rattle.device_registry.proofs.statements.write.Goals as goal
 
 pub returns : goal.returns
 returns g c =
-    let old = state g.S.Store c.args.conn.now in
-    let new = state g.S.Store c.run_learn.new.conn in
+    let old = g.C.SqlStore.state c.args.conn.now in
+    let new = g.C.SqlStore.state c.run_learn.new.conn in
     let it : Learned = record { eep = c.args.device.eep; maker = c.args.device.maker } in
     let rorg : c.args.device.eep.rorg < 256 = search rules in
     let func : c.args.device.eep.func < 256 = search rules in

@@ -1,7 +1,6 @@
-use Rattle.sqlite.specs.Held.{state}
 use Rattle.device_registry.specs.Holding.{MayFind}
 use Rattle.gateway_core.proofs.StopLemmas.{safe_joins}
 use Rattle.gateway_core.proofs.laws.safe_joins.Goals as goal
 
 pub returns : goal.returns
-returns g c = λ registry. safe_joins (MayFind (state g.S.Store registry))
+returns g c = λ registry. safe_joins (MayFind (g.S.DeviceStore.stored registry))

@@ -8,13 +8,13 @@ use Rattle.gateway_core.proofs.handler.Handler.erase.Goals as goal
 pub returns-in_err-draft : goal.returns-in_err-draft
 returns-in_err-draft g c =
     let error = err_from_is_err_and c.from_residual.result c.from_residual.ensures.1 in
-    rw (error.1, error.2) (record { told = tt; alone = alone-unasked g.S.Store _ _ (λ devices keeps. keeps) })
+    rw (error.1, error.2) (record { told = tt; alone = alone-unasked g.S.DeviceStore.stored _ _ (λ devices keeps. keeps) })
 
 pub returns-in-Err : goal.returns-in-Err
 returns-in-Err g c =
     rw (← c.self.view_is) (record {
       told = tt;
-      alone = alone g.S.Store _ _ _ _ _ _ c.forget.ensures.clean c.forget.ensures.registries
+      alone = alone g.S.DeviceStore.stored _ _ _ _ _ _ c.forget.ensures.clean c.forget.ensures.registries
           (λ honest devices has. c.in-Err.ensures.devices honest devices has);
     })
 
@@ -28,6 +28,6 @@ returns g c =
             c.committed-verdict.ensures.outcome,
         c.tell-line.ensures ∙ c.in_ok-draft.ensures.line,
       );
-      alone = alone g.S.Store _ _ _ _ _ _ c.forget.ensures.clean c.forget.ensures.registries
+      alone = alone g.S.DeviceStore.stored _ _ _ _ _ _ c.forget.ensures.clean c.forget.ensures.registries
           (λ honest devices has. c.in-Ok.ensures.devices honest devices has);
     })

@@ -4,7 +4,7 @@ use Rattle.gateway_core.proofs.handler.Handler.line.Goals as goal
 
 pub returns : goal.returns
 returns g c =
-    tries-handles g.S.Store _ _ _ (Ordered c.args.line.now) _ _
+    tries-handles g.S.DeviceStore.stored _ _ _ (Ordered c.args.line.now) _ _
     (record {
       answer_is = c.reply_to.ensures.answer;
       base = c.reply_to.ensures.base;

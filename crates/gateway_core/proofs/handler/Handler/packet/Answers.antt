@@ -5,7 +5,7 @@ use Rattle.gateway_core.proofs.handler.Handler.packet.Goals as goal
 
 pub returns : goal.returns
 returns g c =
-    tries-handles g.S.Store _ _ _ (Received (packet_of c.args.packet.now)) _ _
+    tries-handles g.S.DeviceStore.stored _ _ _ (Received (packet_of c.args.packet.now)) _ _
     (record {
       answer_is = c.reply_to.ensures.answer;
       base = c.reply_to.ensures.base;

@@ -11,14 +11,14 @@ pub returns-in_err-verdict : goal.returns-in_err-verdict
 returns-in_err-verdict g c =
     let error = err_from_is_err_and c.from_residual.result c.from_residual.ensures.1 in
     rw (error.1, error.2)
-    (tries-unerased g.S.Store _ _ _ (λ state. deletes state c.args.teach.now c.args.id)
+    (tries-unerased g.S.DeviceStore.stored _ _ _ (λ state. deletes state c.args.teach.now c.args.id)
     (λ devices. record { needs = refl; forgets = refl }) c.in_err-verdict.field-0.0 c.in_err-verdict.ensures)
 
 pub returns : goal.returns
 returns g c =
     let erased = c.in_ok-verdict.ensures in
     let line = sym (c.told_by-eep.ensures c.args.id Deleted) in
-    tries-erased g.S.Store _ _ _ (λ state. deletes state c.args.teach.now c.args.id)
+    tries-erased g.S.DeviceStore.stored _ _ _ (λ state. deletes state c.args.teach.now c.args.id)
     (λ devices. record { needs = refl; forgets = refl }) _ _ erased
     (λ devices. (
       taught-answer (state_of c.erase.new.self devices) c.args.teach.now

@@ -10,12 +10,12 @@ pub returns-in_err-line : goal.returns-in_err-line
 returns-in_err-line g c =
     let error = err_from_is_err_and c.from_residual.result c.from_residual.ensures.1 in
     let found = sym c.response_in.ensures ∙ ap (option_map response_of) c.in-Some.is in
-    rw (error.1, error.2) (tries-alone g.S.Store _ _ _ (λ devices keeps. rw found (refl, keeps)))
+    rw (error.1, error.2) (tries-alone g.S.DeviceStore.stored _ _ _ (λ devices keeps. rw found (refl, keeps)))
 
 pub returns-in-Some : goal.returns-in-Some
 returns-in-Some g c =
     let found = sym c.response_in.ensures ∙ ap (option_map response_of) c.in-Some.is in
-    tries-alone g.S.Store _ _ _
+    tries-alone g.S.DeviceStore.stored _ _ _
     (λ devices keeps.
     rw found (
       (
@@ -30,11 +30,11 @@ pub returns-in-Ok : goal.returns-in-Ok
 returns-in-Ok g c =
     let silent = sym c.response_in.ensures ∙ ap (option_map response_of) c.in_default.is in
     let telegram = sym c.read.ensures ∙ c.in-Ok.is in
-    tries-same g.S.Store _ _ _ _ _ (λ devices. rw (silent, telegram) refl) c.try_telegram.ensures
+    tries-same g.S.DeviceStore.stored _ _ _ _ _ (λ devices. rw (silent, telegram) refl) c.try_telegram.ensures
 
 pub returns-in-Err : goal.returns-in-Err
 returns-in-Err g c =
     let silent = sym c.response_in.ensures ∙ ap (option_map response_of) c.in_default.is in
     let none = sym c.read.ensures ∙ c.in-Err.is in
-    tries-alone g.S.Store _ _ _
+    tries-alone g.S.DeviceStore.stored _ _ _
     (λ devices keeps. rw (silent, none) (c.ignored.ensures, keeps))

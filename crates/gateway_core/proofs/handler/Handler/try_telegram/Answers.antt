@@ -12,21 +12,21 @@ pub returns-then-is_passed_over : goal.returns-then-is_passed_over
 returns-then-is_passed_over g c =
     let over = sym c.is_passed_over.ensures ∙ c.if-is_passed_over.true in
     rw (← c.self.view_is)
-    (tries-alone g.S.Store _ _ _ (λ devices keeps. rw over (c.ignored.ensures, keeps)))
+    (tries-alone g.S.DeviceStore.stored _ _ _ (λ devices keeps. rw over (c.ignored.ensures, keeps)))
 
 pub returns-in-Answer : goal.returns-in-Answer
 returns-in-Answer g c =
     let over = sym c.is_passed_over.ensures ∙ c.if-is_passed_over.false in
     let kind = sym c.classify.ensures ∙ c.in-Answer.is in
     rw (← c.self.view_is)
-    (tries-alone g.S.Store _ _ _
+    (tries-alone g.S.DeviceStore.stored _ _ _
     (λ devices keeps. rw (over, kind) (c.ignored-in-Answer.ensures, keeps)))
 
 pub returns-in-Contact : goal.returns-in-Contact
 returns-in-Contact g c =
     let over : is_passed_over c.args.self.now.base c.args.telegram.now ≡ false =
     rw (← c.self.view_is) (sym c.is_passed_over.ensures ∙ c.if-is_passed_over.false) in
-    tries-same g.S.Store _ _ _ _ _
+    tries-same g.S.DeviceStore.stored _ _ _ _ _
     (λ devices.
     let known = device_of devices c.args.telegram.now.sender in
     let case = ap (λ kind. kind_case kind known) (sym c.classify.ensures)
@@ -42,4 +42,4 @@ returns-in-Plain g c =
     let over : is_passed_over c.args.self.now.base c.args.telegram.now ≡ false =
     rw (← c.self.view_is) (sym c.is_passed_over.ensures ∙ c.if-is_passed_over.false) in
     let kind = sym c.classify.ensures ∙ c.in-Plain.is in
-    tries-same g.S.Store _ _ _ _ _ (λ devices. rw (over, kind) refl) c.try_data.ensures
+    tries-same g.S.DeviceStore.stored _ _ _ _ _ (λ devices. rw (over, kind) refl) c.try_data.ensures

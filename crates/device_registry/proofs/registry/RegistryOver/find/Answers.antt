@@ -1,0 +1,44 @@
+use Rattle.device_registry.proofs.CacheAgreement.{fewer_recalled, recalled, unmoved, found_recalled}
+use Rattle.device_registry.proofs.registry.RegistryOver.find.Goals as goal
+
+-- ---- the sender is remembered
+
+pub invariant_of-self : goal.invariant_of-self
+invariant_of-self g c = (
+  c.self.invariant.0,
+  fewer_recalled (g.C.SqlStore.state c.self.inside.table) c.self.inside.cache.entries
+      c.cached.new.cache.entries c.self.invariant.1 c.cached.ensures.kept,
+)
+
+pub returns-in-Some : goal.returns-in-Some
+returns-in-Some g c =
+    let now = g.C.SqlStore.state c.self.inside.table in
+    rw (← c.self.view_is) (record {
+      clean = λ clean. clean;
+      registries = c.self.invariant.0;
+      devices =
+          λ clean devices has. (
+            recalled now c.args.id c.in-Some.known clean
+                (c.self.invariant.1 (c.args.id, c.in-Some.known) c.in-Some.ensures.known clean) devices has,
+            unmoved now devices has,
+          );
+    })
+
+-- ---- it is looked up
+
+pub invariant_of-self-in-Ok : goal.invariant_of-self-in-Ok
+invariant_of-self-in-Ok g c =
+    let old = g.C.SqlStore.state c.self.inside.table in (
+      c.find.ensures.looks_up.registries,
+      found_recalled old (g.C.SqlStore.state c.find.new.self) c.args.id c.in-Ok.known c.cached.new.cache.entries
+          c.remember.new.cache.entries c.find.ensures.looks_up.clean c.in-Ok.ensures.ready
+          c.in-Ok.ensures.looks_up.devices
+          (fewer_recalled old c.self.inside.cache.entries c.cached.new.cache.entries c.self.invariant.1
+          c.cached.ensures.kept) c.remember.ensures.kept,
+    )
+
+pub returns-in-Ok : goal.returns-in-Ok
+returns-in-Ok g c = rw (← c.self.view_is) c.in-Ok.ensures.looks_up
+
+pub returns-in-Err : goal.returns-in-Err
+returns-in-Err g c = rw (← c.self.view_is) c.in-Err.ensures.looks_up

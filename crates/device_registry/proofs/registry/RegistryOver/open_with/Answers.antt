@@ -1,0 +1,32 @@
+use Rattle.std.proofs.Common.{rules}
+use Rattle.std.proofs.Common.{sym, subst}
+use Rattle.std.proofs.lemmas.Result.{err_from_is_err_and}
+use Rattle.device_registry.specs.Opening.{RefusesToOpen}
+use Rattle.device_registry.proofs.OpenCalls.{not_asked}
+use Rattle.device_registry.proofs.CacheAgreement.{none_recalled}
+use Rattle.device_registry.proofs.registry.RegistryOver.open_with.Goals as goal
+
+pub returns-in_err-cache-clause-refused : goal.returns-in_err-cache-clause-refused
+returns-in_err-cache-clause-refused g c =
+    let why = err_from_is_err_and c.from_residual.result c.from_residual.ensures.1 in
+    let old = g.C.SqlStore.state c.args.conn in
+    rw why.1 (λ is. (c.args.conn, subst (RefusesToOpen old old) (sym why.2) (not_asked old _)))
+
+pub returns-in_err-prepare-clause-refused : goal.returns-in_err-prepare-clause-refused
+returns-in_err-prepare-clause-refused g c =
+    let why = err_from_is_err_and c.from_residual-in_err-prepare.result c.from_residual-in_err-prepare.ensures.1 in
+    let last = c.prepare.new.conn in
+    rw why.1 (λ is. (
+      last,
+      subst (RefusesToOpen (g.C.SqlStore.state c.args.conn) (g.C.SqlStore.state last))
+          (sym why.2) c.in_err-prepare.ensures.refused,
+    ))
+
+pub invariant_of-result-2 : goal.invariant_of-result-2
+invariant_of-result-2 g c = (
+  c.in_ok-prepare.ensures.registries,
+  none_recalled (g.C.SqlStore.state c.prepare.new.conn) c.in_ok-cache.cache.entries c.in_ok-cache.ensures,
+)
+
+pub new_cache-requires : goal.new_cache-requires
+new_cache-requires g c = search rules

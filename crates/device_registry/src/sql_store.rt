@@ -1,0 +1,125 @@
+//! What the registry asks of a connection of SQLite.
+ghost use Rattle.std.specs.Prelude.{◌≡◌, false, not, IsTrue, IfOk, IfErr, OnOk, OnErr};
+ghost use Rattle.std.specs.FinMap.{empty};
+ghost use Rattle.sqlite.specs.Values.{bound};
+ghost use Rattle.sqlite.specs.Effect.{IsDatabase};
+ghost use Rattle.sqlite.specs.State.{State, HasCleanDisk, Survives, IsUnchanged, IsLive, IsNotRun};
+ghost use Rattle.sqlite.specs.State.{Executes, CommitsBy, Shown, FailsToQuery, CommitsShowing};
+ghost use Rattle.sqlite_trees.specs.Tree.{Trees};
+ghost use Rattle.device_registry.specs.Stored.{Holds};
+ghost use Rattle.device_registry.specs.Ready.{Shows};
+ghost use Rattle.device_registry.specs.Opening.{Remains};
+ghost use Rattle.device_registry.specs.Places.{is_clear};
+
+use crate::making;
+use sqlite::types::ValueRef;
+use sqlite::{Alter, Connection, Error, Row, Statement};
+use sqlite_schema::schema::Schema;
+
+/// What the registry asks of a connection: the calls of `sqlite::Connection`, with the words of its contracts on them.
+pub trait SqlStore {
+    /// What it holds, what is committed, and what a stop may leave.
+    ghost state: { Self → State };
+
+    /// Whether no transaction is open.
+    fn is_autocommit(&self) -> bool
+        ensures value { result ≡ not (state self.now).in_transaction }
+        ensures settled { IsTrue result → IsTrue (state self.now).is_open →
+            (state self.now).now ≡ (state self.now).committed };
+
+    /// The schema of the database.
+    fn schema(&self) -> &Schema
+        ensures value { result.now ≡ (state self.now).now.schema }
+        ensures live { IsLive (state self.now) };
+
+    /// Compiles a statement.
+    fn prepare(&mut self, sql: &str) -> Result<Statement, Error>
+        ensures ok { HasCleanDisk (state self.new) → IfOk result (λ s. (s.text ≡ sql.now)
+            × IsUnchanged (state self.old) (state self.new)) }
+        ensures err { HasCleanDisk (state self.new) → IfErr result (λ e. (params : _) →
+            IsNotRun (state self.old) (state self.new) sql.now params e) }
+        ensures mode { (state self.old).in_transaction ≡ false → (state self.new).in_transaction ≡ false }
+        ensures survives { Survives (state self.old) (state self.new) (λ _. ⊥) };
+
+    /// Runs a statement that shows no rows.
+    fn execute(&mut self, sql: &str, params: &[ValueRef<'_>]) -> Result<usize, Error>
+        ensures runs { HasCleanDisk (state self.new) → Executes sql.now (bound params.now) (state self.old)
+            (state self.new) result }
+        ensures survives { Survives (state self.old) (state self.new)
+            (CommitsBy sql.now (bound params.now) (state self.old)) };
+
+    /// The rows that a query shows.
+    fn query_all(&mut self, sql: &str, params: &[ValueRef<'_>]) -> Result<Vec<Row>, Error>
+        ensures ok { HasCleanDisk (state self.new) → IfOk result (λ rows. Shown sql.now (bound params.now)
+            (state self.old) (state self.new) rows.items) }
+        ensures err { HasCleanDisk (state self.new) → IfErr result (FailsToQuery sql.now (bound params.now)
+            (state self.old) (state self.new)) }
+        ensures survives { Survives (state self.old) (state self.new)
+            (CommitsShowing sql.now (bound params.now) (state self.old)) };
+
+    /// The rows that a compiled query shows.
+    fn query_prepared(
+        &mut self,
+        statement: &Statement,
+        params: &[ValueRef<'_>],
+    ) -> Result<Vec<Row>, Error>
+        ensures ok { HasCleanDisk (state self.new) → IfOk result (λ rows. Shown statement.now.text (bound params.now)
+            (state self.old) (state self.new) rows.items) }
+        ensures err { HasCleanDisk (state self.new) → IfErr result (FailsToQuery statement.now.text (bound params.now)
+            (state self.old) (state self.new)) }
+        ensures survives { Survives (state self.old) (state self.new)
+            (CommitsShowing statement.now.text (bound params.now) (state self.old)) };
+
+    /// Makes the two tables, in a database where nothing has their names, in one transaction.
+    fn make(&mut self) -> Result<(), Error>
+        requires idle { (state self.old).in_transaction ≡ false }
+        requires clear { HasCleanDisk (state self.old) → IsTrue (is_clear (state self.old).now.schema) ×
+            IsDatabase (state self.old).now }
+        ensures made { HasCleanDisk (state self.new) → OnOk result (Shows (state self.new) empty) }
+        ensures stop { Survives (state self.old) (state self.new) (λ trees. Holds trees empty) }
+        ensures remains { HasCleanDisk (state self.new) → OnErr result (Remains (state self.old) (state self.new)) };
+
+    // While the connection is open, a stop leaves what is committed.
+    ghost settled: { (s : Self) (trees : Trees) → IsTrue (state s).is_open → (state s).may_leave trees
+        → trees ≡ (state s).committed.trees };
+}
+
+impl<S: Alter> SqlStore for Connection<S> {
+    ghost use Rattle.sqlite.specs.Held.{state};
+
+    ghost state = { state S.Store };
+
+    fn is_autocommit(&self) -> bool {
+        Connection::is_autocommit(self)
+    }
+
+    fn schema(&self) -> &Schema {
+        Connection::schema(self)
+    }
+
+    fn prepare(&mut self, sql: &str) -> Result<Statement, Error> {
+        Connection::prepare(self, sql)
+    }
+
+    fn execute(&mut self, sql: &str, params: &[ValueRef<'_>]) -> Result<usize, Error> {
+        Connection::execute(self, sql, params)
+    }
+
+    fn query_all(&mut self, sql: &str, params: &[ValueRef<'_>]) -> Result<Vec<Row>, Error> {
+        Connection::query_all(self, sql, params)
+    }
+
+    fn query_prepared(
+        &mut self,
+        statement: &Statement,
+        params: &[ValueRef<'_>],
+    ) -> Result<Vec<Row>, Error> {
+        statement.query_all(self, params)
+    }
+
+    fn make(&mut self) -> Result<(), Error> {
+        making::make(self)
+    }
+
+    ghost settled = { λ s. S.Store.settled s.store };
+}

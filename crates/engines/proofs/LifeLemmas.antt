@@ -1,0 +1,32 @@
+-- What a stop leaves after an engine.
+use Rattle.std.proofs.Common.{ℕ, List, [], ◌∷◌, ◌++◌, None, subst}
+use Rattle.sqlite.specs.State.{State, HasCleanDisk}
+use Rattle.device_registry.specs.Devices.{Devices}
+use Rattle.device_registry.specs.Holding.{MayFind}
+use Rattle.gateway_core.specs.Step.{Item, Answer}
+use Rattle.gateway_core.specs.Handling.{HandlerValue, Handles}
+use Rattle.gateway_core.specs.Beginnings.{LeavesALife}
+use Rattle.gateway_core.specs.Events.{items_of}
+use Rattle.gateway_core.proofs.ForCallers.{calls_leave_a_life}
+use Rattle.engines.specs.Started.{Starts}
+use Rattle.engines.specs.Lived.{PlaysAreLives, BrokenPlaysAreLives}
+
+module _ {C : Type 0} (state : C → State) where
+  handled_is_a_life : (database : C) (base : ℕ) (old new : HandlerValue C) (items : List Item)
+      (answers : List Answer)
+      (began : Starts state database base old) → Handles state old items answers new
+      → HasCleanDisk (state new.registry) → (left : Devices) → MayFind (state new.registry) left
+      → LeavesALife base began.found items answers None left
+  handled_is_a_life database base old new items answers began handled clean left may =
+      let P : ℕ → Type 0 = λ b. LeavesALife b began.found items answers None left in
+      subst P began.base_is (calls_leave_a_life state old new began.found items answers clean began.begins handled left may)
+
+  pub plays_are_lives : (puts : List Answer → Type 0) → PlaysAreLives state puts
+  plays_are_lives puts database base old new events began done clean left may =
+      handled_is_a_life database base old.handler new.handler (items_of old.rest events) done.answered.answers began
+      done.answered.handled clean left may
+
+  pub broken_plays_are_lives : (breaks : List Answer → Answer → Type 0) → BrokenPlaysAreLives state breaks
+  broken_plays_are_lives breaks database base old new events event began broken clean left may =
+      handled_is_a_life database base old.handler new.handler broken.items
+      (broken.answered.answers ++ broken.answered.last ∷ []) began broken.answered.handled clean left may

@@ -1,0 +1,168 @@
+-- All lines that are too long are treated alike.
+use Rattle.sqlite.specs.State.{State as Stored}
+use Rattle.gateway_core.specs.Step.{longest_line}
+use Rattle.std.proofs.Common.{◌≡◌, ℕ, ◌+◌, ◌-◌, ◌<◌, ◌≤◌, List, [], ◌∷◌, ◌++◌, length, take, drop, refl}
+use Rattle.std.proofs.Common.{ap, sym, subst, ◌∙◌, arith, true, false, inl, inr, map}
+use Rattle.std.specs.Prelude.{Result, ◌==◌, ◌&&◌, if◌then◌else◌, nat_eq, codes, slice_index}
+use Rattle.std.specs.List.{starts_with}
+use Rattle.std.specs.Str.Lines.{strip_carriage_return}
+use Rattle.std.proofs.lemmas.Bool.{lt-leb, cases_lt}
+use Rattle.std.proofs.lemmas.List.{length-take, take_all}
+use Rattle.std.proofs.lemmas.Result.{MatchResult-weaker}
+use Rattle.hex.specs.Hex.{decode_of}
+use Rattle.gateway_core.specs.Step.{Item, Received, Ordered, Answer}
+use Rattle.gateway_core.proofs.ForCallers.{handles_alike}
+use Rattle.esp3_frames.specs.Packet.{Packet}
+use Rattle.gateway_core.specs.Calls.{Value}
+use Rattle.gateway_core.specs.Events.{Event, Piece, Line, items_of, bytes_in}
+use Rattle.esp3_frames.specs.Frames.{rest_of}
+use Rattle.engines.specs.Script.{event_of, spelled}
+use Rattle.engines.specs.Played.{AnswersPart, Breaks, IsBegun}
+use Rattle.engines.specs.Taking.{Takes, TakesOrBreaks}
+use Rattle.engines.specs.Bytes.{longest_kept, event_by}
+use Rattle.engines.specs.declared.lines.Lines.{Lines}
+use Rattle.engines.specs.declared.lines.Lines.TheVariants.{OfScript, OfDesk}
+
+-- no packet stands for an order
+no_packets : (line : List ℕ) (packets : List Packet) → (Ordered line ∷ []) ≡ map Received packets → ⊥
+no_packets line [] e = cc
+no_packets line (packet ∷ packets) e = cc
+
+-- and an item that stands alone for an order is this order, with no packet behind it
+record OneItem (line : List ℕ) (item : Item) (packets : List Packet) : Type 0 where
+  pub same : item ≡ Ordered line
+  pub none : map Received packets ≡ []
+
+one_item : (line : List ℕ) (item : Item) (packets : List Packet) → (Ordered line ∷ []) ≡ item ∷ map Received packets
+    → OneItem line item packets
+one_item line item packets e = record { same = cc; none = cc }
+
+two_items : (line : List ℕ) (item other : Item) (items : List Item) → (Ordered line ∷ []) ≡ item ∷ other ∷ items → ⊥
+two_items line item other items e = cc
+
+event_of-long : (line : List ℕ) → longest_line < length line → event_of line ≡ Line line
+event_of-long line h =
+    ap (λ b. if b && starts_with nat_eq line (codes "S ") then spelled line (decode_of (drop 2 line)) else Line line)
+    (lt-leb (length line) longest_line h)
+
+-- whoever's line it is
+event_by-long : (lines : Lines) (line : List ℕ) → longest_line < length line → event_by lines line ≡ Line line
+event_by-long OfScript line h = event_of-long line h
+event_by-long OfDesk line h = refl
+
+length-strip : (line : List ℕ) → length line ≤ length (strip_carriage_return line) + 1
+length-strip line =
+    elim (slice_index line (length line - 1) == 13) as
+    (λ b. length line ≤ length (if b then take (length line - 1) line else line) + 1) [
+      | true ↦ omega (arith, length-take (length line - 1) line)
+      | false ↦ omega arith
+    ]
+
+module _ {S : Type 0} (stored : S → Stored) where
+  takes_long : (old new : Value S) (short long : List ℕ) (puts : List Answer → Type 0) (count total : ℕ)
+      → longest_line < length short → longest_line < length long → Takes stored old new (Line short ∷ []) puts count total
+      → Takes stored old new (Line long ∷ []) puts count total
+  takes_long old new short long puts count total a b takes =
+      let done = takes.played.answered in
+      record {
+        played = record {
+          answered = record {
+            answers = done.answers;
+            handled = handles_alike stored old.handler new.handler short long done.answers a b done.handled;
+            out = done.out;
+          };
+          rest = takes.played.rest;
+          idle = takes.played.idle;
+        };
+        counted = takes.counted;
+      }
+
+  -- a break at one order, in its parts
+  record BreaksAtOrder (old new : Value S) (line : List ℕ) (breaks : List Answer → Answer → Type 0) : Type 0 where
+    pub none : map Received new.ready ≡ []
+    pub answered : AnswersPart stored old.handler new.handler (Ordered line ∷ []) breaks
+
+  at_order : (old new : Value S) (line : List ℕ) (items : List Item) (breaks : List Answer → Answer → Type 0)
+      → (Ordered line ∷ []) ≡ items ++ map Received new.ready → AnswersPart stored old.handler new.handler items breaks
+      → BreaksAtOrder old new line breaks
+  at_order old new line [] breaks e part = absurd (no_packets line new.ready e)
+  at_order old new line (item ∷ []) breaks e part =
+      let one = one_item line item new.ready e in
+      let P : Item → Type 0 = λ i. AnswersPart stored old.handler new.handler (i ∷ []) breaks in
+      record { none = one.none; answered = subst P one.same part }
+  at_order old new line (item ∷ other ∷ items) breaks e part =
+      absurd (two_items line item other (items ++ map Received new.ready) e)
+
+  breaks_long : (old new : Value S) (short long : List ℕ) (breaks : List Answer → Answer → Type 0) (begun : Event)
+      (items : List Item) → longest_line < length short → longest_line < length long
+      → IsBegun (Line short) begun → items_of old.rest (begun ∷ []) ≡ items ++ map Received new.ready
+      → new.rest ≡ rest_of (old.rest ++ bytes_in (begun ∷ [])) → AnswersPart stored old.handler new.handler items breaks
+      → Breaks stored old new [] (Line long) breaks
+  breaks_long old new short long breaks (Piece bytes) items a b begins stand rest part = absurd begins
+  breaks_long old new short long breaks (Line line) items a b begins stand rest part =
+      let at = at_order old new line items breaks stand part in
+      let done = at.answered in
+      record {
+        begun = Line long;
+        begins = refl;
+        items = Ordered long ∷ [];
+        own = Ordered long ∷ [];
+        behind = refl;
+        some = omega arith;
+        stand = ap (λ (is : List Item). Ordered long ∷ is) (sym at.none);
+        rest = rest;
+        answered = record {
+          answers = done.answers;
+          last = done.last;
+          handled =
+              handles_alike stored old.handler new.handler line long (done.answers ++ done.last ∷ []) (rw begins a) b
+              done.handled;
+          out = done.out;
+        };
+      }
+
+  long_lines_alike : {A E : Type 0} (r : Result A E) (lines : Lines) (old new : Value S) (short long : List ℕ)
+      (puts : List Answer → Type 0) (breaks : List Answer → Answer → Type 0)
+      (count total : ℕ) → longest_line < length short → longest_line < length long
+      → TakesOrBreaks stored r old new (event_by lines short) puts breaks count total
+      → TakesOrBreaks stored r old new (event_by lines long) puts breaks count total
+  long_lines_alike r lines old new short long puts breaks count total a b given =
+      let P : Event → Type 0 = λ e. TakesOrBreaks stored r old new e puts breaks count total in
+      subst P (sym (event_by-long lines long b))
+      (MatchResult-weaker r (subst P (event_by-long lines short a) given)
+      (λ _ takes. takes_long old new short long puts count total a b takes)
+      (λ _ broken. breaks_long old new short long breaks broken.begun broken.items a b broken.begins broken.stand
+      broken.rest broken.answered))
+
+  -- what is kept of a line that LF ends stands for the line
+  pub kept_line_alike : {A E : Type 0} (r : Result A E) (lines : Lines) (old new : Value S) (kept line : List ℕ)
+      (puts : List Answer → Type 0) (breaks : List Answer → Answer → Type 0)
+      (count total : ℕ) → kept ≡ take longest_kept line
+      → TakesOrBreaks stored r old new (event_by lines (strip_carriage_return kept)) puts breaks count total
+      → TakesOrBreaks stored r old new (event_by lines (strip_carriage_return line)) puts breaks count total
+  kept_line_alike r lines old new kept line puts breaks count total e given =
+      elim (cases_lt longest_kept (length line)) [
+        | inl far ↦ long_lines_alike r lines old new (strip_carriage_return kept)
+            (strip_carriage_return line) puts breaks count total
+            (omega (arith, far, length-strip kept, ap length e, length-take longest_kept line))
+            (omega (arith, far, length-strip line)) given
+        | inr near ↦ let P : List ℕ → Type 0 =
+            λ l. TakesOrBreaks stored r old new (event_by lines (strip_carriage_return l)) puts breaks count total in
+            subst P (e ∙ take_all longest_kept line near) given
+      ]
+
+  -- and so does what is kept of a line that the end of the input ends
+  pub kept_last_line_alike : {A E : Type 0} (r : Result A E) (old new : Value S) (kept line : List ℕ)
+      (puts : List Answer → Type 0) (breaks : List Answer → Answer → Type 0)
+      (count total : ℕ) → kept ≡ take longest_kept line
+      → TakesOrBreaks stored r old new (event_of kept) puts breaks count total
+      → TakesOrBreaks stored r old new (event_of line) puts breaks count total
+  kept_last_line_alike r old new kept line puts breaks count total e given =
+      elim (cases_lt longest_kept (length line)) [
+        | inl far ↦
+            long_lines_alike r OfScript old new kept line puts breaks count total
+            (omega (arith, far, ap length e, length-take longest_kept line))
+            (omega (arith, far)) given
+        | inr near ↦ let P : List ℕ → Type 0 = λ l. TakesOrBreaks stored r old new (event_of l) puts breaks count total in
+            subst P (e ∙ take_all longest_kept line near) given
+      ]

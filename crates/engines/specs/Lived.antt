@@ -1,0 +1,31 @@
+-- From an open to a stop: what a stop leaves after an engine is what a life of the gateway may leave.
+use Rattle.std.specs.Prelude.{ℕ, List, [], ◌∷◌, ◌++◌, None}
+use Rattle.sqlite.specs.State.{State, HasCleanDisk}
+use Rattle.device_registry.specs.Devices.{Devices}
+use Rattle.device_registry.specs.Holding.{MayFind}
+use Rattle.gateway_core.specs.Beginnings.{LeavesALife}
+use Rattle.gateway_core.specs.Calls.{Value}
+use Rattle.gateway_core.specs.Events.{Event, items_of}
+use Rattle.gateway_core.specs.Step.{Answer}
+use Rattle.engines.specs.Played.{Plays, Breaks}
+use Rattle.engines.specs.Started.{Starts}
+
+-- `puts` and `breaks` say what got out of the answers.
+module _ {C : Type 0} (state : C → State) where
+  -- The life found the devices that were committed last, and handled the events' items with the answers that are out.
+  abbrev pub PlaysAreLives : (puts : List Answer → Type 0) → Type 0
+  PlaysAreLives puts =
+      (database : C) (base : ℕ) (old new : Value C) (events : List Event)
+      → (began : Starts state database base old.handler) → (done : Plays state old new events puts)
+      → HasCleanDisk (state new.handler.registry)
+      → (left : Devices) → MayFind (state new.handler.registry) left
+      → LeavesALife base began.found (items_of old.rest events) done.answered.answers None left
+
+  -- The same where a write failed. The last answer need not be out, but its item was handled.
+  abbrev pub BrokenPlaysAreLives : (breaks : List Answer → Answer → Type 0) → Type 0
+  BrokenPlaysAreLives breaks =
+      (database : C) (base : ℕ) (old new : Value C) (events : List Event) (event : Event)
+      → (began : Starts state database base old.handler) → (broken : Breaks state old new events event breaks)
+      → HasCleanDisk (state new.handler.registry)
+      → (left : Devices) → MayFind (state new.handler.registry) left
+      → LeavesALife base began.found broken.items (broken.answered.answers ++ broken.answered.last ∷ []) None left

@@ -1,0 +1,99 @@
+//! Bytes are taken as they come, by their lines.
+ghost use Rattle.std.specs.Prelude.{◌≡◌, [], ◌∷◌, ◌++◌, ℕ, List, OnOk};
+ghost use Rattle.std.specs.Str.Lines.{strip_carriage_return};
+ghost use Rattle.engines.specs.Bytes.{Keeps, TakesBytesOrStops, event_by};
+ghost use Rattle.engines.specs.Played.{IsIdle};
+ghost use Rattle.engines.specs.Script.{script};
+ghost use Rattle.engines.specs.Taking.{TakesOrBreaks, TakesOrStops};
+
+use crate::engine::Engine;
+use crate::lines::Lines;
+use crate::outlet::Outlet;
+use crate::unended::UnendedLine;
+use byte_streams::Failed;
+use gateway_core::DeviceStore;
+use memchr::memchr;
+
+/// An engine, and what has come of a line of which the end has not come.
+#[derive(Drop)]
+pub struct Player<'g, O, S: DeviceStore> {
+    pub engine: Engine<'g, O, S>,
+    pub unended: UnendedLine,
+}
+
+// In the clauses below `tail` is all that came of the line that is not ended.
+impl<O: Outlet, S: DeviceStore> Player<'_, O, S> {
+    /// Takes the next bytes, and so each line that ends in them.
+    pub fn take_bytes(&mut self, lines: Lines, bytes: &[u8]) -> Result<(), Failed>
+        requires { IsIdle self.old.engine.gateway.now }
+        ensures gateway { self.new.engine.gateway.ghost_name ≡ self.old.engine.gateway.ghost_name }
+        ensures loans { O.loans self.new.engine.outlet ≡ O.loans self.old.engine.outlet }
+        ensures idle { OnOk result (IsIdle self.new.engine.gateway.now) }
+        ensures taken { (tail : List ℕ) → Keeps tail self.old.unended →
+            TakesBytesOrStops S.stored result lines self.old.engine.gateway.now self.new.engine.gateway.now tail
+            bytes.now self.new.unended (O.puts self.old.engine.outlet self.new.engine.outlet)
+            (O.breaks self.old.engine.outlet self.new.engine.outlet) self.old.engine.items self.new.engine.items }
+    {
+        // It tells the proof that the count is a `u64`.
+        let _start = self.engine.items;
+        let mut rest = bytes;
+        while let Some(end) = memchr(b'\n', rest) {
+            self.take_ended(lines, &rest[..end])?;
+            rest = &rest[end + 1..];
+        }
+        self.unended.extend(rest);
+        Ok(())
+    }
+
+    /// Takes the line that LF ends behind these bytes.
+    fn take_ended(&mut self, lines: Lines, bytes: &[u8]) -> Result<(), Failed>
+        requires { IsIdle self.old.engine.gateway.now }
+        ensures gateway { self.new.engine.gateway.ghost_name ≡ self.old.engine.gateway.ghost_name }
+        ensures loans { O.loans self.new.engine.outlet ≡ O.loans self.old.engine.outlet }
+        ensures idle { OnOk result (IsIdle self.new.engine.gateway.now) }
+        ensures emptied { OnOk result (self.new.unended ≡ []) }
+        ensures taken { (tail : List ℕ) → Keeps tail self.old.unended →
+            TakesOrBreaks S.stored result self.old.engine.gateway.now self.new.engine.gateway.now
+            (event_by lines (strip_carriage_return (tail ++ bytes.now)))
+            (O.puts self.old.engine.outlet self.new.engine.outlet)
+            (O.breaks self.old.engine.outlet self.new.engine.outlet) self.old.engine.items self.new.engine.items }
+    {
+        if self.unended.as_slice().is_empty() {
+            return self.engine.take_line(lines, strip(bytes));
+        }
+        self.unended.extend(bytes);
+        self.engine
+            .take_line(lines, strip(self.unended.as_slice()))?;
+        self.unended.clear();
+        Ok(())
+    }
+
+    /// Takes the line of a script that the end of the script ends, if there is one.
+    pub fn take_last(&mut self) -> Result<(), Failed>
+        requires { IsIdle self.old.engine.gateway.now }
+        ensures gateway { self.new.engine.gateway.ghost_name ≡ self.old.engine.gateway.ghost_name }
+        ensures loans { O.loans self.new.engine.outlet ≡ O.loans self.old.engine.outlet }
+        ensures taken { (tail : List ℕ) → Keeps tail self.old.unended →
+            TakesOrStops S.stored result self.old.engine.gateway.now self.new.engine.gateway.now (script tail)
+            (O.puts self.old.engine.outlet self.new.engine.outlet)
+            (O.breaks self.old.engine.outlet self.new.engine.outlet) self.old.engine.items self.new.engine.items }
+    {
+        // It tells the proof that the count is a `u64`.
+        let _start = self.engine.items;
+        let line = self.unended.as_slice();
+        if line.is_empty() {
+            return Ok(());
+        }
+        self.engine.take_line(Lines::OfScript, line)
+    }
+}
+
+/// A line without the CR at its end, if there is one.
+fn strip(line: &[u8]) -> &[u8]
+    ensures { result.now ≡ strip_carriage_return line.now }
+{
+    match line.last() {
+        Some(b'\r') => &line[..line.len() - 1],
+        _ => line,
+    }
+}

@@ -1,0 +1,47 @@
+//! Replies are written to a sink, as the text of a replay.
+ghost use Rattle.std.specs.Prelude.{[], ◌∷◌, ◌≤◌, Some, length};
+ghost use Rattle.byte_streams.specs.Counts.{Went};
+ghost use Rattle.byte_streams.specs.Writes.{Writes};
+ghost use Rattle.engines.specs.TextOutlet.{BreaksText, PutsText, text_outlet};
+ghost use Rattle.engines.specs.Written.{radio_text};
+
+use crate::outlet::Outlet;
+use byte_streams::{Failed, Sink, write_text};
+use gateway_core::Reply;
+
+/// The text of a replay: of each reply its radio bytes as a serial piece, if there are any, and then the desk's text.
+#[derive(Drop)]
+pub struct ReplayText<'w, W> {
+    pub sink: &'w mut W,
+}
+
+impl<W: Sink> Outlet for ReplayText<'_, W> {
+    ghost puts = { λ old new. PutsText W.held W.counts old.sink.now new.sink.now };
+
+    ghost breaks = { λ old new. BreaksText W.held W.counts old.sink.now new.sink.now };
+
+    ghost loans = { λ text. text.sink.ghost_name ∷ [] };
+
+    fn put(&mut self, reply: &Reply) -> Result<(), Failed> {
+        if let Some(bytes) = &reply.radio {
+            write_piece(self.sink, bytes.as_slice())?;
+        }
+        write_text(self.sink, reply.desk.as_bytes())
+    }
+
+    ghost lawful = { text_outlet W.held W.counts (λ text. text.sink.now) };
+}
+
+/// Writes bytes as a serial piece: behind `S` and a space, as hexadecimal digits, and with LF.
+fn write_piece<W: Sink>(writer: &mut W, bytes: &[u8]) -> Result<(), Failed>
+    requires { length bytes.now ≤ 64 }
+    ensures written { Writes (W.held writer.old) (W.held writer.new) result (radio_text (Some bytes.now)) }
+    ensures told { Went result (W.counts writer.old) (W.counts writer.new) }
+{
+    let mut buffer = [0u8; 128];
+    let digits = &mut buffer[..2 * bytes.len()];
+    let _ = hex::encode_to_slice(bytes, digits);
+    write_text(writer, b"S ")?;
+    write_text(writer, digits)?;
+    write_text(writer, b"\n")
+}

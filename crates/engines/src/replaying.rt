@@ -1,0 +1,114 @@
+//! A script is replayed.
+ghost use Rattle.std.specs.Prelude.{◌≡◌, ◌↔◌, ◌⊎◌, ◌+◌, ◌-◌, ◌^◌, min, Err, [], ℕ, List, length};
+ghost use Rattle.std.specs.Prelude.{IfOk, OnOk};
+ghost use Rattle.std.specs.Io.KnownBytes.{Consumes, IsAtEnd};
+ghost use Rattle.gateway_core.specs.Events.{items_of};
+ghost use Rattle.byte_streams.specs.Counts.{HasRoom, OneEmpty, OneFailed, WentWell};
+ghost use Rattle.engines.specs.Reads.{MakesReads};
+ghost use Rattle.engines.specs.Replayed.{Replays, ReplaysClosed, ReplaysPart};
+ghost use Rattle.engines.specs.Script.{script};
+
+use crate::engine::Engine;
+use crate::lines::Lines;
+use crate::player::Player;
+use crate::replay_text::ReplayText;
+use crate::unended::UnendedLine;
+use byte_streams::{Sink, Source};
+use gateway_core::{DeviceStore, GatewayOver};
+
+/// How many bytes one read brings at most. Own choice.
+pub const LONGEST_READ: usize = 256;
+
+/// What a replay or a live gateway did.
+#[derive(Clone, Copy, Debug, PartialEq, Eq)]
+pub struct Summary {
+    /// How many packets were handled and orders taken. The count stays at its greatest value.
+    pub items: u64,
+}
+
+/// Why a replay, or a live gateway, stopped before its end.
+#[derive(Clone, Copy, Debug, PartialEq, Eq)]
+pub enum RunFault {
+    /// A read failed.
+    Read,
+    /// A write failed, or took 0 bytes.
+    Write,
+    /// All reads that were allowed were made, and the input of a replay has not ended.
+    TooManyTurns,
+}
+
+/// Replays a script: reads its lines, handles them by the gateway, and writes what the gateway answers.
+///
+/// A line ends with LF or with the end of the input, and one CR before LF is dropped; behind the last LF stands no line
+/// where nothing follows. A line of at most `LONGEST_LINE` bytes that is `S`, one space and an even number of
+/// hexadecimal digits is a piece of the serial stream. Each other line is an order of the desk. For each packet and
+/// each order the radio bytes are written as such a piece, in lower case and with LF, and then the desk's text.
+///
+/// A turn is one read of at most `LONGEST_READ` bytes, and `turns` reads are made at most. A read of 0 bytes ends the
+/// input. After `Read` and `TooManyTurns` the lines that LF ended are done, and of a line that did not end nothing.
+/// After `Write` the output breaks off within the text of one packet or order, and packets may still wait in the
+/// gateway.
+pub fn replay<R: Source, W: Sink, S: DeviceStore>(
+    reader: &mut R,
+    writer: &mut W,
+    gateway: &mut GatewayOver<S>,
+    turns: u64,
+) -> Result<Summary, RunFault>
+    requires { gateway.old.ready ≡ [] }
+    // What is read, handled and written.
+    ensures ok { IfOk result (λ summary. (input : List ℕ) × Consumes (R.left reader.old) (R.left reader.new) input
+        × IsAtEnd (R.left reader.new)
+        × Replays S.stored gateway.old gateway.new (script input) (W.held writer.old) (W.held writer.new)
+        × (summary.items ≡ min (length (items_of gateway.old.rest (script input))) (2 ^ 64 - 1))) }
+    ensures stopped { (result ≡ Err RunFault.Read) ⊎ (result ≡ Err RunFault.TooManyTurns) →
+        (input : List ℕ) × Consumes (R.left reader.old) (R.left reader.new) input
+        × ReplaysClosed S.stored gateway.old gateway.new input (W.held writer.old) (W.held writer.new) }
+    ensures broken { result ≡ Err RunFault.Write →
+        (input : List ℕ) × Consumes (R.left reader.old) (R.left reader.new) input
+        × ReplaysPart S.stored gateway.old gateway.new input (W.held writer.old) (W.held writer.new) }
+
+    // How the reads and the writes went.
+    ensures reads { MakesReads R.left R.counts reader.old reader.new turns }
+    ensures ended { OnOk result (OneEmpty (R.counts reader.old) (R.counts reader.new)
+        × WentWell (W.counts writer.old) (W.counts writer.new)) }
+    ensures read { result ≡ Err RunFault.Read → OneFailed (R.counts reader.old) (R.counts reader.new)
+        × WentWell (W.counts writer.old) (W.counts writer.new) }
+    ensures write { result ≡ Err RunFault.Write →
+        (WentWell (R.counts reader.old) (R.counts reader.new) ⊎ OneEmpty (R.counts reader.old) (R.counts reader.new))
+        × (OneFailed (W.counts writer.old) (W.counts writer.new)
+        ⊎ OneEmpty (W.counts writer.old) (W.counts writer.new)) }
+    ensures too_many { HasRoom (R.counts reader.old) turns → HasRoom (W.counts writer.old) 0 →
+        ((result ≡ Err RunFault.TooManyTurns) ↔ (((R.counts reader.new).calls ≡ (R.counts reader.old).calls + turns)
+        × WentWell (R.counts reader.old) (R.counts reader.new)
+        × WentWell (W.counts writer.old) (W.counts writer.new))) }
+{
+    let is_ready = gateway.is_ready();
+    prove!(!is_ready);
+    let mut player = Player {
+        engine: Engine {
+            outlet: ReplayText { sink: writer },
+            gateway,
+            items: 0,
+        },
+        unended: UnendedLine::new(),
+    };
+    for _turn in 0..turns {
+        let mut buffer = [0u8; LONGEST_READ];
+        let length = match reader.read(&mut buffer) {
+            Ok(length) => length,
+            Err(_) => return Err(RunFault::Read),
+        };
+        if length == 0 {
+            let Ok(()) = player.take_last() else {
+                return Err(RunFault::Write);
+            };
+            return Ok(Summary {
+                items: player.engine.items,
+            });
+        }
+        let Ok(()) = player.take_bytes(Lines::OfScript, &buffer[..length]) else {
+            return Err(RunFault::Write);
+        };
+    }
+    Err(RunFault::TooManyTurns)
+}

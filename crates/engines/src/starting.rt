@@ -1,0 +1,54 @@
+//! A gateway over a database.
+ghost use Rattle.std.specs.Prelude.{◌≡◌, true, IfErr, IfOk};
+ghost use Rattle.sqlite.specs.State.{HasCleanDisk};
+ghost use Rattle.device_registry.specs.Ready.{IsBetweenTransactions};
+ghost use Rattle.erp1_telegrams.specs.Address;
+ghost use Rattle.gateway_core.specs.Calls.{new_value};
+ghost use Rattle.engines.specs.Played.{IsIdle};
+ghost use Rattle.engines.specs.Started.{RefusesToStart, Starts};
+
+use crate::fault::Fault;
+use device_registry::{RegistryOver, SqlStore};
+use gateway_core::{GatewayOver, StartFault};
+use std::alloc::{AllocError, Global};
+
+/// How many looked-up senders the registry remembers: room for every device that can be learned, and some others.
+const REMEMBERED: usize = 1024;
+
+/// A gateway for a radio module with this base ID, over the registry that the database holds. It is new: it has counted
+/// nothing, no packet waits, and no byte has come. A database that holds none of the registry's tables gets them.
+///
+/// It is refused as the registry is, or where there is no memory, and then the connection is dropped. Which of `Store`
+/// and `Memory` is told, tests show.
+pub fn start<C: SqlStore + Drop>(
+    alloc: Global,
+    conn: C,
+    base: u32,
+) -> Result<GatewayOver<RegistryOver<C>>, Fault>
+    requires base { Address.is_base base ≡ true }
+    requires idle { IsBetweenTransactions (C.state conn) }
+    ensures new { IfOk result (λ gateway. gateway ≡ new_value base gateway.handler.registry) }
+    ensures idle { IfOk result IsIdle }
+    ensures starts { IfOk result (λ gateway. HasCleanDisk (C.state gateway.handler.registry) →
+        Starts C.state conn base gateway.handler) }
+    ensures refused { IfErr result (RefusesToStart C.state conn) }
+{
+    let registry = RegistryOver::open_with(alloc, conn, REMEMBERED)?;
+    Ok(gateway_over(alloc, registry, base)?)
+}
+
+/// A new gateway over this registry, unless there is no memory for it.
+fn gateway_over<C: SqlStore + Drop>(
+    alloc: Global,
+    registry: RegistryOver<C>,
+    base: u32,
+) -> Result<GatewayOver<RegistryOver<C>>, AllocError>
+    requires { Address.is_base base ≡ true }
+    ensures { IfOk result (λ gateway. gateway ≡ new_value base registry) }
+{
+    match GatewayOver::new(alloc, registry, base) {
+        Ok(gateway) => Ok(gateway),
+        Err(StartFault::Memory) => Err(AllocError),
+        Err(StartFault::BadBase) => unreachable!(),
+    }
+}

@@ -1,0 +1,48 @@
+//! What keeps the learned devices.
+ghost use Rattle.std.specs.Prelude.{◌≡◌, Result, Option, Vec};
+ghost use Rattle.sqlite.specs.State.{State};
+ghost use Rattle.device_registry.specs.Holding.{LooksUp, Learns, Forgets, ListsAll};
+
+use device_registry::{Device, LearnFault, Receipt, RegistryOver, SqlStore, StoreFault};
+
+/// What keeps the learned devices, as a registry does.
+pub trait DeviceStore {
+    /// What it holds, and what a stop may leave of it.
+    ghost stored: { Self → State };
+
+    /// The device of a sender, if it is learned.
+    fn find(&mut self, id: u32) -> Result<Option<Device>, StoreFault>
+        ensures { LooksUp (stored self.old) (stored self.new) id result };
+
+    /// Learns a device, in place of what was known of its sender.
+    fn learn(&mut self, device: Device) -> Result<Receipt, LearnFault>
+        ensures { Learns (stored self.old) (stored self.new) device result };
+
+    /// Forgets a sender, also one of which nothing is known.
+    fn forget(&mut self, id: u32) -> Result<Receipt, StoreFault>
+        ensures { Forgets (stored self.old) (stored self.new) id result };
+
+    /// All devices, by rising ID.
+    fn all(&mut self) -> Result<Vec<Device>, StoreFault>
+        ensures { ListsAll (stored self.old) (stored self.new) result };
+}
+
+impl<C: SqlStore> DeviceStore for RegistryOver<C> {
+    ghost stored = { C.state };
+
+    fn find(&mut self, id: u32) -> Result<Option<Device>, StoreFault> {
+        RegistryOver::find(self, id)
+    }
+
+    fn learn(&mut self, device: Device) -> Result<Receipt, LearnFault> {
+        RegistryOver::learn(self, device)
+    }
+
+    fn forget(&mut self, id: u32) -> Result<Receipt, StoreFault> {
+        RegistryOver::forget(self, id)
+    }
+
+    fn all(&mut self) -> Result<Vec<Device>, StoreFault> {
+        RegistryOver::all(self)
+    }
+}
