@@ -5,5 +5,6 @@ mod databases;
 mod devices;
 mod disks;
 mod given;
+mod remembering;
 mod steps;
 mod stops;

@@ -2,8 +2,8 @@
 ghost use Rattle.std.specs.Prelude.{◌≤◌};
 
 use super::given::{Fresh, contact, either, fresh_registry, is_full, open_idle};
-use crate::{Device, Registry};
-use sqlite::Alter;
+use super::remembering::Remembering;
+use crate::Device;
 use std::alloc::Global;
 use std::process::Abort;
 use std::test::Fail;
@@ -64,9 +64,9 @@ pub fn play<S: Fresh>(
 }
 
 /// Takes the acts in turn.
-pub fn take_all<S: Alter>(
+pub fn take_all<R: Remembering>(
     rt: &impl Abort,
-    registry: &mut Registry<S>,
+    registry: &mut R,
     acts: &[Act],
 ) -> Result<(), Fail> {
     for act in acts {
@@ -75,7 +75,7 @@ pub fn take_all<S: Alter>(
     Ok(())
 }
 
-fn take<S: Alter>(rt: &impl Abort, registry: &mut Registry<S>, act: Act) -> Result<(), Fail> {
+fn take<R: Remembering>(rt: &impl Abort, registry: &mut R, act: Act) -> Result<(), Fail> {
     match act {
         Act::Finds(id, wanted) => find(rt, registry, id, wanted),
         Act::Learns(device) => learn(rt, registry, device),
@@ -89,9 +89,9 @@ fn take<S: Alter>(rt: &impl Abort, registry: &mut Registry<S>, act: Act) -> Resu
     }
 }
 
-fn take_many<S: Alter>(
+fn take_many<R: Remembering>(
     rt: &impl Abort,
-    registry: &mut Registry<S>,
+    registry: &mut R,
     act: Many,
     count: u32,
 ) -> Result<(), Fail> {
@@ -104,9 +104,9 @@ fn take_many<S: Alter>(
     }
 }
 
-fn find<S: Alter>(
+fn find<R: Remembering>(
     rt: &impl Abort,
-    registry: &mut Registry<S>,
+    registry: &mut R,
     id: u32,
     wanted: Option<Device>,
 ) -> Result<(), Fail> {
@@ -114,30 +114,22 @@ fn find<S: Alter>(
     Ok(())
 }
 
-fn find_none<S: Alter>(
-    rt: &impl Abort,
-    registry: &mut Registry<S>,
-    count: u32,
-) -> Result<(), Fail> {
+fn find_none<R: Remembering>(rt: &impl Abort, registry: &mut R, count: u32) -> Result<(), Fail> {
     for id in 0..count {
         find(rt, registry, id, None)?;
     }
     Ok(())
 }
 
-fn learn<S: Alter>(
-    rt: &impl Abort,
-    registry: &mut Registry<S>,
-    device: Device,
-) -> Result<(), Fail> {
+fn learn<R: Remembering>(rt: &impl Abort, registry: &mut R, device: Device) -> Result<(), Fail> {
     let receipt = registry.learn(device)?;
     assert_eq!(rt; receipt.spend(), (device.id, true));
     Ok(())
 }
 
-fn learn_contacts<S: Alter>(
+fn learn_contacts<R: Remembering>(
     rt: &impl Abort,
-    registry: &mut Registry<S>,
+    registry: &mut R,
     count: u32,
 ) -> Result<(), Fail> {
     for id in 0..count {
@@ -146,9 +138,9 @@ fn learn_contacts<S: Alter>(
     Ok(())
 }
 
-fn learn_in_turn<S: Alter>(
+fn learn_in_turn<R: Remembering>(
     rt: &impl Abort,
-    registry: &mut Registry<S>,
+    registry: &mut R,
     count: u32,
 ) -> Result<(), Fail> {
     for id in 0..count {
@@ -157,11 +149,7 @@ fn learn_in_turn<S: Alter>(
     Ok(())
 }
 
-fn find_in_turn<S: Alter>(
-    rt: &impl Abort,
-    registry: &mut Registry<S>,
-    count: u32,
-) -> Result<(), Fail> {
+fn find_in_turn<R: Remembering>(rt: &impl Abort, registry: &mut R, count: u32) -> Result<(), Fail> {
     for id in 0..count {
         find(rt, registry, id, Some(either(id)))?;
         find(rt, registry, id, Some(either(id)))?;
@@ -170,9 +158,9 @@ fn find_in_turn<S: Alter>(
     Ok(())
 }
 
-fn be_full_for<S: Alter>(
+fn be_full_for<R: Remembering>(
     rt: &impl Abort,
-    registry: &mut Registry<S>,
+    registry: &mut R,
     device: Device,
 ) -> Result<(), Fail> {
     match registry.learn(device) {
@@ -187,20 +175,20 @@ fn be_full_for<S: Alter>(
     }
 }
 
-fn forget<S: Alter>(rt: &impl Abort, registry: &mut Registry<S>, id: u32) -> Result<(), Fail> {
+fn forget<R: Remembering>(rt: &impl Abort, registry: &mut R, id: u32) -> Result<(), Fail> {
     let receipt = registry.forget(id)?;
     assert_eq!(rt; receipt.spend(), (id, false));
     Ok(())
 }
 
-fn count<S: Alter>(rt: &impl Abort, registry: &mut Registry<S>, wanted: usize) -> Result<(), Fail> {
+fn count<R: Remembering>(rt: &impl Abort, registry: &mut R, wanted: usize) -> Result<(), Fail> {
     assert_eq!(rt; registry.all()?.len(), wanted);
     Ok(())
 }
 
-fn list<S: Alter>(
+fn list<R: Remembering>(
     rt: &impl Abort,
-    registry: &mut Registry<S>,
+    registry: &mut R,
     at: usize,
     wanted: Device,
 ) -> Result<(), Fail> {
@@ -208,20 +196,19 @@ fn list<S: Alter>(
     Ok(())
 }
 
-// The look leaves the order of the entries.
-fn remember<S: Alter>(
+fn remember<R: Remembering>(
     rt: &impl Abort,
-    registry: &Registry<S>,
+    registry: &R,
     id: u32,
     wanted: Option<Option<Device>>,
 ) -> Result<(), Fail> {
-    assert_eq!(rt; registry.cache.peek(&id).copied(), wanted, "{id}");
+    assert_eq!(rt; registry.remembered(id), wanted, "{id}");
     Ok(())
 }
 
-fn remember_contacts<S: Alter>(
+fn remember_contacts<R: Remembering>(
     rt: &impl Abort,
-    registry: &Registry<S>,
+    registry: &R,
     count: u32,
 ) -> Result<(), Fail> {
     for id in 0..count {
@@ -230,11 +217,11 @@ fn remember_contacts<S: Alter>(
     Ok(())
 }
 
-fn remember_so_many<S: Alter>(
+fn remember_so_many<R: Remembering>(
     rt: &impl Abort,
-    registry: &Registry<S>,
+    registry: &R,
     wanted: usize,
 ) -> Result<(), Fail> {
-    assert_eq!(rt; registry.cache.len(), wanted);
+    assert_eq!(rt; registry.remembers_so_many(), wanted);
     Ok(())
 }

@@ -1,6 +1,7 @@
 //! Devices, faults and statements that the tests share.
 ghost use Rattle.std.specs.Prelude.{◌≤◌};
 
+use super::remembering::Remembering;
 use crate::{Device, LearnFault, OpenFault, Registry, StoreFault, prepare};
 use erp1_telegrams::Eep;
 use sqlite::{Alter, Connection, MemStore};
@@ -72,12 +73,12 @@ pub fn is_full(fault: &LearnFault) -> bool {
     matches!(fault, LearnFault::Full)
 }
 
-pub fn learn<S: Alter>(registry: &mut Registry<S>, device: Device) -> Result<(), LearnFault> {
+pub fn learn<R: Remembering>(registry: &mut R, device: Device) -> Result<(), LearnFault> {
     let (_id, _is_learned) = registry.learn(device)?.spend();
     Ok(())
 }
 
-pub fn forget<S: Alter>(registry: &mut Registry<S>, id: u32) -> Result<(), StoreFault> {
+pub fn forget<R: Remembering>(registry: &mut R, id: u32) -> Result<(), StoreFault> {
     let (_id, _is_learned) = registry.forget(id)?.spend();
     Ok(())
 }

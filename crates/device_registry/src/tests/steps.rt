@@ -4,6 +4,7 @@ use super::given::{
     contact, forget, is_learn_store, is_open_store, is_store, learn, open_idle, prepare_idle,
     sensor,
 };
+use super::remembering::Remembering;
 use crate::Registry;
 use sqlite::{Alter, Connection, params};
 use std::alloc::Global;
@@ -60,9 +61,9 @@ pub fn filled<S: Alter + Drop>(
 }
 
 // Whether `find` is refused by the store. Else it finds the contact.
-fn is_find_refused<S: Alter>(
+fn is_find_refused<R: Remembering>(
     rt: &impl Abort,
-    registry: &mut Registry<S>,
+    registry: &mut R,
     id: u32,
 ) -> Result<bool, Fail> {
     match registry.find(id) {
@@ -78,9 +79,9 @@ fn is_find_refused<S: Alter>(
 }
 
 // Whether `learn` is refused by the store.
-fn is_learn_refused<S: Alter>(
+fn is_learn_refused<R: Remembering>(
     rt: &impl Abort,
-    registry: &mut Registry<S>,
+    registry: &mut R,
     id: u32,
 ) -> Result<bool, Fail> {
     if let Err(fault) = learn(registry, sensor(id)) {
@@ -91,9 +92,9 @@ fn is_learn_refused<S: Alter>(
 }
 
 // Whether `forget` is refused by the store.
-fn is_forget_refused<S: Alter>(
+fn is_forget_refused<R: Remembering>(
     rt: &impl Abort,
-    registry: &mut Registry<S>,
+    registry: &mut R,
     id: u32,
 ) -> Result<bool, Fail> {
     if let Err(fault) = forget(registry, id) {
@@ -104,7 +105,7 @@ fn is_forget_refused<S: Alter>(
 }
 
 // Whether `all` is refused by the store. Else it shows what was changed.
-fn is_all_refused<S: Alter>(rt: &impl Abort, registry: &mut Registry<S>) -> Result<bool, Fail> {
+fn is_all_refused<R: Remembering>(rt: &impl Abort, registry: &mut R) -> Result<bool, Fail> {
     match registry.all() {
         Ok(all) => {
             assert!(rt; all.contains(&sensor(3)) && !all.contains(&contact(5)));
@@ -117,11 +118,7 @@ fn is_all_refused<S: Alter>(rt: &impl Abort, registry: &mut Registry<S>) -> Resu
     }
 }
 
-fn is_refused<S: Alter>(
-    rt: &impl Abort,
-    registry: &mut Registry<S>,
-    call: Call,
-) -> Result<bool, Fail> {
+fn is_refused<R: Remembering>(rt: &impl Abort, registry: &mut R, call: Call) -> Result<bool, Fail> {
     match call {
         Call::Find => is_find_refused(rt, registry, 7),
         Call::Learn => is_learn_refused(rt, registry, 3),
@@ -131,9 +128,9 @@ fn is_refused<S: Alter>(
 }
 
 // Whether a sender is found behind the refusal of its change. Then it is found as it was before.
-fn is_found_behind<S: Alter>(
+fn is_found_behind<R: Remembering>(
     rt: &impl Abort,
-    registry: &mut Registry<S>,
+    registry: &mut R,
     call: Call,
 ) -> Result<bool, Fail> {
     let id = match call {
@@ -145,7 +142,7 @@ fn is_found_behind<S: Alter>(
 }
 
 // Where the calls meet the first refusal. Behind it nothing is remembered.
-fn first_refusal<S: Alter>(rt: &impl Abort, registry: &mut Registry<S>) -> Result<End, Fail> {
+fn first_refusal<R: Remembering>(rt: &impl Abort, registry: &mut R) -> Result<End, Fail> {
     for call in CALLS {
         if is_refused(rt, registry, call)? {
             take_all(rt, registry, &[Act::RemembersSoMany(0)])?;
@@ -157,7 +154,7 @@ fn first_refusal<S: Alter>(rt: &impl Abort, registry: &mut Registry<S>) -> Resul
 
 // Whether the disk refuses a sender that was not looked up, where one that was is answered. Behind it nothing is
 // remembered.
-fn look_ups<S: Alter>(rt: &impl Abort, registry: &mut Registry<S>) -> Result<End, Fail> {
+fn look_ups<R: Remembering>(rt: &impl Abort, registry: &mut R) -> Result<End, Fail> {
     if is_find_refused(rt, registry, 7)? {
         return Ok(End::Early);
     }
@@ -208,7 +205,7 @@ pub fn opened_and_closed<S: Alter + Drop>(
 }
 
 // Whether the sender that was to be learned is found.
-fn found<S: Alter>(rt: &impl Abort, registry: &mut Registry<S>) -> Result<End, Fail> {
+fn found<R: Remembering>(rt: &impl Abort, registry: &mut R) -> Result<End, Fail> {
     take_all(rt, registry, &[Act::Finds(7, Some(contact(7)))])?;
     match registry.find(600)? {
         Some(found) => {
@@ -354,9 +351,9 @@ pub fn behind_stop<S: Alter + Drop>(
     }
 }
 
-fn is_empty_and_learns<S: Alter>(
+fn is_empty_and_learns<R: Remembering>(
     rt: &impl Abort,
-    registry: &mut Registry<S>,
+    registry: &mut R,
     end: End,
 ) -> Result<End, Fail> {
     let acts = [
@@ -368,7 +365,7 @@ fn is_empty_and_learns<S: Alter>(
     Ok(end)
 }
 
-fn keeps_changes<S: Alter>(rt: &impl Abort, registry: &mut Registry<S>) -> Result<End, Fail> {
+fn keeps_changes<R: Remembering>(rt: &impl Abort, registry: &mut R) -> Result<End, Fail> {
     let acts = [
         Act::Finds(600, Some(sensor(600))),
         Act::Finds(7, None),

@@ -1,0 +1,45 @@
+//! What tests ask of a registry, whatever its store is.
+use crate::{Device, LearnFault, Receipt, RegistryOver, SqlStore, StoreFault};
+
+/// The calls of a registry, and looks at what it remembers: so what takes one names no types of the store.
+pub trait Remembering {
+    fn find(&mut self, id: u32) -> Result<Option<Device>, StoreFault>;
+
+    fn learn(&mut self, device: Device) -> Result<Receipt, LearnFault>;
+
+    fn forget(&mut self, id: u32) -> Result<Receipt, StoreFault>;
+
+    fn all(&mut self) -> Result<Vec<Device>, StoreFault>;
+
+    /// What is remembered of a sender, if it is. The look leaves the order of the entries.
+    fn remembered(&self, id: u32) -> Option<Option<Device>>;
+
+    /// How many senders are remembered.
+    fn remembers_so_many(&self) -> usize;
+}
+
+impl<C: SqlStore> Remembering for RegistryOver<C> {
+    fn find(&mut self, id: u32) -> Result<Option<Device>, StoreFault> {
+        RegistryOver::find(self, id)
+    }
+
+    fn learn(&mut self, device: Device) -> Result<Receipt, LearnFault> {
+        RegistryOver::learn(self, device)
+    }
+
+    fn forget(&mut self, id: u32) -> Result<Receipt, StoreFault> {
+        RegistryOver::forget(self, id)
+    }
+
+    fn all(&mut self) -> Result<Vec<Device>, StoreFault> {
+        RegistryOver::all(self)
+    }
+
+    fn remembered(&self, id: u32) -> Option<Option<Device>> {
+        self.cache.peek(&id).copied()
+    }
+
+    fn remembers_so_many(&self) -> usize {
+        self.cache.len()
+    }
+}
