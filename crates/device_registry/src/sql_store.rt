@@ -16,7 +16,8 @@ use sqlite::types::ValueRef;
 use sqlite::{Alter, Connection, Error, Row, Statement};
 use sqlite_schema::schema::Schema;
 
-/// What the registry asks of a connection: the calls of `sqlite::Connection`, with the words of its contracts on them.
+/// What the registry asks of a connection: calls of `sqlite::Connection` and of its statements, in the words of their
+/// contracts, and one of the registry's own, `make`.
 pub trait SqlStore {
     /// What it holds, what is committed, and what a stop may leave.
     ghost state: { Self → State };
