@@ -135,7 +135,8 @@ pub fn stops_leave_a_life<S: DeviceStore>()
     ensures { StopsLeaveALife S.stored }
 {}
 
-/// Whatever gateway over a registry there is knows a state, while the disk has returned what was written and the connection is open.
+/// Whatever gateway over a registry there is knows a state, while the disk has returned what was written and the
+/// connection is open.
 pub fn a_state_is_known<C: SqlStore>(gateway: &GatewayOver<RegistryOver<C>>)
     ensures { KnowsState C.state gateway.now.handler }
 {
