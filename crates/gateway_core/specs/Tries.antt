@@ -123,7 +123,8 @@ pub record Enters {S : Type 0} (stored : S → Stored) (old : HandlerValue S) (k
 pub record Erases {S : Type 0} (stored : S → Stored) (old : HandlerValue S) (line : TeachLine)
     (result : Result Committed Refusal) (new : HandlerValue S) : Type 0 where
   pub told : WasErased line result
-  pub alone : RegistryAlone stored old (λ devices. IsErasing stored old.registry new.registry devices line.id result) new
+  pub alone : RegistryAlone stored old
+      (λ devices. IsErasing stored old.registry new.registry devices line.id result) new
 
 -- ---- what is answered and known
 

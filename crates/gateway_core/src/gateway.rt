@@ -35,8 +35,8 @@ impl From<AllocError> for StartFault {
     }
 }
 
-/// A gateway over what keeps its devices: what it knows, the packets that wait to be handled, and the bytes behind them,
-/// of which one more packet may come.
+/// A gateway over what keeps its devices: what it knows, the packets that wait to be handled, and the bytes behind
+/// them, of which one more packet may come.
 #[derive(Drop)]
 pub struct GatewayOver<S> {
     pub(crate) handler: Handler<S>,
