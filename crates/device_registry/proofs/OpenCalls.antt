@@ -8,7 +8,6 @@ use Rattle.sqlite.proofs.Callers.{unchanged_then}
 use Rattle.sqlite.specs.State.{HasCleanDisk, Survives}
 use Rattle.sqlite.proofs.StateLemmas.{survives_weaker, survives_then}
 use Rattle.sqlite_trees.specs.Tree.{Trees}
-use Rattle.sqlite.specs.Held.{state}
 use Rattle.std.specs.FinMap.{empty}
 use Rattle.device_registry.specs.declared.fault.OpenFault.{OpenFault}
 use Rattle.device_registry.specs.declared.fault.OpenFault.TheVariants.{NotARegistry, Refused}

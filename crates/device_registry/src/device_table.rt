@@ -7,7 +7,7 @@ ghost use Rattle.device_registry.specs.Ready.{AreReady};
 use crate::fault::{LearnFault, StoreFault};
 use crate::receipt::Receipt;
 use crate::rows::{all_listed, found};
-use crate::sql_store::SqlStore;
+use crate::sql_connection::SqlConnection;
 use crate::statements::{delete_or_renew, has_no_room, list, look_up, write};
 use learned_devices::Device;
 use std::alloc::Global;
@@ -15,12 +15,12 @@ use std::marker::Model;
 
 /// The learned devices, over a connection that no one else uses. Each answer says besides that the connection is open.
 #[derive(Drop)]
-pub struct DeviceTable<C: SqlStore> {
+pub struct DeviceTable<C: SqlConnection> {
     pub(crate) alloc: Global,
     pub(crate) conn: C,
 }
 
-impl<C: SqlStore> Model for DeviceTable<C> {
+impl<C: SqlConnection> Model for DeviceTable<C> {
     ghost use Rattle.sqlite.specs.State.{HasCleanDisk};
     ghost use Rattle.device_registry.specs.Holding.{AreRegistries};
     ghost use Rattle.device_registry.specs.Ready.{StaysReady};
@@ -36,7 +36,7 @@ impl<C: SqlStore> Model for DeviceTable<C> {
         × StaysReady (C.state table.conn) };
 }
 
-impl<C: SqlStore> DeviceTable<C> {
+impl<C: SqlConnection> DeviceTable<C> {
     /// The device of a sender, if it is learned.
     pub fn find(&mut self, id: u32) -> Result<Option<Device>, StoreFault>
         ensures looks_up { LooksUp (C.state self.old) (C.state self.new) id result }

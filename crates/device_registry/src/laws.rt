@@ -3,7 +3,7 @@ ghost use Rattle.device_registry.specs.Holding.{HoldsSome};
 ghost use Rattle.device_registry.specs.Opening.{FewAreHeld, FoundAgain, HandedOn};
 
 use crate::registry::RegistryOver;
-use crate::sql_store::SqlStore;
+use crate::sql_connection::SqlConnection;
 
 /// A registry has at most 1,000 devices.
 pub fn few_are_held()
@@ -16,13 +16,13 @@ pub fn found_again()
 {}
 
 /// What is closed and handed on is what the next open finds.
-pub fn handed_on<C: SqlStore>()
+pub fn handed_on<C: SqlConnection>()
     ensures { HandedOn C.state }
 {}
 
 /// Whatever registry there is holds some devices, while the disk has returned what was written and the connection is
 /// open.
-pub fn devices_are_held<C: SqlStore>(registry: &RegistryOver<C>)
+pub fn devices_are_held<C: SqlConnection>(registry: &RegistryOver<C>)
     ensures { HoldsSome (C.state registry.now) }
 {
     // The proof asks for the fields: the table's invariant says it.

@@ -13,7 +13,7 @@ use crate::device_table::DeviceTable;
 use crate::fault::OpenFault;
 use crate::places::is_clear;
 use crate::registry::RegistryOver;
-use crate::sql_store::SqlStore;
+use crate::sql_connection::SqlConnection;
 use crate::statements::renew;
 use crate::taking::is_registry;
 use sqlite::{Error, ErrorCode};
@@ -23,7 +23,7 @@ use std::alloc::Global;
 const REMEMBERED: usize = 64;
 
 /// Whether the connection is open, with no open transaction: a text is compiled, which writes nothing.
-fn check_idle<C: SqlStore>(conn: &mut C) -> Result<(), Error>
+fn check_idle<C: SqlConnection>(conn: &mut C) -> Result<(), Error>
     requires idle { IsBetweenTransactions (C.state conn.old) }
     ensures idle { OnOk result ((C.state conn.new).in_transaction ≡ false) }
     ensures same { HasCleanDisk (C.state conn.new) → OnOk result (IsUnchanged (C.state conn.old)
@@ -42,7 +42,7 @@ fn check_idle<C: SqlStore>(conn: &mut C) -> Result<(), Error>
 }
 
 /// Makes a registry of the database, or takes the one that it is.
-fn make_or_take<C: SqlStore>(conn: &mut C) -> Result<(), OpenFault>
+fn make_or_take<C: SqlConnection>(conn: &mut C) -> Result<(), OpenFault>
     requires idle { (C.state conn.old).in_transaction ≡ false }
     requires rest { HasCleanDisk (C.state conn.old) → IsAtRest (C.state conn.old) }
     ensures prepared { HasCleanDisk (C.state conn.new) → OnOk result ((devices : Devices) × IsPrepared
@@ -60,7 +60,7 @@ fn make_or_take<C: SqlStore>(conn: &mut C) -> Result<(), OpenFault>
         (C.state conn.new)) }
 {
     if is_clear(conn.schema()) {
-        conn.make()?;
+        conn.make_tables()?;
         return Ok(());
     }
     if !is_registry(conn)? {
@@ -76,7 +76,7 @@ fn make_or_take<C: SqlStore>(conn: &mut C) -> Result<(), OpenFault>
 ///
 /// `NotARegistry` says that the database is something else, and it is as it was. After `Refused` it holds what it
 /// held, perhaps with the two tables.
-pub fn prepare<C: SqlStore>(conn: &mut C) -> Result<(), OpenFault>
+pub fn prepare<C: SqlConnection>(conn: &mut C) -> Result<(), OpenFault>
     requires idle { IsBetweenTransactions (C.state conn.old) }
     ensures clean { HasCleanDisk (C.state conn.new) → HasCleanDisk (C.state conn.old) }
     ensures registries { HasCleanDisk (C.state conn.new) → OnOk result (AreRegistries
@@ -94,7 +94,7 @@ pub fn prepare<C: SqlStore>(conn: &mut C) -> Result<(), OpenFault>
     make_or_take(conn)
 }
 
-impl<C: SqlStore + Drop> RegistryOver<C> {
+impl<C: SqlConnection + Drop> RegistryOver<C> {
     /// `open_with` a cache of 64 senders.
     pub fn open(alloc: Global, conn: C) -> Result<RegistryOver<C>, OpenFault>
         requires idle { IsBetweenTransactions (C.state conn) }

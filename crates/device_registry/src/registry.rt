@@ -6,7 +6,7 @@ use crate::cache::{Cache, cached, forget_entry, remember};
 use crate::device_table::DeviceTable;
 use crate::fault::{LearnFault, StoreFault};
 use crate::receipt::Receipt;
-use crate::sql_store::SqlStore;
+use crate::sql_connection::SqlConnection;
 use learned_devices::Device;
 use sqlite::Connection;
 use std::marker::Model;
@@ -15,7 +15,7 @@ use std::marker::Model;
 /// known or not. A sender in the cache is answered with no call of the store. The cache is emptied where the store
 /// does not answer, so an entry tells that the connection is open.
 #[derive(Drop)]
-pub struct RegistryOver<C: SqlStore> {
+pub struct RegistryOver<C: SqlConnection> {
     pub(crate) table: DeviceTable<C>,
     pub(crate) cache: Cache,
 }
@@ -23,7 +23,7 @@ pub struct RegistryOver<C: SqlStore> {
 /// A registry over a connection of SQLite.
 pub type Registry<S> = RegistryOver<Connection<S>>;
 
-impl<C: SqlStore> Model for RegistryOver<C> {
+impl<C: SqlConnection> Model for RegistryOver<C> {
     ghost use Rattle.sqlite.specs.State.{HasCleanDisk};
     ghost use Rattle.device_registry.specs.Holding.{AreRegistries};
     ghost use Rattle.device_registry.specs.Cached.{CacheAgrees};
@@ -39,7 +39,7 @@ impl<C: SqlStore> Model for RegistryOver<C> {
         × CacheAgrees (C.state registry.table) registry.cache.entries };
 }
 
-impl<C: SqlStore> RegistryOver<C> {
+impl<C: SqlConnection> RegistryOver<C> {
     /// The device of a sender, if it is learned.
     pub fn find(&mut self, id: u32) -> Result<Option<Device>, StoreFault>
         ensures { LooksUp (C.state self.old) (C.state self.new) id result }

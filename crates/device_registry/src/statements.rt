@@ -13,13 +13,13 @@ ghost use Rattle.device_registry.specs.Ready.{Shows, IsReady, StaysReady, Stays,
 use crate::fault::StoreFault;
 use crate::limits::MOST_DEVICES;
 use crate::rows::number;
-use crate::sql_store::SqlStore;
+use crate::sql_connection::SqlConnection;
 use erp1_telegrams::Eep;
 use learned_devices::Device;
 use sqlite::{Error, Row, Statement, params};
 
 /// A text, compiled, which writes nothing. It is refused on a connection that a failure has shut.
-fn compiled<C: SqlStore>(conn: &mut C, sql: &str) -> Result<Statement, Error>
+fn compiled<C: SqlConnection>(conn: &mut C, sql: &str) -> Result<Statement, Error>
     requires { StaysReady (C.state conn.old) }
     ensures text { HasCleanDisk (C.state conn.new) → IfOk result (λ statement. statement.text ≡ sql.now) }
     ensures stays { Stays (C.state conn.old) (C.state conn.new) }
@@ -29,7 +29,11 @@ fn compiled<C: SqlStore>(conn: &mut C, sql: &str) -> Result<Statement, Error>
 }
 
 /// The rows that a query of one sender shows.
-fn rows_of<C: SqlStore>(conn: &mut C, statement: &Statement, id: u32) -> Result<Vec<Row>, Error>
+fn rows_of<C: SqlConnection>(
+    conn: &mut C,
+    statement: &Statement,
+    id: u32,
+) -> Result<Vec<Row>, Error>
     ensures shown { HasCleanDisk (C.state conn.new) → IfOk result
         (λ rows. Shown statement.now.text (Int (pos id) ∷ []) (C.state conn.old)
         (C.state conn.new) rows.items) }
@@ -39,11 +43,11 @@ fn rows_of<C: SqlStore>(conn: &mut C, statement: &Statement, id: u32) -> Result<
     ensures survives { Survives (C.state conn.old) (C.state conn.new)
         (CommitsShowing statement.now.text (Int (pos id) ∷ []) (C.state conn.old)) }
 {
-    conn.query_prepared(statement, params![i64::from(id)])
+    conn.query_all_prepared(statement, params![i64::from(id)])
 }
 
 /// The rows of a sender.
-pub(crate) fn look_up<C: SqlStore>(conn: &mut C, id: u32) -> Result<Vec<Row>, Error>
+pub(crate) fn look_up<C: SqlConnection>(conn: &mut C, id: u32) -> Result<Vec<Row>, Error>
     requires { StaysReady (C.state conn.old) }
     ensures stays { Stays (C.state conn.old) (C.state conn.new) }
     ensures found { HasCleanDisk (C.state conn.new) → IfOk result (λ rows. IsReady (C.state conn.new) ×
@@ -54,7 +58,7 @@ pub(crate) fn look_up<C: SqlStore>(conn: &mut C, id: u32) -> Result<Vec<Row>, Er
 }
 
 /// Whether there is no room for a sender.
-pub(crate) fn has_no_room<C: SqlStore>(conn: &mut C, id: u32) -> Result<bool, StoreFault>
+pub(crate) fn has_no_room<C: SqlConnection>(conn: &mut C, id: u32) -> Result<bool, StoreFault>
     requires { StaysReady (C.state conn.old) }
     ensures stays { Stays (C.state conn.old) (C.state conn.new) }
     ensures full { HasCleanDisk (C.state conn.new) → IfOk result (λ full. IsReady (C.state conn.new) ×
@@ -66,7 +70,7 @@ pub(crate) fn has_no_room<C: SqlStore>(conn: &mut C, id: u32) -> Result<bool, St
 }
 
 /// All devices, by rising ID.
-pub(crate) fn list<C: SqlStore>(conn: &mut C) -> Result<Vec<Row>, Error>
+pub(crate) fn list<C: SqlConnection>(conn: &mut C) -> Result<Vec<Row>, Error>
     requires { StaysReady (C.state conn.old) }
     ensures stays { Stays (C.state conn.old) (C.state conn.new) }
     ensures all { HasCleanDisk (C.state conn.new) → IfOk result (λ rows. IsReady (C.state conn.new) ×
@@ -76,7 +80,7 @@ pub(crate) fn list<C: SqlStore>(conn: &mut C) -> Result<Vec<Row>, Error>
         conn,
         "SELECT id, eep, maker FROM enogate_device ORDER BY id",
     )?;
-    conn.query_prepared(&all, &[])
+    conn.query_all_prepared(&all, &[])
 }
 
 /// The number of a profile.
@@ -97,7 +101,7 @@ fn number_of_maker(maker: Option<u16>) -> i64
 }
 
 /// Runs the statement that learns a device.
-fn run_learn<C: SqlStore>(conn: &mut C, id: i64, eep: i64, maker: i64) -> Result<usize, Error>
+fn run_learn<C: SqlConnection>(conn: &mut C, id: i64, eep: i64, maker: i64) -> Result<usize, Error>
     ensures runs { HasCleanDisk (C.state conn.new) → Executes learn_text (Int id ∷ Int eep ∷ Int maker ∷ [])
         (C.state conn.old) (C.state conn.new) result }
     ensures survives { Survives (C.state conn.old) (C.state conn.new)
@@ -110,7 +114,7 @@ fn run_learn<C: SqlStore>(conn: &mut C, id: i64, eep: i64, maker: i64) -> Result
 }
 
 /// Writes a device, in place of what is known of its sender.
-pub(crate) fn write<C: SqlStore>(conn: &mut C, device: Device) -> Result<usize, Error>
+pub(crate) fn write<C: SqlConnection>(conn: &mut C, device: Device) -> Result<usize, Error>
     requires ready { HasCleanDisk (C.state conn.old) → IsReady (C.state conn.old) }
     requires room { HasCleanDisk (C.state conn.old) → (devices : Devices) → Shows
         (C.state conn.old) devices → is_full devices device.id ≡ false }
@@ -125,7 +129,7 @@ pub(crate) fn write<C: SqlStore>(conn: &mut C, device: Device) -> Result<usize, 
 }
 
 /// Runs the statement that forgets a sender.
-fn run_delete<C: SqlStore>(conn: &mut C, id: i64) -> Result<usize, Error>
+fn run_delete<C: SqlConnection>(conn: &mut C, id: i64) -> Result<usize, Error>
     ensures runs { HasCleanDisk (C.state conn.new) → Executes forget_text (Int id ∷ [])
         (C.state conn.old) (C.state conn.new) result }
     ensures survives { Survives (C.state conn.old) (C.state conn.new)
@@ -135,7 +139,7 @@ fn run_delete<C: SqlStore>(conn: &mut C, id: i64) -> Result<usize, Error>
 }
 
 /// Takes out what is known of a sender.
-fn delete<C: SqlStore>(conn: &mut C, id: u32) -> Result<usize, Error>
+fn delete<C: SqlConnection>(conn: &mut C, id: u32) -> Result<usize, Error>
     requires { HasCleanDisk (C.state conn.old) → IsReady (C.state conn.old) }
     ensures { Turns (C.state conn.old) (C.state conn.new) (forgotten id) result }
 {
@@ -143,7 +147,7 @@ fn delete<C: SqlStore>(conn: &mut C, id: u32) -> Result<usize, Error>
 }
 
 /// Writes the version as it stands, so that there is a commit where a change changes nothing.
-pub(crate) fn renew<C: SqlStore>(conn: &mut C) -> Result<usize, Error>
+pub(crate) fn renew<C: SqlConnection>(conn: &mut C) -> Result<usize, Error>
     requires { HasCleanDisk (C.state conn.old) → IsReady (C.state conn.old) }
     ensures renewed { HasCleanDisk (C.state conn.new) → OnOk result ((devices : Devices) → Shows
         (C.state conn.old) devices → Shows (C.state conn.new) devices) }
@@ -161,7 +165,7 @@ pub(crate) fn renew<C: SqlStore>(conn: &mut C) -> Result<usize, Error>
 }
 
 /// Takes out what is known of a sender, whose rows these are. Where there is none it commits all the same.
-pub(crate) fn delete_or_renew<C: SqlStore>(
+pub(crate) fn delete_or_renew<C: SqlConnection>(
     conn: &mut C,
     id: u32,
     rows: &[Row],

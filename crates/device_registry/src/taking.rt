@@ -12,11 +12,11 @@ ghost use Rattle.device_registry.specs.Opening.{IsAtRest, Remains, AreListed, Is
 use crate::limits::MOST_DEVICES;
 use crate::listing::{are_ours, devices_rise, is_version};
 use crate::places::trees_in;
-use crate::sql_store::SqlStore;
+use crate::sql_connection::SqlConnection;
 use sqlite::{Error, Row};
 
 /// The rows that a query with no parameters shows.
-fn rows_of<C: SqlStore>(conn: &mut C, sql: &str) -> Result<Vec<Row>, Error>
+fn rows_of<C: SqlConnection>(conn: &mut C, sql: &str) -> Result<Vec<Row>, Error>
     requires { HasCleanDisk (C.state conn.old) → IsPlain (understood
         (C.state conn.old).now.schema sql.now) }
     ensures shown { HasCleanDisk (C.state conn.new) → IfOk result (λ rows. Shown sql.now []
@@ -30,7 +30,7 @@ fn rows_of<C: SqlStore>(conn: &mut C, sql: &str) -> Result<Vec<Row>, Error>
 }
 
 /// Whether the two tables are listed with our texts.
-fn lists_ours<C: SqlStore>(conn: &mut C) -> Result<bool, Error>
+fn lists_ours<C: SqlConnection>(conn: &mut C) -> Result<bool, Error>
     requires { HasCleanDisk (C.state conn.old) → IsDatabase (C.state conn.old).now }
     ensures ours { HasCleanDisk (C.state conn.new) → IfOk result (λ yes. IsUnchanged (C.state conn.old)
         (C.state conn.new) × (IsTrue yes → AreListed (C.state conn.old).now.trees)) }
@@ -49,7 +49,7 @@ fn lists_ours<C: SqlStore>(conn: &mut C) -> Result<bool, Error>
 }
 
 /// Whether the version is 1, and the other rows are those of devices, not too many.
-fn is_whole<C: SqlStore>(conn: &mut C) -> Result<bool, Error>
+fn is_whole<C: SqlConnection>(conn: &mut C) -> Result<bool, Error>
     requires { HasCleanDisk (C.state conn.old) → HasTables (C.state conn.old).now.schema }
     ensures whole { HasCleanDisk (C.state conn.new) → IfOk result (λ yes. IsUnchanged (C.state conn.old)
         (C.state conn.new) × (IsTrue yes → (t : HasTables (C.state conn.old).now.schema) →
@@ -75,7 +75,7 @@ fn is_whole<C: SqlStore>(conn: &mut C) -> Result<bool, Error>
 }
 
 /// Whether the database is a registry that may be taken.
-pub fn is_registry<C: SqlStore>(conn: &mut C) -> Result<bool, Error>
+pub fn is_registry<C: SqlConnection>(conn: &mut C) -> Result<bool, Error>
     requires { HasCleanDisk (C.state conn.old) → IsAtRest (C.state conn.old) }
     ensures ours { HasCleanDisk (C.state conn.new) → IfOk result (λ yes. IsUnchanged (C.state conn.old)
         (C.state conn.new) × (IsTrue yes → IsRegistry (C.state conn.old).now)) }

@@ -105,7 +105,8 @@ module _ {S : Type 0} (stored : S → Stored) {O : Type 0} (puts : O → O → L
     keeps = q.keeps;
     taken =
         rw (events_by-append lines p.ended q.ended)
-        (takes-append stored puts breaks outlet old mid new (events_by lines p.ended) (events_by lines q.ended) o mids now
+        (takes-append stored puts breaks outlet old mid new (events_by lines p.ended) (events_by lines q.ended) o mids
+        now
         count some total p.taken q.taken);
   }
 
@@ -212,12 +213,14 @@ module _ {S : Type 0} (stored : S → Stored) {O : Type 0} (puts : O → O → L
       → Takes stored entry new (script input) (puts o now) 0 total
   script_taken entry old new input kept o mids now some total p last =
       rw (script_of_bytes stored entry old input kept (puts o mids) 0 some p)
-      (takes-append stored puts breaks outlet entry old new (events_by OfScript p.ended) (script p.rest) o mids now 0 some
+      (takes-append stored puts breaks outlet entry old new (events_by OfScript p.ended) (script p.rest) o mids now 0
+      some
       total p.taken last)
 
   pub script_stops : (entry old new : Value S) (input kept : List ℕ) (o mids now : O) (some : ℕ)
       → (p : TakesBytes stored OfScript entry old [] input kept (puts o mids) 0 some)
-      → PlaysPart stored old new (script p.rest) (breaks mids now) → PlaysPart stored entry new (script input) (breaks o now)
+      → PlaysPart stored old new (script p.rest) (breaks mids now)
+      → PlaysPart stored entry new (script input) (breaks o now)
   script_stops entry old new input kept o mids now some p last =
       rw (script_of_bytes stored entry old input kept (puts o mids) 0 some p)
       (part_behind stored puts breaks outlet entry old new (events_by OfScript p.ended) (script p.rest) o mids now

@@ -19,7 +19,8 @@ module _ {C : Type 0} (state : C → State) where
       → LeavesALife base began.found items answers None left
   handled_is_a_life database base old new items answers began handled clean left may =
       let P : ℕ → Type 0 = λ b. LeavesALife b began.found items answers None left in
-      subst P began.base_is (calls_leave_a_life state old new began.found items answers clean began.begins handled left may)
+      subst P began.base_is (calls_leave_a_life state old new began.found items answers clean began.begins handled left
+      may)
 
   pub plays_are_lives : (puts : List Answer → Type 0) → PlaysAreLives state puts
   plays_are_lives puts database base old new events began done clean left may =

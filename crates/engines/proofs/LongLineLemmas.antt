@@ -60,7 +60,8 @@ length-strip line =
 
 module _ {S : Type 0} (stored : S → Stored) where
   takes_long : (old new : Value S) (short long : List ℕ) (puts : List Answer → Type 0) (count total : ℕ)
-      → longest_line < length short → longest_line < length long → Takes stored old new (Line short ∷ []) puts count total
+      → longest_line < length short → longest_line < length long
+      → Takes stored old new (Line short ∷ []) puts count total
       → Takes stored old new (Line long ∷ []) puts count total
   takes_long old new short long puts count total a b takes =
       let done = takes.played.answered in
@@ -163,6 +164,7 @@ module _ {S : Type 0} (stored : S → Stored) where
             long_lines_alike r OfScript old new kept line puts breaks count total
             (omega (arith, far, ap length e, length-take longest_kept line))
             (omega (arith, far)) given
-        | inr near ↦ let P : List ℕ → Type 0 = λ l. TakesOrBreaks stored r old new (event_of l) puts breaks count total in
+        | inr near ↦ let P : List ℕ → Type 0 = λ l. TakesOrBreaks stored r old new (event_of l) puts breaks count total
+            in
             subst P (e ∙ take_all longest_kept line near) given
       ]

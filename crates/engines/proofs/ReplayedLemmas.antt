@@ -19,7 +19,8 @@ wrong_at counts old sink writer e wrong = rw e wrong
 
 module _ {S : Type 0} (stored : S → Stored) where
   pub plays-weaker : (old new : Value S) (events : List Event) (P Q : List Answer → Type 0)
-      → ((answers : List Answer) → P answers → Q answers) → Plays stored old new events P → Plays stored old new events Q
+      → ((answers : List Answer) → P answers → Q answers) → Plays stored old new events P
+      → Plays stored old new events Q
   plays-weaker old new events P Q so p = record {
     answered = record {
       answers = p.answered.answers;

@@ -60,7 +60,8 @@ module _ {S : Type 0} (stored : S → Stored) {O : Type 0} (puts : O → O → L
         answered = rw (map-append Received before.packets (packet ∷ []))
             (answers-append stored puts breaks outlet old.handler mid.handler new.handler (map Received before.packets)
             (Received packet ∷ []) o mids now before.answered
-            (answers_one stored puts breaks outlet mid.handler new.handler (Received packet) answer mids now handled out));
+            (answers_one stored puts breaks outlet mid.handler new.handler (Received packet) answer mids now handled
+            out));
         counted =
             rw (length-append before.packets (packet ∷ []))
             (count_on count some total (length before.packets) 1 before.counted counted);
@@ -103,7 +104,8 @@ module _ {S : Type 0} (stored : S → Stored) {O : Type 0} (puts : O → O → L
   -- one byte more of a piece, and the packets that it brings
   pub takes_more : (old now mid new : Value S) (bytes : List ℕ) (byte : ℕ) (o mids after : O)
       (count some total : ℕ)
-      → Takes stored old now (Piece bytes ∷ []) (puts o mids) count some → Moves stored now (Byte byte) mid → new.ready ≡ []
+      → Takes stored old now (Piece bytes ∷ []) (puts o mids) count some → Moves stored now (Byte byte) mid
+      → new.ready ≡ []
       → Drains stored mid new (puts mids after) some total
       → Takes stored old new (Piece (bytes ++ byte ∷ []) ∷ []) (puts o after) count total
   takes_more old now mid new bytes byte o mids after count some total before moved none drained =
@@ -112,7 +114,8 @@ module _ {S : Type 0} (stored : S → Stored) {O : Type 0} (puts : O → O → L
       let is : items_of now.rest (Piece (byte ∷ []) ∷ []) ≡ map Received drained.packets =
       items_of-byte now mid byte before.played.idle moved ∙ ap (λ (ps : List Packet). map Received ps) all in
       let rest : new.rest ≡ rest_of (now.rest ++ byte ∷ []) = drained.rest ∙ moved.3 in
-      let answered : Answers stored now.handler new.handler (items_of now.rest (Piece (byte ∷ []) ∷ [])) (puts mids after) =
+      let answered : Answers stored now.handler new.handler (items_of now.rest (Piece (byte ∷ []) ∷ []))
+      (puts mids after) =
       rw is (let P : HandlerValue S
       → Type 0 = λ s. Answers stored s new.handler (map Received drained.packets) (puts mids after) in subst
       P moved.1 drained.answered) in
@@ -170,7 +173,8 @@ module _ {S : Type 0} (stored : S → Stored) {O : Type 0} (puts : O → O → L
             ∙ rest_behind old.rest now.rest (Piece bytes ∷ []) (Piece (byte ∷ []) ∷ []) before.played.rest
             ∙ ap (λ w. rest_of (old.rest ++ w)) (sym (append_assoc bytes (byte ∷ []) []));
         answered =
-            answers-part stored puts breaks outlet old.handler now.handler new.handler first (map Received drained.packets)
+            answers-part stored puts breaks outlet old.handler now.handler new.handler first
+            (map Received drained.packets)
             o mids after before.played.answered
             (let P : HandlerValue S
             → Type 0 = λ s. AnswersPart stored s new.handler (map Received drained.packets) (breaks mids after) in

@@ -144,7 +144,8 @@ module _ {S : Type 0} (stored : S → Stored) {O : Type 0} (puts : O → O → L
       → Takes stored old mid (Piece piece ∷ []) (puts mids behind) some more
       → Takes stored entry mid (events_of_turns read ++ Piece piece ∷ []) (puts o behind) 0 more
   piece_taken entry old mid read piece kept o mids behind some more p q =
-      takes-append stored puts breaks outlet entry old mid (events_of_turns read) (Piece piece ∷ []) o mids behind 0 some
+      takes-append stored puts breaks outlet entry old mid (events_of_turns read) (Piece piece ∷ []) o mids behind 0
+      some
       more p.taken q
 
   pub turn_taken : (entry old mid new : Value S) (read : List Turn) (piece desk kept now_kept : List ℕ)
@@ -183,7 +184,8 @@ module _ {S : Type 0} (stored : S → Stored) {O : Type 0} (puts : O → O → L
 
   -- an answer to a packet of the piece did not get out
   pub piece_stops : (entry old new : Value S) (read : List Turn) (piece kept : List ℕ) (o mids now : O) (some : ℕ)
-      → TakesTurns stored entry old read kept (puts o mids) some → Breaks stored old new [] (Piece piece) (breaks mids now)
+      → TakesTurns stored entry old read kept (puts o mids) some
+      → Breaks stored old new [] (Piece piece) (breaks mids now)
       → Breaks stored entry new (events_of_turns read) (Piece piece) (breaks o now)
   piece_stops entry old new read piece kept o mids now some p broken =
       rw (← append-nil (events_of_turns read))

@@ -51,18 +51,22 @@ module _ {R D : Type 0} (serial_held : R → Option (List ℕ)) (serial_counts :
     -- also where the loans of the gateway and of the sinks have ended
     pub plays_at : (entry now gateway : Value S) (events : List Event) (serial serial_now serial_out : R)
         (desk desk_now desk_out : D) → gateway ≡ now → serial_out ≡ serial_now → desk_out ≡ desk_now
-        → Plays stored entry now events (PutsWires serial_held serial_counts desk_held desk_counts serial desk serial_now
+        → Plays stored entry now events
+        (PutsWires serial_held serial_counts desk_held desk_counts serial desk serial_now
         desk_now)
-        → Plays stored entry gateway events (PutsWires serial_held serial_counts desk_held desk_counts serial desk serial_out
+        → Plays stored entry gateway events
+        (PutsWires serial_held serial_counts desk_held desk_counts serial desk serial_out
         desk_out)
     plays_at entry now gateway events serial serial_now serial_out desk desk_now desk_out e f h p = rw (e, f, h) p
 
     pub breaks_turn_at : (entry now gateway : Value S) (turns : List Turn) (piece : Option (List ℕ))
         (serial serial_now serial_out : R) (desk desk_now desk_out : D) → gateway ≡ now → serial_out ≡ serial_now
         → desk_out ≡ desk_now
-        → BreaksTurn stored entry now turns piece (BreaksWires serial_held serial_counts desk_held desk_counts serial desk
+        → BreaksTurn stored entry now turns piece
+        (BreaksWires serial_held serial_counts desk_held desk_counts serial desk
         serial_now desk_now)
-        → BreaksTurn stored entry gateway turns piece (BreaksWires serial_held serial_counts desk_held desk_counts serial
+        → BreaksTurn stored entry gateway turns piece
+        (BreaksWires serial_held serial_counts desk_held desk_counts serial
         desk serial_out desk_out)
     breaks_turn_at entry now gateway turns piece serial serial_now serial_out desk desk_now desk_out e f h p =
         rw (e, f, h) p

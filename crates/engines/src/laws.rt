@@ -5,11 +5,11 @@ ghost use Rattle.engines.specs.Wires.{BreaksWires, PutsWires};
 ghost use Rattle.engines.specs.Written.{WritesAll, WritesPart};
 
 use byte_streams::Sink;
-use device_registry::SqlStore;
+use device_registry::SqlConnection;
 
 /// What a stop leaves after `replay` or `live`, by a gateway that `start` made, is what a life may leave that found the
 /// devices that were committed last and handled what came.
-pub fn engines_leave_lives<R: Sink, D: Sink, C: SqlStore>()
+pub fn engines_leave_lives<R: Sink, D: Sink, C: SqlConnection>()
     ensures replay { (held now : Option (List ℕ)) → PlaysAreLives C.state (WritesAll held now) }
     ensures broken_replay { (held now : Option (List ℕ)) → BrokenPlaysAreLives C.state (WritesPart held now) }
     ensures live { (serial serial_now : R) (desk desk_now : D) → PlaysAreLives C.state

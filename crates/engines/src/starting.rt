@@ -8,7 +8,7 @@ ghost use Rattle.engines.specs.Played.{IsIdle};
 ghost use Rattle.engines.specs.Started.{RefusesToStart, Starts};
 
 use crate::fault::Fault;
-use device_registry::{RegistryOver, SqlStore};
+use device_registry::{RegistryOver, SqlConnection};
 use gateway_core::{GatewayOver, StartFault};
 use std::alloc::{AllocError, Global};
 
@@ -20,7 +20,7 @@ const REMEMBERED: usize = 1024;
 ///
 /// It is refused as the registry is, or where there is no memory, and then the connection is dropped. Which of `Store`
 /// and `Memory` is told, tests show.
-pub fn start<C: SqlStore + Drop>(
+pub fn start<C: SqlConnection + Drop>(
     alloc: Global,
     conn: C,
     base: u32,
@@ -38,7 +38,7 @@ pub fn start<C: SqlStore + Drop>(
 }
 
 /// A new gateway over this registry, unless there is no memory for it.
-fn gateway_over<C: SqlStore + Drop>(
+fn gateway_over<C: SqlConnection + Drop>(
     alloc: Global,
     registry: RegistryOver<C>,
     base: u32,

@@ -201,7 +201,8 @@ module _ {S : Type 0} (stored : S → Stored) where
   -- ---- an effect that comes behind a look
 
   made-after : (old mid new : S) (devices : Devices) (change : Option Change)
-      → Keeps (stored old) (stored mid) devices → IsMade stored mid new devices change → IsMade stored old new devices change
+      → Keeps (stored old) (stored mid) devices → IsMade stored mid new devices change
+      → IsMade stored old new devices change
   made-after old mid new devices None keeps made =
       keeps-after (stored old) (stored mid) (stored new) devices keeps made
   made-after old mid new devices (Some change) keeps made = made
@@ -215,7 +216,8 @@ module _ {S : Type 0} (stored : S → Stored) where
       pends-after (stored old) (stored mid) (stored new) change devices keeps pends
 
   pub comes-after : (old mid new : S) (devices : Devices) (effect : Effect) (r : Result Done Refusal)
-      → Keeps (stored old) (stored mid) devices → Comes stored mid new devices effect r → Comes stored old new devices effect r
+      → Keeps (stored old) (stored mid) devices → Comes stored mid new devices effect r
+      → Comes stored old new devices effect r
   comes-after old mid new devices effect (Ok done) keeps (gives, made) =
       (gives, made-after old mid new devices effect.change keeps made)
   comes-after old mid new devices effect (Err (Before cause)) keeps (needed, kept) =
@@ -362,7 +364,8 @@ module _ {S : Type 0} (stored : S → Stored) where
   -- a device is not learned: the write was tried, though the registry is full perhaps
   addition-pending : (old new : S) (devices : Devices) (known : Device) (full done : Effect) → Adds known full done
       → Pends (stored old) (stored new) (learned known) devices
-      → IsPending stored old new devices (addition devices known full done).need (addition devices known full done).change
+      → IsPending stored old new devices (addition devices known full done).need
+      (addition devices known full done).change
   addition-pending old new devices known full done adds pends = one (is_full devices known.id) refl
     where
       one : (b : Bool) → is_full devices known.id ≡ b
@@ -454,7 +457,8 @@ module _ {S : Type 0} (stored : S → Stored) where
   -- an order behind a line
   pub tries-order : (old new : HandlerValue S) (line : List ℕ) (r : Result Done Refusal)
       (order : Result Order OrderFault) → length line ≤ longest_line → order_of line ≡ order
-      → Tries stored old (λ state. order_effect state order) r new → Tries stored old (λ state. line_effect state line) r new
+      → Tries stored old (λ state. order_effect state order) r new
+      → Tries stored old (λ state. line_effect state line) r new
   tries-order old new line r order short is tried =
       tries-same old new (λ state. line_effect state line) (λ state. order_effect state order) r
       (λ devices. rw (le-ltb longest_line (length line) short, is) refl) tried

@@ -1,9 +1,9 @@
 //! What keeps the learned devices.
-ghost use Rattle.std.specs.Prelude.{◌≡◌, Result, Option, Vec};
+ghost use Rattle.std.specs.Prelude.{◌≡◌};
 ghost use Rattle.sqlite.specs.State.{State};
 ghost use Rattle.device_registry.specs.Holding.{LooksUp, Learns, Forgets, ListsAll};
 
-use device_registry::{Device, LearnFault, Receipt, RegistryOver, SqlStore, StoreFault};
+use device_registry::{Device, LearnFault, Receipt, RegistryOver, SqlConnection, StoreFault};
 
 /// What keeps the learned devices, as a registry does.
 pub trait DeviceStore {
@@ -27,7 +27,7 @@ pub trait DeviceStore {
         ensures { ListsAll (stored self.old) (stored self.new) result };
 }
 
-impl<C: SqlStore> DeviceStore for RegistryOver<C> {
+impl<C: SqlConnection> DeviceStore for RegistryOver<C> {
     ghost stored = { C.state };
 
     fn find(&mut self, id: u32) -> Result<Option<Device>, StoreFault> {

@@ -10,7 +10,7 @@ ghost use Rattle.gateway_core.specs.Replies.{answer_of};
 use crate::device_store::DeviceStore;
 use crate::handler::Handler;
 use crate::reply::Reply;
-use device_registry::{Registry, RegistryOver, SqlStore};
+use device_registry::{Registry, RegistryOver, SqlConnection};
 use erp1_telegrams::is_base;
 use esp3_resync::{Framer, PacketBuf};
 use std::alloc::{AllocError, Global};
@@ -113,7 +113,7 @@ impl<S: DeviceStore> GatewayOver<S> {
     }
 }
 
-impl<C: SqlStore> GatewayOver<RegistryOver<C>> {
+impl<C: SqlConnection> GatewayOver<RegistryOver<C>> {
     /// Hands on the connection of the registry, as it is, with no open transaction. What the gateway knows of devices
     /// is committed.
     pub fn close(self) -> C

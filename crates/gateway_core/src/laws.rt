@@ -18,7 +18,7 @@ ghost use Rattle.gateway_core.specs.Windows.{PacketsChangeInWindows};
 use crate::device_store::DeviceStore;
 use crate::gateway::GatewayOver;
 use device_registry::laws::devices_are_held;
-use device_registry::{RegistryOver, SqlStore};
+use device_registry::{RegistryOver, SqlConnection};
 
 /// However the bytes between two lines are cut into pieces, the items are the same.
 pub fn independent_of_cuts()
@@ -137,7 +137,7 @@ pub fn stops_leave_a_life<S: DeviceStore>()
 
 /// Whatever gateway over a registry there is knows a state, while the disk has returned what was written and the
 /// connection is open.
-pub fn a_state_is_known<C: SqlStore>(gateway: &GatewayOver<RegistryOver<C>>)
+pub fn a_state_is_known<C: SqlConnection>(gateway: &GatewayOver<RegistryOver<C>>)
     ensures { KnowsState C.state gateway.now.handler }
 {
     devices_are_held(&gateway.handler.registry);

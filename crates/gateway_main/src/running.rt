@@ -6,7 +6,7 @@ ghost use Rattle.engines.specs.Played.{IsIdle};
 
 use crate::command_line::{self, LiveOptions, Options, Task};
 use byte_streams::{OverRead, OverWrite};
-use device_registry::SqlStore;
+use device_registry::SqlConnection;
 use engines::ending::{Ending, Served, done, status, without_arguments};
 use engines::fault::Fault;
 use engines::{RunFault, Summary, live, replay, start};
@@ -58,7 +58,7 @@ fn run(rt: &HostRuntime, options: Options<'_>) -> Result<(), Fault>
 }
 
 /// Does the task by a gateway over a database, and hands the connection back.
-fn serve<C: SqlStore + Drop>(
+fn serve<C: SqlConnection + Drop>(
     rt: &HostRuntime,
     conn: C,
     options: Options<'_>,

@@ -4,7 +4,8 @@ ghost use Rattle.std.specs.Prelude.{◌≡◌, option_map};
 ghost use Rattle.profiles_rps.specs.Reading.{entries};
 ghost use Rattle.profiles_rps.specs.Profile.{rows_in};
 ghost use Rattle.profiles_rps.specs.Rows.{entries_of};
-ghost use Rattle.profiles_4bs.specs.Temperature.{of_10_bits_each, spans_of_40_degrees, spans_of_80_degrees, temperature};
+ghost use Rattle.profiles_4bs.specs.Temperature.{of_10_bits_each, spans_of_40_degrees};
+ghost use Rattle.profiles_4bs.specs.Temperature.{spans_of_80_degrees, temperature};
 
 use erp1_telegrams::Eep;
 use profiles_rps::{Readings, read_profiles};

@@ -1,7 +1,7 @@
 //! New gateways over databases in memory, and one over what another has learned.
 use crate::telling::Telling;
 use anyhow::Result;
-use device_registry::{Registry, RegistryOver, SqlStore};
+use device_registry::{Registry, RegistryOver, SqlConnection};
 use gateway_core::{Gateway, GatewayOver, Reply, StartFault};
 use gateway_main::fault::Fault;
 use gateway_main::{RunFault, Sink, Source, Summary, live, replay, start};
@@ -76,7 +76,7 @@ fn finds_what_was_learned_before(alloc: Global) -> Result<bool> {
     Ok(lists_what_it_learned(alloc, first))
 }
 
-fn lists_what_it_learned<C: SqlStore + Drop>(
+fn lists_what_it_learned<C: SqlConnection + Drop>(
     alloc: Global,
     first: GatewayOver<RegistryOver<C>>,
 ) -> bool {

@@ -1,5 +1,5 @@
-//! What the tests of `gateway_main` are to be: replays each worked row, and runs the gateway over readers, writers and
-//! caches that no row has. Each case is told by a line, as `NAME ok` or `NAME differs`.
+//! The tests of `gateway_core`, `engines` and `gateway_main`, as a program: it replays each worked row, and runs the
+//! gateway over readers, writers and caches that no row has. Each case is told by a line, as `NAME ok` or `NAME differs`.
 #![tactic(auto)]
 
 mod caches;

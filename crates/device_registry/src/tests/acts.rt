@@ -222,6 +222,6 @@ fn remember_so_many<R: Remembering>(
     registry: &R,
     wanted: usize,
 ) -> Result<(), Fail> {
-    assert_eq!(rt; registry.remembers_so_many(), wanted);
+    assert_eq!(rt; registry.count_remembered(), wanted);
     Ok(())
 }

@@ -1,5 +1,5 @@
 //! What tests ask of a registry, whatever its store is.
-use crate::{Device, LearnFault, Receipt, RegistryOver, SqlStore, StoreFault};
+use crate::{Device, LearnFault, Receipt, RegistryOver, SqlConnection, StoreFault};
 
 /// The calls of a registry, and looks at what it remembers: so what takes one names no types of the store.
 pub trait Remembering {
@@ -15,10 +15,10 @@ pub trait Remembering {
     fn remembered(&self, id: u32) -> Option<Option<Device>>;
 
     /// How many senders are remembered.
-    fn remembers_so_many(&self) -> usize;
+    fn count_remembered(&self) -> usize;
 }
 
-impl<C: SqlStore> Remembering for RegistryOver<C> {
+impl<C: SqlConnection> Remembering for RegistryOver<C> {
     fn find(&mut self, id: u32) -> Result<Option<Device>, StoreFault> {
         RegistryOver::find(self, id)
     }
@@ -39,7 +39,7 @@ impl<C: SqlStore> Remembering for RegistryOver<C> {
         self.cache.peek(&id).copied()
     }
 
-    fn remembers_so_many(&self) -> usize {
+    fn count_remembered(&self) -> usize {
         self.cache.len()
     }
 }

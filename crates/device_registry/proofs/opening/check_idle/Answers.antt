@@ -6,8 +6,8 @@ use Rattle.device_registry.proofs.opening.check_idle.Goals as goal
 
 pub returns-in_err-_statement-clause-kept : goal.returns-in_err-_statement-clause-kept
 returns-in_err-_statement-clause-kept g c clean =
-    let old = g.C.SqlStore.state c.args.conn.now in
-    let new = g.C.SqlStore.state c.prepare.new.self in
+    let old = g.C.SqlConnection.state c.args.conn.now in
+    let new = g.C.SqlConnection.state c.prepare.new.self in
     let early : HasCleanDisk old = omega (arith, clean, c.prepare.ensures.survives.clean) in
     let auto : IsTrue c.is_autocommit.result = search rules in
     let at_rest = λ (is_open : IsTrue old.is_open).

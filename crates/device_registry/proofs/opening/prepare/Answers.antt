@@ -6,43 +6,45 @@ use Rattle.device_registry.proofs.opening.prepare.Goals as goal
 
 pub returns-clause-registries : goal.returns-clause-registries
 returns-clause-registries g c clean =
-    let old = g.C.SqlStore.state c.args.conn.now in
-    let mid = g.C.SqlStore.state c.check_idle.new.conn in
-    let new = g.C.SqlStore.state c.make_or_take.new.conn in
-    registries_if old mid new (λ trees is_open. g.met.C.SqlStore.settled c.make_or_take.new.conn trees is_open)
+    let old = g.C.SqlConnection.state c.args.conn.now in
+    let mid = g.C.SqlConnection.state c.check_idle.new.conn in
+    let new = g.C.SqlConnection.state c.make_or_take.new.conn in
+    registries_if old mid new (λ trees is_open. g.met.C.SqlConnection.settled c.make_or_take.new.conn trees is_open)
     c.make_or_take.result (c.make_or_take.ensures.prepared clean)
 
 pub returns-clause-opens : goal.returns-clause-opens
 returns-clause-opens g c clean =
-    let old = g.C.SqlStore.state c.args.conn.now in
-    let mid = g.C.SqlStore.state c.check_idle.new.conn in
-    let new = g.C.SqlStore.state c.make_or_take.new.conn in
+    let old = g.C.SqlConnection.state c.args.conn.now in
+    let mid = g.C.SqlConnection.state c.check_idle.new.conn in
+    let new = g.C.SqlConnection.state c.make_or_take.new.conn in
     let early : HasCleanDisk mid = omega (arith, clean, c.make_or_take.ensures.stop.clean) in
-    opens_if old mid new (λ trees is_open. g.met.C.SqlStore.settled c.make_or_take.new.conn trees is_open)
+    opens_if old mid new (λ trees is_open. g.met.C.SqlConnection.settled c.make_or_take.new.conn trees is_open)
     c.make_or_take.result (c.in_ok-check_idle.ensures.same early) (c.make_or_take.ensures.prepared clean)
 
 pub returns-clause-ready : goal.returns-clause-ready
-returns-clause-ready g c clean = ready_if (g.C.SqlStore.state c.check_idle.new.conn)
-    (g.C.SqlStore.state c.make_or_take.new.conn) c.make_or_take.result (c.make_or_take.ensures.prepared clean)
+returns-clause-ready g c clean = ready_if (g.C.SqlConnection.state c.check_idle.new.conn)
+    (g.C.SqlConnection.state c.make_or_take.new.conn) c.make_or_take.result (c.make_or_take.ensures.prepared clean)
 
 pub returns-clause-rows : goal.returns-clause-rows
 returns-clause-rows g c clean =
-    let old = g.C.SqlStore.state c.args.conn.now in
-    let mid = g.C.SqlStore.state c.check_idle.new.conn in
+    let old = g.C.SqlConnection.state c.args.conn.now in
+    let mid = g.C.SqlConnection.state c.check_idle.new.conn in
     let early : HasCleanDisk mid = omega (arith, clean, c.make_or_take.ensures.stop.clean) in
     let was = c.in_ok-check_idle.ensures.same early in
-    rows_on c.make_or_take.result old mid (g.C.SqlStore.state c.make_or_take.new.conn) was.0 was.1
+    rows_on c.make_or_take.result old mid (g.C.SqlConnection.state c.make_or_take.new.conn) was.0 was.1
     (c.make_or_take.ensures.rows clean)
 
 pub returns-in_err-check_idle-clause-refused : goal.returns-in_err-check_idle-clause-refused
 returns-in_err-check_idle-clause-refused g c =
     let why = err_from_is_err_and c.from_residual.result c.from_residual.ensures.1 in
-    rw why.1 (refused_first (g.C.SqlStore.state c.args.conn.now) (g.C.SqlStore.state c.check_idle.new.conn) why.0 (λ is.
+    rw why.1 (refused_first (g.C.SqlConnection.state c.args.conn.now) (g.C.SqlConnection.state c.check_idle.new.conn)
+    why.0 (λ is.
     let e = sym why.2 ∙ is in cc) c.check_idle.ensures.stop)
 
 pub returns-clause-refused : goal.returns-clause-refused
 returns-clause-refused g c =
-    refused_then c.make_or_take.result (g.C.SqlStore.state c.args.conn.now) (g.C.SqlStore.state c.check_idle.new.conn)
-    (g.C.SqlStore.state c.make_or_take.new.conn)
+    refused_then c.make_or_take.result (g.C.SqlConnection.state c.args.conn.now)
+    (g.C.SqlConnection.state c.check_idle.new.conn)
+    (g.C.SqlConnection.state c.make_or_take.new.conn)
     c.in_ok-check_idle.ensures.same c.check_idle.ensures.stop c.make_or_take.ensures.stop c.make_or_take.ensures.refused
     c.make_or_take.ensures.unchanged

@@ -5,7 +5,7 @@ use Rattle.device_registry.proofs.statements.delete.Goals as goal
 pub returns : goal.returns
 returns g c =
     let a : SFits w64 c.from.result = search rules in
-    forget_turns c.args.id (g.C.SqlStore.state c.args.conn.now)
-    (g.C.SqlStore.state c.run_delete.new.conn) c.run_delete.result c.requires
+    forget_turns c.args.id (g.C.SqlConnection.state c.args.conn.now)
+    (g.C.SqlConnection.state c.run_delete.new.conn) c.run_delete.result c.requires
     (rw c.from.ensures at (simp to_z-of_z at c.run_delete.ensures.survives))
     (λ clean. rw c.from.ensures at (simp to_z-of_z at (c.run_delete.ensures.runs clean)))

@@ -11,17 +11,18 @@ use Rattle.device_registry.proofs.statements.look_up.Goals as goal
 
 pub returns-clause-stays : goal.returns-clause-stays
 returns-clause-stays g c =
-    let mid = g.C.SqlStore.state c.compiled.new.conn in
-    compiled_query_stays find_text c.in_ok-find.find.text (asked c.args.id) (g.C.SqlStore.state c.args.conn.now) mid
-    (g.C.SqlStore.state c.rows_of.new.conn) (λ v. v.items) c.rows_of.result c.compiled.ensures.stays
+    let mid = g.C.SqlConnection.state c.compiled.new.conn in
+    compiled_query_stays find_text c.in_ok-find.find.text (asked c.args.id) (g.C.SqlConnection.state c.args.conn.now)
+    mid
+    (g.C.SqlConnection.state c.rows_of.new.conn) (λ v. v.items) c.rows_of.result c.compiled.ensures.stays
     c.in_ok-find.ensures.text (λ clean. find_plain mid (c.in_ok-find.ensures.ready clean))
     c.rows_of.ensures.survives c.rows_of.ensures.shown c.rows_of.ensures.failed
 
 pub returns-clause-found : goal.returns-clause-found
 returns-clause-found g c clean =
-    let old = g.C.SqlStore.state c.args.conn.now in
-    let mid = g.C.SqlStore.state c.compiled.new.conn in
-    let new = g.C.SqlStore.state c.rows_of.new.conn in
+    let old = g.C.SqlConnection.state c.args.conn.now in
+    let mid = g.C.SqlConnection.state c.compiled.new.conn in
+    let new = g.C.SqlConnection.state c.rows_of.new.conn in
     let id = c.args.id in
     let text = c.in_ok-find.find.text in
     let early : HasCleanDisk mid = omega (arith, clean, c.rows_of.ensures.survives.clean) in

@@ -6,22 +6,24 @@ use Rattle.device_registry.proofs.RefusalKeeps.{executed_if}
 use Rattle.device_registry.proofs.statements.renew.Goals as goal
 
 pub returns-clause-renewed : goal.returns-clause-renewed
-returns-clause-renewed g c clean = renewed_if (g.C.SqlStore.state c.args.conn.now)
-    (g.C.SqlStore.state c.execute.new.self) c.execute.result (c.execute.ensures.runs clean)
+returns-clause-renewed g c clean = renewed_if (g.C.SqlConnection.state c.args.conn.now)
+    (g.C.SqlConnection.state c.execute.new.self) c.execute.result (c.execute.ensures.runs clean)
 
 pub returns-clause-stop : goal.returns-clause-stop
 returns-clause-stop g c =
-    renew_stop (g.C.SqlStore.state c.args.conn.now) (g.C.SqlStore.state c.execute.new.self) c.execute.ensures.survives
+    renew_stop (g.C.SqlConnection.state c.args.conn.now) (g.C.SqlConnection.state c.execute.new.self)
+    c.execute.ensures.survives
 
 pub returns-clause-turns : goal.returns-clause-turns
 returns-clause-turns g c change same =
-    renew_turns change (g.C.SqlStore.state c.args.conn.now) (g.C.SqlStore.state c.execute.new.self) c.execute.result
+    renew_turns change (g.C.SqlConnection.state c.args.conn.now) (g.C.SqlConnection.state c.execute.new.self)
+    c.execute.result
     c.requires same c.execute.ensures.survives c.execute.ensures.runs
 
 pub returns-clause-rows : goal.returns-clause-rows
-returns-clause-rows g c clean = rows_if (g.C.SqlStore.state c.args.conn.now)
-    (g.C.SqlStore.state c.execute.new.self) c.execute.result (c.execute.ensures.runs clean)
+returns-clause-rows g c clean = rows_if (g.C.SqlConnection.state c.args.conn.now)
+    (g.C.SqlConnection.state c.execute.new.self) c.execute.result (c.execute.ensures.runs clean)
 
 pub returns-clause-remains : goal.returns-clause-remains
-returns-clause-remains g c clean = executed_if renew_text [] (g.C.SqlStore.state c.args.conn.now)
-    (g.C.SqlStore.state c.execute.new.self) c.execute.result (c.execute.ensures.runs clean)
+returns-clause-remains g c clean = executed_if renew_text [] (g.C.SqlConnection.state c.args.conn.now)
+    (g.C.SqlConnection.state c.execute.new.self) c.execute.result (c.execute.ensures.runs clean)

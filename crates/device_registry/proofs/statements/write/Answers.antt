@@ -8,8 +8,8 @@ use Rattle.device_registry.proofs.statements.write.Goals as goal
 
 pub returns : goal.returns
 returns g c =
-    let old = g.C.SqlStore.state c.args.conn.now in
-    let new = g.C.SqlStore.state c.run_learn.new.conn in
+    let old = g.C.SqlConnection.state c.args.conn.now in
+    let new = g.C.SqlConnection.state c.run_learn.new.conn in
     let it : Learned = record { eep = c.args.device.eep; maker = c.args.device.maker } in
     let rorg : c.args.device.eep.rorg < 256 = search rules in
     let func : c.args.device.eep.func < 256 = search rules in

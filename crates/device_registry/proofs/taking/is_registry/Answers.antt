@@ -10,7 +10,7 @@ use Rattle.device_registry.proofs.taking.is_registry.Goals as goal
 
 pub returns-in_default-clause-other : goal.returns-in_default-clause-other
 returns-in_default-clause-other g c clean none own =
-    let old = g.C.SqlStore.state c.args.conn.now in
+    let old = g.C.SqlConnection.state c.args.conn.now in
     let it = own_found old (c.requires clean) own in
     let is : trees_in old.now.schema ≡ Some (it.tables.meta, it.tables.devices) =
     placed_tables old.now.schema it.tables in
@@ -18,7 +18,7 @@ returns-in_default-clause-other g c clean none own =
 
 pub returns-then-not-branch-clause-other : goal.returns-then-not-branch-clause-other
 returns-then-not-branch-clause-other g c clean none own =
-    let old = g.C.SqlStore.state c.args.conn.now in
+    let old = g.C.SqlConnection.state c.args.conn.now in
     let early : HasCleanDisk old = omega (arith, clean, c.lists_ours.ensures.stop.clean) in
     let rest = c.requires early in
     let it = own_found old rest own in
@@ -28,7 +28,7 @@ returns-then-not-branch-clause-other g c clean none own =
 
 pub is_whole-requires : goal.is_whole-requires
 is_whole-requires g c clean =
-    let old = g.C.SqlStore.state c.args.conn.now in
+    let old = g.C.SqlConnection.state c.args.conn.now in
     let early : HasCleanDisk old = omega (arith, clean, c.lists_ours.ensures.stop.clean) in
     let got = c.in_ok-lists_ours.ensures.ours clean in
     let yes : IsTrue c.in_ok-lists_ours.field-0 = search rules in
@@ -38,21 +38,21 @@ is_whole-requires g c clean =
 
 pub returns-clause-ours : goal.returns-clause-ours
 returns-clause-ours g c clean =
-    let old = g.C.SqlStore.state c.args.conn.now in
-    let mid = g.C.SqlStore.state c.lists_ours.new.conn in
+    let old = g.C.SqlConnection.state c.args.conn.now in
+    let mid = g.C.SqlConnection.state c.lists_ours.new.conn in
     let between : HasCleanDisk mid = omega (arith, clean, c.is_whole.ensures.stop.clean) in
     let early : HasCleanDisk old = omega (arith, between, c.lists_ours.ensures.stop.clean) in
     let got = c.in_ok-lists_ours.ensures.ours between in
     let yes : IsTrue c.in_ok-lists_ours.field-0 = search rules in
     let is : trees_in old.now.schema ≡ Some (c.in-Some._meta, c.in-Some._devices) = search rules in
-    taken_if c.is_whole.result old mid (g.C.SqlStore.state c.is_whole.new.conn) got.0
+    taken_if c.is_whole.result old mid (g.C.SqlConnection.state c.is_whole.new.conn) got.0
     (tables_taken old c.in-Some._meta c.in-Some._devices (c.requires early) is (got.1 yes))
     (c.is_whole.ensures.whole clean)
 
 pub returns-clause-other : goal.returns-clause-other
 returns-clause-other g c clean none own =
-    let old = g.C.SqlStore.state c.args.conn.now in
-    let mid = g.C.SqlStore.state c.lists_ours.new.conn in
+    let old = g.C.SqlConnection.state c.args.conn.now in
+    let mid = g.C.SqlConnection.state c.lists_ours.new.conn in
     let between : HasCleanDisk mid = omega (arith, clean, c.is_whole.ensures.stop.clean) in
     let early : HasCleanDisk old = omega (arith, between, c.lists_ours.ensures.stop.clean) in
     let got = c.in_ok-lists_ours.ensures.ours between in

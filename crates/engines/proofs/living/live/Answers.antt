@@ -24,7 +24,8 @@ loop-turn-init g c =
         reads_none g.P.Source.left g.P.Source.counts c.args.serial_in.now,
         reads_none g.Q.Source.left g.Q.Source.counts c.args.desk_in.now,
         rw c.new.ensures
-            (turns_none g.S.DeviceStore.stored _ _ (both_sinks g.R.Sink.held g.R.Sink.counts g.D.Sink.held g.D.Sink.counts)
+            (turns_none g.S.DeviceStore.stored _ _
+            (both_sinks g.R.Sink.held g.R.Sink.counts g.D.Sink.held g.D.Sink.counts)
             c.args.gateway.now (c.args.serial_out.now, c.args.desk_out.now) idle),
       );
       serial_made = made_none (g.P.Source.counts c.args.serial_in.now);
@@ -88,7 +89,8 @@ returns-in_default-take_piece-clause-broken g c =
           (pieces read) c.in-Ok.length c.read.new.buffer serial c.in-Ok.ensures.within (omega arith)
           c.in-Ok.ensures.bytes c.in-Ok.ensures.told,
       desk,
-      breaks_turn_at g.R.Sink.held g.R.Sink.counts g.D.Sink.held g.D.Sink.counts g.S.DeviceStore.stored c.args.gateway.now
+      breaks_turn_at g.R.Sink.held g.R.Sink.counts g.D.Sink.held g.D.Sink.counts g.S.DeviceStore.stored
+          c.args.gateway.now
           new.gateway.now _ read (Some piece) c.args.serial_out.now new.outlet.serial.now _ c.args.desk_out.now
           new.outlet.desk.now _ (search rules) (search rules) (search rules)
           (piece_stops g.S.DeviceStore.stored _ _ both c.args.gateway.now old.gateway.now new.gateway.now read piece
@@ -196,10 +198,12 @@ returns-in_default-take_bytes-clause-broken g c =
           (reads_more g.Q.Source.left g.Q.Source.counts c.args.desk_in.now c.loop-turn.desk_in
           c.read-in-loop-turn.new.self (desks read) c.in-Ok-read.length c.read-in-loop-turn.new.buffer desk
           c.in-Ok-read.ensures.within (omega arith) c.in-Ok-read.ensures.bytes c.in-Ok-read.ensures.told),
-      breaks_turn_at g.R.Sink.held g.R.Sink.counts g.D.Sink.held g.D.Sink.counts g.S.DeviceStore.stored c.args.gateway.now
+      breaks_turn_at g.R.Sink.held g.R.Sink.counts g.D.Sink.held g.D.Sink.counts g.S.DeviceStore.stored
+          c.args.gateway.now
           new.gateway.now _ (read ++ turn ∷ []) None c.args.serial_out.now new.outlet.serial.now _ c.args.desk_out.now
           new.outlet.desk.now _ (search rules) (search rules) (search rules)
-          (order_stops g.S.DeviceStore.stored _ _ both c.args.gateway.now old.gateway.now mid.gateway.now new.gateway.now read piece
+          (order_stops g.S.DeviceStore.stored _ _ both c.args.gateway.now old.gateway.now mid.gateway.now
+          new.gateway.now read piece
           bytes c.loop-turn.player.unended (c.args.serial_out.now, c.args.desk_out.now)
           (old.outlet.serial.now, old.outlet.desk.now) (mid.outlet.serial.now, mid.outlet.desk.now)
           (new.outlet.serial.now, new.outlet.desk.now) old.items mid.items taken c.in-Ok-take_piece.ensures.taken
@@ -226,7 +230,8 @@ returns-in_default-take_bytes-clause-whole g c =
     let (read, count, serial, desk, taken) = c.loop-turn.invariant.progress in
     let both = both_sinks g.R.Sink.held g.R.Sink.counts g.D.Sink.held g.D.Sink.counts in
     let part =
-    (order_stops g.S.DeviceStore.stored _ _ both c.args.gateway.now old.gateway.now mid.gateway.now new.gateway.now read piece bytes
+    (order_stops g.S.DeviceStore.stored _ _ both c.args.gateway.now old.gateway.now mid.gateway.now new.gateway.now
+    read piece bytes
     c.loop-turn.player.unended (c.args.serial_out.now, c.args.desk_out.now) (old.outlet.serial.now, old.outlet.desk.now)
     (mid.outlet.serial.now, mid.outlet.desk.now) (new.outlet.serial.now, new.outlet.desk.now) old.items mid.items
     taken c.in-Ok-take_piece.ensures.taken
@@ -270,7 +275,8 @@ loop-turn-preserved g c =
             (reads_more g.Q.Source.left g.Q.Source.counts c.args.desk_in.now c.loop-turn.desk_in
             c.read-in-loop-turn.new.self (desks read) c.in-Ok-read.length c.read-in-loop-turn.new.buffer desk
             c.in-Ok-read.ensures.within (omega arith) c.in-Ok-read.ensures.bytes c.in-Ok-read.ensures.told),
-        turn_taken g.S.DeviceStore.stored _ _ both c.args.gateway.now old.gateway.now mid.gateway.now new.gateway.now read piece
+        turn_taken g.S.DeviceStore.stored _ _ both c.args.gateway.now old.gateway.now mid.gateway.now new.gateway.now
+            read piece
             bytes c.loop-turn.player.unended c.take_bytes.new.self.unended
             (c.args.serial_out.now, c.args.desk_out.now) (old.outlet.serial.now, old.outlet.desk.now)
             (mid.outlet.serial.now, mid.outlet.desk.now) (new.outlet.serial.now, new.outlet.desk.now) old.items

@@ -27,7 +27,8 @@ loop-turn-init g c =
         [],
         Consumes-nil (g.R.Source.left c.args.reader.now),
         rw c.new.ensures
-            (bytes_none g.S.DeviceStore.stored _ _ (text_outlet g.W.Sink.held g.W.Sink.counts (λ writer. writer)) OfScript
+            (bytes_none g.S.DeviceStore.stored _ _ (text_outlet g.W.Sink.held g.W.Sink.counts (λ writer. writer))
+            OfScript
             c.args.gateway.now [] [] c.args.writer.now 0 idle (omega arith) keeps_none),
       );
       writes = (refl, refl);
@@ -46,7 +47,8 @@ returns-in-Err-clause-stopped g c =
       progress.0,
       Consumes-kept (left c.args.reader.now) (left c.loop-turn.reader) (left c.read.new.self) progress.0 progress.1
           c.in-Err.ensures.bytes,
-      closed_at g.S.DeviceStore.stored held counts c.args.gateway.now now.engine.gateway.now _ progress.0 c.args.writer.now
+      closed_at g.S.DeviceStore.stored held counts c.args.gateway.now now.engine.gateway.now _ progress.0
+          c.args.writer.now
           now.engine.outlet.sink.now _ (search rules) (search rules)
           (closes g.S.DeviceStore.stored c.args.gateway.now now.engine.gateway.now progress.0 now.unended
           (PutsText held counts c.args.writer.now now.engine.outlet.sink.now) 0 now.engine.items progress.2),
@@ -61,7 +63,8 @@ returns-clause-stopped g c =
     λ _. (
       progress.0,
       progress.1,
-      closed_at g.S.DeviceStore.stored held counts c.args.gateway.now now.engine.gateway.now _ progress.0 c.args.writer.now
+      closed_at g.S.DeviceStore.stored held counts c.args.gateway.now now.engine.gateway.now _ progress.0
+          c.args.writer.now
           now.engine.outlet.sink.now _ (search rules) (search rules)
           (closes g.S.DeviceStore.stored c.args.gateway.now now.engine.gateway.now progress.0 now.unended
           (PutsText held counts c.args.writer.now now.engine.outlet.sink.now) 0 now.engine.items progress.2),
@@ -76,7 +79,8 @@ returns-then-length-eq0-clause-ok g c =
     rw c.if-length-eq0.true at c.in-Ok.ensures.bytes.0 in
     let old = c.loop-turn.player.engine in
     let done =
-    script_taken g.S.DeviceStore.stored _ _ (text_outlet g.W.Sink.held g.W.Sink.counts (λ writer. writer)) c.args.gateway.now
+    script_taken g.S.DeviceStore.stored _ _ (text_outlet g.W.Sink.held g.W.Sink.counts (λ writer. writer))
+    c.args.gateway.now
     old.gateway.now new.gateway.now progress.0 c.loop-turn.player.unended c.args.writer.now old.outlet.sink.now
     new.outlet.sink.now old.items new.items progress.2
     (c.in-Ok-take_last.ensures.taken progress.2.rest progress.2.keeps) in (
@@ -84,7 +88,8 @@ returns-then-length-eq0-clause-ok g c =
       rw append-nil at (Consumes-trans (left c.args.reader.now) (left c.loop-turn.reader) (left c.read.new.self)
           progress.0 [] progress.1 none),
       c.in-Ok.ensures.bytes.1 c.if-length-eq0.true (omega arith),
-      replays_at g.S.DeviceStore.stored g.W.Sink.held g.W.Sink.counts c.args.gateway.now new.gateway.now _ _ c.args.writer.now
+      replays_at g.S.DeviceStore.stored g.W.Sink.held g.W.Sink.counts c.args.gateway.now new.gateway.now _ _
+          c.args.writer.now
           new.outlet.sink.now _ (search rules) (search rules) done.played,
       (let counted = done.counted in omega (arith, counted)),
     )
@@ -112,7 +117,8 @@ returns-in_default-clause-broken g c =
       progress.0,
       rw append-nil at (Consumes-trans (left c.args.reader.now) (left c.loop-turn.reader) (left c.read.new.self)
           progress.0 [] progress.1 none),
-      part_at g.S.DeviceStore.stored g.W.Sink.held g.W.Sink.counts c.args.gateway.now new.gateway.now _ progress.0 c.args.writer.now
+      part_at g.S.DeviceStore.stored g.W.Sink.held g.W.Sink.counts c.args.gateway.now new.gateway.now _ progress.0
+          c.args.writer.now
           new.outlet.sink.now _ (search rules) (search rules)
           (script_stops g.S.DeviceStore.stored _ _ (text_outlet g.W.Sink.held g.W.Sink.counts (λ writer. writer))
           c.args.gateway.now old.gateway.now new.gateway.now progress.0 c.loop-turn.player.unended c.args.writer.now
@@ -145,10 +151,12 @@ returns-in_default-take_bytes-clause-broken g c =
       progress.0 ++ chunk,
       Consumes-trans (left c.args.reader.now) (left c.loop-turn.reader) (left c.read.new.self) progress.0 chunk
           progress.1 c.in-Ok.ensures.bytes.0,
-      part_at g.S.DeviceStore.stored g.W.Sink.held g.W.Sink.counts c.args.gateway.now new.gateway.now _ (progress.0 ++ chunk)
+      part_at g.S.DeviceStore.stored g.W.Sink.held g.W.Sink.counts c.args.gateway.now new.gateway.now _
+          (progress.0 ++ chunk)
           c.args.writer.now new.outlet.sink.now _ (search rules) (search rules)
           (part_at_line g.S.DeviceStore.stored c.args.gateway.now new.gateway.now (progress.0 ++ chunk) _
-          (stops_behind g.S.DeviceStore.stored _ _ (text_outlet g.W.Sink.held g.W.Sink.counts (λ writer. writer)) OfScript
+          (stops_behind g.S.DeviceStore.stored _ _ (text_outlet g.W.Sink.held g.W.Sink.counts (λ writer. writer))
+          OfScript
           c.args.gateway.now old.gateway.now new.gateway.now [] progress.0 chunk c.loop-turn.player.unended
           c.args.writer.now old.outlet.sink.now new.outlet.sink.now 0 old.items progress.2
           (c.in_default-take_bytes.ensures.taken progress.2.rest progress.2.keeps))),

@@ -7,8 +7,8 @@ use Rattle.engines.proofs.starting.start.Goals as goal
 pub returns-in_err-registry-clause-refused : goal.returns-in_err-registry-clause-refused
 returns-in_err-registry-clause-refused g c =
     let fault = err_from_is_err_and c.from_residual.result c.from_residual.ensures.1 in
-    rw fault.1 (subst (RefusesToStart g.C.SqlStore.state c.args.conn) (sym fault.2)
-    (refuses_as_open g.C.SqlStore.state c.args.conn _ c.in_err-registry.ensures.refused))
+    rw fault.1 (subst (RefusesToStart g.C.SqlConnection.state c.args.conn) (sym fault.2)
+    (refuses_as_open g.C.SqlConnection.state c.args.conn _ c.in_err-registry.ensures.refused))
 
 pub returns-clause-idle : goal.returns-clause-idle
 returns-clause-idle g c =
@@ -16,5 +16,5 @@ returns-clause-idle g c =
 
 pub returns-clause-starts : goal.returns-clause-starts
 returns-clause-starts g c =
-    starts g.C.SqlStore.state c.args.conn c.in_ok-registry.registry c.args.base c.in_ok-gateway_over.field-0
+    starts g.C.SqlConnection.state c.args.conn c.in_ok-registry.registry c.args.base c.in_ok-gateway_over.field-0
     c.in_ok-gateway_over.ensures c.in_ok-registry.ensures.registries c.in_ok-registry.ensures.opens

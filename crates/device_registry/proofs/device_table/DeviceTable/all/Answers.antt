@@ -2,22 +2,23 @@ use Rattle.device_registry.proofs.RegistryCalls.{had, keeps_well, lists_all, if_
 use Rattle.device_registry.proofs.device_table.DeviceTable.all.Goals as goal
 
 pub invariant_of-self : goal.invariant_of-self
-invariant_of-self g c = keeps_well (g.C.SqlStore.state c.self.inside.conn)
-    (g.C.SqlStore.state c.list.new.conn) c.list.ensures.stays c.self.invariant
+invariant_of-self g c = keeps_well (g.C.SqlConnection.state c.self.inside.conn)
+    (g.C.SqlConnection.state c.list.new.conn) c.list.ensures.stays c.self.invariant
 
 pub returns-in_err-rows-clause-lists : goal.returns-in_err-rows-clause-lists
 returns-in_err-rows-clause-lists g c =
-    rw (← c.self.view_is) (lists_all (g.C.SqlStore.state c.self.inside.conn) (g.C.SqlStore.state c.list.new.conn)
+    rw (← c.self.view_is) (lists_all (g.C.SqlConnection.state c.self.inside.conn)
+    (g.C.SqlConnection.state c.list.new.conn)
     c.list.ensures.stays c.self.invariant _ (λ clean devices has. if_err _ _ c.from_residual.ensures.0))
 
 pub invariant_of-self-2 : goal.invariant_of-self-2
-invariant_of-self-2 g c = keeps_well (g.C.SqlStore.state c.self.inside.conn)
-    (g.C.SqlStore.state c.list.new.conn) c.list.ensures.stays c.self.invariant
+invariant_of-self-2 g c = keeps_well (g.C.SqlConnection.state c.self.inside.conn)
+    (g.C.SqlConnection.state c.list.new.conn) c.list.ensures.stays c.self.invariant
 
 pub returns-clause-lists : goal.returns-clause-lists
 returns-clause-lists g c =
-    let old = g.C.SqlStore.state c.self.inside.conn in
-    let new = g.C.SqlStore.state c.list.new.conn in
+    let old = g.C.SqlConnection.state c.self.inside.conn in
+    let new = g.C.SqlConnection.state c.list.new.conn in
     rw (← c.self.view_is) (lists_all old new c.list.ensures.stays c.self.invariant c.all_listed.result
     (λ clean devices has.
     let rows = c.in_ok-rows.ensures.all clean in
@@ -27,5 +28,6 @@ returns-clause-lists g c =
 
 pub returns-clause-ready : goal.returns-clause-ready
 returns-clause-ready g c clean =
-    rw (← c.self.view_is) (ready_if c.all_listed.result (g.C.SqlStore.state c.self.inside.conn)
-    (g.C.SqlStore.state c.list.new.conn) c.list.ensures.stays c.self.invariant clean (c.in_ok-rows.ensures.all clean).0)
+    rw (← c.self.view_is) (ready_if c.all_listed.result (g.C.SqlConnection.state c.self.inside.conn)
+    (g.C.SqlConnection.state c.list.new.conn) c.list.ensures.stays c.self.invariant clean
+    (c.in_ok-rows.ensures.all clean).0)

@@ -3,23 +3,23 @@ use Rattle.device_registry.proofs.RegistryCalls.{had, keeps_well, looks_up, if_e
 use Rattle.device_registry.proofs.device_table.DeviceTable.find.Goals as goal
 
 pub invariant_of-self : goal.invariant_of-self
-invariant_of-self g c = keeps_well (g.C.SqlStore.state c.self.inside.conn)
-    (g.C.SqlStore.state c.look_up.new.conn) c.look_up.ensures.stays c.self.invariant
+invariant_of-self g c = keeps_well (g.C.SqlConnection.state c.self.inside.conn)
+    (g.C.SqlConnection.state c.look_up.new.conn) c.look_up.ensures.stays c.self.invariant
 
 pub returns-in_err-rows-clause-looks_up : goal.returns-in_err-rows-clause-looks_up
 returns-in_err-rows-clause-looks_up g c =
-    rw (← c.self.view_is) (looks_up (g.C.SqlStore.state c.self.inside.conn)
-    (g.C.SqlStore.state c.look_up.new.conn) c.look_up.ensures.stays c.self.invariant c.args.id _
+    rw (← c.self.view_is) (looks_up (g.C.SqlConnection.state c.self.inside.conn)
+    (g.C.SqlConnection.state c.look_up.new.conn) c.look_up.ensures.stays c.self.invariant c.args.id _
     (λ clean devices has. if_err _ _ c.from_residual.ensures.0))
 
 pub invariant_of-self-2 : goal.invariant_of-self-2
-invariant_of-self-2 g c = keeps_well (g.C.SqlStore.state c.self.inside.conn)
-    (g.C.SqlStore.state c.look_up.new.conn) c.look_up.ensures.stays c.self.invariant
+invariant_of-self-2 g c = keeps_well (g.C.SqlConnection.state c.self.inside.conn)
+    (g.C.SqlConnection.state c.look_up.new.conn) c.look_up.ensures.stays c.self.invariant
 
 pub returns-clause-looks_up : goal.returns-clause-looks_up
 returns-clause-looks_up g c =
-    let old = g.C.SqlStore.state c.self.inside.conn in
-    let new = g.C.SqlStore.state c.look_up.new.conn in
+    let old = g.C.SqlConnection.state c.self.inside.conn in
+    let new = g.C.SqlConnection.state c.look_up.new.conn in
     rw (← c.self.view_is) (looks_up old new c.look_up.ensures.stays c.self.invariant c.args.id c.found.result
     (λ clean devices has.
     let rows = c.in_ok-rows.ensures.found clean in
@@ -28,6 +28,6 @@ returns-clause-looks_up g c =
 
 pub returns-clause-ready : goal.returns-clause-ready
 returns-clause-ready g c clean =
-    rw (← c.self.view_is) (ready_if c.found.result (g.C.SqlStore.state c.self.inside.conn)
-    (g.C.SqlStore.state c.look_up.new.conn) c.look_up.ensures.stays c.self.invariant clean
+    rw (← c.self.view_is) (ready_if c.found.result (g.C.SqlConnection.state c.self.inside.conn)
+    (g.C.SqlConnection.state c.look_up.new.conn) c.look_up.ensures.stays c.self.invariant clean
     (c.in_ok-rows.ensures.found clean).0)

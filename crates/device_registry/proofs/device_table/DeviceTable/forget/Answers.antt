@@ -6,12 +6,13 @@ use Rattle.device_registry.proofs.device_table.DeviceTable.forget.Goals as goal
 -- ---- the query failed
 
 pub invariant_of-self : goal.invariant_of-self
-invariant_of-self g c = keeps_well (g.C.SqlStore.state c.self.inside.conn)
-    (g.C.SqlStore.state c.look_up.new.conn) c.look_up.ensures.stays c.self.invariant
+invariant_of-self g c = keeps_well (g.C.SqlConnection.state c.self.inside.conn)
+    (g.C.SqlConnection.state c.look_up.new.conn) c.look_up.ensures.stays c.self.invariant
 
 pub returns-in_err-rows-clause-forgets : goal.returns-in_err-rows-clause-forgets
 returns-in_err-rows-clause-forgets g c =
-    rw (← c.self.view_is) (forgets_not (g.C.SqlStore.state c.self.inside.conn) (g.C.SqlStore.state c.look_up.new.conn)
+    rw (← c.self.view_is) (forgets_not (g.C.SqlConnection.state c.self.inside.conn)
+    (g.C.SqlConnection.state c.look_up.new.conn)
     c.look_up.ensures.stays c.self.invariant c.args.id c.from_residual.result c.from_residual.ensures.0)
 
 -- ---- the write
@@ -21,45 +22,47 @@ delete_or_renew-requires-clause-ready g c clean = (c.in_ok-rows.ensures.found cl
 
 pub delete_or_renew-requires-clause-found : goal.delete_or_renew-requires-clause-found
 delete_or_renew-requires-clause-found g c clean devices shows =
-    let old = g.C.SqlStore.state c.self.inside.conn in
-    let mid = g.C.SqlStore.state c.look_up.new.conn in
+    let old = g.C.SqlConnection.state c.self.inside.conn in
+    let mid = g.C.SqlConnection.state c.look_up.new.conn in
     rw c.deref.ensures.value ((c.in_ok-rows.ensures.found clean).1 devices
     (shown_before old mid c.look_up.ensures.stays c.self.invariant clean devices shows))
 
 pub invariant_of-self-in_err-delete_or_renew : goal.invariant_of-self-in_err-delete_or_renew
 invariant_of-self-in_err-delete_or_renew g c =
-    refused_well (g.C.SqlStore.state c.self.inside.conn) (g.C.SqlStore.state c.look_up.new.conn)
-    (g.C.SqlStore.state c.delete_or_renew.new.conn) (forgotten c.args.id) c.delete_or_renew.result
+    refused_well (g.C.SqlConnection.state c.self.inside.conn) (g.C.SqlConnection.state c.look_up.new.conn)
+    (g.C.SqlConnection.state c.delete_or_renew.new.conn) (forgotten c.args.id) c.delete_or_renew.result
     c.look_up.ensures.stays c.self.invariant c.delete_or_renew.ensures c.in_err-delete_or_renew.ensures.refused
 
 pub returns-in_err-delete_or_renew-clause-forgets : goal.returns-in_err-delete_or_renew-clause-forgets
 returns-in_err-delete_or_renew-clause-forgets g c =
-    rw (← c.self.view_is) (forget_refused (g.C.SqlStore.state c.self.inside.conn) (g.C.SqlStore.state c.look_up.new.conn)
-    (g.C.SqlStore.state c.delete_or_renew.new.conn) c.delete_or_renew.result
+    rw (← c.self.view_is) (forget_refused (g.C.SqlConnection.state c.self.inside.conn)
+    (g.C.SqlConnection.state c.look_up.new.conn)
+    (g.C.SqlConnection.state c.delete_or_renew.new.conn) c.delete_or_renew.result
     c.look_up.ensures.stays c.self.invariant c.args.id c.from_residual-in_err-delete_or_renew.result
     c.from_residual-in_err-delete_or_renew.ensures.0 c.delete_or_renew.ensures c.in_err-delete_or_renew.ensures.refused)
 
 pub invariant_of-self-2 : goal.invariant_of-self-2
 invariant_of-self-2 g c =
-    made_well (g.C.SqlStore.state c.self.inside.conn) (g.C.SqlStore.state c.look_up.new.conn)
-    (g.C.SqlStore.state c.delete_or_renew.new.conn) (forgotten c.args.id) c.delete_or_renew.result
+    made_well (g.C.SqlConnection.state c.self.inside.conn) (g.C.SqlConnection.state c.look_up.new.conn)
+    (g.C.SqlConnection.state c.delete_or_renew.new.conn) (forgotten c.args.id) c.delete_or_renew.result
     c.look_up.ensures.stays c.self.invariant c.delete_or_renew.ensures c.in_ok-delete_or_renew.ensures.made
     (λ clean. (c.in_ok-rows.ensures.found clean).0)
 
 pub returns-clause-forgets : goal.returns-clause-forgets
 returns-clause-forgets g c =
-    let old = g.C.SqlStore.state c.self.inside.conn in
-    let mid = g.C.SqlStore.state c.look_up.new.conn in
-    let new = g.C.SqlStore.state c.delete_or_renew.new.conn in
+    let old = g.C.SqlConnection.state c.self.inside.conn in
+    let mid = g.C.SqlConnection.state c.look_up.new.conn in
+    let new = g.C.SqlConnection.state c.delete_or_renew.new.conn in
     let turns = c.delete_or_renew.ensures in
     rw (← c.self.view_is) (forget_made old mid new c.delete_or_renew.result c.look_up.ensures.stays c.self.invariant
     c.args.id turns c.in_ok-delete_or_renew.ensures.made
     (λ clean. (c.in_ok-rows.ensures.found clean).0)
-    (λ trees is_open. g.met.C.SqlStore.settled c.delete_or_renew.new.conn trees is_open))
+    (λ trees is_open. g.met.C.SqlConnection.settled c.delete_or_renew.new.conn trees is_open))
 
 pub returns-clause-ready : goal.returns-clause-ready
 returns-clause-ready g c clean =
-    rw (← c.self.view_is) (ready_made (g.C.SqlStore.state c.self.inside.conn) (g.C.SqlStore.state c.look_up.new.conn)
-    (g.C.SqlStore.state c.delete_or_renew.new.conn) (forgotten c.args.id) c.delete_or_renew.result
+    rw (← c.self.view_is) (ready_made (g.C.SqlConnection.state c.self.inside.conn)
+    (g.C.SqlConnection.state c.look_up.new.conn)
+    (g.C.SqlConnection.state c.delete_or_renew.new.conn) (forgotten c.args.id) c.delete_or_renew.result
     c.look_up.ensures.stays c.self.invariant c.delete_or_renew.ensures (c.in_ok-delete_or_renew.ensures.made clean)
     clean (c.in_ok-rows.ensures.found (c.delete_or_renew.ensures.clean clean)).0)

@@ -9,13 +9,13 @@ use Rattle.device_registry.proofs.device_table.DeviceTable.learn.Goals as goal
 -- ---- the count failed
 
 pub invariant_of-self : goal.invariant_of-self
-invariant_of-self g c = keeps_well (g.C.SqlStore.state c.self.inside.conn)
-    (g.C.SqlStore.state c.has_no_room.new.conn) c.has_no_room.ensures.stays c.self.invariant
+invariant_of-self g c = keeps_well (g.C.SqlConnection.state c.self.inside.conn)
+    (g.C.SqlConnection.state c.has_no_room.new.conn) c.has_no_room.ensures.stays c.self.invariant
 
 pub returns-in_err-has_no_room-clause-learns : goal.returns-in_err-has_no_room-clause-learns
 returns-in_err-has_no_room-clause-learns g c =
-    let old = g.C.SqlStore.state c.self.inside.conn in
-    let new = g.C.SqlStore.state c.has_no_room.new.conn in
+    let old = g.C.SqlConnection.state c.self.inside.conn in
+    let new = g.C.SqlConnection.state c.has_no_room.new.conn in
     let why = err_from_is_err_and c.from_residual.result c.from_residual.ensures.1 in
     rw (← c.self.view_is) (subst (Learns old new c.args.device) (sym (why.1 ∙ ap Err why.2))
     (learns_not old new c.has_no_room.ensures.stays c.self.invariant c.args.device _))
@@ -23,13 +23,13 @@ returns-in_err-has_no_room-clause-learns g c =
 -- ---- there is no room
 
 pub invariant_of-self-then-branch : goal.invariant_of-self-then-branch
-invariant_of-self-then-branch g c = keeps_well (g.C.SqlStore.state c.self.inside.conn)
-    (g.C.SqlStore.state c.has_no_room.new.conn) c.has_no_room.ensures.stays c.self.invariant
+invariant_of-self-then-branch g c = keeps_well (g.C.SqlConnection.state c.self.inside.conn)
+    (g.C.SqlConnection.state c.has_no_room.new.conn) c.has_no_room.ensures.stays c.self.invariant
 
 pub returns-then-branch-clause-learns : goal.returns-then-branch-clause-learns
 returns-then-branch-clause-learns g c =
-    let old = g.C.SqlStore.state c.self.inside.conn in
-    let new = g.C.SqlStore.state c.has_no_room.new.conn in
+    let old = g.C.SqlConnection.state c.self.inside.conn in
+    let new = g.C.SqlConnection.state c.has_no_room.new.conn in
     rw (← c.self.view_is) (is_full_then old new c.has_no_room.ensures.stays c.self.invariant c.args.device
     (λ clean devices has.
     let told = c.in_ok-has_no_room.ensures.full clean in
@@ -38,7 +38,7 @@ returns-then-branch-clause-learns g c =
 
 pub returns-then-branch-clause-ready_if_full : goal.returns-then-branch-clause-ready_if_full
 returns-then-branch-clause-ready_if_full g c clean =
-    let both = ready_both (g.C.SqlStore.state c.self.inside.conn) (g.C.SqlStore.state c.has_no_room.new.conn)
+    let both = ready_both (g.C.SqlConnection.state c.self.inside.conn) (g.C.SqlConnection.state c.has_no_room.new.conn)
     c.has_no_room.ensures.stays c.self.invariant clean (c.in_ok-has_no_room.ensures.full clean).0 in
     rw (← c.self.view_is) (λ is. both)
 
@@ -49,22 +49,22 @@ write-requires-clause-ready g c clean = (c.in_ok-has_no_room.ensures.full clean)
 
 pub write-requires-clause-room : goal.write-requires-clause-room
 write-requires-clause-room g c clean devices shows =
-    let old = g.C.SqlStore.state c.self.inside.conn in
-    let mid = g.C.SqlStore.state c.has_no_room.new.conn in
+    let old = g.C.SqlConnection.state c.self.inside.conn in
+    let mid = g.C.SqlConnection.state c.has_no_room.new.conn in
     sym ((c.in_ok-has_no_room.ensures.full clean).1 devices
     (shown_before old mid c.has_no_room.ensures.stays c.self.invariant clean devices shows)) ∙ c.if-branch.false
 
 pub invariant_of-self-in_err-write : goal.invariant_of-self-in_err-write
 invariant_of-self-in_err-write g c =
-    refused_well (g.C.SqlStore.state c.self.inside.conn) (g.C.SqlStore.state c.has_no_room.new.conn)
-    (g.C.SqlStore.state c.write.new.conn) (learned c.args.device) c.write.result
+    refused_well (g.C.SqlConnection.state c.self.inside.conn) (g.C.SqlConnection.state c.has_no_room.new.conn)
+    (g.C.SqlConnection.state c.write.new.conn) (learned c.args.device) c.write.result
     c.has_no_room.ensures.stays c.self.invariant c.write.ensures c.in_err-write.ensures.refused
 
 pub returns-in_err-write-clause-learns : goal.returns-in_err-write-clause-learns
 returns-in_err-write-clause-learns g c =
-    let old = g.C.SqlStore.state c.self.inside.conn in
-    let mid = g.C.SqlStore.state c.has_no_room.new.conn in
-    let new = g.C.SqlStore.state c.write.new.conn in
+    let old = g.C.SqlConnection.state c.self.inside.conn in
+    let mid = g.C.SqlConnection.state c.has_no_room.new.conn in
+    let new = g.C.SqlConnection.state c.write.new.conn in
     let why = err_from_is_err_and c.from_residual-in_err-write.result c.from_residual-in_err-write.ensures.1 in
     rw (← c.self.view_is) (subst (Learns old new c.args.device) (sym (why.1 ∙ ap Err why.2))
     (learn_refused old mid new c.write.result c.has_no_room.ensures.stays c.self.invariant c.args.device _
@@ -72,20 +72,20 @@ returns-in_err-write-clause-learns g c =
 
 pub invariant_of-self-2 : goal.invariant_of-self-2
 invariant_of-self-2 g c =
-    made_well (g.C.SqlStore.state c.self.inside.conn) (g.C.SqlStore.state c.has_no_room.new.conn)
-    (g.C.SqlStore.state c.write.new.conn) (learned c.args.device) c.write.result
+    made_well (g.C.SqlConnection.state c.self.inside.conn) (g.C.SqlConnection.state c.has_no_room.new.conn)
+    (g.C.SqlConnection.state c.write.new.conn) (learned c.args.device) c.write.result
     c.has_no_room.ensures.stays c.self.invariant c.write.ensures c.in_ok-write.ensures.made
     (λ clean. (c.in_ok-has_no_room.ensures.full clean).0)
 
 pub returns-clause-learns : goal.returns-clause-learns
 returns-clause-learns g c =
-    let old = g.C.SqlStore.state c.self.inside.conn in
-    let mid = g.C.SqlStore.state c.has_no_room.new.conn in
-    let new = g.C.SqlStore.state c.write.new.conn in
+    let old = g.C.SqlConnection.state c.self.inside.conn in
+    let mid = g.C.SqlConnection.state c.has_no_room.new.conn in
+    let new = g.C.SqlConnection.state c.write.new.conn in
     rw (← c.self.view_is) (learn_made old mid new c.write.result c.has_no_room.ensures.stays c.self.invariant
     c.args.device c.write.ensures c.in_ok-write.ensures.made
     (λ clean. (c.in_ok-has_no_room.ensures.full clean).0)
-    (λ trees is_open. g.met.C.SqlStore.settled c.write.new.conn trees is_open)
+    (λ trees is_open. g.met.C.SqlConnection.settled c.write.new.conn trees is_open)
     (λ clean devices has.
     let told = c.in_ok-has_no_room.ensures.full clean in
     sym (told.1 devices (had old mid c.has_no_room.ensures.stays c.self.invariant clean told.0 devices has))
@@ -93,7 +93,8 @@ returns-clause-learns g c =
 
 pub returns-clause-ready : goal.returns-clause-ready
 returns-clause-ready g c clean =
-    rw (← c.self.view_is) (ready_made (g.C.SqlStore.state c.self.inside.conn) (g.C.SqlStore.state c.has_no_room.new.conn)
-    (g.C.SqlStore.state c.write.new.conn) (learned c.args.device) c.write.result
+    rw (← c.self.view_is) (ready_made (g.C.SqlConnection.state c.self.inside.conn)
+    (g.C.SqlConnection.state c.has_no_room.new.conn)
+    (g.C.SqlConnection.state c.write.new.conn) (learned c.args.device) c.write.result
     c.has_no_room.ensures.stays c.self.invariant c.write.ensures (c.in_ok-write.ensures.made clean) clean
     (c.in_ok-has_no_room.ensures.full (c.write.ensures.clean clean)).0)

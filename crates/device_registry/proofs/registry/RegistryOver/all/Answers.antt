@@ -4,7 +4,8 @@ use Rattle.device_registry.proofs.registry.RegistryOver.all.Goals as goal
 pub invariant_of-self : goal.invariant_of-self
 invariant_of-self g c = (
   c.all.ensures.lists.registries,
-  listed_recalled (g.C.SqlStore.state c.self.inside.table) (g.C.SqlStore.state c.all.new.self) c.self.inside.cache.entries
+  listed_recalled (g.C.SqlConnection.state c.self.inside.table) (g.C.SqlConnection.state c.all.new.self)
+      c.self.inside.cache.entries
       c.all.ensures.lists.clean c.in-Ok.ensures.ready
       (λ clean devices has. (c.in-Ok.ensures.lists.devices clean devices has).1) c.self.invariant.1,
 )

@@ -6,13 +6,13 @@ use Rattle.device_registry.proofs.registry.RegistryOver.find.Goals as goal
 pub invariant_of-self : goal.invariant_of-self
 invariant_of-self g c = (
   c.self.invariant.0,
-  fewer_recalled (g.C.SqlStore.state c.self.inside.table) c.self.inside.cache.entries
+  fewer_recalled (g.C.SqlConnection.state c.self.inside.table) c.self.inside.cache.entries
       c.cached.new.cache.entries c.self.invariant.1 c.cached.ensures.kept,
 )
 
 pub returns-in-Some : goal.returns-in-Some
 returns-in-Some g c =
-    let now = g.C.SqlStore.state c.self.inside.table in
+    let now = g.C.SqlConnection.state c.self.inside.table in
     rw (← c.self.view_is) (record {
       clean = λ clean. clean;
       registries = c.self.invariant.0;
@@ -28,9 +28,9 @@ returns-in-Some g c =
 
 pub invariant_of-self-in-Ok : goal.invariant_of-self-in-Ok
 invariant_of-self-in-Ok g c =
-    let old = g.C.SqlStore.state c.self.inside.table in (
+    let old = g.C.SqlConnection.state c.self.inside.table in (
       c.find.ensures.looks_up.registries,
-      found_recalled old (g.C.SqlStore.state c.find.new.self) c.args.id c.in-Ok.known c.cached.new.cache.entries
+      found_recalled old (g.C.SqlConnection.state c.find.new.self) c.args.id c.in-Ok.known c.cached.new.cache.entries
           c.remember.new.cache.entries c.find.ensures.looks_up.clean c.in-Ok.ensures.ready
           c.in-Ok.ensures.looks_up.devices
           (fewer_recalled old c.self.inside.cache.entries c.cached.new.cache.entries c.self.invariant.1

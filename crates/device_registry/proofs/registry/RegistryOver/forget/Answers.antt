@@ -6,7 +6,8 @@ use Rattle.device_registry.proofs.registry.RegistryOver.forget.Goals as goal
 pub invariant_of-self : goal.invariant_of-self
 invariant_of-self g c = (
   c.forget.ensures.forgets.registries,
-  changed_recalled (g.C.SqlStore.state c.self.inside.table) (g.C.SqlStore.state c.forget.new.self) (forgotten c.args.id) None
+  changed_recalled (g.C.SqlConnection.state c.self.inside.table) (g.C.SqlConnection.state c.forget.new.self)
+      (forgotten c.args.id) None
       c.self.inside.cache.entries c.forget_entry.new.cache.entries c.remember.new.cache.entries
       c.forget.ensures.forgets.clean c.in-Ok.ensures.ready c.in-Ok.ensures.forgets.devices refl c.self.invariant.1
       c.forget_entry.ensures.kept c.remember.ensures.kept,

@@ -8,7 +8,8 @@ use Rattle.device_registry.proofs.registry.RegistryOver.learn.Goals as goal
 pub invariant_of-self : goal.invariant_of-self
 invariant_of-self g c = (
   c.learn.ensures.learns.registries,
-  changed_recalled (g.C.SqlStore.state c.self.inside.table) (g.C.SqlStore.state c.learn.new.self) (learned c.args.device)
+  changed_recalled (g.C.SqlConnection.state c.self.inside.table) (g.C.SqlConnection.state c.learn.new.self)
+      (learned c.args.device)
       (Some c.args.device) c.self.inside.cache.entries c.forget_entry.new.cache.entries c.remember.new.cache.entries
       c.learn.ensures.learns.clean c.in-Ok.ensures.ready
       (λ clean devices has. (c.in-Ok.ensures.learns.devices clean devices has).1) refl c.self.invariant.1
@@ -22,8 +23,8 @@ returns-in-Ok g c = rw (← c.self.view_is) c.in-Ok.ensures.learns
 
 pub invariant_of-self-in-Err-Full : goal.invariant_of-self-in-Err-Full
 invariant_of-self-in-Err-Full g c =
-    let old = g.C.SqlStore.state c.self.inside.table in
-    let new = g.C.SqlStore.state c.learn.new.self in
+    let old = g.C.SqlConnection.state c.self.inside.table in
+    let new = g.C.SqlConnection.state c.learn.new.self in
     let full : c.learn.result ≡ Err Full = c.in-Err-Full.is ∙ ap Err c.in-Err-Full.field-0-is in
     let told : Learns old new c.args.device (Err Full) =
     subst (Learns old new c.args.device) full c.learn.ensures.learns in (
@@ -36,7 +37,7 @@ invariant_of-self-in-Err-Full g c =
 pub returns-in-Err-Full : goal.returns-in-Err-Full
 returns-in-Err-Full g c =
     rw (← c.self.view_is) (subst
-    (Learns (g.C.SqlStore.state c.self.inside.table) (g.C.SqlStore.state c.learn.new.self) c.args.device)
+    (Learns (g.C.SqlConnection.state c.self.inside.table) (g.C.SqlConnection.state c.learn.new.self) c.args.device)
     (c.in-Err-Full.is ∙ ap Err c.in-Err-Full.field-0-is) c.learn.ensures.learns)
 
 pub returns-in-Err : goal.returns-in-Err

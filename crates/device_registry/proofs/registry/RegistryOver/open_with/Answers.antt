@@ -9,7 +9,7 @@ use Rattle.device_registry.proofs.registry.RegistryOver.open_with.Goals as goal
 pub returns-in_err-cache-clause-refused : goal.returns-in_err-cache-clause-refused
 returns-in_err-cache-clause-refused g c =
     let why = err_from_is_err_and c.from_residual.result c.from_residual.ensures.1 in
-    let old = g.C.SqlStore.state c.args.conn in
+    let old = g.C.SqlConnection.state c.args.conn in
     rw why.1 (λ is. (c.args.conn, subst (RefusesToOpen old old) (sym why.2) (not_asked old _)))
 
 pub returns-in_err-prepare-clause-refused : goal.returns-in_err-prepare-clause-refused
@@ -18,14 +18,14 @@ returns-in_err-prepare-clause-refused g c =
     let last = c.prepare.new.conn in
     rw why.1 (λ is. (
       last,
-      subst (RefusesToOpen (g.C.SqlStore.state c.args.conn) (g.C.SqlStore.state last))
+      subst (RefusesToOpen (g.C.SqlConnection.state c.args.conn) (g.C.SqlConnection.state last))
           (sym why.2) c.in_err-prepare.ensures.refused,
     ))
 
 pub invariant_of-result-2 : goal.invariant_of-result-2
 invariant_of-result-2 g c = (
   c.in_ok-prepare.ensures.registries,
-  none_recalled (g.C.SqlStore.state c.prepare.new.conn) c.in_ok-cache.cache.entries c.in_ok-cache.ensures,
+  none_recalled (g.C.SqlConnection.state c.prepare.new.conn) c.in_ok-cache.cache.entries c.in_ok-cache.ensures,
 )
 
 pub new_cache-requires : goal.new_cache-requires

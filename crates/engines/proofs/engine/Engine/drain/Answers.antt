@@ -18,7 +18,8 @@ loop-reply-init g c =
       gateway = refl;
       loans = refl;
       drains =
-          drains_nothing g.S.DeviceStore.stored o.puts o.breaks g.met.O.Outlet.lawful old.gateway.now old.outlet old.items
+          drains_nothing g.S.DeviceStore.stored o.puts o.breaks g.met.O.Outlet.lawful old.gateway.now old.outlet
+          old.items
           (search rules);
     }
 
@@ -30,7 +31,8 @@ returns-in_err-answer-clause-broken g c =
     let new = c.answer.new.self in
     let exit = err_from_is_err_and c.from_residual.result c.from_residual.ensures.1 in
     rw exit.1
-    (drains_part g.S.DeviceStore.stored o.puts o.breaks g.met.O.Outlet.lawful old.gateway.now now.gateway.now new.gateway.now
+    (drains_part g.S.DeviceStore.stored o.puts o.breaks g.met.O.Outlet.lawful old.gateway.now now.gateway.now
+    new.gateway.now
     (answer_of c.in-Some.reply) old.outlet now.outlet new.outlet old.items now.items c.loop-reply.invariant.drains
     (rw c.answer.ensures.kept c.in-Some.ensures) c.in_err-answer.ensures.put)
 
@@ -39,7 +41,8 @@ abbrev Kept : (g : Over) → Engine g.row.O.Denot g.row.S.Denot → Engine g.row
 Kept g old now = record {
   gateway : now.gateway.ghost_name ≡ old.gateway.ghost_name;
   loans : g.O.Outlet.loans now.outlet ≡ g.O.Outlet.loans old.outlet;
-  drains : Drains g.S.DeviceStore.stored old.gateway.now now.gateway.now (g.O.Outlet.puts old.outlet now.outlet) old.items now.items;
+  drains : Drains g.S.DeviceStore.stored old.gateway.now now.gateway.now (g.O.Outlet.puts old.outlet now.outlet)
+      old.items now.items;
 }
 
 -- what is known once a reply went out
@@ -63,7 +66,8 @@ one_more_out g old now new next reply before moved out =
       gateway = out.gateway ∙ before.gateway;
       loans = out.loans ∙ before.loans;
       drains =
-          drains_one g.S.DeviceStore.stored o.puts o.breaks g.met.O.Outlet.lawful old.gateway.now now.gateway.now new.gateway.now
+          drains_one g.S.DeviceStore.stored o.puts o.breaks g.met.O.Outlet.lawful old.gateway.now now.gateway.now
+          new.gateway.now
           (answer_of reply) old.outlet now.outlet new.outlet old.items now.items new.items before.drains
           (rw out.kept moved) out.put out.counted;
     }

@@ -12,8 +12,10 @@ returns-clause-taken g c =
     let line = c.args.line.now in
     let answer = answer_of c.order-reply.result in
     MatchResult-weaker c.answer.result c.answer.ensures.put
-    (λ _ out. takes_order g.S.DeviceStore.stored o.puts o.breaks lawful old.gateway.now new.gateway.now line answer old.outlet
+    (λ _ out. takes_order g.S.DeviceStore.stored o.puts o.breaks lawful old.gateway.now new.gateway.now line answer
+    old.outlet
     new.outlet old.items new.items c.requires (rw c.answer.ensures.kept c.order-reply.ensures) out
     c.answer.ensures.counted)
-    (λ _ out. breaks_at_order g.S.DeviceStore.stored o.puts o.breaks lawful old.gateway.now new.gateway.now line answer old.outlet
+    (λ _ out. breaks_at_order g.S.DeviceStore.stored o.puts o.breaks lawful old.gateway.now new.gateway.now line answer
+    old.outlet
     new.outlet c.requires (rw c.answer.ensures.kept c.order-reply.ensures) out)

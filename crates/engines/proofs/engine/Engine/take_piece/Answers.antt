@@ -14,7 +14,8 @@ loop-byte-init g c =
       gateway = refl;
       loans = refl;
       takes =
-          takes_nothing g.S.DeviceStore.stored o.puts o.breaks g.met.O.Outlet.lawful old.gateway.now old.outlet old.items c.requires
+          takes_nothing g.S.DeviceStore.stored o.puts o.breaks g.met.O.Outlet.lawful old.gateway.now old.outlet
+          old.items c.requires
           (search rules);
     }
 
@@ -29,7 +30,8 @@ returns-in_err-drain-clause-taken g c =
     let below : i < length piece = omega arith in
     let exit = err_from_is_err_and c.from_residual.result c.from_residual.ensures.1 in
     rw exit.1
-    (takes_part g.S.DeviceStore.stored o.puts o.breaks g.met.O.Outlet.lawful old.gateway.now now.gateway.now c.byte.new.self
+    (takes_part g.S.DeviceStore.stored o.puts o.breaks g.met.O.Outlet.lawful old.gateway.now now.gateway.now
+    c.byte.new.self
     new.gateway.now (take i piece) (get_or piece i 0) (drop (i + 1) piece) piece old.outlet now.outlet new.outlet
     old.items now.items c.loop-byte.invariant.takes c.byte.ensures c.in_err-drain.ensures.broken
     (split_at piece i below))
@@ -51,7 +53,8 @@ loop-byte-preserved g c =
             gateway = search rules;
             loans = w.in_ok-drain.ensures.loans ∙ before.loans;
             takes = rw (take_more piece i 0 below)
-                (takes_more g.S.DeviceStore.stored o.puts o.breaks lawful old.gateway.now now.gateway.now c.byte.new.self
+                (takes_more g.S.DeviceStore.stored o.puts o.breaks lawful old.gateway.now now.gateway.now
+                c.byte.new.self
                 new.gateway.now (take i piece) (get_or piece i 0) old.outlet now.outlet new.outlet old.items now.items
                 new.items before.takes c.byte.ensures w.in_ok-drain.ensures.ready w.in_ok-drain.ensures.drained);
           })
@@ -61,7 +64,8 @@ loop-byte-preserved g c =
             gateway = search rules;
             loans = before.loans;
             takes = rw (take_more piece i 0 below)
-                (takes_more g.S.DeviceStore.stored o.puts o.breaks lawful old.gateway.now now.gateway.now c.byte.new.self
+                (takes_more g.S.DeviceStore.stored o.puts o.breaks lawful old.gateway.now now.gateway.now
+                c.byte.new.self
                 c.byte.new.self (take i piece) (get_or piece i 0) old.outlet now.outlet now.outlet old.items now.items
                 now.items before.takes c.byte.ensures (rw w.if-is_ready.false at c.is_ready.ensures.ready)
                 (drains_nothing g.S.DeviceStore.stored o.puts o.breaks lawful c.byte.new.self now.outlet now.items

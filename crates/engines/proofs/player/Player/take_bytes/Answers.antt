@@ -20,7 +20,8 @@ loop-end-init g c =
       taken = (
         [],
         refl,
-        λ tail keeps. bytes_none g.S.DeviceStore.stored o.puts o.breaks g.met.O.Outlet.lawful c.args.lines old.gateway.now tail
+        λ tail keeps. bytes_none g.S.DeviceStore.stored o.puts o.breaks g.met.O.Outlet.lawful c.args.lines
+            old.gateway.now tail
             c.args.self.now.unended old.outlet old.items c.requires (search rules) keeps,
       );
     }
@@ -44,10 +45,12 @@ returns-in_err-take_ended-clause-taken g c =
     let p = taken.2 tail keeps in
     subst (λ s. StopsAtLine g.S.DeviceStore.stored c.args.lines old.gateway.now new.gateway.now tail s
     (o.breaks old.outlet new.outlet)) whole
-    (stops_behind g.S.DeviceStore.stored o.puts o.breaks g.met.O.Outlet.lawful c.args.lines old.gateway.now mid.gateway.now
+    (stops_behind g.S.DeviceStore.stored o.puts o.breaks g.met.O.Outlet.lawful c.args.lines old.gateway.now
+    mid.gateway.now
     new.gateway.now tail done (take end rest ++ 10 ∷ behind) c.loop-end.self.unended old.outlet mid.outlet new.outlet
     old.items mid.items p
-    (line_stops g.S.DeviceStore.stored o.puts o.breaks g.met.O.Outlet.lawful c.args.lines mid.gateway.now new.gateway.now p.rest
+    (line_stops g.S.DeviceStore.stored o.puts o.breaks g.met.O.Outlet.lawful c.args.lines mid.gateway.now
+    new.gateway.now p.rest
     (take end rest) behind mid.outlet new.outlet p.keeps.one
     (one_line_before rest end (omega arith) found.0.before)
     (c.in_err-take_ended.ensures.taken p.rest p.keeps))))
@@ -84,7 +87,8 @@ loop-end-preserved g c =
             (bytes_behind g.S.DeviceStore.stored o.puts o.breaks lawful c.args.lines old.gateway.now mid.gateway.now
             new.gateway.now tail done line c.loop-end.self.unended [] old.outlet mid.outlet new.outlet old.items
             mid.items new.items p
-            (line_taken g.S.DeviceStore.stored o.puts o.breaks lawful c.args.lines mid.gateway.now new.gateway.now p.rest
+            (line_taken g.S.DeviceStore.stored o.puts o.breaks lawful c.args.lines mid.gateway.now new.gateway.now
+            p.rest
             (take end rest) mid.outlet new.outlet mid.items new.items p.keeps.one
             (one_line_before rest end (omega arith) found.0.before)
             (c.in_ok-take_ended.ensures.taken p.rest p.keeps))),

@@ -10,7 +10,8 @@ invariant-loop-end g l = record {
   loans : g.O.Outlet.loans l.self.engine.outlet ≡ g.O.Outlet.loans l.fn.self.engine.outlet;
   idle : IsIdle l.self.engine.gateway.now;
   taken : (done : List ℕ) × (l.bytes ≡ done ++ l.rest) × ((tail : List ℕ) → Keeps tail l.fn.self.unended →
-      TakesBytes g.S.DeviceStore.stored l.lines l.fn.self.engine.gateway.now l.self.engine.gateway.now tail done l.self.unended
+      TakesBytes g.S.DeviceStore.stored l.lines l.fn.self.engine.gateway.now l.self.engine.gateway.now tail done
+      l.self.unended
       (g.O.Outlet.puts l.fn.self.engine.outlet l.self.engine.outlet) l.fn.self.engine.items l.self.engine.items);
 }
 

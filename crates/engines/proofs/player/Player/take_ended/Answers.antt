@@ -30,7 +30,8 @@ returns-in_err-take_line-clause-taken g c =
     let bytes = c.args.bytes.now in
     let exit = err_from_is_err_and c.from_residual.result c.from_residual.ensures.1 in
     rw exit.1 (λ tail keeps.
-    kept_line_alike g.S.DeviceStore.stored {A = Unit {0}} {E = Unit {0}} (Err tt) c.args.lines old.gateway.now new.gateway.now
+    kept_line_alike g.S.DeviceStore.stored {A = Unit {0}} {E = Unit {0}} (Err tt) c.args.lines old.gateway.now
+    new.gateway.now
     (take longest_kept (kept ++ bytes)) (tail ++ bytes) (o.puts old.outlet new.outlet)
     (o.breaks old.outlet new.outlet) old.items old.items (kept_more tail kept bytes keeps.is)
     (rw (c.strip-2.ensures, c.as_slice-2.ensures, c.extend.ensures) at c.in_err-take_line.ensures.taken))
@@ -42,7 +43,8 @@ returns-clause-taken g c = λ tail keeps.
     let new = c.take_line-2.new.self in
     let kept = c.args.self.now.unended in
     let bytes = c.args.bytes.now in
-    kept_line_alike g.S.DeviceStore.stored {A = Unit {0}} {E = Unit {0}} (Ok tt) c.args.lines old.gateway.now new.gateway.now
+    kept_line_alike g.S.DeviceStore.stored {A = Unit {0}} {E = Unit {0}} (Ok tt) c.args.lines old.gateway.now
+    new.gateway.now
     (take longest_kept (kept ++ bytes)) (tail ++ bytes) (o.puts old.outlet new.outlet)
     (o.breaks old.outlet new.outlet) old.items new.items (kept_more tail kept bytes keeps.is)
     (rw (c.strip-2.ensures, c.as_slice-2.ensures, c.extend.ensures) at c.in_ok-take_line.ensures.taken)

@@ -11,7 +11,11 @@ use Rattle.gateway_core.proofs.handler.Handler.enter.Goals as goal
 pub returns-in_err-draft : goal.returns-in_err-draft
 returns-in_err-draft g c =
     let error = err_from_is_err_and c.from_residual.result c.from_residual.ensures.1 in
-    rw (error.1, error.2) (record { told = tt; alone = alone-unasked g.S.DeviceStore.stored _ _ (λ devices keeps. keeps) })
+    rw (error.1, error.2) (record {
+      told = tt;
+      alone = alone-unasked g.S.DeviceStore.stored _ _
+          (λ devices keeps. keeps);
+    })
 
 pub returns-in-Err-Full : goal.returns-in-Err-Full
 returns-in-Err-Full g c =
@@ -47,5 +51,6 @@ returns g c =
             c.committed-verdict.ensures.outcome,
         c.tell-line.ensures ∙ c.in_ok-draft.ensures.line,
       );
-      alone = alone g.S.DeviceStore.stored _ _ _ _ _ _ c.learn.ensures.clean c.learn.ensures.registries c.in-Ok.ensures.devices;
+      alone = alone g.S.DeviceStore.stored _ _ _ _ _ _ c.learn.ensures.clean c.learn.ensures.registries
+          c.in-Ok.ensures.devices;
     })

@@ -8,7 +8,11 @@ use Rattle.gateway_core.proofs.handler.Handler.erase.Goals as goal
 pub returns-in_err-draft : goal.returns-in_err-draft
 returns-in_err-draft g c =
     let error = err_from_is_err_and c.from_residual.result c.from_residual.ensures.1 in
-    rw (error.1, error.2) (record { told = tt; alone = alone-unasked g.S.DeviceStore.stored _ _ (λ devices keeps. keeps) })
+    rw (error.1, error.2) (record {
+      told = tt;
+      alone = alone-unasked g.S.DeviceStore.stored _ _
+          (λ devices keeps. keeps);
+    })
 
 pub returns-in-Err : goal.returns-in-Err
 returns-in-Err g c =

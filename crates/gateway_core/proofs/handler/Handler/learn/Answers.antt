@@ -21,7 +21,8 @@ returns-in-Some g c =
     let entered =
     subst (λ o. Enters g.S.DeviceStore.stored c.args.self.now c.args.device (Ok o) c.enter.new.self) c.in-Some.is
     c.in_ok-committed.ensures in
-    tries-entered g.S.DeviceStore.stored _ _ c.args.device (λ state. tells (Error name.Full ∷ [])) (λ state. learns c.args.device)
+    tries-entered g.S.DeviceStore.stored _ _ c.args.device (λ state. tells (Error name.Full ∷ []))
+    (λ state. learns c.args.device)
     (λ devices. by-desk c.args.device)
     c.in-Some.committed _ entered
     (λ devices. (
@@ -35,6 +36,7 @@ returns-in-None g c =
     let none =
     subst (λ o. Enters g.S.DeviceStore.stored c.args.self.now c.args.device (Ok o) c.enter.new.self) c.in-None.is
     c.in_ok-committed.ensures in
-    tries-full g.S.DeviceStore.stored _ _ c.args.device (λ state. tells (Error name.Full ∷ [])) (λ state. learns c.args.device)
+    tries-full g.S.DeviceStore.stored _ _ c.args.device (λ state. tells (Error name.Full ∷ []))
+    (λ state. learns c.args.device)
     (λ devices. by-desk c.args.device) _ none
     (λ devices. c.denied.ensures)

@@ -36,7 +36,8 @@ returns-in_default g c =
     let none =
     subst (λ o. Enters g.S.DeviceStore.stored c.args.self.now c.args.device (Ok o) c.enter.new.self) c.in_default.is
     c.in_ok-verdict.ensures in
-    tries-full g.S.DeviceStore.stored _ _ c.args.device (λ state. tells_sender state c.args.teach.now (told_of c.args.device Full))
+    tries-full g.S.DeviceStore.stored _ _ c.args.device
+    (λ state. tells_sender state c.args.teach.now (told_of c.args.device Full))
     (λ state. accepts state c.args.teach.now c.args.device)
     (λ devices. by-radio (state_of c.args.self.now devices) c.args.teach.now c.args.device) _ none
     c.in_ok-full.ensures

@@ -23,4 +23,5 @@ pub returns-in-Err : goal.returns-in-Err
 returns-in-Err g c =
     tries-order g.S.DeviceStore.stored _ _ c.args.line.now _ (Err c.in-Err.fault) c.if-line-gt-LONGEST_LINE.false
     (sym c.parse.ensures ∙ c.in-Err.is)
-    (tries-alone g.S.DeviceStore.stored _ _ _ (λ devices keeps. rw (← c.error_of.ensures) (c.denied-in-Err.ensures, keeps)))
+    (tries-alone g.S.DeviceStore.stored _ _ _
+    (λ devices keeps. rw (← c.error_of.ensures) (c.denied-in-Err.ensures, keeps)))

@@ -17,8 +17,8 @@ use sqlite::{Alter, Connection, Error, Row, Statement};
 use sqlite_schema::schema::Schema;
 
 /// What the registry asks of a connection: calls of `sqlite::Connection` and of its statements, in the words of their
-/// contracts, and one of the registry's own, `make`.
-pub trait SqlStore {
+/// contracts, and one of the registry's own, `make_tables`.
+pub trait SqlConnection {
     /// What it holds, what is committed, and what a stop may leave.
     ghost state: { Self → State };
 
@@ -59,7 +59,7 @@ pub trait SqlStore {
             (CommitsShowing sql.now (bound params.now) (state self.old)) };
 
     /// The rows that a compiled query shows.
-    fn query_prepared(
+    fn query_all_prepared(
         &mut self,
         statement: &Statement,
         params: &[ValueRef<'_>],
@@ -72,7 +72,7 @@ pub trait SqlStore {
             (CommitsShowing statement.now.text (bound params.now) (state self.old)) };
 
     /// Makes the two tables, in a database where nothing has their names, in one transaction.
-    fn make(&mut self) -> Result<(), Error>
+    fn make_tables(&mut self) -> Result<(), Error>
         requires idle { (state self.old).in_transaction ≡ false }
         requires clear { HasCleanDisk (state self.old) → IsTrue (is_clear (state self.old).now.schema) ×
             IsDatabase (state self.old).now }
@@ -85,7 +85,7 @@ pub trait SqlStore {
         → trees ≡ (state s).committed.trees };
 }
 
-impl<S: Alter> SqlStore for Connection<S> {
+impl<S: Alter> SqlConnection for Connection<S> {
     ghost use Rattle.sqlite.specs.Held.{state};
 
     ghost state = { state S.Store };
@@ -110,7 +110,7 @@ impl<S: Alter> SqlStore for Connection<S> {
         Connection::query_all(self, sql, params)
     }
 
-    fn query_prepared(
+    fn query_all_prepared(
         &mut self,
         statement: &Statement,
         params: &[ValueRef<'_>],
@@ -118,7 +118,7 @@ impl<S: Alter> SqlStore for Connection<S> {
         statement.query_all(self, params)
     }
 
-    fn make(&mut self) -> Result<(), Error> {
+    fn make_tables(&mut self) -> Result<(), Error> {
         making::make(self)
     }
 
