@@ -18,7 +18,7 @@ use Rattle.engines.specs.declared.lines.Lines.{Lines}
 use Rattle.engines.specs.declared.lines.Lines.TheVariants.{OfScript}
 use Rattle.engines.specs.Outlets.{IsOutlet}
 use Rattle.engines.specs.Script.{event_of, script}
-use Rattle.engines.specs.Played.{IsIdle, Breaks, PlaysClosed, PlaysPart}
+use Rattle.engines.specs.Played.{IsIdle, Breaks, PlaysClosed, PlaysPart, PlaysPartAtLine}
 use Rattle.engines.specs.Taking.{Takes, TakesOrBreaks, TakesOrStops}
 use Rattle.engines.specs.Bytes.{longest_kept, Keeps, TakesBytes, StopsAtLine, IsOneLine, event_by, events_by}
 use Rattle.engines.specs.Bytes.{with_end}
@@ -194,15 +194,19 @@ module _ {S : Type 0} (stored : S → Stored) where
 
   -- and a stop at one of its lines
   pub part_at_line : (entry new : Value S) (input : List ℕ) (breaks : List Answer → Answer → Type 0)
-      → StopsAtLine stored OfScript entry new [] input breaks → PlaysPart stored entry new (script input) breaks
-  part_at_line entry new input breaks s = record {
-    events = events_by OfScript s.ended;
-    event = event_by OfScript (strip_carriage_return s.line);
-    later = script s.more;
-    whole = ap script s.whole ∙ script-ended s.ended (s.line ++ 10 ∷ s.more) s.each
-        ∙ ap (λ (es : List Event). events_by OfScript s.ended ++ es) (script-first s.line s.more s.one);
-    broken = s.broken;
-  }
+      → StopsAtLine stored OfScript entry new [] input breaks → PlaysPartAtLine stored entry new input breaks
+  part_at_line entry new input breaks s =
+      let ended = flat_map with_end s.ended in
+      record {
+        part = ended ++ s.line;
+        more = s.more;
+        whole = s.whole ∙ sym (append_assoc ended s.line (10 ∷ s.more));
+        events = events_by OfScript s.ended;
+        event = event_by OfScript (strip_carriage_return s.line);
+        is = ap script (append_assoc ended s.line (10 ∷ [])) ∙ script-ended s.ended (s.line ++ 10 ∷ []) s.each
+            ∙ ap (λ (es : List Event). events_by OfScript s.ended ++ es) (script-first s.line [] s.one);
+        broken = s.broken;
+      }
 
 module _ {S : Type 0} (stored : S → Stored) {O : Type 0} (puts : O → O → List Answer → Type 0)
     (breaks : O → O → List Answer → Answer → Type 0) (outlet : IsOutlet puts breaks) where

@@ -9,8 +9,8 @@ use Rattle.engines.specs.Script.{script}
 use Rattle.byte_streams.specs.Counts.{Counts, OneFailed, OneEmpty}
 use Rattle.engines.specs.Written.{WritesAll, WritesPart}
 use Rattle.engines.specs.TextOutlet.{PutsText, BreaksText}
-use Rattle.engines.specs.Played.{Plays, PlaysClosed, PlaysPart}
-use Rattle.engines.specs.Replayed.{Replays, ReplaysClosed, ReplaysPart}
+use Rattle.engines.specs.Played.{Plays, PlaysClosed, PlaysPart, PlaysPartAtLine, Breaks}
+use Rattle.engines.specs.Replayed.{Replays, ReplaysClosed, ReplaysPart, ReplaysPartAtLine}
 
 pub wrong_at : {W : Type 0} (counts : W → Counts) (old sink writer : W) → writer ≡ sink
     → OneFailed (counts old) (counts sink) ⊎ OneEmpty (counts old) (counts sink)
@@ -37,33 +37,49 @@ module _ {S : Type 0} (stored : S → Stored) where
   closed-weaker old new input P Q so p =
       record { closed = p.closed; is = p.is; played = plays-weaker old new _ P Q so p.played }
 
-  pub part-weaker : (old new : Value S) (all : List Event) (P Q : List Answer → Answer → Type 0)
+  breaks-weaker : (old new : Value S) (events : List Event) (event : Event) (P Q : List Answer → Answer → Type 0)
+      → ((answers : List Answer) (last : Answer) → P answers last → Q answers last)
+      → Breaks stored old new events event P → Breaks stored old new events event Q
+  breaks-weaker old new events event P Q so broken = record {
+    begun = broken.begun;
+    begins = broken.begins;
+    items = broken.items;
+    own = broken.own;
+    behind = broken.behind;
+    some = broken.some;
+    stand = broken.stand;
+    rest = broken.rest;
+    answered = record {
+      answers = broken.answered.answers;
+      last = broken.answered.last;
+      handled = broken.answered.handled;
+      out = so broken.answered.answers broken.answered.last broken.answered.out;
+    };
+  }
+
+  part-weaker : (old new : Value S) (all : List Event) (P Q : List Answer → Answer → Type 0)
       → ((answers : List Answer) (last : Answer) → P answers last → Q answers last)
       → PlaysPart stored old new all P → PlaysPart stored old new all Q
-  part-weaker old new all P Q so p =
-      let broken = p.broken in
-      record {
-        events = p.events;
-        event = p.event;
-        later = p.later;
-        whole = p.whole;
-        broken = record {
-          begun = broken.begun;
-          begins = broken.begins;
-          items = broken.items;
-          own = broken.own;
-          behind = broken.behind;
-          some = broken.some;
-          stand = broken.stand;
-          rest = broken.rest;
-          answered = record {
-            answers = broken.answered.answers;
-            last = broken.answered.last;
-            handled = broken.answered.handled;
-            out = so broken.answered.answers broken.answered.last broken.answered.out;
-          };
-        };
-      }
+  part-weaker old new all P Q so p = record {
+    events = p.events;
+    event = p.event;
+    later = p.later;
+    whole = p.whole;
+    broken = breaks-weaker old new p.events p.event P Q so p.broken;
+  }
+
+  line-part-weaker : (old new : Value S) (input : List ℕ) (P Q : List Answer → Answer → Type 0)
+      → ((answers : List Answer) (last : Answer) → P answers last → Q answers last)
+      → PlaysPartAtLine stored old new input P → PlaysPartAtLine stored old new input Q
+  line-part-weaker old new input P Q so p = record {
+    part = p.part;
+    more = p.more;
+    whole = p.whole;
+    events = p.events;
+    event = p.event;
+    is = p.is;
+    broken = breaks-weaker old new p.events p.event P Q so p.broken;
+  }
 
   module _ {W : Type 0} (held : W → Option (List ℕ)) (counts : W → Counts) where
     pub replays_at : (entry now gateway : Value S) (events : List Event) (old sink writer : W) → gateway ≡ now
@@ -85,5 +101,13 @@ module _ {S : Type 0} (stored : S → Stored) where
         → ReplaysPart stored entry gateway input (held old) (held writer)
     part_at entry now gateway input old sink writer e f p =
         rw (e, f) (part-weaker entry now (script input) (BreaksText held counts old sink)
+        (WritesPart (held old) (held sink))
+        (λ answers last out. out.text) p)
+
+    pub line_part_at : (entry now gateway : Value S) (input : List ℕ) (old sink writer : W) → gateway ≡ now
+        → writer ≡ sink → PlaysPartAtLine stored entry now input (BreaksText held counts old sink)
+        → ReplaysPartAtLine stored entry gateway input (held old) (held writer)
+    line_part_at entry now gateway input old sink writer e f p =
+        rw (e, f) (line-part-weaker entry now input (BreaksText held counts old sink)
         (WritesPart (held old) (held sink))
         (λ answers last out. out.text) p)

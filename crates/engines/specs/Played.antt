@@ -1,5 +1,5 @@
 -- What an engine handles and puts out, whatever its outlet is.
-use Rattle.std.specs.Prelude.{◌≡◌, ◌<◌, List, [], ◌∷◌, ◌++◌, length, map, ℕ}
+use Rattle.std.specs.Prelude.{◌≡◌, ◌<◌, List, [], ◌∷◌, ◌++◌, codes, length, map, ℕ}
 use Rattle.sqlite.specs.State.{State as Stored}
 use Rattle.esp3_frames.specs.Framing.{MayBecomePacket}
 use Rattle.esp3_frames.specs.Frames.{rest_of}
@@ -61,6 +61,17 @@ module _ {S : Type 0} (stored : S → Stored) where
     pub closed : List ℕ
     pub is : HasClosed input closed
     pub played : Plays old new (script closed) puts
+
+  -- an answer did not get out at the last event of a first part of the input, which LF ends
+  pub record PlaysPartAtLine (old new : Value S) (input : List ℕ) (breaks : List Answer → Answer → Type 0)
+      : Type 0 where
+    pub part : List ℕ
+    pub more : List ℕ
+    pub whole : input ≡ part ++ (codes "\n" ++ more)
+    pub events : List Event
+    pub event : Event
+    pub is : script (part ++ codes "\n") ≡ events ++ event ∷ []
+    pub broken : Breaks old new events event breaks
 
   -- an answer did not get out at some event of these
   pub record PlaysPart (old new : Value S) (all : List Event) (breaks : List Answer → Answer → Type 0) : Type 0 where

@@ -5,7 +5,7 @@ use Rattle.gateway_core.specs.Calls.{Value}
 use Rattle.gateway_core.specs.Events.{Event}
 use Rattle.engines.specs.Script.{script}
 use Rattle.engines.specs.Written.{WritesAll, WritesPart}
-use Rattle.engines.specs.Played.{Plays, Breaks, PlaysClosed, PlaysPart}
+use Rattle.engines.specs.Played.{Plays, Breaks, PlaysClosed, PlaysPart, PlaysPartAtLine}
 
 module _ {S : Type 0} (stored : S → Stored) where
   -- the events' items, and nothing else, were handled, and the text of their answers was written
@@ -20,6 +20,10 @@ module _ {S : Type 0} (stored : S → Stored) where
   -- the lines of the input that LF ends were replayed
   abbrev pub ReplaysClosed : Value S → Value S → List ℕ → Option (List ℕ) → Option (List ℕ) → Type 0
   ReplaysClosed old new input held now = PlaysClosed stored old new input (WritesAll held now)
+
+  -- a write failed at a line of the input that LF ends
+  abbrev pub ReplaysPartAtLine : Value S → Value S → List ℕ → Option (List ℕ) → Option (List ℕ) → Type 0
+  ReplaysPartAtLine old new input held now = PlaysPartAtLine stored old new input (WritesPart held now)
 
   -- a write failed at some event of the input
   abbrev pub ReplaysPart : Value S → Value S → List ℕ → Option (List ℕ) → Option (List ℕ) → Type 0

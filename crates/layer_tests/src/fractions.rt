@@ -28,6 +28,23 @@ fn the_bounds_are_within_and_what_is_past_them_is_not(rt: HostRuntime) {
 }
 
 #[test]
+fn the_widest_bounds(rt: HostRuntime) {
+    assert_eq!(rt;
+        scale(65_535, 65_535, 0, -1_000_000, 1_000_000).map(parts),
+        Some((-100_000, 1))
+    );
+    assert_eq!(rt;
+        scale(0, 65_535, 0, -1_000_000, 1_000_000).map(parts),
+        Some((100_000, 1))
+    );
+    assert_eq!(rt;
+        scale(1, 65_535, 0, -1_000_000, 1_000_000).map(parts),
+        Some((1_310_660_000, 13_107))
+    );
+    assert!(rt; scale(65_536, 0, 65_535, 0, 1).is_none());
+}
+
+#[test]
 fn quotients(rt: HostRuntime) {
     assert_eq!(rt; parts(over(16_777_215, 1000)), (3_355_443, 200));
     assert_eq!(rt; parts(over(0, 1000)), (0, 1));

@@ -16,6 +16,7 @@ mod fractions;
 mod frames;
 #[cfg(test)]
 mod lines;
+mod long_lines;
 #[cfg(test)]
 mod orders;
 #[cfg(test)]

@@ -1,5 +1,6 @@
 //! The tests of `gateway_core`, `engines` and `gateway_main`, as a program: it replays each worked row, and runs the
-//! gateway over readers, writers and caches that no row has. Each case is told by a line, as `NAME ok` or `NAME differs`.
+//! gateway over readers, writers and caches that no row has. Each case is told by a line, as `NAME ok` or
+//! `NAME differs`.
 #![tactic(auto)]
 
 mod caches;

@@ -13,7 +13,7 @@ use Rattle.engines.specs.TextOutlet.{PutsText, text_outlet}
 use Rattle.engines.proofs.BytesLemmas.{bytes_none, bytes_behind, closes, keeps_none, part_at_line, script_stops}
 use Rattle.engines.proofs.BytesLemmas.{script_taken, stops_behind}
 use Rattle.engines.proofs.ReadLemmas.{one_read_more, reads_fail, reads_more, reads_none}
-use Rattle.engines.proofs.ReplayedLemmas.{replays_at, closed_at, part_at, wrong_at}
+use Rattle.engines.proofs.ReplayedLemmas.{replays_at, closed_at, part_at, line_part_at, wrong_at}
 use Rattle.engines.proofs.replaying.replay.Goals as goal
 
 pub loop-turn-init : goal.loop-turn-init
@@ -117,13 +117,17 @@ returns-in_default-clause-broken g c =
       progress.0,
       rw append-nil at (Consumes-trans (left c.args.reader.now) (left c.loop-turn.reader) (left c.read.new.self)
           progress.0 [] progress.1 none),
-      part_at g.S.DeviceStore.stored g.W.Sink.held g.W.Sink.counts c.args.gateway.now new.gateway.now _ progress.0
-          c.args.writer.now
-          new.outlet.sink.now _ (search rules) (search rules)
-          (script_stops g.S.DeviceStore.stored _ _ (text_outlet g.W.Sink.held g.W.Sink.counts (λ writer. writer))
-          c.args.gateway.now old.gateway.now new.gateway.now progress.0 c.loop-turn.player.unended c.args.writer.now
-          old.outlet.sink.now new.outlet.sink.now old.items progress.2
-          (c.in_default.ensures.taken progress.2.rest progress.2.keeps)),
+      inr (
+        search rules,
+        c.in-Ok.ensures.bytes.1 c.if-length-eq0.true (omega arith),
+        part_at g.S.DeviceStore.stored g.W.Sink.held g.W.Sink.counts c.args.gateway.now new.gateway.now _ progress.0
+            c.args.writer.now
+            new.outlet.sink.now _ (search rules) (search rules)
+            (script_stops g.S.DeviceStore.stored _ _ (text_outlet g.W.Sink.held g.W.Sink.counts (λ writer. writer))
+            c.args.gateway.now old.gateway.now new.gateway.now progress.0 c.loop-turn.player.unended c.args.writer.now
+            old.outlet.sink.now new.outlet.sink.now old.items progress.2
+            (c.in_default.ensures.taken progress.2.rest progress.2.keeps)),
+      ),
     )
 
 pub returns-in_default-clause-write : goal.returns-in_default-clause-write
@@ -143,6 +147,7 @@ returns-in_default-clause-write g c =
 pub returns-in_default-take_bytes-clause-broken : goal.returns-in_default-take_bytes-clause-broken
 returns-in_default-take_bytes-clause-broken g c =
     let left = g.R.Source.left in
+    let reads = g.R.Source.counts in
     let old = c.loop-turn.player.engine in
     let new = c.take_bytes.new.self.engine in
     let progress = c.loop-turn.invariant.progress in
@@ -151,15 +156,19 @@ returns-in_default-take_bytes-clause-broken g c =
       progress.0 ++ chunk,
       Consumes-trans (left c.args.reader.now) (left c.loop-turn.reader) (left c.read.new.self) progress.0 chunk
           progress.1 c.in-Ok.ensures.bytes.0,
-      part_at g.S.DeviceStore.stored g.W.Sink.held g.W.Sink.counts c.args.gateway.now new.gateway.now _
-          (progress.0 ++ chunk)
-          c.args.writer.now new.outlet.sink.now _ (search rules) (search rules)
-          (part_at_line g.S.DeviceStore.stored c.args.gateway.now new.gateway.now (progress.0 ++ chunk) _
-          (stops_behind g.S.DeviceStore.stored _ _ (text_outlet g.W.Sink.held g.W.Sink.counts (λ writer. writer))
-          OfScript
-          c.args.gateway.now old.gateway.now new.gateway.now [] progress.0 chunk c.loop-turn.player.unended
-          c.args.writer.now old.outlet.sink.now new.outlet.sink.now 0 old.items progress.2
-          (c.in_default-take_bytes.ensures.taken progress.2.rest progress.2.keeps))),
+      inl (
+        went_well Failed (reads c.args.reader.now) (reads c.loop-turn.reader) (reads c.read.new.self) c.in-Ok.length
+            c.loop-turn.invariant.reads c.in-Ok.ensures.told c.if-length-eq0.false,
+        line_part_at g.S.DeviceStore.stored g.W.Sink.held g.W.Sink.counts c.args.gateway.now new.gateway.now _
+            (progress.0 ++ chunk)
+            c.args.writer.now new.outlet.sink.now _ (search rules) (search rules)
+            (part_at_line g.S.DeviceStore.stored c.args.gateway.now new.gateway.now (progress.0 ++ chunk) _
+            (stops_behind g.S.DeviceStore.stored _ _ (text_outlet g.W.Sink.held g.W.Sink.counts (λ writer. writer))
+            OfScript
+            c.args.gateway.now old.gateway.now new.gateway.now [] progress.0 chunk c.loop-turn.player.unended
+            c.args.writer.now old.outlet.sink.now new.outlet.sink.now 0 old.items progress.2
+            (c.in_default-take_bytes.ensures.taken progress.2.rest progress.2.keeps))),
+      ),
     )
 
 pub returns-in_default-take_bytes-clause-write : goal.returns-in_default-take_bytes-clause-write
