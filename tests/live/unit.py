@@ -1,13 +1,25 @@
 """The commands that systemd runs for a unit, as a script for sh: with ROOT before each folder, NAME for the instance,
-and its variables as the environment has them.
+and its variables as the environment has them. Those of ExecStopPost are run at its end, whatever ended it.
 
     tests/live/unit.py UNIT ROOT NAME
 """
 import re
+import shlex
 import sys
 
 unit, root, name = sys.argv[1:]
 words = {"%t": root + "/run", "%S": root + "/lib", "%L": root + "/log", "%i": name, "$$": "$"}
 text = open(unit).read().replace("\\\n", "")
-for command in re.findall(r"^ExecStart(?:Pre)?=(.*)$", text, re.MULTILINE):
-    print(re.sub(r"%.|\$\$", lambda found: words[found[0]], command), "|| exit")
+
+
+def commands(setting):
+    """The commands of a setting, in their order."""
+    for command in re.findall(rf"^{setting}=(.*)$", text, re.MULTILINE):
+        yield re.sub(r"%.|\$\$", lambda found: words[found[0]], command)
+
+
+print("trap", shlex.quote("\n".join(commands("ExecStopPost"))), "EXIT")
+# a signal to all its processes, as systemd sends it, ends those of the start first
+print("trap exit TERM")
+for command in commands("ExecStart(?:Pre)?"):
+    print(command, "|| exit")
