@@ -25,7 +25,7 @@ demo:
 	@if $(MAKE) --question $(PROGRAM); then \
 		$(PROGRAM) replay --base FF800000 <examples/contact.txt; \
 	else \
-		echo '(built unproved, in some two minutes: `make build` proves the program first)'; \
+		echo '(built unproved, in some 3 processor minutes: `make build` proves the program first)'; \
 		cd crates/enogate && rt try -- replay --base FF800000 <../../examples/contact.txt; \
 	fi
 

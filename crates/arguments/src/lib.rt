@@ -1,8 +1,10 @@
-//! The arguments of the program `enogate`: the words of its command line, read by `clap`.
+//! The arguments of the program `enogate`: the words of its command line, read by `clap`, and what a run opens for
+//! them.
 #![tactic(auto)]
 
 mod commands;
 mod given;
+mod plan;
 
 ghost use Rattle.std.specs.Prelude.{◌≡◌, ◌⊎◌, IfOk, IfErr, OnOk, Some, map, option_map, true};
 ghost use Rattle.std.specs.String.{string_bytes};
@@ -14,6 +16,7 @@ ghost use Rattle.arguments.specs.CommandLine.{enogate_app};
 use clap::Error;
 use commands::command;
 use given::{base_given, task_given, text_given};
+pub use plan::{Access, Opened, Plan, Service};
 use std::alloc::{AllocError, Global};
 
 /// What the command line asks for.

@@ -5,17 +5,12 @@ use Rattle.gateway_core.specs.Calls.{Value}
 use Rattle.gateway_core.specs.Events.{Event}
 use Rattle.engines.specs.Script.{script}
 use Rattle.engines.specs.Written.{WritesAll, WritesPart}
-use Rattle.engines.specs.Played.{Plays, Breaks, PlaysClosed, PlaysPart, PlaysPartAtLine}
+use Rattle.engines.specs.Played.{Plays, PlaysClosed, PlaysPart, PlaysPartAtLine}
 
 module _ {S : Type 0} (stored : S → Stored) where
   -- the events' items, and nothing else, were handled, and the text of their answers was written
   abbrev pub Replays : Value S → Value S → List Event → Option (List ℕ) → Option (List ℕ) → Type 0
   Replays old new events held now = Plays stored old new events (WritesAll held now)
-
-  -- behind these events one event was begun, and a write failed: the items so far were handled, of the last answer's
-  -- text only a first part was written, and the packets that the event's bytes brought behind them wait
-  abbrev pub BreaksOff : Value S → Value S → List Event → Event → Option (List ℕ) → Option (List ℕ) → Type 0
-  BreaksOff old new events event held now = Breaks stored old new events event (WritesPart held now)
 
   -- the lines of the input that LF ends were replayed
   abbrev pub ReplaysClosed : Value S → Value S → List ℕ → Option (List ℕ) → Option (List ℕ) → Type 0

@@ -1,5 +1,5 @@
 //! A gateway over a database.
-ghost use Rattle.std.specs.Prelude.{◌≡◌, true, IfErr, IfOk};
+ghost use Rattle.std.specs.Prelude.{◌≡◌, ◌≤◌, true, IfErr, IfOk};
 ghost use Rattle.sqlite.specs.State.{HasCleanDisk};
 ghost use Rattle.device_registry.specs.Ready.{IsBetweenTransactions};
 ghost use Rattle.erp1_telegrams.specs.Address;
@@ -12,11 +12,9 @@ use device_registry::{RegistryOver, SqlConnection};
 use gateway_core::{GatewayOver, StartFault};
 use std::alloc::{AllocError, Global};
 
-/// How many looked-up senders the registry remembers: room for every device that can be learned, and some others.
-const REMEMBERED: usize = 1024;
-
 /// A gateway for a radio module with this base ID, over the registry that the database holds. It is new: it has counted
-/// nothing, no packet waits, and no byte has come. A database that holds none of the registry's tables gets them.
+/// nothing, no packet waits, and no byte has come. A database that holds none of the registry's tables gets them. The
+/// registry remembers so many senders that were looked up, 1 to 1,024; no clause says so.
 ///
 /// It is refused as the registry is, or where there is no memory, and then the connection is dropped. Which of `Store`
 /// and `Memory` is told, tests show.
@@ -24,8 +22,10 @@ pub fn start<C: SqlConnection + Drop>(
     alloc: Global,
     conn: C,
     base: u32,
+    remembered: usize,
 ) -> Result<GatewayOver<RegistryOver<C>>, Fault>
     requires base { Address.is_base base ≡ true }
+    requires room { (1 ≤ remembered) × (remembered ≤ 1024) }
     requires idle { IsBetweenTransactions (C.state conn) }
     ensures new { IfOk result (λ gateway. gateway ≡ new_value base gateway.handler.registry) }
     ensures idle { IfOk result IsIdle }
@@ -33,7 +33,7 @@ pub fn start<C: SqlConnection + Drop>(
         Starts C.state conn base gateway.handler) }
     ensures refused { IfErr result (RefusesToStart C.state conn) }
 {
-    let registry = RegistryOver::open_with(alloc, conn, REMEMBERED)?;
+    let registry = RegistryOver::open_with(alloc, conn, remembered)?;
     Ok(gateway_over(alloc, registry, base)?)
 }
 

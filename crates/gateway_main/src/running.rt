@@ -1,10 +1,11 @@
 //! The program.
-ghost use Rattle.std.specs.Prelude.{◌≡◌, true};
+ghost use Rattle.std.specs.Prelude.{◌≡◌, ◌≤◌, true};
 ghost use Rattle.device_registry.specs.Ready.{IsBetweenTransactions};
 ghost use Rattle.erp1_telegrams.specs.Address;
 ghost use Rattle.engines.specs.Played.{IsIdle};
 
-use crate::command_line::{self, LiveOptions, Options, Task};
+use crate::command_line;
+use arguments::{Access, Opened, Plan, Service};
 use byte_streams::{OverRead, OverWrite};
 use device_registry::SqlConnection;
 use engines::ending::{Ending, Served, done, status, without_arguments};
@@ -15,9 +16,6 @@ use sqlite::Connection;
 use std::fs::{File, OpenOptions};
 use std::process::ExitCode;
 use std::{env, io};
-
-/// How many reads a replay makes at most.
-const TURNS: u64 = 4_000_000_000;
 
 /// Runs the program on the words that the process was started with.
 ///
@@ -35,41 +33,49 @@ pub fn program(rt: &HostRuntime) -> ExitCode {
 fn work(rt: &HostRuntime) -> Result<(), Ending> {
     let words = words_of(rt).map_err(|error| without_arguments(&error))?;
     let options = command_line::read(rt.alloc(), words.as_slice())?;
-    Ok(run(rt, options)?)
+    Ok(run(rt, options.plan())?)
 }
 
 fn words_of(rt: &HostRuntime) -> io::Result<Vec<String>> {
     Ok(env::args(rt)?.collect(rt.alloc())?)
 }
 
-fn run(rt: &HostRuntime, options: Options<'_>) -> Result<(), Fault>
-    requires { Address.is_base options.base ≡ true }
+/// Carries the plan out.
+fn run(rt: &HostRuntime, plan: Plan<'_>) -> Result<(), Fault>
+    requires base { Address.is_base plan.base ≡ true }
+    requires room { (1 ≤ plan.remembered) × (plan.remembered ≤ 1024) }
 {
-    match options.db {
+    match plan.db {
         None => {
-            let (_, served) = serve(rt, Connection::open_in_memory(rt.alloc())?, options)?;
+            let (_, served) = serve(rt, Connection::open_in_memory(rt.alloc())?, plan)?;
             done(served, Ok(()))
         }
         Some(path) => {
-            let (conn, served) = serve(rt, Connection::open(rt, path)?, options)?;
+            let (conn, served) = serve(rt, Connection::open(rt, path)?, plan)?;
             done(served, conn.close())
         }
     }
 }
 
-/// Does the task by a gateway over a database, and hands the connection back.
+/// Makes the plan's gateway over a database, lets it serve, and hands the connection back.
 fn serve<C: SqlConnection + Drop>(
     rt: &HostRuntime,
     conn: C,
-    options: Options<'_>,
+    plan: Plan<'_>,
 ) -> Result<(C, Served), Fault>
-    requires base { Address.is_base options.base ≡ true }
+    requires base { Address.is_base plan.base ≡ true }
+    requires room { (1 ≤ plan.remembered) × (plan.remembered ≤ 1024) }
     requires idle { IsBetweenTransactions (C.state conn) }
 {
-    let mut gateway = start(rt.alloc(), conn, options.base)?;
-    let served = match options.task {
-        Task::Replay => Ok(replay_standard(rt, &mut gateway)),
-        Task::Live(options) => live_on_paths(rt, options, &mut gateway),
+    let mut gateway = start(rt.alloc(), conn, plan.base, plan.remembered)?;
+    let served = match plan.service {
+        Service::Replay { reads } => Ok(replay_standard(rt, &mut gateway, reads)),
+        Service::Live {
+            serial,
+            desk,
+            out,
+            turns,
+        } => live_on_files(rt, serial, desk, out, &mut gateway, turns),
     };
     Ok((gateway.close(), served))
 }
@@ -78,37 +84,49 @@ fn serve<C: SqlConnection + Drop>(
 fn replay_standard<S: DeviceStore>(
     rt: &HostRuntime,
     gateway: &mut GatewayOver<S>,
+    reads: u64,
 ) -> Result<Summary, RunFault>
     requires { IsIdle gateway.old }
 {
     let mut reader = OverRead::new(rt.stdin());
     let mut writer = OverWrite::new(rt.stdout());
-    replay(&mut reader, &mut writer, gateway, TURNS)
+    replay(&mut reader, &mut writer, gateway, reads)
 }
 
 /// Opens the serial line, then the desk's file and then the file of the answers, and serves them.
-fn live_on_paths<S: DeviceStore>(
+fn live_on_files<S: DeviceStore>(
     rt: &HostRuntime,
-    options: LiveOptions<'_>,
+    serial: Opened<'_>,
+    desk: Opened<'_>,
+    out: Opened<'_>,
     gateway: &mut GatewayOver<S>,
+    turns: u64,
 ) -> Served
     requires { IsIdle gateway.old }
 {
-    let line = OpenOptions::new()
-        .read(true)
-        .write(true)
-        .open(rt, options.serial)
-        .map_err(|_| Fault::CannotOpen)?;
-    let desk = File::open(rt, options.desk).map_err(|_| Fault::CannotOpen)?;
-    let out = File::create(rt, options.out).map_err(|_| Fault::CannotOpen)?;
+    let serial = open(rt, serial)?;
+    let desk = open(rt, desk)?;
+    let out = open(rt, out)?;
     Ok(live(
-        &mut OverRead::new(&line),
+        &mut OverRead::new(&serial),
         &mut OverRead::new(&desk),
-        &mut OverWrite::new(&line),
+        &mut OverWrite::new(&serial),
         &mut OverWrite::new(&out),
         gateway,
-        u64::from(options.turns),
+        turns,
     ))
+}
+
+fn open(rt: &HostRuntime, file: Opened<'_>) -> Result<File, Fault> {
+    let opened = match file.access {
+        Access::Read => File::open(rt, file.path),
+        Access::ReadAndWrite => OpenOptions::new()
+            .read(true)
+            .write(true)
+            .open(rt, file.path),
+        Access::WriteAnew => File::create(rt, file.path),
+    };
+    opened.map_err(|_| Fault::CannotOpen)
 }
 
 /// Names a fault or a mistake on standard error, or answers on standard output what was asked for.

@@ -1,4 +1,4 @@
-//! The lines that are constants, so that none of them takes memory.
+//! The lines that never change: literals, so that none of them takes memory.
 
 ghost use Rattle.std.specs.Prelude.{◌≡◌};
 ghost use Rattle.json_lines.specs.Lines.{Done, Error, text};

@@ -1,5 +1,5 @@
 //! Command lines that are taken and that are refused, and what help and the version tell.
-use arguments::{LiveOptions, Options, Refused, Task, read};
+use arguments::{Access, LiveOptions, Opened, Options, Plan, Refused, Service, Task, read};
 use clap::error::ErrorKind;
 use std::test::Fail;
 
@@ -242,4 +242,52 @@ fn help_of_both(rt: HostRuntime) -> Result<(), Fail> {
 fn version_text(rt: HostRuntime) -> Result<(), Fail> {
     assert_eq!(rt; told(&rt, "enogate --version")?.as_str(), "enogate 0.1.0\n");
     Ok(())
+}
+
+#[test]
+fn the_plan_of_a_replay(rt: HostRuntime) {
+    let options = Options {
+        base: 0xFFA1_B280,
+        db: Some("x.db"),
+        task: Task::Replay,
+    };
+    let wanted = Plan {
+        db: Some("x.db"),
+        remembered: 1024,
+        base: 0xFFA1_B280,
+        service: Service::Replay {
+            reads: 4_000_000_000,
+        },
+    };
+    assert_eq!(rt; options.plan(), wanted);
+}
+
+fn opened(path: &str, access: Access) -> Opened<'_> {
+    Opened { path, access }
+}
+
+#[test]
+fn the_plan_of_a_live_gateway(rt: HostRuntime) {
+    let options = Options {
+        base: 0xFF80_0000,
+        db: None,
+        task: Task::Live(LiveOptions {
+            serial: "/dev/s",
+            desk: "in/d",
+            out: "o",
+            turns: 4_294_967_295,
+        }),
+    };
+    let wanted = Plan {
+        db: None,
+        remembered: 1024,
+        base: 0xFF80_0000,
+        service: Service::Live {
+            serial: opened("/dev/s", Access::ReadAndWrite),
+            desk: opened("in/d", Access::Read),
+            out: opened("o", Access::WriteAnew),
+            turns: 4_294_967_295,
+        },
+    };
+    assert_eq!(rt; options.plan(), wanted);
 }

@@ -16,9 +16,12 @@ mod fractions;
 mod frames;
 #[cfg(test)]
 mod lines;
+#[cfg(test)]
 mod long_lines;
 #[cfg(test)]
 mod orders;
+#[cfg(test)]
+mod over_std;
 #[cfg(test)]
 mod packets;
 #[cfg(test)]

@@ -1,4 +1,4 @@
-//! The longest lines that there can be, with ample memory.
+//! Long lines, with ample memory.
 use erp1_telegrams::{BROADCAST, Eep, Telegram};
 use exact_values::over;
 use json_lines::{device_lines, reading_line, response_line};

@@ -40,7 +40,8 @@ impl<'a> Read for Parts<'a> {
     }
 }
 
-/// A writer that takes so many bytes at a call, and fails from the call of one number on, the first being 1.
+/// A writer that takes so many bytes at a call, and fails at the call of one number alone, the first being 1: so who
+/// tries a failed write once more is found out.
 #[derive(Drop)]
 pub struct Sips<'a> {
     taken: &'a mut Vec<u8>,
@@ -63,7 +64,7 @@ impl<'a> Sips<'a> {
 impl<'a> Write for Sips<'a> {
     fn write(&mut self, text: &[u8]) -> io::Result<usize> {
         self.writes = self.writes.saturating_add(1);
-        if self.writes >= self.fails_at {
+        if self.writes == self.fails_at {
             return Err(failed());
         }
         self.taken.write(&text[..text.len().min(self.most)])

@@ -11,6 +11,9 @@ use std::alloc::Global;
 /// The base ID of the radio module in every case.
 pub const BASE: u32 = 0xFF80_0000;
 
+/// How many looked-up senders a registry remembers, as in the program.
+pub const REMEMBERED: usize = 1024;
+
 /// Replays a script by a new gateway.
 pub fn replay_new<R: Source, W: Sink>(
     alloc: Global,
@@ -19,7 +22,7 @@ pub fn replay_new<R: Source, W: Sink>(
     turns: u64,
 ) -> Result<Result<Summary, RunFault>, Fault> {
     let conn = Connection::open_in_memory(alloc)?;
-    let mut gateway = start(alloc, conn, BASE)?;
+    let mut gateway = start(alloc, conn, BASE, REMEMBERED)?;
     Ok(replay(reader, writer, &mut gateway, turns))
 }
 
@@ -31,7 +34,7 @@ pub fn serve_new<P: Source, Q: Source, R: Sink, D: Sink>(
     turns: u64,
 ) -> Result<Result<Summary, RunFault>, Fault> {
     let conn = Connection::open_in_memory(alloc)?;
-    let mut gateway = start(alloc, conn, BASE)?;
+    let mut gateway = start(alloc, conn, BASE, REMEMBERED)?;
     let (serial_in, serial_out) = serial;
     let (desk_in, desk_out) = desk;
     Ok(live(
@@ -70,7 +73,7 @@ const BOTH_LISTED: &[u8] =
 
 /// Whether a gateway lists what another learned over the same database.
 fn finds_what_was_learned_before(alloc: Global) -> Result<bool> {
-    let Ok(first) = start(alloc, Connection::open_in_memory(alloc)?, BASE) else {
+    let Ok(first) = start(alloc, Connection::open_in_memory(alloc)?, BASE, REMEMBERED) else {
         return Ok(false);
     };
     Ok(lists_what_it_learned(alloc, first))

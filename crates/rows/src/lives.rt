@@ -1,6 +1,6 @@
 //! Serial lines and desks that are served in turns: what goes where, and what stands where after each fault.
 use crate::fakes::{Parts, Sips, TakesNothing};
-use crate::gateways::{BASE, serve_new};
+use crate::gateways::{BASE, REMEMBERED, serve_new};
 use crate::telling::Telling;
 use anyhow::{Result, bail};
 use gateway_core::{DeviceStore, GatewayOver};
@@ -163,7 +163,7 @@ fn tell_lines(rt: &HostRuntime, telling: &mut Telling) -> Result<()> {
 }
 
 fn drops_what_is_not_ended(alloc: Global) -> Result<bool> {
-    let mut gateway = start(alloc, Connection::open_in_memory(alloc)?, BASE)?;
+    let mut gateway = start(alloc, Connection::open_in_memory(alloc)?, BASE, REMEMBERED)?;
     let first = desk_after(alloc, &mut gateway, b"lea")?;
     let second = desk_after(alloc, &mut gateway, b"rn on\n")?;
     Ok(first.is_empty() && second.as_slice() == SYNTAX)

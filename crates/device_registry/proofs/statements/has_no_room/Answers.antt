@@ -40,7 +40,7 @@ returns-clause-full g c clean =
     let shown : Shown others_text (asked c.args.id) mid new rows =
     subst (λ t. Shown t (asked c.args.id) mid new rows) (c.in_ok-others.ensures.text early)
     (c.in_ok-rows.ensures.shown clean) in
-    let told = c.in_ok-number.ensures in (
+    let told = c.in_ok-number.ensures.number in (
       query_ready others_text (asked c.args.id) mid new rows (others_plain mid ready) ready shown,
       λ devices shows.
           let showed = (c.compiled.ensures.stays.goes_on early ready.shows.is_open).1 devices shows in

@@ -22,7 +22,7 @@ returns-clause-lists g c =
     rw (← c.self.view_is) (lists_all old new c.list.ensures.stays c.self.invariant c.all_listed.result
     (λ clean devices has.
     let rows = c.in_ok-rows.ensures.all clean in
-    told_all c.all_listed.result c.deref.result.now c.in_ok-rows.rows.items devices c.all_listed.ensures
+    told_all c.all_listed.result c.deref.result.now c.in_ok-rows.rows.items devices c.all_listed.ensures.listed
     c.deref.ensures.value (rows.1 devices
     (had old new c.list.ensures.stays c.self.invariant clean rows.0 devices has))))
 

@@ -1,0 +1,63 @@
+//! What `OverRead` and `OverWrite` ask of a reader and of a writer of std: one call for each of their own, also where
+//! it fails.
+ghost use Rattle.std.specs.Prelude.{◌≡◌, IfOk};
+
+use byte_streams::{OverRead, OverWrite, Sink, Source};
+use std::io;
+use std::io::{Read, Write};
+
+/// A reader and a writer that counts its calls, fails at the first one alone, and else takes or gives all that is asked
+/// for.
+#[derive(Drop)]
+struct FailsOnce {
+    calls: usize,
+}
+
+impl FailsOnce {
+    fn answer(&mut self, length: usize) -> io::Result<usize>
+        ensures { IfOk result (λ n. n ≡ length) }
+    {
+        self.calls = self.calls.saturating_add(1);
+        if self.calls == 1 {
+            return Err(io::Error::from(io::ErrorKind::Interrupted));
+        }
+        Ok(length)
+    }
+}
+
+impl Read for FailsOnce {
+    fn read(&mut self, buffer: &mut [u8]) -> io::Result<usize> {
+        self.answer(buffer.len())
+    }
+}
+
+impl Write for FailsOnce {
+    fn write(&mut self, text: &[u8]) -> io::Result<usize> {
+        self.answer(text.len())
+    }
+
+    fn flush(&mut self) -> io::Result<()> {
+        Ok(())
+    }
+}
+
+#[test]
+fn one_read_for_one(rt: HostRuntime) {
+    let mut reader = FailsOnce { calls: 0 };
+    let mut source = OverRead::new(&mut reader);
+    let mut buffer = [0u8; 256];
+    assert!(rt; source.read(&mut buffer).is_err());
+    assert_eq!(rt; source.read(&mut buffer).ok(), Some(256));
+    drop(source);
+    assert_eq!(rt; reader.calls, 2);
+}
+
+#[test]
+fn one_write_for_one(rt: HostRuntime) {
+    let mut writer = FailsOnce { calls: 0 };
+    let mut sink = OverWrite::new(&mut writer);
+    assert!(rt; sink.write(b"a line of text\n").is_err());
+    assert_eq!(rt; sink.write(b"a line of text\n").ok(), Some(15));
+    drop(sink);
+    assert_eq!(rt; writer.calls, 2);
+}
