@@ -190,7 +190,7 @@ module _ {S : Type 0} (stored : S → Stored) where
       MatchResult-weaker r
       (kept_last_line_alike stored r old new kept tail puts breaks count total keeps.is given)
       (λ _ takes. rw is takes)
-      (λ _ broken. record { events = []; event = event_of tail; later = []; whole = is; broken = broken })
+      (λ _ broken. record { events = []; event = event_of tail; whole = is; broken = broken })
 
   -- and a stop at one of its lines
   pub part_at_line : (entry new : Value S) (input : List ℕ) (breaks : List Answer → Answer → Type 0)

@@ -67,9 +67,8 @@ module _ {S : Type 0} (stored : S → Stored) {O : Type 0} (puts : O → O → L
   part_behind old mid new events more o mids now first second = record {
     events = events ++ second.events;
     event = second.event;
-    later = second.later;
     whole = ap (λ (es : List Event). events ++ es) second.whole
-        ∙ sym (append_assoc events second.events (second.event ∷ second.later));
+        ∙ sym (append_assoc events second.events (second.event ∷ []));
     broken = plays-break old mid new events second.events second.event o mids now first second.broken;
   }
 

@@ -63,7 +63,6 @@ module _ {S : Type 0} (stored : S → Stored) where
   part-weaker old new all P Q so p = record {
     events = p.events;
     event = p.event;
-    later = p.later;
     whole = p.whole;
     broken = breaks-weaker old new p.events p.event P Q so p.broken;
   }

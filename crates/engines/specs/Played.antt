@@ -73,10 +73,9 @@ module _ {S : Type 0} (stored : S → Stored) where
     pub is : script (part ++ codes "\n") ≡ events ++ event ∷ []
     pub broken : Breaks old new events event breaks
 
-  -- an answer did not get out at some event of these
+  -- an answer did not get out at the last of these events
   pub record PlaysPart (old new : Value S) (all : List Event) (breaks : List Answer → Answer → Type 0) : Type 0 where
     pub events : List Event
     pub event : Event
-    pub later : List Event
-    pub whole : all ≡ events ++ event ∷ later
+    pub whole : all ≡ events ++ event ∷ []
     pub broken : Breaks old new events event breaks

@@ -20,6 +20,6 @@ module _ {S : Type 0} (stored : S → Stored) where
   abbrev pub ReplaysPartAtLine : Value S → Value S → List ℕ → Option (List ℕ) → Option (List ℕ) → Type 0
   ReplaysPartAtLine old new input held now = PlaysPartAtLine stored old new input (WritesPart held now)
 
-  -- a write failed at some event of the input
+  -- a write failed at the last event of the input
   abbrev pub ReplaysPart : Value S → Value S → List ℕ → Option (List ℕ) → Option (List ℕ) → Type 0
   ReplaysPart old new input held now = PlaysPart stored old new (script input) (WritesPart held now)
