@@ -58,11 +58,8 @@ impl<C: SqlConnection> DeviceTable<C> {
         if has_no_room(&mut self.conn, device.id)? {
             return Err(LearnFault::Full);
         }
-        write(&mut self.conn, device)?;
-        Ok(Receipt {
-            id: device.id,
-            is_learned: true,
-        })
+        let changed = write(&mut self.conn, device)?;
+        Ok(Receipt::learned(changed, device.id))
     }
 
     /// Forgets a sender. It commits also where nothing is known of it.
@@ -72,11 +69,8 @@ impl<C: SqlConnection> DeviceTable<C> {
             (C.state self.new)) }
     {
         let rows = look_up(&mut self.conn, id)?;
-        delete_or_renew(&mut self.conn, id, &rows)?;
-        Ok(Receipt {
-            id,
-            is_learned: false,
-        })
+        let changed = delete_or_renew(&mut self.conn, id, &rows)?;
+        Ok(Receipt::forgotten(changed, id))
     }
 
     /// All devices, by rising ID.

@@ -27,25 +27,25 @@ delete_or_renew-requires-clause-found g c clean devices shows =
     rw c.deref.ensures.value ((c.in_ok-rows.ensures.found clean).1 devices
     (shown_before old mid c.look_up.ensures.stays c.self.invariant clean devices shows))
 
-pub invariant_of-self-in_err-delete_or_renew : goal.invariant_of-self-in_err-delete_or_renew
-invariant_of-self-in_err-delete_or_renew g c =
+pub invariant_of-self-in_err-changed : goal.invariant_of-self-in_err-changed
+invariant_of-self-in_err-changed g c =
     refused_well (g.C.SqlConnection.state c.self.inside.conn) (g.C.SqlConnection.state c.look_up.new.conn)
     (g.C.SqlConnection.state c.delete_or_renew.new.conn) (forgotten c.args.id) c.delete_or_renew.result
-    c.look_up.ensures.stays c.self.invariant c.delete_or_renew.ensures c.in_err-delete_or_renew.ensures.refused
+    c.look_up.ensures.stays c.self.invariant c.delete_or_renew.ensures c.in_err-changed.ensures.refused
 
-pub returns-in_err-delete_or_renew-clause-forgets : goal.returns-in_err-delete_or_renew-clause-forgets
-returns-in_err-delete_or_renew-clause-forgets g c =
+pub returns-in_err-changed-clause-forgets : goal.returns-in_err-changed-clause-forgets
+returns-in_err-changed-clause-forgets g c =
     rw (← c.self.view_is) (forget_refused (g.C.SqlConnection.state c.self.inside.conn)
     (g.C.SqlConnection.state c.look_up.new.conn)
     (g.C.SqlConnection.state c.delete_or_renew.new.conn) c.delete_or_renew.result
-    c.look_up.ensures.stays c.self.invariant c.args.id c.from_residual-in_err-delete_or_renew.result
-    c.from_residual-in_err-delete_or_renew.ensures.0 c.delete_or_renew.ensures c.in_err-delete_or_renew.ensures.refused)
+    c.look_up.ensures.stays c.self.invariant c.args.id c.from_residual-in_err-changed.result
+    c.from_residual-in_err-changed.ensures.0 c.delete_or_renew.ensures c.in_err-changed.ensures.refused)
 
 pub invariant_of-self-2 : goal.invariant_of-self-2
 invariant_of-self-2 g c =
     made_well (g.C.SqlConnection.state c.self.inside.conn) (g.C.SqlConnection.state c.look_up.new.conn)
     (g.C.SqlConnection.state c.delete_or_renew.new.conn) (forgotten c.args.id) c.delete_or_renew.result
-    c.look_up.ensures.stays c.self.invariant c.delete_or_renew.ensures c.in_ok-delete_or_renew.ensures.made
+    c.look_up.ensures.stays c.self.invariant c.delete_or_renew.ensures c.in_ok-changed.ensures.made
     (λ clean. (c.in_ok-rows.ensures.found clean).0)
 
 pub returns-clause-forgets : goal.returns-clause-forgets
@@ -54,8 +54,8 @@ returns-clause-forgets g c =
     let mid = g.C.SqlConnection.state c.look_up.new.conn in
     let new = g.C.SqlConnection.state c.delete_or_renew.new.conn in
     let turns = c.delete_or_renew.ensures in
-    rw (← c.self.view_is) (forget_made old mid new c.delete_or_renew.result c.look_up.ensures.stays c.self.invariant
-    c.args.id turns c.in_ok-delete_or_renew.ensures.made
+    rw (← c.self.view_is, c.forgotten.ensures) (forget_made old mid new c.delete_or_renew.result c.look_up.ensures.stays c.self.invariant
+    c.args.id turns c.in_ok-changed.ensures.made
     (λ clean. (c.in_ok-rows.ensures.found clean).0)
     (λ trees is_open. g.met.C.SqlConnection.settled c.delete_or_renew.new.conn trees is_open))
 
@@ -64,5 +64,5 @@ returns-clause-ready g c clean =
     rw (← c.self.view_is) (ready_made (g.C.SqlConnection.state c.self.inside.conn)
     (g.C.SqlConnection.state c.look_up.new.conn)
     (g.C.SqlConnection.state c.delete_or_renew.new.conn) (forgotten c.args.id) c.delete_or_renew.result
-    c.look_up.ensures.stays c.self.invariant c.delete_or_renew.ensures (c.in_ok-delete_or_renew.ensures.made clean)
+    c.look_up.ensures.stays c.self.invariant c.delete_or_renew.ensures (c.in_ok-changed.ensures.made clean)
     clean (c.in_ok-rows.ensures.found (c.delete_or_renew.ensures.clean clean)).0)

@@ -54,27 +54,27 @@ write-requires-clause-room g c clean devices shows =
     sym ((c.in_ok-has_no_room.ensures.full clean).1 devices
     (shown_before old mid c.has_no_room.ensures.stays c.self.invariant clean devices shows)) ∙ c.if-branch.false
 
-pub invariant_of-self-in_err-write : goal.invariant_of-self-in_err-write
-invariant_of-self-in_err-write g c =
+pub invariant_of-self-in_err-changed : goal.invariant_of-self-in_err-changed
+invariant_of-self-in_err-changed g c =
     refused_well (g.C.SqlConnection.state c.self.inside.conn) (g.C.SqlConnection.state c.has_no_room.new.conn)
     (g.C.SqlConnection.state c.write.new.conn) (learned c.args.device) c.write.result
-    c.has_no_room.ensures.stays c.self.invariant c.write.ensures c.in_err-write.ensures.refused
+    c.has_no_room.ensures.stays c.self.invariant c.write.ensures c.in_err-changed.ensures.refused
 
-pub returns-in_err-write-clause-learns : goal.returns-in_err-write-clause-learns
-returns-in_err-write-clause-learns g c =
+pub returns-in_err-changed-clause-learns : goal.returns-in_err-changed-clause-learns
+returns-in_err-changed-clause-learns g c =
     let old = g.C.SqlConnection.state c.self.inside.conn in
     let mid = g.C.SqlConnection.state c.has_no_room.new.conn in
     let new = g.C.SqlConnection.state c.write.new.conn in
-    let why = err_from_is_err_and c.from_residual-in_err-write.result c.from_residual-in_err-write.ensures.1 in
+    let why = err_from_is_err_and c.from_residual-in_err-changed.result c.from_residual-in_err-changed.ensures.1 in
     rw (← c.self.view_is) (subst (Learns old new c.args.device) (sym (why.1 ∙ ap Err why.2))
     (learn_refused old mid new c.write.result c.has_no_room.ensures.stays c.self.invariant c.args.device _
-    c.write.ensures c.in_err-write.ensures.refused))
+    c.write.ensures c.in_err-changed.ensures.refused))
 
 pub invariant_of-self-2 : goal.invariant_of-self-2
 invariant_of-self-2 g c =
     made_well (g.C.SqlConnection.state c.self.inside.conn) (g.C.SqlConnection.state c.has_no_room.new.conn)
     (g.C.SqlConnection.state c.write.new.conn) (learned c.args.device) c.write.result
-    c.has_no_room.ensures.stays c.self.invariant c.write.ensures c.in_ok-write.ensures.made
+    c.has_no_room.ensures.stays c.self.invariant c.write.ensures c.in_ok-changed.ensures.made
     (λ clean. (c.in_ok-has_no_room.ensures.full clean).0)
 
 pub returns-clause-learns : goal.returns-clause-learns
@@ -82,8 +82,8 @@ returns-clause-learns g c =
     let old = g.C.SqlConnection.state c.self.inside.conn in
     let mid = g.C.SqlConnection.state c.has_no_room.new.conn in
     let new = g.C.SqlConnection.state c.write.new.conn in
-    rw (← c.self.view_is) (learn_made old mid new c.write.result c.has_no_room.ensures.stays c.self.invariant
-    c.args.device c.write.ensures c.in_ok-write.ensures.made
+    rw (← c.self.view_is, c.learned.ensures) (learn_made old mid new c.write.result c.has_no_room.ensures.stays c.self.invariant
+    c.args.device c.write.ensures c.in_ok-changed.ensures.made
     (λ clean. (c.in_ok-has_no_room.ensures.full clean).0)
     (λ trees is_open. g.met.C.SqlConnection.settled c.write.new.conn trees is_open)
     (λ clean devices has.
@@ -96,5 +96,5 @@ returns-clause-ready g c clean =
     rw (← c.self.view_is) (ready_made (g.C.SqlConnection.state c.self.inside.conn)
     (g.C.SqlConnection.state c.has_no_room.new.conn)
     (g.C.SqlConnection.state c.write.new.conn) (learned c.args.device) c.write.result
-    c.has_no_room.ensures.stays c.self.invariant c.write.ensures (c.in_ok-write.ensures.made clean) clean
+    c.has_no_room.ensures.stays c.self.invariant c.write.ensures (c.in_ok-changed.ensures.made clean) clean
     (c.in_ok-has_no_room.ensures.full (c.write.ensures.clean clean)).0)
