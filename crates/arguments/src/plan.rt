@@ -1,8 +1,8 @@
 //! What a run opens, in which way, and how long it goes on.
 ghost use Rattle.std.specs.Prelude.{◌≡◌, ◌≤◌};
-ghost use Rattle.arguments.specs.Plan.{live_of, plan_of, service_of};
+ghost use Rattle.arguments.specs.Plan.{plan_of, service_of};
 
-use super::{LiveOptions, Options, Task};
+use super::{Options, Task};
 
 /// How many reads a replay makes at most.
 const MOST_READS: u64 = 4_000_000_000;
@@ -80,26 +80,20 @@ fn service_of<'a>(task: Task<'a>) -> Service<'a>
 {
     match task {
         Task::Replay => Service::Replay { reads: MOST_READS },
-        Task::Live(options) => live_of(options),
-    }
-}
-
-fn live_of<'a>(options: LiveOptions<'a>) -> Service<'a>
-    ensures { result ≡ live_of options.entry }
-{
-    Service::Live {
-        serial: Opened {
-            path: options.serial,
-            access: Access::ReadAndWrite,
+        Task::Live(options) => Service::Live {
+            serial: Opened {
+                path: options.serial,
+                access: Access::ReadAndWrite,
+            },
+            desk: Opened {
+                path: options.desk,
+                access: Access::Read,
+            },
+            out: Opened {
+                path: options.out,
+                access: Access::WriteAnew,
+            },
+            turns: u64::from(options.turns),
         },
-        desk: Opened {
-            path: options.desk,
-            access: Access::Read,
-        },
-        out: Opened {
-            path: options.out,
-            access: Access::WriteAnew,
-        },
-        turns: u64::from(options.turns),
     }
 }

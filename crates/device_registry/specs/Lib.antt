@@ -4,6 +4,7 @@ pub mod Stored
 pub mod Faults
 pub mod Holding
 pub mod Ready
+pub mod Rows
 pub mod Opening
 pub mod Places
 pub mod Listing

@@ -1,8 +1,5 @@
 -- The registry between two of its statements, and what each does to it.
-use Rattle.std.specs.Prelude.{◌≡◌, ◌⊎◌, ◌<◌, ◌+◌, ◌^◌, ℕ, pos, negsuc, length, false, Result, OnOk, OnErr, IsTrue, List}
-use Rattle.std.specs.Prelude.{[], ◌∷◌, Option, Some, None}
-use Rattle.sqlite.specs.declared.types.Value.{Value}
-use Rattle.sqlite.specs.declared.types.Value.TheVariants.{Int}
+use Rattle.std.specs.Prelude.{◌≡◌, ◌⊎◌, false, Result, OnOk, OnErr, IsTrue, List, [], ◌∷◌, Option, Some, None}
 use Rattle.sqlite.specs.State.{State, HasCleanDisk}
 use Rattle.sqlite.specs.Effect.{IsDatabase}
 use Rattle.sqlite.specs.Table.{Table}
@@ -11,7 +8,6 @@ use Rattle.sqlite.specs.Order.{Row, column}
 use Rattle.sqlite_trees.specs.Tree.{Trees}
 use Rattle.device_registry.specs.Devices.{Devices, Learned, Change, changed, device}
 use Rattle.learned_devices.specs.declared.Device.{Device}
-use Rattle.device_registry.specs.declared.fault.StoreFault.{StoreFault}
 use Rattle.device_registry.specs.Stored.{Registers, Holds, natural, eep_of, maker_in}
 
 -- while the disk is honest and the connection is open, no transaction is open
@@ -74,25 +70,3 @@ AreFound (Some it) rows =
 abbrev pub listed : Row → Device
 listed row =
     device (natural (column row 0)) (record { eep = eep_of (natural (column row 1)); maker = maker_in (column row 2) })
-
--- ---- what a row has to be, to be read: where one is refused for another cause than memory, it is not so
-
--- the number of a sender or of a profile
-abbrev pub IsNumber : Value → Type 0
-IsNumber value = (n : ℕ) × (value ≡ Int (pos n)) × (n < 2 ^ 32)
-
--- the number of a maker, or a negative one for none
-abbrev pub IsMaker : Value → Type 0
-IsMaker value = ((n : ℕ) × (value ≡ Int (pos n)) × (n < 2 ^ 16)) ⊎ ((n : ℕ) × (value ≡ Int (negsuc n)))
-
--- from a place on there are a profile and a maker
-abbrev pub HasProfile : ℕ → Row → Type 0
-HasProfile at row = (at + 1 < length row) × IsNumber (column row at) × IsMaker (column row (at + 1))
-
--- it lists a device
-abbrev pub ListsDevice : Row → Type 0
-ListsDevice row = (0 < length row) × IsNumber (column row 0) × HasProfile 1 row
-
--- where this is so, it was refused for want of memory: if it was not, this is not so
-abbrev pub IsMemoryWhere : Type 0 → StoreFault → Type 0
-IsMemoryWhere Whole fault = fault.is_memory ≡ false → ¬ Whole

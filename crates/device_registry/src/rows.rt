@@ -6,7 +6,8 @@ ghost use Rattle.sqlite.specs.Order.{Row as SqlRow, column};
 ghost use Rattle.device_registry.specs.Devices.{Learned, device};
 ghost use Rattle.device_registry.specs.Stored.{natural, eep_of, maker_in};
 ghost use Rattle.device_registry.specs.Faults.{fault_of};
-ghost use Rattle.device_registry.specs.Ready.{AreFound, HasProfile, IsMaker, ListsDevice, IsMemoryWhere, listed};
+ghost use Rattle.device_registry.specs.Ready.{AreFound, listed};
+ghost use Rattle.device_registry.specs.Rows.{HasProfile, IsMaker, IsMemoryWhere, ListsDevice};
 
 use crate::fault::StoreFault;
 use erp1_telegrams::Eep;

@@ -68,7 +68,7 @@ pub struct PlainFramer {
 }
 
 impl PlainFramer {
-    pub fn new(alloc: Global) -> PlainFramer {
+    pub(crate) fn new(alloc: Global) -> PlainFramer {
         PlainFramer {
             bytes: Vec::new(alloc),
         }
@@ -79,21 +79,21 @@ impl PlainFramer {
         drop_head(&mut self.bytes, n);
     }
 
-    pub fn is_ready(&self) -> bool {
+    pub(crate) fn is_ready(&self) -> bool {
         match head_of(&self.bytes) {
             Head::Whole(_) => true,
             _ => false,
         }
     }
 
-    pub fn push(&mut self, b: u8) -> Result<(), AllocError> {
+    pub(crate) fn push(&mut self, b: u8) -> Result<(), AllocError> {
         self.bytes.push(b)?;
         self.settle();
         Ok(())
     }
 
     /// Puts the whole packet into `out`, and says whether there was one.
-    pub fn take(&mut self, out: &mut Vec<u8>) -> Result<bool, AllocError> {
+    pub(crate) fn take(&mut self, out: &mut Vec<u8>) -> Result<bool, AllocError> {
         let Head::Whole(n) = head_of(&self.bytes) else {
             return Ok(false);
         };

@@ -22,7 +22,7 @@ fn said(reading: &Reading) -> (&'static str, Wanted) {
 }
 
 /// These are the readings, in this order.
-pub fn say(rt: &impl Abort, readings: &Readings, expected: &[(&'static str, Wanted)]) {
+pub(crate) fn say(rt: &impl Abort, readings: &Readings, expected: &[(&'static str, Wanted)]) {
     assert_eq!(rt; readings.len(), expected.len());
     for (reading, wanted) in readings.as_slice().iter().zip(expected.iter()) {
         assert_eq!(rt; said(reading), *wanted);

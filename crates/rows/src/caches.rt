@@ -13,7 +13,7 @@ use std::alloc::Global;
 /// More reads than these rows take.
 const TURNS: u64 = 1000;
 
-pub fn tell(rt: &HostRuntime, telling: &mut Telling) -> Result<()> {
+pub(crate) fn tell(rt: &HostRuntime, telling: &mut Telling) -> Result<()> {
     for name in ["two-hundred-contacts", "contact-learned-and-forgotten"] {
         tell_of(rt, telling, name, 1)?;
         tell_of(rt, telling, name, 64)?;

@@ -118,7 +118,7 @@ fn written_for_any_cut(alloc: Global, chance: &mut Chance) -> Result<Option<Vec<
 }
 
 /// Of a hundred streams and more a packet is read.
-pub fn tell(rt: &HostRuntime, telling: &mut Telling) -> Result<()> {
+pub(crate) fn tell(rt: &HostRuntime, telling: &mut Telling) -> Result<()> {
     let mut chance = Chance { state: 2026 };
     let mut same = 0u32;
     let mut told = 0u32;

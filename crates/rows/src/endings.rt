@@ -8,7 +8,7 @@ use gateway_main::{RunFault, Summary};
 use std::alloc::{AllocError, Global};
 use std::io;
 
-pub fn tell(rt: &HostRuntime, telling: &mut Telling) -> Result<()> {
+pub(crate) fn tell(rt: &HostRuntime, telling: &mut Telling) -> Result<()> {
     tell_faults(rt, telling)?;
     tell_statuses(rt, telling)?;
     tell_command_lines(rt, telling)?;

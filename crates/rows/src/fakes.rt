@@ -16,7 +16,7 @@ pub struct Parts<'a> {
 }
 
 impl<'a> Parts<'a> {
-    pub fn new(parts: &'a [&'a [u8]], fails_at: usize) -> Parts<'a> {
+    pub(crate) fn new(parts: &'a [&'a [u8]], fails_at: usize) -> Parts<'a> {
         Parts {
             parts,
             reads: 0,
@@ -51,7 +51,7 @@ pub struct Sips<'a> {
 }
 
 impl<'a> Sips<'a> {
-    pub fn new(taken: &'a mut Vec<u8>, most: usize, fails_at: usize) -> Sips<'a> {
+    pub(crate) fn new(taken: &'a mut Vec<u8>, most: usize, fails_at: usize) -> Sips<'a> {
         Sips {
             taken,
             most,

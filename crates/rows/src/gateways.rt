@@ -15,7 +15,7 @@ pub const BASE: u32 = 0xFF80_0000;
 pub const REMEMBERED: usize = 1024;
 
 /// Replays a script by a new gateway.
-pub fn replay_new<R: Source, W: Sink>(
+pub(crate) fn replay_new<R: Source, W: Sink>(
     alloc: Global,
     reader: &mut R,
     writer: &mut W,
@@ -27,7 +27,7 @@ pub fn replay_new<R: Source, W: Sink>(
 }
 
 /// Serves a serial line and a desk by a new gateway.
-pub fn serve_new<P: Source, Q: Source, R: Sink, D: Sink>(
+pub(crate) fn serve_new<P: Source, Q: Source, R: Sink, D: Sink>(
     alloc: Global,
     serial: (&mut P, &mut R),
     desk: (&mut Q, &mut D),
@@ -47,7 +47,7 @@ pub fn serve_new<P: Source, Q: Source, R: Sink, D: Sink>(
     ))
 }
 
-pub fn tell(rt: &HostRuntime, telling: &mut Telling) -> Result<()> {
+pub(crate) fn tell(rt: &HostRuntime, telling: &mut Telling) -> Result<()> {
     telling.tell(rt, "a base ID that is none", is_no_base(rt.alloc())?)?;
     let is_found = finds_what_was_learned_before(rt.alloc())?;
     telling.tell(rt, "what was learned before", is_found)

@@ -46,7 +46,7 @@ const BASE_QUESTION: &[u8] = b"\x55\x00\x01\x00\x05\x70\x08\x38";
 /// No call of a writer fails.
 const NEVER: usize = usize::MAX;
 
-pub fn tell(rt: &HostRuntime, telling: &mut Telling) -> Result<()> {
+pub(crate) fn tell(rt: &HostRuntime, telling: &mut Telling) -> Result<()> {
     tell_order_of_sides(rt, telling)?;
     tell_both_outputs(rt, telling)?;
     tell_lines(rt, telling)?;

@@ -12,7 +12,7 @@ const TOO_LONG: &[u8] = b"{\"error\":\"too_long\",\"type\":\"error\"}\n";
 
 const NONE_LISTED: &[u8] = b"{\"count\":0,\"type\":\"list\"}\n";
 
-pub fn tell(rt: &HostRuntime, telling: &mut Telling) -> Result<()> {
+pub(crate) fn tell(rt: &HostRuntime, telling: &mut Telling) -> Result<()> {
     tell_turns(rt, telling)?;
     tell_items(rt, telling)?;
     tell_lengths(rt, telling)?;

@@ -8,7 +8,7 @@ use std::fs;
 /// More reads than any row takes.
 const TURNS: u64 = 100_000;
 
-pub fn tell(rt: &HostRuntime, telling: &mut Telling) -> Result<()> {
+pub(crate) fn tell(rt: &HostRuntime, telling: &mut Telling) -> Result<()> {
     for name in fs::read_to_string(rt, "rows.txt")?.lines() {
         telling.tell(rt, name, is_well(rt, name)?)?;
     }
@@ -26,7 +26,7 @@ fn is_well(rt: &HostRuntime, name: &str) -> Result<bool> {
 }
 
 /// A row's script, and what is wanted for it.
-pub fn row(rt: &HostRuntime, name: &str) -> Result<(Vec<u8>, Vec<u8>)> {
+pub(crate) fn row(rt: &HostRuntime, name: &str) -> Result<(Vec<u8>, Vec<u8>)> {
     let alloc = rt.alloc();
     let script = fs::read(rt, format!(in alloc; "{name}.in")?)?;
     let wanted = fs::read(rt, format!(in alloc; "{name}.out")?)?;

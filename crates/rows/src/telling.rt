@@ -8,19 +8,19 @@ pub struct Telling {
 }
 
 impl Telling {
-    pub fn new() -> Telling {
+    pub(crate) fn new() -> Telling {
         Telling { all_well: true }
     }
 
     /// Tells whether the case of this name is as it ought to be.
-    pub fn tell(&mut self, rt: &HostRuntime, name: &str, is_well: bool) -> Result<()> {
+    pub(crate) fn tell(&mut self, rt: &HostRuntime, name: &str, is_well: bool) -> Result<()> {
         let verdict = if is_well { "ok" } else { "differs" };
         println!(rt; "{name} {verdict}")?;
         self.all_well &= is_well;
         Ok(())
     }
 
-    pub fn is_all_well(&self) -> bool {
+    pub(crate) fn is_all_well(&self) -> bool {
         self.all_well
     }
 }

@@ -8,7 +8,7 @@ pub const SENDER: u32 = 0x0180_0ABC;
 
 pub const BASE: u32 = 0xFF80_0000;
 
-pub fn eep(rorg: u8, func: u8, typ: u8) -> Eep {
+pub(crate) fn eep(rorg: u8, func: u8, typ: u8) -> Eep {
     Eep { rorg, func, typ }
 }
 
@@ -16,15 +16,15 @@ fn from(rorg: u8, payload: &[u8]) -> Result<Telegram, Fail> {
     Ok(Telegram::new(rorg, payload, SENDER, 0, BROADCAST, None)?)
 }
 
-pub fn kind(rorg: u8, payload: &[u8]) -> Result<Teach, Fail> {
+pub(crate) fn kind(rorg: u8, payload: &[u8]) -> Result<Teach, Fail> {
     Ok(classify(&from(rorg, payload)?))
 }
 
-pub fn planned(rorg: u8, payload: &[u8], mode: Mode, known: bool) -> Result<Plan, Fail> {
+pub(crate) fn planned(rorg: u8, payload: &[u8], mode: Mode, known: bool) -> Result<Plan, Fail> {
     Ok(plan(&from(rorg, payload)?, mode, known))
 }
 
-pub fn add(eep: Eep, maker: Option<u16>) -> Plan {
+pub(crate) fn add(eep: Eep, maker: Option<u16>) -> Plan {
     Plan::Add(Device {
         id: SENDER,
         eep,

@@ -54,7 +54,8 @@ returns-clause-forgets g c =
     let mid = g.C.SqlConnection.state c.look_up.new.conn in
     let new = g.C.SqlConnection.state c.delete_or_renew.new.conn in
     let turns = c.delete_or_renew.ensures in
-    rw (← c.self.view_is, c.forgotten.ensures) (forget_made old mid new c.delete_or_renew.result c.look_up.ensures.stays c.self.invariant
+    rw (← c.self.view_is, c.forgotten.ensures)
+    (forget_made old mid new c.delete_or_renew.result c.look_up.ensures.stays c.self.invariant
     c.args.id turns c.in_ok-changed.ensures.made
     (λ clean. (c.in_ok-rows.ensures.found clean).0)
     (λ trees is_open. g.met.C.SqlConnection.settled c.delete_or_renew.new.conn trees is_open))

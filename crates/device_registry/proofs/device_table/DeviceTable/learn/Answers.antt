@@ -82,7 +82,8 @@ returns-clause-learns g c =
     let old = g.C.SqlConnection.state c.self.inside.conn in
     let mid = g.C.SqlConnection.state c.has_no_room.new.conn in
     let new = g.C.SqlConnection.state c.write.new.conn in
-    rw (← c.self.view_is, c.learned.ensures) (learn_made old mid new c.write.result c.has_no_room.ensures.stays c.self.invariant
+    rw (← c.self.view_is, c.learned.ensures)
+    (learn_made old mid new c.write.result c.has_no_room.ensures.stays c.self.invariant
     c.args.device c.write.ensures c.in_ok-changed.ensures.made
     (λ clean. (c.in_ok-has_no_room.ensures.full clean).0)
     (λ trees is_open. g.met.C.SqlConnection.settled c.write.new.conn trees is_open)
