@@ -123,9 +123,12 @@ plain-byte : (byte : ℕ) → IsPlain (byte_text byte)
 plain-byte byte =
     plain_bytes (to_be_bytes w8 byte) (all_below 256 (to_be_bytes w8 byte) (omega arith) (omega arith, tt))
 
+pub id_bytes : (id : ℕ) → IsBytes (to_be_bytes w32 id)
+id_bytes id = all_below 256 (to_be_bytes w32 id) (omega arith)
+    (omega arith, (omega arith, (omega arith, (omega arith, tt))))
+
 pub plain-id : (id : ℕ) → IsPlain (id_text id)
-plain-id id = plain_bytes (to_be_bytes w32 id) (all_below 256 (to_be_bytes w32 id) (omega arith)
-    (omega arith, (omega arith, (omega arith, (omega arith, tt)))))
+plain-id id = plain_bytes (to_be_bytes w32 id) (id_bytes id)
 
 plain-dash : IsPlain (codes "-")
 unfolding escape_byte

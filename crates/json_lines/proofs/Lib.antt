@@ -2,4 +2,5 @@ pub mod ForCallers
 pub mod HexTexts
 pub mod LineTexts
 pub mod Sent
+pub mod TeachLines
 pub mod TeachTexts

@@ -52,7 +52,7 @@ behind-maker (Some maker) rest = behind-digits 64 maker [] rest refl
 -- ---- from the maker on
 
 -- the end of a teach line
-result_text : Outcome → List ℕ
+pub result_text : Outcome → List ℕ
 result_text outcome = codes "\"result\":\"" ++ (outcome_word outcome ++ codes "\",\"type\":\"teach\"}\n")
 
 -- the parts behind the ID, as a line has them and one by one
@@ -67,13 +67,13 @@ grouped-device : (maker more : List ℕ)
     ≡ maker ++ 44 ∷ (codes "\"type\":\"device\"}\n" ++ more)
 grouped-device maker more = simp append_assoc
 
-teach-known : (eep : Eep) (id : ℕ) (maker : Option ℕ) (outcome : Outcome) (more : List ℕ)
+pub teach-known : (eep : Eep) (id : ℕ) (maker : Option ℕ) (outcome : Outcome) (more : List ℕ)
     → drop 42 (text (Teach (record { eep = Some eep; id = id; maker = maker; outcome = outcome })) ++ more)
     ≡ or_null decimal maker ++ 44 ∷ (result_text outcome ++ more)
 unfolding encode_with result_text
 teach-known eep id maker outcome more = grouped-teach (or_null decimal maker) (outcome_word outcome) more
 
-teach-unknown : (id : ℕ) (maker : Option ℕ) (outcome : Outcome) (more : List ℕ)
+pub teach-unknown : (id : ℕ) (maker : Option ℕ) (outcome : Outcome) (more : List ℕ)
     → drop 36 (text (Teach (record { eep = None; id = id; maker = maker; outcome = outcome })) ++ more)
     ≡ or_null decimal maker ++ 44 ∷ (result_text outcome ++ more)
 unfolding encode_with result_text
@@ -139,7 +139,7 @@ same-behind a b x y s t in_s in_t e =
 -- ---- one line and more
 
 -- a teach line, and more
-teach-more : (line told : TeachLine) (more : List ℕ) → text (Teach line) ++ more ≡ text (Teach told) ++ []
+pub teach-more : (line told : TeachLine) (more : List ℕ) → text (Teach line) ++ more ≡ text (Teach told) ++ []
     → (line.outcome ≡ told.outcome) × (more ≡ [])
 teach-more line told more e = one line.eep told.eep e
   where

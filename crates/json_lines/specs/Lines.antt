@@ -2,7 +2,7 @@
 -- an own choice: one JSON object (RFC 8259) with no space between its parts, its members in the byte order of their
 -- names, and a line feed at the end.
 use Rattle.std.specs.Prelude.{ℕ, pos, ◌-ℤ◌, List, [], ◌∷◌, ◌++◌, map, length, slice_get, codes, decimal}
-use Rattle.std.specs.Prelude.{Option, Some, None}
+use Rattle.std.specs.Prelude.{Option, Some, None, IfSome, ◌<◌, ◌^◌}
 use Rattle.std.specs.Fmt.{signed_decimal}
 use Rattle.std.specs.Int.{w8, w32, to_be_bytes}
 use Rattle.std.specs.List.{join_by, flat_map}
@@ -58,6 +58,13 @@ pub data DeskLine : Type 0 where
   ResponseLine : (response : Response) → DeskLine
   Done : DeskLine
   Error : (name : ErrorName) → DeskLine
+
+-- the numbers of a teach line are those that a device and a query can tell: the three bytes of a profile, the four of an
+-- ID, and at most two for a maker
+abbrev pub IsTold : TeachLine → Type 0
+IsTold line =
+    IfSome line.eep (λ eep. (eep.rorg < 256) × (eep.func < 256) × (eep.typ < 256))
+    × (line.id < 2 ^ 32) × IfSome line.maker (λ maker. maker < 2 ^ 16)
 
 -- ---- the parts of a line
 

@@ -1,0 +1,158 @@
+-- Teach lines with one text are one line.
+use Rattle.std.proofs.Common.{◌≡◌, ◌≢◌, ℕ, zero, suc, ◌+◌, ◌<◌, ◌^◌, ◌/◌, ◌%◌, Bool, true, false, cond, List, [], ◌∷◌}
+use Rattle.std.proofs.Common.{◌++◌, take, drop, codes, decimal, Option, Some, None, Result, Ok, Err}
+use Rattle.std.proofs.Common.{refl, sym, ap, subst, ◌∙◌, arith}
+use Rattle.std.specs.Prelude.{if◌then◌else◌, ◌==◌, IfSome, nat_lt, slice_index, slice_index_or}
+use Rattle.std.specs.Fmt.{digits_onto, digits, digit_glyph}
+use Rattle.std.specs.Int.{w8, w32, to_be_bytes, from_be_bytes}
+use Rattle.std.proofs.lemmas.Fmt.{decimal_injective}
+use Rattle.std.proofs.lemmas.List.{append_cancel_right}
+use Rattle.std.proofs.lemmas.Nat.{from_be_bytes-to_be_bytes_4}
+use Rattle.hex.specs.Hex.{IsBytes, decode_of, encode_upper, encode_with}
+use Rattle.hex.specs.declared.FromHexError.{FromHexError}
+use Rattle.hex.proofs.HexLemmas.{decode_of-encode_upper}
+use Rattle.erp1_telegrams.specs.declared.eep.Eep.{Eep}
+use Rattle.teach_in.specs.declared.outcome.Outcome.{Outcome}
+use Rattle.json_lines.specs.Lines.{IsTold, Teach, TeachLine, byte_text, eep_text, id_text, or_null, text}
+use Rattle.json_lines.proofs.HexTexts.{id_bytes}
+use Rattle.json_lines.proofs.TeachTexts.{result_text, teach-known, teach-more, teach-unknown}
+
+-- ---- what a text shows
+
+ok_or : List ℕ → Result (List ℕ) FromHexError → List ℕ
+ok_or other (Ok bytes) = bytes
+ok_or other (Err fault) = other
+
+-- bytes with the same digits
+same-bytes : (a b : List ℕ) → IsBytes a → IsBytes b → encode_upper a ≡ encode_upper b → a ≡ b
+unfolding ok_or
+same-bytes a b bytes_a bytes_b e =
+    ap (ok_or []) (sym (decode_of-encode_upper a bytes_a) ∙ ap decode_of e ∙ decode_of-encode_upper b bytes_b)
+
+same-id : (a b : ℕ) → a < 2 ^ 32 → b < 2 ^ 32 → id_text a ≡ id_text b → a ≡ b
+same-id a b in_a in_b e =
+    sym (from_be_bytes-to_be_bytes_4 a in_a)
+    ∙ ap (from_be_bytes w32) (same-bytes (to_be_bytes w32 a) (to_be_bytes w32 b) (id_bytes a) (id_bytes b) e)
+    ∙ from_be_bytes-to_be_bytes_4 b in_b
+
+byte_bytes : (n : ℕ) → n < 256 → IsBytes (n ∷ [])
+byte_bytes n below zero = below
+byte_bytes n below (suc i) = omega arith
+
+same-byte : (a b : ℕ) → a < 256 → b < 256 → byte_text a ≡ byte_text b → a ≡ b
+same-byte a b in_a in_b e =
+    let rest : a % 256 ≡ b % 256 =
+    ap (λ (t : List ℕ). slice_index t 0)
+    (same-bytes (a % 256 ∷ []) (b % 256 ∷ []) (byte_bytes (a % 256) (omega arith))
+    (byte_bytes (b % 256) (omega arith)) e) in
+    omega (arith, rest, in_a, in_b)
+
+same-eep : (a b : Eep) → (a.rorg < 256) × (a.func < 256) × (a.typ < 256)
+    → (b.rorg < 256) × (b.func < 256) × (b.typ < 256) → eep_text a ≡ eep_text b → a ≡ b
+unfolding encode_with
+same-eep a b in_a in_b e =
+    let rorg : a.rorg ≡ b.rorg = same-byte a.rorg b.rorg in_a.0 in_b.0 (ap (take 2) e) in
+    let func : a.func ≡ b.func = same-byte a.func b.func in_a.1 in_b.1 (ap (λ (t : List ℕ). take 2 (drop 3 t)) e) in
+    let typ : a.typ ≡ b.typ = same-byte a.typ b.typ in_a.2 in_b.2 (ap (λ (t : List ℕ). drop 6 t) e) in
+    ap (λ n. let eep : Eep = record { rorg = n; func = a.func; typ = a.typ } in eep) rorg
+    ∙ ap (λ n. let eep : Eep = record { rorg = b.rorg; func = n; typ = a.typ } in eep) func
+    ∙ ap (λ n. let eep : Eep = record { rorg = b.rorg; func = b.func; typ = n } in eep) typ
+
+-- a number is not null: it does not begin with an n
+glyph-digit : (n : ℕ) (b : Bool) → cond b (48 + n % 10) (87 + n % 10) ≢ 110
+glyph-digit n true e = absurd (omega (arith, e))
+glyph-digit n false e = absurd (omega (arith, e))
+
+digits-first : (k n : ℕ) (later : List ℕ) → slice_index_or later 0 0 ≢ 110
+    → slice_index_or (digits_onto k 10 false n later) 0 0 ≢ 110
+digits-first zero n later first = first
+digits-first (suc k) n later first =
+    let now = glyph-digit n (nat_lt (n % 10) 10) in
+    one _ _ (n / 10 == 0) now (digits-first k (n / 10) (digit_glyph false (n % 10) ∷ later) now)
+  where
+    one : (now on : List ℕ) (b : Bool) → slice_index_or now 0 0 ≢ 110 → slice_index_or on 0 0 ≢ 110
+        → slice_index_or (if b then now else on) 0 0 ≢ 110
+    one now on true last more = last
+    one now on false last more = more
+
+not-null : (n : ℕ) → decimal n ≢ codes "null"
+unfolding digits
+not-null n e = digits-first 64 n [] (λ none. absurd (omega (arith, none))) (ap (λ (t : List ℕ). slice_index_or t 0 0) e)
+
+same-maker : (a b : Option ℕ) → IfSome a (λ maker. maker < 2 ^ 16) → IfSome b (λ maker. maker < 2 ^ 16)
+    → or_null decimal a ≡ or_null decimal b → a ≡ b
+same-maker None None in_a in_b e = refl
+same-maker (Some a) (Some b) in_a in_b e =
+    ap Some (decimal_injective a b (omega (arith, in_a)) (omega (arith, in_b)) e)
+same-maker (Some a) None in_a in_b e = absurd (not-null a e)
+same-maker None (Some b) in_a in_b e = absurd (not-null b (sym e))
+
+-- ---- the parts of a line
+
+-- the makers of two lines, from there on where they stand
+makers : (a b : Option ℕ) (one other : Outcome) (s t : List ℕ)
+    → s ≡ or_null decimal a ++ 44 ∷ (result_text one ++ []) → t ≡ or_null decimal b ++ 44 ∷ (result_text other ++ [])
+    → one ≡ other → s ≡ t → or_null decimal a ≡ or_null decimal b
+makers a b one other s t in_s in_t same e =
+    append_cancel_right (or_null decimal a) (or_null decimal b) (44 ∷ (result_text other ++ []))
+    (subst (λ o. or_null decimal a ++ 44 ∷ (result_text o ++ []) ≡ or_null decimal b ++ 44 ∷ (result_text other ++ []))
+    same (sym in_s ∙ e ∙ in_t))
+
+eep-shown : (eep : Eep) (line : TeachLine)
+    → take 8 (drop 8 (text (Teach (record line { eep = Some eep })) ++ [])) ≡ eep_text eep
+unfolding encode_with
+eep-shown eep line = refl
+
+id-shown : (eep : Eep) (line : TeachLine)
+    → take 8 (drop 24 (text (Teach (record line { eep = Some eep })) ++ [])) ≡ id_text line.id
+unfolding encode_with
+id-shown eep line = refl
+
+id-shown-alone : (line : TeachLine) → take 8 (drop 18 (text (Teach (record line { eep = None })) ++ [])) ≡ id_text line.id
+unfolding encode_with
+id-shown-alone line = refl
+
+of-parts : (line told : TeachLine) → line.eep ≡ told.eep → line.id ≡ told.id → line.maker ≡ told.maker
+    → line.outcome ≡ told.outcome → line ≡ told
+of-parts line told eep id maker outcome =
+    ap (λ e. record line { eep = e }) eep
+    ∙ ap (λ i. record told { id = i; maker = line.maker; outcome = line.outcome }) id
+    ∙ ap (λ m. record told { maker = m; outcome = line.outcome }) maker
+    ∙ ap (λ o. record told { outcome = o }) outcome
+
+pub one_teach_line : (line told : TeachLine) → IsTold line → IsTold told → text (Teach line) ≡ text (Teach told)
+    → line ≡ told
+one_teach_line line told in_line in_told e =
+    one line.eep told.eep in_line.0 in_told.0 (ap (λ (t : List ℕ). t ++ []) e)
+  where
+    one : (a b : Option Eep)
+        → IfSome a (λ eep. (eep.rorg < 256) × (eep.func < 256) × (eep.typ < 256))
+        → IfSome b (λ eep. (eep.rorg < 256) × (eep.func < 256) × (eep.typ < 256))
+        → text (Teach (record line { eep = a })) ++ [] ≡ text (Teach (record told { eep = b })) ++ []
+        → record line { eep = a } ≡ record told { eep = b }
+    one (Some a) (Some b) in_a in_b h =
+        let outcome = (teach-more (record line { eep = Some a }) (record told { eep = Some b }) [] h).0 in
+        of-parts (record line { eep = Some a }) (record told { eep = Some b })
+        (ap Some (same-eep a b in_a in_b
+        (sym (eep-shown a line) ∙ ap (λ (t : List ℕ). take 8 (drop 8 t)) h ∙ eep-shown b told)))
+        (same-id line.id told.id in_line.1 in_told.1
+        (sym (id-shown a line) ∙ ap (λ (t : List ℕ). take 8 (drop 24 t)) h ∙ id-shown b told))
+        (same-maker line.maker told.maker in_line.2 in_told.2
+        (makers line.maker told.maker line.outcome told.outcome _ _ (teach-known a line.id line.maker line.outcome [])
+        (teach-known b told.id told.maker told.outcome []) outcome (ap (drop 42) h)))
+        outcome
+    one None None in_a in_b h =
+        let outcome = (teach-more (record line { eep = None }) (record told { eep = None }) [] h).0 in
+        of-parts (record line { eep = None }) (record told { eep = None }) refl
+        (same-id line.id told.id in_line.1 in_told.1
+        (sym (id-shown-alone line) ∙ ap (λ (t : List ℕ). take 8 (drop 18 t)) h ∙ id-shown-alone told))
+        (same-maker line.maker told.maker in_line.2 in_told.2
+        (makers line.maker told.maker line.outcome told.outcome _ _ (teach-unknown line.id line.maker line.outcome [])
+        (teach-unknown told.id told.maker told.outcome []) outcome (ap (drop 36) h)))
+        outcome
+    one (Some a) None in_a in_b h =
+        let bytes : 34 ≡ 110 = ap (λ (t : List ℕ). slice_index_or t 7 0) h in
+        absurd (omega (arith, bytes))
+    one None (Some b) in_a in_b h =
+        let bytes : 110 ≡ 34 = ap (λ (t : List ℕ). slice_index_or t 7 0) h in
+        absurd (omega (arith, bytes))
