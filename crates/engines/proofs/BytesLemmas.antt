@@ -18,7 +18,7 @@ use Rattle.engines.specs.declared.lines.Lines.{Lines}
 use Rattle.engines.specs.declared.lines.Lines.TheVariants.{OfScript}
 use Rattle.engines.specs.Outlets.{IsOutlet}
 use Rattle.engines.specs.Script.{event_of, script}
-use Rattle.engines.specs.Played.{IsIdle, Breaks, PlaysClosed, PlaysPart, PlaysPartAtLine}
+use Rattle.engines.specs.Played.{IsIdle, Breaks, PlaysClosed, PlaysPartAtEnd, PlaysPartAtLine}
 use Rattle.engines.specs.Taking.{Takes, TakesOrBreaks, TakesOrStops}
 use Rattle.engines.specs.Bytes.{longest_kept, Keeps, TakesBytes, StopsAtLine, IsOneLine, event_by, events_by}
 use Rattle.engines.specs.Bytes.{with_end}
@@ -223,8 +223,8 @@ module _ {S : Type 0} (stored : S → Stored) {O : Type 0} (puts : O → O → L
 
   pub script_stops : (entry old new : Value S) (input kept : List ℕ) (o mids now : O) (some : ℕ)
       → (p : TakesBytes stored OfScript entry old [] input kept (puts o mids) 0 some)
-      → PlaysPart stored old new (script p.rest) (breaks mids now)
-      → PlaysPart stored entry new (script input) (breaks o now)
+      → PlaysPartAtEnd stored old new (script p.rest) (breaks mids now)
+      → PlaysPartAtEnd stored entry new (script input) (breaks o now)
   script_stops entry old new input kept o mids now some p last =
       rw (script_of_bytes stored entry old input kept (puts o mids) 0 some p)
       (part_behind stored puts breaks outlet entry old new (events_by OfScript p.ended) (script p.rest) o mids now

@@ -2,14 +2,14 @@
 use Rattle.std.proofs.Common.{ℕ, List, [], ◌∷◌, ◌++◌, None, subst}
 use Rattle.sqlite.specs.State.{State, HasCleanDisk}
 use Rattle.device_registry.specs.Devices.{Devices}
-use Rattle.device_registry.specs.Holding.{MayFind}
+use Rattle.device_registry.specs.Holding.{HandsOn, MayFind, Opens}
 use Rattle.gateway_core.specs.Step.{Item, Answer}
 use Rattle.gateway_core.specs.Handling.{HandlerValue, Handles}
-use Rattle.gateway_core.specs.Beginnings.{LeavesALife}
+use Rattle.gateway_core.specs.Beginnings.{ClosesALife, LeavesALife}
 use Rattle.gateway_core.specs.Events.{items_of}
-use Rattle.gateway_core.proofs.ForCallers.{calls_leave_a_life}
+use Rattle.gateway_core.proofs.ForCallers.{calls_leave_a_life, closes_leave_a_life}
 use Rattle.engines.specs.Started.{Starts}
-use Rattle.engines.specs.Lived.{PlaysAreLives, BrokenPlaysAreLives}
+use Rattle.engines.specs.Lived.{PlaysAreLives, BrokenPlaysAreLives, ClosedPlaysAreLives, BrokenClosedPlaysAreLives}
 
 module _ {C : Type 0} (state : C → State) where
   handled_is_a_life : (database : C) (base : ℕ) (old new : HandlerValue C) (items : List Item)
@@ -31,3 +31,23 @@ module _ {C : Type 0} (state : C → State) where
   broken_plays_are_lives breaks database base old new events event began broken clean left may =
       handled_is_a_life database base old.handler new.handler broken.items
       (broken.answered.answers ++ broken.answered.last ∷ []) began broken.answered.handled clean left may
+
+  closed_is_a_life : (database opened : C) (base : ℕ) (old new : HandlerValue C) (items : List Item)
+      (answers : List Answer) (next : Devices)
+      (began : Starts state database base old) → Handles state old items answers new
+      → HasCleanDisk (state new.registry) → HandsOn (state new.registry)
+      → Opens (state new.registry) (state opened) next → ClosesALife base began.found items answers next
+  closed_is_a_life database opened base old new items answers next began handled clean closed opens =
+      let P : ℕ → Type 0 = λ b. ClosesALife b began.found items answers next in
+      subst P began.base_is (closes_leave_a_life state old new opened began.found next items answers clean began.begins
+      handled closed opens)
+
+  pub closed_plays_are_lives : (puts : List Answer → Type 0) → ClosedPlaysAreLives state puts
+  closed_plays_are_lives puts database opened base old new events next began done clean closed opens =
+      closed_is_a_life database opened base old.handler new.handler (items_of old.rest events) done.answered.answers
+      next began done.answered.handled clean closed opens
+
+  pub broken_closed_plays_are_lives : (breaks : List Answer → Answer → Type 0) → BrokenClosedPlaysAreLives state breaks
+  broken_closed_plays_are_lives breaks database opened base old new events event next began broken clean closed opens =
+      closed_is_a_life database opened base old.handler new.handler broken.items
+      (broken.answered.answers ++ broken.answered.last ∷ []) next began broken.answered.handled clean closed opens

@@ -10,7 +10,7 @@ use Rattle.gateway_core.specs.Calls.{Value}
 use Rattle.gateway_core.specs.Events.{Event, items_of, bytes_in}
 use Rattle.gateway_core.proofs.ForCallers.{count_on, items_behind, rest_behind}
 use Rattle.engines.specs.Outlets.{IsOutlet}
-use Rattle.engines.specs.Played.{IsIdle, Plays, PlaysPart, Breaks}
+use Rattle.engines.specs.Played.{IsIdle, Plays, PlaysPartAtEnd, Breaks}
 use Rattle.engines.specs.Taking.{Takes}
 use Rattle.engines.proofs.AnswerLemmas.{answers_nothing, answers-append, answers-part}
 
@@ -62,8 +62,8 @@ module _ {S : Type 0} (stored : S → Stored) {O : Type 0} (puts : O → O → L
 
   -- the same, of events that are known
   pub part_behind : (old mid new : Value S) (events more : List Event) (o mids now : O)
-      → Plays stored old mid events (puts o mids) → PlaysPart stored mid new more (breaks mids now)
-      → PlaysPart stored old new (events ++ more) (breaks o now)
+      → Plays stored old mid events (puts o mids) → PlaysPartAtEnd stored mid new more (breaks mids now)
+      → PlaysPartAtEnd stored old new (events ++ more) (breaks o now)
   part_behind old mid new events more o mids now first second = record {
     events = events ++ second.events;
     event = second.event;

@@ -9,8 +9,8 @@ use Rattle.engines.specs.Script.{script}
 use Rattle.byte_streams.specs.Counts.{Counts, OneFailed, OneEmpty}
 use Rattle.engines.specs.Written.{WritesAll, WritesPart}
 use Rattle.engines.specs.TextOutlet.{PutsText, BreaksText}
-use Rattle.engines.specs.Played.{Plays, PlaysClosed, PlaysPart, PlaysPartAtLine, Breaks}
-use Rattle.engines.specs.Replayed.{Replays, ReplaysClosed, ReplaysPart, ReplaysPartAtLine}
+use Rattle.engines.specs.Played.{Plays, PlaysClosed, PlaysPartAtEnd, PlaysPartAtLine, Breaks}
+use Rattle.engines.specs.Replayed.{Replays, ReplaysClosed, ReplaysPartAtEnd, ReplaysPartAtLine}
 
 pub wrong_at : {W : Type 0} (counts : W → Counts) (old sink writer : W) → writer ≡ sink
     → OneFailed (counts old) (counts sink) ⊎ OneEmpty (counts old) (counts sink)
@@ -59,7 +59,7 @@ module _ {S : Type 0} (stored : S → Stored) where
 
   part-weaker : (old new : Value S) (all : List Event) (P Q : List Answer → Answer → Type 0)
       → ((answers : List Answer) (last : Answer) → P answers last → Q answers last)
-      → PlaysPart stored old new all P → PlaysPart stored old new all Q
+      → PlaysPartAtEnd stored old new all P → PlaysPartAtEnd stored old new all Q
   part-weaker old new all P Q so p = record {
     events = p.events;
     event = p.event;
@@ -96,8 +96,8 @@ module _ {S : Type 0} (stored : S → Stored) where
         (λ answers out. out.text) p)
 
     pub part_at : (entry now gateway : Value S) (input : List ℕ) (old sink writer : W) → gateway ≡ now
-        → writer ≡ sink → PlaysPart stored entry now (script input) (BreaksText held counts old sink)
-        → ReplaysPart stored entry gateway input (held old) (held writer)
+        → writer ≡ sink → PlaysPartAtEnd stored entry now (script input) (BreaksText held counts old sink)
+        → ReplaysPartAtEnd stored entry gateway input (held old) (held writer)
     part_at entry now gateway input old sink writer e f p =
         rw (e, f) (part-weaker entry now (script input) (BreaksText held counts old sink)
         (WritesPart (held old) (held sink))

@@ -2,8 +2,8 @@
 use Rattle.std.specs.Prelude.{ℕ, List, [], ◌∷◌, ◌++◌, None}
 use Rattle.sqlite.specs.State.{State, HasCleanDisk}
 use Rattle.device_registry.specs.Devices.{Devices}
-use Rattle.device_registry.specs.Holding.{MayFind}
-use Rattle.gateway_core.specs.Beginnings.{LeavesALife}
+use Rattle.device_registry.specs.Holding.{HandsOn, MayFind, Opens}
+use Rattle.gateway_core.specs.Beginnings.{ClosesALife, LeavesALife}
 use Rattle.gateway_core.specs.Calls.{Value}
 use Rattle.gateway_core.specs.Events.{Event, items_of}
 use Rattle.gateway_core.specs.Step.{Answer}
@@ -29,3 +29,21 @@ module _ {C : Type 0} (state : C → State) where
       → HasCleanDisk (state new.handler.registry)
       → (left : Devices) → MayFind (state new.handler.registry) left
       → LeavesALife base began.found broken.items (broken.answered.answers ++ broken.answered.last ∷ []) None left
+
+  -- The life ends by `close`, and the next open finds what it leaves, which is what was known at its end.
+  abbrev pub ClosedPlaysAreLives : (puts : List Answer → Type 0) → Type 0
+  ClosedPlaysAreLives puts =
+      (database opened : C) (base : ℕ) (old new : Value C) (events : List Event) (next : Devices)
+      → (began : Starts state database base old.handler) → (done : Plays state old new events puts)
+      → HasCleanDisk (state new.handler.registry) → HandsOn (state new.handler.registry)
+      → Opens (state new.handler.registry) (state opened) next
+      → ClosesALife base began.found (items_of old.rest events) done.answered.answers next
+
+  -- the same where a write failed
+  abbrev pub BrokenClosedPlaysAreLives : (breaks : List Answer → Answer → Type 0) → Type 0
+  BrokenClosedPlaysAreLives breaks =
+      (database opened : C) (base : ℕ) (old new : Value C) (events : List Event) (event : Event) (next : Devices)
+      → (began : Starts state database base old.handler) → (broken : Breaks state old new events event breaks)
+      → HasCleanDisk (state new.handler.registry) → HandsOn (state new.handler.registry)
+      → Opens (state new.handler.registry) (state opened) next
+      → ClosesALife base began.found broken.items (broken.answered.answers ++ broken.answered.last ∷ []) next

@@ -5,7 +5,7 @@ use Rattle.gateway_core.specs.Calls.{Value}
 use Rattle.gateway_core.specs.Events.{Event}
 use Rattle.engines.specs.Script.{script}
 use Rattle.engines.specs.Written.{WritesAll, WritesPart}
-use Rattle.engines.specs.Played.{Plays, PlaysClosed, PlaysPart, PlaysPartAtLine}
+use Rattle.engines.specs.Played.{Plays, PlaysClosed, PlaysPartAtEnd, PlaysPartAtLine}
 
 module _ {S : Type 0} (stored : S → Stored) where
   -- the events' items, and nothing else, were handled, and the text of their answers was written
@@ -21,5 +21,5 @@ module _ {S : Type 0} (stored : S → Stored) where
   ReplaysPartAtLine old new input held now = PlaysPartAtLine stored old new input (WritesPart held now)
 
   -- a write failed at the last event of the input
-  abbrev pub ReplaysPart : Value S → Value S → List ℕ → Option (List ℕ) → Option (List ℕ) → Type 0
-  ReplaysPart old new input held now = PlaysPart stored old new (script input) (WritesPart held now)
+  abbrev pub ReplaysPartAtEnd : Value S → Value S → List ℕ → Option (List ℕ) → Option (List ℕ) → Type 0
+  ReplaysPartAtEnd old new input held now = PlaysPartAtEnd stored old new (script input) (WritesPart held now)

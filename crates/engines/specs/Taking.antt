@@ -6,7 +6,7 @@ use Rattle.json_lines.specs.Counts.{count_with}
 use Rattle.gateway_core.specs.Step.{Received, Answer}
 use Rattle.gateway_core.specs.Calls.{Value}
 use Rattle.gateway_core.specs.Events.{Event, items_of}
-use Rattle.engines.specs.Played.{Answers, AnswersPart, Plays, PlaysPart, Breaks}
+use Rattle.engines.specs.Played.{Answers, AnswersPart, Plays, PlaysPartAtEnd, Breaks}
 
 module _ {S : Type 0} (stored : S → Stored) where
   -- the packets that waited first were handled, and no others
@@ -35,7 +35,7 @@ module _ {S : Type 0} (stored : S → Stored) where
   abbrev pub TakesOrStops : {A E : Type 0} → Result A E → Value S → Value S → List Event
       → (List Answer → Type 0) → (List Answer → Answer → Type 0) → ℕ → ℕ → Type 0
   TakesOrStops result old new events puts breaks count total =
-      MatchResult result (λ _. Takes old new events puts count total) (λ _. PlaysPart stored old new events breaks)
+      MatchResult result (λ _. Takes old new events puts count total) (λ _. PlaysPartAtEnd stored old new events breaks)
 
   -- a call that takes one event: it does so at `Ok`, and breaks off at `Err`
   abbrev pub TakesOrBreaks : {A E : Type 0} → Result A E → Value S → Value S → Event

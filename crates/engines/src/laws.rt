@@ -1,6 +1,6 @@
 //! Laws of the definitions. Each function does nothing: its contract is the law.
 ghost use Rattle.std.specs.Prelude.{List, Option, ℕ};
-ghost use Rattle.engines.specs.Lived.{BrokenPlaysAreLives, PlaysAreLives};
+ghost use Rattle.engines.specs.Lived.{BrokenClosedPlaysAreLives, BrokenPlaysAreLives, ClosedPlaysAreLives, PlaysAreLives};
 ghost use Rattle.engines.specs.Wires.{BreaksWires, PutsWires};
 ghost use Rattle.engines.specs.Written.{WritesAll, WritesPart};
 
@@ -15,5 +15,16 @@ pub fn engines_leave_lives<R: Sink, D: Sink, C: SqlConnection>()
     ensures live { (serial serial_now : R) (desk desk_now : D) → PlaysAreLives C.state
         (PutsWires R.held R.counts D.held D.counts serial desk serial_now desk_now) }
     ensures broken_live { (serial serial_now : R) (desk desk_now : D) → BrokenPlaysAreLives C.state
+        (BreaksWires R.held R.counts D.held D.counts serial desk serial_now desk_now) }
+{}
+
+/// After `replay` or `live`, by a gateway that `start` made and that is closed then, what the next open finds is what
+/// such a life may leave, and it is what was known at its end.
+pub fn closed_engines_leave_lives<R: Sink, D: Sink, C: SqlConnection>()
+    ensures replay { (held now : Option (List ℕ)) → ClosedPlaysAreLives C.state (WritesAll held now) }
+    ensures broken_replay { (held now : Option (List ℕ)) → BrokenClosedPlaysAreLives C.state (WritesPart held now) }
+    ensures live { (serial serial_now : R) (desk desk_now : D) → ClosedPlaysAreLives C.state
+        (PutsWires R.held R.counts D.held D.counts serial desk serial_now desk_now) }
+    ensures broken_live { (serial serial_now : R) (desk desk_now : D) → BrokenClosedPlaysAreLives C.state
         (BreaksWires R.held R.counts D.held D.counts serial desk serial_now desk_now) }
 {}

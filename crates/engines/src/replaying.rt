@@ -5,7 +5,7 @@ ghost use Rattle.std.specs.Io.KnownBytes.{Consumes, IsAtEnd};
 ghost use Rattle.gateway_core.specs.Events.{items_of};
 ghost use Rattle.byte_streams.specs.Counts.{HasRoom, OneEmpty, OneFailed, WentWell};
 ghost use Rattle.engines.specs.Reads.{MakesReads};
-ghost use Rattle.engines.specs.Replayed.{Replays, ReplaysClosed, ReplaysPart, ReplaysPartAtLine};
+ghost use Rattle.engines.specs.Replayed.{Replays, ReplaysClosed, ReplaysPartAtEnd, ReplaysPartAtLine};
 ghost use Rattle.engines.specs.Script.{script};
 
 use crate::engine::Engine;
@@ -68,7 +68,7 @@ pub fn replay<R: Source, W: Sink, S: DeviceStore>(
         × ((WentWell (R.counts reader.old) (R.counts reader.new)
         × ReplaysPartAtLine S.stored gateway.old gateway.new input (W.held writer.old) (W.held writer.new))
         ⊎ (OneEmpty (R.counts reader.old) (R.counts reader.new) × IsAtEnd (R.left reader.new)
-        × ReplaysPart S.stored gateway.old gateway.new input (W.held writer.old) (W.held writer.new))) }
+        × ReplaysPartAtEnd S.stored gateway.old gateway.new input (W.held writer.old) (W.held writer.new))) }
 
     // How the reads and the writes went.
     ensures reads { MakesReads R.left R.counts reader.old reader.new turns }

@@ -1,13 +1,14 @@
 -- One life, from its calls.
-use Rattle.std.proofs.Common.{◌≡◌, inl, inr, sym, subst}
+use Rattle.std.proofs.Common.{◌≡◌, inl, inr, refl, sym, subst}
 use Rattle.sqlite.specs.State.{State as Stored}
 use Rattle.device_registry.specs.Devices.{Devices}
 use Rattle.device_registry.specs.Holding.{MayFind}
+use Rattle.device_registry.proofs.ForCallers.{handed_on}
 use Rattle.gateway_core.specs.Step.{change_of}
 use Rattle.gateway_core.specs.Stops.{Safe, pending, nothing_left, left_by}
 use Rattle.gateway_core.specs.Lives.{begun}
-use Rattle.gateway_core.specs.Beginnings.{CallsLeaveALife, StopsLeaveALife}
-use Rattle.gateway_core.proofs.StopLemmas.{safe-weaker, safe-pending}
+use Rattle.gateway_core.specs.Beginnings.{CallsLeaveALife, ClosesLeaveALife, StopsLeaveALife}
+use Rattle.gateway_core.proofs.StopLemmas.{safe-weaker, safe-pending, safe-last}
 
 module _ {S : Type 0} (stored : S → Stored) where
   pub calls_leave_a_life : CallsLeaveALife stored
@@ -37,3 +38,22 @@ module _ {S : Type 0} (stored : S → Stored) where
         | inr made ↦ subst (λ o. Safe Before (pending so_far went.last.devices o) left) (sym is) (inl (inl made))
       ] in
       record { fates = went.fates; last = went.last; is = record { run = went.run; safe = safe } }
+
+  pub closes_leave_a_life : ClosesLeaveALife stored
+  closes_leave_a_life old new opened found next items answers honest begins handles closed opens =
+      let went = handles.went honest (begun old.base found) begins.at in
+      let left = left_by nothing_left (begun old.base found) items went.fates in
+      let Before = λ (d : Devices). d ≡ found in
+      let itself : next ≡ went.last.devices =
+      handed_on stored new.registry opened went.last.devices next honest closed.committed went.at.2 opens in
+      let safe : Safe Before left went.last.devices =
+      safe-last Before nothing_left (begun old.base found) went.last items went.fates answers went.run
+      (inr (refl, refl)) in
+      record {
+        life = record {
+          fates = went.fates;
+          last = went.last;
+          is = record { run = went.run; safe = subst (Safe Before left) (sym itself) safe };
+        };
+        itself = itself;
+      }

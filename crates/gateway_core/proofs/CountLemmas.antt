@@ -27,7 +27,7 @@ unrefused state =
         reads = λ line. refl;
         admits = λ hears eep maker. refl;
         deletes = λ learning asks. refl;
-        refuses = λ hears line is. refl;
+        refuses = λ hears need line is. refl;
       };
       passes = refl;
       hears = λ response. refl;
@@ -52,7 +52,7 @@ packets-counted state packet =
         reads = λ line. refl;
         admits = λ hears eep maker. refl;
         deletes = λ learning asks. refl;
-        refuses = λ hears line is. refl;
+        refuses = λ hears need line is. refl;
       };
       passes = refl;
       hears = λ response. refl;
@@ -83,7 +83,7 @@ teach-counted state line packet =
         reads = λ read e. absurd (other-line (Reading read) line (λ never. never) e);
         admits = λ hears eep maker e. refl;
         deletes = λ learning asks e. refl;
-        refuses = λ hears line is e. refl;
+        refuses = λ hears need line is e. refl;
       };
       passes = λ e. absurd (no_line line e);
       hears = λ response e. absurd (other-line (ResponseLine response) line (λ never. never) e);
@@ -101,7 +101,7 @@ teach-told state packet =
         admits = λ hears eep maker e.
             (told_of (record { id = t.sender; eep = eep; maker = maker }) Accepted, append-nil _);
         deletes = λ learning asks e. (line_with t.sender (teach_in_of t) Deleted, append-nil _);
-        refuses = λ hears line is e. (line, append-nil _);
+        refuses = λ hears need line is e. (line, append-nil _);
       };
       passes = λ e. absurd cc;
       hears = λ response e. absurd cc;

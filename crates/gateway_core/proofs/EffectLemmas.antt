@@ -36,7 +36,7 @@ use Rattle.json_lines.specs.Lines.{Reading, StatusLine, ResponseLine, Error, Rea
 use Rattle.gateway_core.specs.Profiles.{readings_of}
 use Rattle.gateway_core.specs.Responses.{response_in}
 use Rattle.gateway_core.specs.Step.{State, Item, Received, Ordered, Effect, ignored, unread, unsaid}
-use Rattle.gateway_core.specs.Step.{counted_line, denied, sends_packet, telegram_sent, error_of}
+use Rattle.gateway_core.specs.Step.{Need, NeedsMemory, NeedsStore, counted_line, denied, sends_packet, telegram_sent, error_of}
 use Rattle.gateway_core.specs.Step.{sending_effect}
 use Rattle.gateway_core.specs.Step.{tells, sets, learns, forgets, tells_sender, accepts, deletes, line_with}
 use Rattle.gateway_core.specs.Step.{plan_effect}
@@ -88,12 +88,12 @@ is-refusal id kind outcome is = absurd is
 pub record OfTelegram (P : Effect → Type 0) (state : State) (t : Telegram) : Type 0 where
   pub ignores : P ignored
   pub looks : P unread
-  pub reads : (line : ReadingLine) → P (counted_line count.Reading (Reading line))
+  pub reads : (line : ReadingLine) → P (counted_line NeedsStore count.Reading (Reading line))
   pub admits : Hears state.mode (teach_in_of t) → (eep : Eep) (maker : Option ℕ)
       → P (accepts state (teach_in_of t) (record { id = t.sender; eep = eep; maker = maker }))
   pub deletes : LearnsByTold state.mode → AsksDeletion (teach_in_of t) → P (deletes state (teach_in_of t) t.sender)
-  pub refuses : Hears state.mode (teach_in_of t) → (line : TeachLine) → IsRefusal line.outcome
-      → P (tells_sender state (teach_in_of t) line)
+  pub refuses : Hears state.mode (teach_in_of t) → (need : Need) (line : TeachLine) → IsRefusal line.outcome
+      → P (record (tells_sender state (teach_in_of t) line) { need = need })
 
 module _ (P : Effect → Type 0) (state : State) (t : Telegram) (each : OfTelegram P state t) where
   of-reading : (eep : Eep) (readings : Option (List Entry)) → P (reading_effect t eep readings)
@@ -105,10 +105,10 @@ module _ (P : Effect → Type 0) (state : State) (t : Telegram) (each : OfTelegr
       of_plan (λ plan. P (plan_effect state t asked plan)) t state.mode known (record {
         silent = holds;
         adds = λ hears eep maker.
-            either P (is_full state.devices t.sender) _ _ (each.refuses hears _ tt) (each.admits hears eep maker);
+            either P (is_full state.devices t.sender) _ _ (each.refuses hears NeedsStore _ tt) (each.admits hears eep maker);
         forgets = λ told asks. each.deletes told asks;
         refuses = λ hears outcome is.
-            each.refuses hears (line_with t.sender (teach_in_of t) outcome)
+            each.refuses hears _ (line_with t.sender (teach_in_of t) outcome)
             (is-refusal t.sender (teach_in_of t) outcome is);
       })
 
@@ -138,7 +138,7 @@ module _ (P : Effect → Type 0) (state : State) (t : Telegram) (each : OfTelegr
 pub record OfPacket (P : Effect → Type 0) (state : State) (packet : Packet) : Type 0 where
   pub telegrams : (t : Telegram) → telegram_of packet ≡ Ok t → OfTelegram P state t
   pub passes : P ignored
-  pub hears : (response : Response) → P (counted_line count.Response (ResponseLine response))
+  pub hears : (response : Response) → P (counted_line NeedsMemory count.Response (ResponseLine response))
 
 -- an order that goes to devices has no other effect
 pub sends-effect : (state : State) (order : Order) → sends order ≡ true
@@ -157,11 +157,11 @@ sends-effect state order is = absurd cc
 -- it holds of each effect that a line may have
 pub record OfLine (P : Effect → Type 0) (state : State) : Type 0 where
   pub denies : (name : ErrorName) → P (denied name)
-  pub finds : (name : ErrorName) → P (tells (Error name ∷ []))
+  pub finds : (name : ErrorName) → P (tells NeedsStore (Error name ∷ []))
   pub opens : (mode : Mode) → P (sets mode)
   pub sends : (asked : Bool) (bytes : List ℕ) → P (sends_packet asked bytes)
-  pub lists : P (tells (listing (all_of state.devices)))
-  pub reports : P (tells (StatusLine state.counts state.mode ∷ []))
+  pub lists : P (tells NeedsStore (listing (all_of state.devices)))
+  pub reports : P (tells NeedsMemory (StatusLine state.counts state.mode ∷ []))
   pub adds : (known : Device) → P (learns known)
   pub drops : (known : Device) → device_of state.devices known.id ≡ Some known → P (forgets known)
 

@@ -1,6 +1,6 @@
 -- All lines that are too long are handled alike.
 use Rattle.std.proofs.Common.{◌≡◌, ℕ, ◌<◌, List, [], ◌∷◌, length, refl, ap, sym, subst, ◌∙◌}
-use Rattle.std.specs.Prelude.{if◌then◌else◌, IsTrue, IsSome}
+use Rattle.std.specs.Prelude.{if◌then◌else◌, IsSome}
 use Rattle.std.proofs.lemmas.Bool.{lt-ltb}
 use Rattle.sqlite.specs.State.{State as Stored}
 use Rattle.device_registry.specs.Holding.{MayFind}
@@ -8,7 +8,7 @@ use Rattle.json_lines.specs.Counts.{raised}
 use Rattle.json_lines.specs.declared.fixed.ErrorName.TheVariants.{TooLong}
 use Rattle.actuator_commands.specs.Orders.{order_of}
 use Rattle.gateway_core.specs.Step.{State, Item, Ordered, Answer, said, Effect, denied, order_effect, longest_line}
-use Rattle.gateway_core.specs.Step.{line_effect, effect, answer_by, with_change, with_mode}
+use Rattle.gateway_core.specs.Step.{Permits, line_effect, effect, answer_by, with_change, with_mode}
 use Rattle.gateway_core.specs.Run.{Fate, Taken, Refused, RefusedAtWrite, Run, cause_text, refused}
 use Rattle.gateway_core.specs.Stops.{Left, nothing_left, told, pending, left_by, Safe}
 use Rattle.gateway_core.specs.Handling.{HandlerValue, Went, Handles}
@@ -32,7 +32,7 @@ run_alike old new item other (Taken ∷ fates) (answer ∷ answers) e run =
       devices = with_change old.devices d.change;
     }) [] fates answers new in subst P e run
 run_alike old new item other (Refused cause ∷ fates) (answer ∷ answers) e run =
-    let P : Effect → Type 0 = λ d. IsTrue d.need × (answer ≡ said (cause_text cause))
+    let P : Effect → Type 0 = λ d. Permits d.need cause × (answer ≡ said (cause_text cause))
     × Run (refused old) [] fates answers new in subst P e run
 run_alike old new item other (RefusedAtWrite cause ∷ fates) (answer ∷ answers) e run =
     let P : Effect → Type 0 = λ d. IsSome d.change × (answer ≡ said (cause_text cause))

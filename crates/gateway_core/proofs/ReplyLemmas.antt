@@ -86,7 +86,7 @@ packet-replies state packet bytes =
                 let hears = subst (Hears state.mode) (sym asked) learning in
                 let line = line_with t.sender (teach_in_of t) Deleted in
                 (t, carried, line, append-nil _, replies line.outcome hears e);
-            refuses = λ hears line is e. (t, carried, line, append-nil _, replies line.outcome hears e);
+            refuses = λ hears need line is e. (t, carried, line, append-nil _, replies line.outcome hears e);
           };
       passes = λ e. absurd cc;
       hears = λ response e. absurd cc;

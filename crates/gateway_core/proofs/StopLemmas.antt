@@ -3,7 +3,7 @@ use Rattle.std.proofs.Common.{◌≡◌, ◌⊎◌, inl, inr, Bool, true, false,
 use Rattle.std.proofs.Common.{refl, sym, ap, subst, ◌∙◌}
 use Rattle.device_registry.specs.Devices.{Devices, changed}
 use Rattle.device_registry.specs.Devices.{Change}
-use Rattle.gateway_core.specs.Step.{State, Item, Answer, change_of}
+use Rattle.gateway_core.specs.Step.{State, Item, Answer, change_of, with_change}
 use Rattle.gateway_core.specs.Run.{Fate, Taken, Refused, RefusedAtWrite, state_with, Run}
 use Rattle.gateway_core.specs.Stops.{Left, nothing_left, told, pending, left_with, left_by, IsOneOf, Safe, SafeJoins}
 
@@ -99,3 +99,29 @@ pub safe-pending : (Before : Devices → Type 0) (left : Left) (known : Devices)
 safe-pending Before left known None devices safe = safe
 safe-pending Before left known (Some change) devices (inl one) = inl (inr one)
 safe-pending Before left known (Some change) devices (inr non) = inr non
+
+safe-told : (Before : Devices → Type 0) (left : Left) (known : Devices) (o : Option Change)
+    → Safe Before left known → Safe Before (told left known o) (with_change known o)
+safe-told Before left known None safe = safe
+safe-told Before left known (Some change) safe = inl (inl refl)
+
+safe-step : (Before : Devices → Type 0) (left : Left) (state : State) (item : Item) (fate : Fate)
+    → Safe Before left state.devices
+    → Safe Before (left_with left state item fate) (state_with state item fate).devices
+safe-step Before left state item Taken safe = safe-told Before left state.devices (change_of state item) safe
+safe-step Before left state item (Refused cause) safe = safe
+safe-step Before left state item (RefusedAtWrite cause) safe =
+    safe-pending Before left state.devices (change_of state item) state.devices safe
+
+-- what is known at the end is safe
+pub safe-last : (Before : Devices → Type 0) (left : Left) (start last : State) (items : List Item) (fates : List Fate)
+    (answers : List Answer) → Run start items fates answers last → Safe Before left start.devices
+    → Safe Before (left_by left start items fates) last.devices
+safe-last Before left start last [] [] [] run safe = subst (λ (s : State). Safe Before left s.devices) (sym run) safe
+safe-last Before left start last (item ∷ items) (fate ∷ fates) (answer ∷ answers) run safe =
+    safe-last Before (left_with left start item fate) (state_with start item fate) last items fates answers run.2
+    (safe-step Before left start item fate safe)
+safe-last Before left start last [] [] (answer ∷ answers) run safe = absurd run
+safe-last Before left start last [] (fate ∷ fates) answers run safe = absurd run
+safe-last Before left start last (item ∷ items) [] answers run safe = absurd run
+safe-last Before left start last (item ∷ items) (fate ∷ fates) [] run safe = absurd run

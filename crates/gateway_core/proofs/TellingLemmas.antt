@@ -19,7 +19,8 @@ use Rattle.json_lines.specs.Lines.{TeachLine, text, texts, listing}
 use Rattle.json_lines.proofs.ForCallers.{of_teach_lines}
 use Rattle.gateway_core.specs.Step.{State, Received, Ordered, Effect, told_of, tells_sender, accepts, deletes}
 use Rattle.gateway_core.specs.Step.{line_with, learns, forgets, packet_effect, line_effect}
-use Rattle.gateway_core.specs.Run.{Cause, Memory, Store, Taken, Refused, RefusedAtWrite, cause_text}
+use Rattle.gateway_core.specs.Step.{Cause, Memory, Store}
+use Rattle.gateway_core.specs.Run.{Taken, Refused, RefusedAtWrite, cause_text}
 use Rattle.gateway_core.specs.Telling.{IsDeleted, Tells, ChangesAreTold, TeachLinesAreTold}
 use Rattle.gateway_core.proofs.EffectLemmas.{IsRefusal, of_packet, of_line}
 
@@ -114,7 +115,7 @@ packet-tells state line packet =
             let known : Device = record { id = t.sender; eep = eep; maker = maker } in
             told Gone line (accepts state (teach_in_of t) known) known Accepted e (λ is. (known, is, refl));
         deletes = λ learning asks e. deleted-tells state packet t line carried asks e;
-        refuses = λ hears other is e.
+        refuses = λ hears need other is e.
             subst (Tells Gone (tells_sender state (teach_in_of t) other) line) (same-outcome other line e)
             (refused-tells Gone state (teach_in_of t) other line other.outcome is);
       };
@@ -172,7 +173,7 @@ packet-answers state packet =
             let known : Device = record { id = t.sender; eep = eep; maker = maker } in
             (told_of known Accepted, append-nil _, (known, refl, refl));
         deletes = λ learning asks. deleted-answers state packet t carried asks;
-        refuses = λ hears line is change e. absurd cc;
+        refuses = λ hears need line is change e. absurd cc;
       };
       passes = λ change e. absurd cc;
       hears = λ response change e. absurd cc;

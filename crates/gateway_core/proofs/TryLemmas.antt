@@ -1,5 +1,5 @@
 -- One item, done or refused.
-use Rattle.std.proofs.Common.{◌<◌, ◌≡◌, inl, inr, ℕ, ◌≤◌, ◌+◌, ◌-◌, Bool, true, false, cond, IsTrue}
+use Rattle.std.proofs.Common.{◌<◌, ◌≡◌, inl, inr, ℕ, ◌≤◌, ◌+◌, ◌-◌, Bool, true, false, cond}
 use Rattle.std.proofs.Common.{IsSome, List, []}
 use Rattle.std.proofs.Common.{◌∷◌, length, Option, Some, None, Result, Ok, Err, refl, sym, ap, subst, ◌∙◌, arith}
 use Rattle.std.proofs.Common.{append-nil}
@@ -46,7 +46,8 @@ use Rattle.gateway_core.specs.Step.{if_supported, sets, denied, accepts, told_of
 use Rattle.gateway_core.specs.Step.{answer_by, telegram_sent}
 use Rattle.gateway_core.specs.Profiles.{readings_of}
 use Rattle.gateway_core.specs.Refusals.{cause_of}
-use Rattle.gateway_core.specs.Run.{cause_text, Cause, Taken, Refused, RefusedAtWrite, refused}
+use Rattle.gateway_core.specs.Step.{Cause, Memory, Need, NeedsMemory, NeedsStore, Permits}
+use Rattle.gateway_core.specs.Run.{cause_text, Taken, Refused, RefusedAtWrite, refused}
 use Rattle.gateway_core.specs.Stops.{nothing_left, told, pending, Safe}
 use Rattle.gateway_core.specs.Handling.{HandlerValue, Went, Handles}
 use Rattle.gateway_core.specs.Tries.{state_of, Gives, IsMade, IsPending, Comes, Tries, answer_from, counts_from}
@@ -118,16 +119,25 @@ keeps-full old new it devices full pends = record {
   ];
 }
 
--- ---- what takes the store
+-- ---- what needs the store, which may be refused for either cause
 
-pub addition-need : (devices : Devices) (known : Device) (full done : Effect) → IsTrue full.need → IsTrue done.need
-    → IsTrue (addition devices known full done).need
+pub permitted : (need : Need) (cause : Cause) → need ≡ NeedsStore → Permits need cause
+permitted need cause is = subst (λ n. Permits n cause) (sym is) tt
+
+-- whether the store was asked or not, want of memory may refuse what takes memory
+pub permits-memory : (asked : Bool) → Permits (if asked then NeedsStore else NeedsMemory) Memory
+permits-memory true = tt
+permits-memory false = tt
+
+pub addition-need : (devices : Devices) (known : Device) (full done : Effect) → full.need ≡ NeedsStore
+    → done.need ≡ NeedsStore → (addition devices known full done).need ≡ NeedsStore
 addition-need devices known full done first second =
-    either (λ (e : Effect). IsTrue e.need) (is_full devices known.id) full done first second
+    either (λ (e : Effect). e.need ≡ NeedsStore) (is_full devices known.id) full done first second
 
-pub plan-need : (state : State) (t : Telegram) → IsTrue (plan_effect state t true (plan_of t state.mode false)).need
+pub plan-need : (state : State) (t : Telegram)
+    → (plan_effect state t true (plan_of t state.mode false)).need ≡ NeedsStore
 plan-need state t =
-    of_plan (λ plan. IsTrue (plan_effect state t true plan).need) t state.mode false (record {
+    of_plan (λ plan. (plan_effect state t true plan).need ≡ NeedsStore) t state.mode false (record {
       silent = refl;
       adds = λ hears eep maker.
           addition-need state.devices (record { id = t.sender; eep = eep; maker = maker }) _ _ refl refl;
@@ -136,20 +146,21 @@ plan-need state t =
     })
 
 pub data-need : (state : State) (t : Telegram) (known : Option Device)
-    → IsTrue (case_effect state t (data_case known)).need
+    → (case_effect state t (data_case known)).need ≡ NeedsStore
 data-need state t None = plan-need state t
 data-need state t (Some known) = one (readings_of known.eep t)
   where
-    one : (readings : Option (List Entry)) → IsTrue (reading_effect t known.eep readings).need
+    one : (readings : Option (List Entry)) → (reading_effect t known.eep readings).need ≡ NeedsStore
     one None = refl
     one (Some readings) = refl
 
-pub telegram-need : (telegram : Option (Result Telegram OrderFault)) → IsTrue (telegram_sent true telegram).need
+pub telegram-need : (telegram : Option (Result Telegram OrderFault))
+    → (telegram_sent true telegram).need ≡ NeedsStore
 telegram-need (Some (Ok t)) = refl
 telegram-need (Some (Err fault)) = refl
 telegram-need None = refl
 
-pub removal-need : (known : Option Device) → IsTrue (removal known).need
+pub removal-need : (known : Option Device) → (removal known).need ≡ NeedsStore
 removal-need None = refl
 removal-need (Some known) = refl
 
@@ -180,17 +191,17 @@ refused-gives done state t kind id line outcome is sent_by told =
 
 -- what comes of a device that is to be learned: where the registry is full, and where it is not
 pub record Adds (known : Device) (full done : Effect) : Type 0 where
-  pub full_needs : IsTrue full.need
+  pub full_needs : full.need ≡ NeedsStore
   pub stays : full.change ≡ None
-  pub done_needs : IsTrue done.need
+  pub done_needs : done.need ≡ NeedsStore
   pub learns : done.change ≡ Some (learned known)
 
 -- what comes of a sender that is to be forgotten
 pub record Drops (id : ℕ) (done : Effect) : Type 0 where
-  pub needs : IsTrue done.need
+  pub needs : done.need ≡ NeedsStore
   pub forgets : done.change ≡ Some (forgotten id)
 
-pub by-desk : (known : Device) → Adds known (tells (Error error.Full ∷ [])) (learns known)
+pub by-desk : (known : Device) → Adds known (tells NeedsStore (Error error.Full ∷ [])) (learns known)
 by-desk known = record { full_needs = refl; stays = refl; done_needs = refl; learns = refl }
 
 pub by-radio : (state : State) (kind : Teach) (known : Device)
@@ -207,12 +218,13 @@ module _ {S : Type 0} (stored : S → Stored) where
       keeps-after (stored old) (stored mid) (stored new) devices keeps made
   made-after old mid new devices (Some change) keeps made = made
 
-  pending-after : (old mid new : S) (devices : Devices) (need : Bool) (change : Option Change)
-      → Keeps (stored old) (stored mid) devices → IsPending stored mid new devices need change
-      → IsPending stored old new devices need change
-  pending-after old mid new devices need None keeps (needed, kept) =
+  pending-after : (old mid new : S) (devices : Devices) (need : Need) (cause : Cause)
+      (change : Option Change)
+      → Keeps (stored old) (stored mid) devices → IsPending stored mid new devices need cause change
+      → IsPending stored old new devices need cause change
+  pending-after old mid new devices need cause None keeps (needed, kept) =
       (needed, keeps-after (stored old) (stored mid) (stored new) devices keeps kept)
-  pending-after old mid new devices need (Some change) keeps pends =
+  pending-after old mid new devices need cause (Some change) keeps pends =
       pends-after (stored old) (stored mid) (stored new) change devices keeps pends
 
   pub comes-after : (old mid new : S) (devices : Devices) (effect : Effect) (r : Result Done Refusal)
@@ -223,7 +235,7 @@ module _ {S : Type 0} (stored : S → Stored) where
   comes-after old mid new devices effect (Err (Before cause)) keeps (needed, kept) =
       (needed, keeps-after (stored old) (stored mid) (stored new) devices keeps kept)
   comes-after old mid new devices effect (Err (AtWrite cause)) keeps pending =
-      pending-after old mid new devices effect.need effect.change keeps pending
+      pending-after old mid new devices effect.need (cause_of cause) effect.change keeps pending
 
   -- ---- an item that is tried
 
@@ -356,22 +368,23 @@ module _ {S : Type 0} (stored : S → Stored) where
 
   -- a change that is refused
   refused-comes : (old new : S) (devices : Devices) (effect : Effect) (change : Change) (refusal : Refusal)
-      → IsTrue effect.need → effect.change ≡ Some change → IsRefused stored old new devices change refusal
+      → effect.need ≡ NeedsStore → effect.change ≡ Some change → IsRefused stored old new devices change refusal
       → Comes stored old new devices effect (Err refusal)
-  refused-comes old new devices effect change (Before cause) need changes keeps = (need, keeps)
+  refused-comes old new devices effect change (Before cause) need changes keeps =
+      (permitted effect.need (cause_of cause) need, keeps)
   refused-comes old new devices effect change (AtWrite cause) need changes pends = rw changes pends
 
   -- a device is not learned: the write was tried, though the registry is full perhaps
   addition-pending : (old new : S) (devices : Devices) (known : Device) (full done : Effect) → Adds known full done
-      → Pends (stored old) (stored new) (learned known) devices
-      → IsPending stored old new devices (addition devices known full done).need
+      → (cause : Cause) → Pends (stored old) (stored new) (learned known) devices
+      → IsPending stored old new devices (addition devices known full done).need cause
       (addition devices known full done).change
-  addition-pending old new devices known full done adds pends = one (is_full devices known.id) refl
+  addition-pending old new devices known full done adds cause pends = one (is_full devices known.id) refl
     where
       one : (b : Bool) → is_full devices known.id ≡ b
-          → let e : Effect = if b then full else done in IsPending stored old new devices e.need e.change
+          → let e : Effect = if b then full else done in IsPending stored old new devices e.need cause e.change
       one true is =
-          rw adds.stays (adds.full_needs, keeps-full (stored old) (stored new) known devices is pends)
+          rw adds.stays (permitted full.need cause adds.full_needs, keeps-full (stored old) (stored new) known devices is pends)
       one false is = rw adds.learns pends
 
   module _ (old new : HandlerValue S) (known : Device) (full done : State → Effect)
@@ -381,12 +394,15 @@ module _ {S : Type 0} (stored : S → Stored) where
     tries-refused (Before cause) enters =
         tries-registry old new _ _ _ enters.alone
         (λ devices keeps.
-        let all = adds devices in (addition-need devices known _ _ all.full_needs all.done_needs, keeps))
+        let all = adds devices in (
+          permitted _ (cause_of cause) (addition-need devices known _ _ all.full_needs all.done_needs),
+          keeps,
+        ))
     tries-refused (AtWrite cause) enters =
         tries-registry old new _ _ _ enters.alone
         (λ devices pends.
         addition-pending old.registry new.registry devices known (full (state_of old devices))
-        (done (state_of old devices)) (adds devices) pends)
+        (done (state_of old devices)) (adds devices) (cause_of cause) pends)
 
     pub tries-full : (told : Done) → Enters stored old known (Ok None) new
         → ((devices : Devices) → Gives told (full (state_of new devices)))
@@ -403,7 +419,10 @@ module _ {S : Type 0} (stored : S → Stored) where
     tries-untold cause enters =
         tries-registry old new _ _ _ enters.alone
         (λ devices (is, keeps).
-        let all = adds devices in (addition-need devices known _ _ all.full_needs all.done_needs, keeps))
+        let all = adds devices in (
+          permitted _ (cause_of cause) (addition-need devices known _ _ all.full_needs all.done_needs),
+          keeps,
+        ))
 
     pub tries-entered : (committed : Committed) (told : Done) → Enters stored old known (Ok (Some committed)) new
         → ((devices : Devices) → Gives told (done (state_of new devices)))
@@ -481,7 +500,7 @@ module _ {S : Type 0} (stored : S → Stored) where
   at_write-went : (old new : HandlerValue S) (start : State) (item : Item) (cause : Cause) (change : Option Change)
       → change_of start item ≡ change → new.base ≡ start.base → new.mode ≡ start.mode
       → new.counts ≡ (refused start).counts
-      → IsPending stored old.registry new.registry start.devices (needs start item) change
+      → IsPending stored old.registry new.registry start.devices (needs start item) cause change
       → Went stored old start (item ∷ []) (said (cause_text cause) ∷ []) new
   at_write-went old new start item cause None asks base mode counts (need, keeps) = record {
     fates = Refused cause ∷ [];

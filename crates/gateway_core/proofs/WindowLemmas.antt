@@ -57,7 +57,7 @@ packet-changes state packet =
             let learning = hears-open state.mode (teach_in_of t) hears in
             inl (t, carried, known, refl, refl, not-closed state.mode learning, hears, refl);
         deletes = λ learning asks. inr (inl (t, carried, asks, refl, learning, refl));
-        refuses = λ hears line is. inr (inr (refl, refl));
+        refuses = λ hears need line is. inr (inr (refl, refl));
       };
       passes = inr (inr (refl, refl));
       hears = λ response. inr (inr (refl, refl));

@@ -2,7 +2,7 @@
 use Rattle.std.specs.Prelude.{◌≡◌, ℕ, List, Option, Some, None}
 use Rattle.sqlite.specs.State.{State as Stored, HasCleanDisk}
 use Rattle.device_registry.specs.Devices.{Devices, Change}
-use Rattle.device_registry.specs.Holding.{HasDevices, MayFind, MayLeave}
+use Rattle.device_registry.specs.Holding.{HandsOn, HasDevices, MayFind, MayLeave, Opens}
 use Rattle.gateway_core.specs.Step.{State, Item, Answer, change_of}
 use Rattle.gateway_core.specs.Run.{Fate}
 use Rattle.gateway_core.specs.Handling.{HandlerValue, IsAt, Handles}
@@ -23,6 +23,12 @@ pub record LeavesALife (base : ℕ) (found : Devices) (items : List Item) (answe
     stopped = stopped;
     left = left;
   })
+
+-- a life that found these devices, handled these items and was closed leaves these: what is known at its end
+pub record ClosesALife (base : ℕ) (found : Devices) (items : List Item) (answers : List Answer) (left : Devices)
+    : Type 0 where
+  pub life : LeavesALife base found items answers None left
+  pub itself : left ≡ life.last.devices
 
 module _ {S : Type 0} (stored : S → Stored) where
   -- a life begins: the gateway knows what was found, and a stop leaves that and nothing else
@@ -48,3 +54,11 @@ module _ {S : Type 0} (stored : S → Stored) where
       → ((devices : Devices) → HasDevices (stored new.registry) devices
       → MayLeave (stored new.registry) (stored within) change devices)
       → (left : Devices) → MayFind (stored within) left → LeavesALife old.base found items answers (Some item) left
+
+  -- what an open finds on the connection that was closed and handed on is what a life that is closed leaves
+  abbrev pub ClosesLeaveALife : Type 0
+  ClosesLeaveALife =
+      (old new : HandlerValue S) (opened : S) (found next : Devices) (items : List Item) (answers : List Answer)
+      → HasCleanDisk (stored new.registry) → BeginsAt old found → Handles stored old items answers new
+      → HandsOn (stored new.registry) → Opens (stored new.registry) (stored opened) next
+      → ClosesALife old.base found items answers next

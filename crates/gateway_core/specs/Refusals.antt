@@ -4,7 +4,7 @@ use Rattle.device_registry.specs.declared.fault.StoreFault.{StoreFault}
 use Rattle.gateway_core.specs.declared.refusal.Cause as told
 use Rattle.gateway_core.specs.declared.refusal.Refusal.{Refusal}
 use Rattle.gateway_core.specs.declared.refusal.Refusal.TheVariants.{Before, AtWrite}
-use Rattle.gateway_core.specs.Run.{Cause, Memory, Store}
+use Rattle.gateway_core.specs.Step.{Cause, Memory, Store}
 
 -- what the registry answered
 abbrev pub as_told : StoreFault → told.Cause

@@ -1,15 +1,11 @@
 -- What the gateway does with many items, of which some may be refused.
-use Rattle.std.specs.Prelude.{◌≡◌, IsTrue, IsSome, ℕ, ◌+◌, ◌^◌, ◌<◌, List, [], ◌∷◌, map, Option, Some, None}
+use Rattle.std.specs.Prelude.{◌≡◌, IsSome, ℕ, ◌+◌, ◌^◌, ◌<◌, List, [], ◌∷◌, map, Option, Some, None}
 use Rattle.json_lines.specs.declared.counts.Count.TheVariants as count
 use Rattle.json_lines.specs.declared.fixed.ErrorName.TheVariants as error
 use Rattle.json_lines.specs.Counts.{counted, count_with}
 use Rattle.json_lines.specs.Lines.{Error, text}
 use Rattle.gateway_core.specs.Step.{State, Item, Answer, said, answer_to, change_of, needs, state_after}
-
--- what an item is refused for: there was no memory, or the store of the registry refused
-pub data Cause : Type 0 where
-  Memory : Cause
-  Store : Cause
+use Rattle.gateway_core.specs.Step.{Cause, Memory, Store, Permits}
 
 -- an item is taken, or it is refused before its write to the registry, or at that write
 pub data Fate : Type 0 where
@@ -20,7 +16,7 @@ pub data Fate : Type 0 where
 -- the fates that an item may have
 abbrev pub Allows : State → Item → Fate → Type 0
 Allows state item Taken = Unit {0}
-Allows state item (Refused cause) = IsTrue (needs state item)
+Allows state item (Refused cause) = Permits (needs state item) cause
 Allows state item (RefusedAtWrite cause) = IsSome (change_of state item)
 
 abbrev pub cause_text : Cause → List ℕ

@@ -57,20 +57,36 @@ pub data Item : Type 0 where
   Received : (packet : Packet) → Item
   Ordered : (line : List ℕ) → Item
 
+-- what an item is refused for: there was no memory, or the store of the registry refused
+pub data Cause : Type 0 where
+  Memory : Cause
+  Store : Cause
+
+-- what an item needs that can be wanting: nothing, memory alone, or the store, which needs memory too
+pub data Need : Type 0 where
+  NeedsNothing : Need
+  NeedsMemory : Need
+  NeedsStore : Need
+
+-- what such an item may be refused for
+abbrev pub Permits : Need → Cause → Type 0
+Permits NeedsStore cause = Unit {0}
+Permits NeedsMemory Memory = Unit {0}
+Permits need cause = ⊥
+
 -- what comes of an item that is taken: what is sent by radio, if anything, the lines that the desk is told, the count
--- that is raised, the change of what is learned and the mode that is set, if any, and whether it needs memory or the
--- store
+-- that is raised, the change of what is learned and the mode that is set, if any, and what it needs
 pub record Effect : Type 0 where
   pub radio : Option (List ℕ)
   pub desk : List DeskLine
   pub count : Option Count
   pub change : Option Change
   pub mode : Option Mode
-  pub need : Bool
+  pub need : Need
 
 -- nothing comes of it
 abbrev pub nothing : Effect
-nothing = record { radio = None; desk = []; count = None; change = None; mode = None; need = false }
+nothing = record { radio = None; desk = []; count = None; change = None; mode = None; need = NeedsNothing }
 
 -- what comes of a device that is to be learned: the first, where as many others are learned as can be, and else the
 -- second
@@ -83,10 +99,14 @@ told_of known outcome = record { eep = Some known.eep; id = known.id; maker = kn
 
 -- ---- a packet
 
+-- what is needed where the store was asked, or was not
+abbrev pub need_if : Bool → Need
+need_if asked = if asked then NeedsStore else NeedsNothing
+
 -- A packet of which the desk is told nothing. The counts are own choice: each packet raises just one. The store was
 -- asked for its sender, or it was not.
 abbrev pub unsaid : Bool → Effect
-unsaid asked = record nothing { count = Some count.Ignored; need = asked }
+unsaid asked = record nothing { count = Some count.Ignored; need = need_if asked }
 
 abbrev pub ignored : Effect
 ignored = unsaid false
@@ -95,8 +115,8 @@ abbrev pub unread : Effect
 unread = unsaid true
 
 -- the desk is told a line
-abbrev pub counted_line : Count → DeskLine → Effect
-counted_line count line = record nothing { desk = line ∷ []; count = Some count; need = true }
+abbrev pub counted_line : Need → Count → DeskLine → Effect
+counted_line need count line = record nothing { desk = line ∷ []; count = Some count; need = need }
 
 -- what a telegram is: the first of these five cases. Own choice
 pub data Case : Type 0 where
@@ -131,7 +151,7 @@ case_of state t =
 abbrev pub reading_effect : Telegram → Eep → Option (List Entry) → Effect
 reading_effect t eep None = unread
 reading_effect t eep (Some readings) =
-    counted_line count.Reading
+    counted_line NeedsStore count.Reading
     (Reading (record { dbm = t.dbm; eep = eep; id = t.sender; readings = readings }))
 
 -- the reply that is sent by radio where this comes of a telegram's sender, if it gets one: a query of universal
@@ -145,10 +165,10 @@ reply_of base mode kind outcome = None
 abbrev pub radio_of : Option Telegram → Option (List ℕ)
 radio_of = option_map (λ t. spelling (sent t))
 
--- what came of a telegram's sender is told to the desk, and replied to it
+-- what came of a telegram's sender, for which the store was asked, is told to the desk, and replied to it
 abbrev pub tells_sender : State → Teach → TeachLine → Effect
 tells_sender state kind line =
-    record (counted_line count.Teach (TeachOf line)) {
+    record (counted_line NeedsStore count.Teach (TeachOf line)) {
       radio = radio_of (reply_of state.base state.mode kind line.outcome);
     }
 
@@ -187,7 +207,9 @@ plan_effect state t asked (Add known) =
     (accepts state (teach_in_of t) known)
 plan_effect state t asked (Forget id) = deletes state (teach_in_of t) id
 plan_effect state t asked (Refuse outcome) =
-    tells_sender state (teach_in_of t) (line_with t.sender (teach_in_of t) outcome)
+    record (tells_sender state (teach_in_of t) (line_with t.sender (teach_in_of t) outcome)) {
+      need = if asked then NeedsStore else NeedsMemory;
+    }
 
 -- whether a sender is learned
 abbrev pub is_learned : Devices → ℕ → Bool
@@ -205,7 +227,7 @@ telegram_effect state t = case_effect state t (case_of state t)
 
 -- a packet is a response, or has a telegram, or is ignored. Own choice
 abbrev pub packet_by : State → Option Response → Result Telegram TelegramFault → Effect
-packet_by state (Some response) telegram = counted_line count.Response (ResponseLine response)
+packet_by state (Some response) telegram = counted_line NeedsMemory count.Response (ResponseLine response)
 packet_by state None (Ok t) = telegram_effect state t
 packet_by state None (Err fault) = ignored
 
@@ -220,24 +242,24 @@ denied name = record nothing { desk = Error name ∷ [] }
 
 -- a packet is sent; the store was asked for a device, or it was not
 abbrev pub sends_packet : Bool → List ℕ → Effect
-sends_packet asked bytes = record nothing { radio = Some bytes; desk = Done ∷ []; need = asked }
+sends_packet asked bytes = record nothing { radio = Some bytes; desk = Done ∷ []; need = need_if asked }
 
 -- the mode is set
 abbrev pub sets : Mode → Effect
 sets mode = record nothing { desk = Done ∷ []; mode = Some mode }
 
 -- the desk is told some lines, and nothing else comes of it
-abbrev pub tells : List DeskLine → Effect
-tells lines = record nothing { desk = lines; need = true }
+abbrev pub tells : Need → List DeskLine → Effect
+tells need lines = record nothing { desk = lines; need = need }
 
 abbrev pub learns : Device → Effect
-learns known = record (tells (TeachOf (told_of known Accepted) ∷ [])) { change = Some (learned known) }
+learns known = record (tells NeedsStore (TeachOf (told_of known Accepted) ∷ [])) { change = Some (learned known) }
 
 abbrev pub forgets : Device → Effect
-forgets known = record (tells (TeachOf (told_of known Deleted) ∷ [])) { change = Some (forgotten known.id) }
+forgets known = record (tells NeedsStore (TeachOf (told_of known Deleted) ∷ [])) { change = Some (forgotten known.id) }
 
 abbrev pub removal : Option Device → Effect
-removal None = tells (Error error.UnknownDevice ∷ [])
+removal None = tells NeedsStore (Error error.UnknownDevice ∷ [])
 removal (Some known) = forgets known
 
 -- the effect of an order that names a profile, where that is supported
@@ -254,8 +276,8 @@ error_of WrongProfile = error.WrongProfile
 -- that of no order: each that comes here has a telegram or a fault.
 abbrev pub telegram_sent : Bool → Option (Result Telegram OrderFault) → Effect
 telegram_sent asked (Some (Ok t)) = sends_packet asked (spelling (sent t))
-telegram_sent asked (Some (Err fault)) = record (denied (error_of fault)) { need = asked }
-telegram_sent asked None = record nothing { need = asked }
+telegram_sent asked (Some (Err fault)) = record (denied (error_of fault)) { need = need_if asked }
+telegram_sent asked None = record nothing { need = need_if asked }
 
 -- what is known of the device that an order goes to
 abbrev pub known_of : Devices → Option ℕ → Option Device
@@ -281,10 +303,10 @@ order_effect state (Ok (order.LearnAs eep)) = if_supported eep (sets (LearnAs ee
 order_effect state (Ok LearnOff) = sets Closed
 order_effect state (Ok (order.Add id eep)) =
     let known : Device = record { id = id; eep = eep; maker = None } in
-    if_supported eep (addition state.devices known (tells (Error error.Full ∷ [])) (learns known))
+    if_supported eep (addition state.devices known (tells NeedsStore (Error error.Full ∷ [])) (learns known))
 order_effect state (Ok (Remove id)) = removal (device_of state.devices id)
-order_effect state (Ok ListAll) = tells (listing (all_of state.devices))
-order_effect state (Ok Status) = tells (StatusLine state.counts state.mode ∷ [])
+order_effect state (Ok ListAll) = tells NeedsStore (listing (all_of state.devices))
+order_effect state (Ok Status) = tells NeedsMemory (StatusLine state.counts state.mode ∷ [])
 order_effect state (Ok Base) = sends_packet false (spelling base_query)
 order_effect state (Ok order) = sending_effect state order
 
@@ -329,8 +351,8 @@ change_of state item = (effect state item).change
 abbrev pub mode_set : State → Item → Option Mode
 mode_set state item = (effect state item).mode
 
--- the items that need memory or the store
-abbrev pub needs : State → Item → Bool
+-- what an item needs that can be wanting
+abbrev pub needs : State → Item → Need
 needs state item = (effect state item).need
 
 abbrev pub with_change : Devices → Option Change → Devices

@@ -1,5 +1,5 @@
 -- For private clauses: what comes of an item that is tried.
-use Rattle.std.specs.Prelude.{◌≡◌, ℕ, Bool, true, false, IsTrue, IsSome, Option, Some, None, Result, Ok, Err}
+use Rattle.std.specs.Prelude.{◌≡◌, ℕ, true, false, IsSome, Option, Some, None, Result, Ok, Err}
 use Rattle.sqlite.specs.State.{State as Stored, HasCleanDisk}
 use Rattle.learned_devices.specs.declared.Device.{Device}
 use Rattle.device_registry.specs.Devices.{Devices, Change, is_full, learned, forgotten}
@@ -19,8 +19,8 @@ use Rattle.gateway_core.specs.declared.refusal.Refusal.{Refusal}
 use Rattle.gateway_core.specs.declared.refusal.Refusal.TheVariants.{Before, AtWrite}
 use Rattle.json_lines.specs.Counts.{counted, raised}
 use Rattle.json_lines.specs.Lines.{Teach as TeachOf, TeachLine, text}
-use Rattle.gateway_core.specs.Step.{State, Answer, said, Effect, answer_by, told_of, with_mode}
-use Rattle.gateway_core.specs.Refusals.{cause_in}
+use Rattle.gateway_core.specs.Step.{State, Answer, said, Effect, answer_by, told_of, with_mode, Cause, Need, Permits}
+use Rattle.gateway_core.specs.Refusals.{cause_in, cause_of}
 use Rattle.gateway_core.specs.Run.{cause_text}
 use Rattle.gateway_core.specs.Replies.{answer_of}
 use Rattle.gateway_core.specs.Handling.{HandlerValue}
@@ -40,16 +40,16 @@ module _ {S : Type 0} (stored : S → Stored) (old new : S) (devices : Devices) 
   IsMade None = Keeps (stored old) (stored new) devices
   IsMade (Some change) = Commits (stored new) change devices
 
-  -- what takes memory or the store was refused at its write; where nothing was to be written, nothing is
-  abbrev pub IsPending : Bool → Option Change → Type 0
-  IsPending need None = IsTrue need × Keeps (stored old) (stored new) devices
-  IsPending need (Some change) = Pends (stored old) (stored new) change devices
+  -- what may be refused for this cause was, at its write; where nothing was to be written, nothing is
+  abbrev pub IsPending : Need → Cause → Option Change → Type 0
+  IsPending need cause None = Permits need cause × Keeps (stored old) (stored new) devices
+  IsPending need cause (Some change) = Pends (stored old) (stored new) change devices
 
   -- the effect comes, or it is refused
   abbrev pub Comes : Effect → Result Done Refusal → Type 0
   Comes effect (Ok done) = Gives done effect × IsMade effect.change
-  Comes effect (Err (Before cause)) = IsTrue effect.need × Keeps (stored old) (stored new) devices
-  Comes effect (Err (AtWrite cause)) = IsPending effect.need effect.change
+  Comes effect (Err (Before cause)) = Permits effect.need (cause_of cause) × Keeps (stored old) (stored new) devices
+  Comes effect (Err (AtWrite cause)) = IsPending effect.need (cause_of cause) effect.change
 
 -- the effect, by what the handler knows, comes or is refused; it is not counted yet, nor is its mode set
 pub record Tries {S : Type 0} (stored : S → Stored) (old : HandlerValue S) (effect : State → Effect)

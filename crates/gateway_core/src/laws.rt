@@ -1,8 +1,9 @@
 //! Laws of the definitions, and of every gateway. Each function does nothing: its contract is the law.
 ghost use Rattle.std.specs.Prelude.{◌≡◌, ℕ, List, [], ◌++◌};
 ghost use Rattle.esp3_frames.specs.Frames.{packets_in, rest_of};
+ghost use Rattle.device_registry.specs.Devices.{Devices};
 ghost use Rattle.device_registry.specs.Holding.{MayFind};
-ghost use Rattle.gateway_core.specs.Beginnings.{CallsLeaveALife, StopsLeaveALife};
+ghost use Rattle.gateway_core.specs.Beginnings.{CallsLeaveALife, ClosesLeaveALife, StopsLeaveALife};
 ghost use Rattle.gateway_core.specs.Calls.{CallsAreARun};
 ghost use Rattle.gateway_core.specs.Counting.{TakenAreCounted};
 ghost use Rattle.gateway_core.specs.Events.{CutsAreAnsweredAlike, CutsDoNotMatter, Event, brought, bytes_in, items_of};
@@ -11,7 +12,7 @@ ghost use Rattle.gateway_core.specs.Lives.{LivesKeep};
 ghost use Rattle.gateway_core.specs.Prefixes.{LeftIsPrefix, SafeIsPrefix, ToldStandBefore};
 ghost use Rattle.gateway_core.specs.Run.{RefusalsAreCounted, SameRefusals};
 ghost use Rattle.gateway_core.specs.Step.{Answer, Item};
-ghost use Rattle.gateway_core.specs.Stops.{SafeJoins};
+ghost use Rattle.gateway_core.specs.Stops.{IsOneOf, SafeJoins};
 ghost use Rattle.gateway_core.specs.Telling.{ChangesAreTold, RadioIsTold, TeachLinesAreTold};
 ghost use Rattle.gateway_core.specs.Windows.{PacketsChangeInWindows};
 
@@ -75,6 +76,22 @@ pub fn safe_joins<S: DeviceStore>()
     ensures { (registry : S) → SafeJoins (MayFind (S.stored registry)) }
 {}
 
+/// The same from the devices that a life found, and from any list of maps.
+pub fn safe_joins_in_a_life()
+    ensures found { (found : Devices) → SafeJoins (λ devices. devices ≡ found) }
+    ensures listed { (maps : List Devices) → SafeJoins (IsOneOf maps) }
+{}
+
+/// Any maps that a stop may leave.
+pub trait Maps {
+    ghost are: { Devices → Type 0 };
+}
+
+/// The same from any maps at all.
+pub fn safe_joins_from_any<M: Maps>()
+    ensures { SafeJoins M.are }
+{}
+
 /// What is told learned or forgotten is found so by every later life, until an item learns the sender otherwise, or
 /// forgets it where it was told learned.
 pub fn lives_keep()
@@ -133,6 +150,12 @@ pub fn calls_leave_a_life<S: DeviceStore>()
 /// answered, is what a life that is stopped in that item may leave.
 pub fn stops_leave_a_life<S: DeviceStore>()
     ensures { StopsLeaveALife S.stored }
+{}
+
+/// A life may end by `close`: what the next open finds on the connection that was handed on is what the life may leave,
+/// and it is what was known at its end.
+pub fn closes_leave_a_life<C: SqlConnection>()
+    ensures { ClosesLeaveALife C.state }
 {}
 
 /// Whatever gateway over a registry there is knows a state, while the disk has returned what was written and the

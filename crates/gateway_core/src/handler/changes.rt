@@ -3,7 +3,7 @@
 ghost use Rattle.std.specs.Prelude.{◌≡◌, [], ◌∷◌};
 ghost use Rattle.json_lines.specs.Lines.{Error};
 ghost use Rattle.json_lines.specs.declared.fixed.ErrorName.{ErrorName};
-ghost use Rattle.gateway_core.specs.Step.{addition, forgets, learns, tells};
+ghost use Rattle.gateway_core.specs.Step.{NeedsStore, addition, forgets, learns, tells};
 ghost use Rattle.gateway_core.specs.Tries.{Enters, Erases, Tries};
 
 use crate::device_store::DeviceStore;
@@ -68,7 +68,7 @@ impl<S: DeviceStore> Handler<S> {
     // Learns a device that the desk names.
     pub(crate) fn learn(&mut self, device: Device) -> Result<Done, Refusal>
         ensures { Tries S.stored self.old (λ state. addition state.devices device
-            (tells (Error ErrorName.Full ∷ [])) (learns device)) result self.new }
+            (tells NeedsStore (Error ErrorName.Full ∷ [])) (learns device)) result self.new }
     {
         match self.enter(device)? {
             Some(committed) => Ok(told(Desk::Owned(committed.line))),

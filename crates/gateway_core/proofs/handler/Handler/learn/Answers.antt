@@ -2,7 +2,7 @@ use Rattle.std.proofs.Common.{[], ◌∷◌, Ok, sym, ap, subst, ◌∙◌, appe
 use Rattle.std.proofs.lemmas.Result.{err_from_is_err_and}
 use Rattle.json_lines.specs.Lines.{Error}
 use Rattle.json_lines.specs.declared.fixed.ErrorName.TheVariants as name
-use Rattle.gateway_core.specs.Step.{said, learns, tells}
+use Rattle.gateway_core.specs.Step.{said, learns, tells, NeedsStore}
 use Rattle.gateway_core.specs.Tries.{Enters}
 use Rattle.gateway_core.proofs.TryLemmas.{by-desk, tries-entered, tries-full, tries-refused}
 use Rattle.gateway_core.proofs.handler.Handler.learn.Goals as goal
@@ -11,7 +11,7 @@ pub returns-in_err-committed : goal.returns-in_err-committed
 returns-in_err-committed g c =
     let error = err_from_is_err_and c.from_residual.result c.from_residual.ensures.1 in
     rw (error.1, error.2)
-    (tries-refused g.S.DeviceStore.stored _ _ c.args.device (λ state. tells (Error name.Full ∷ []))
+    (tries-refused g.S.DeviceStore.stored _ _ c.args.device (λ state. tells NeedsStore (Error name.Full ∷ []))
     (λ state. learns c.args.device)
     (λ devices. by-desk c.args.device)
     c.in_err-committed.field-0.0 c.in_err-committed.ensures)
@@ -21,7 +21,7 @@ returns-in-Some g c =
     let entered =
     subst (λ o. Enters g.S.DeviceStore.stored c.args.self.now c.args.device (Ok o) c.enter.new.self) c.in-Some.is
     c.in_ok-committed.ensures in
-    tries-entered g.S.DeviceStore.stored _ _ c.args.device (λ state. tells (Error name.Full ∷ []))
+    tries-entered g.S.DeviceStore.stored _ _ c.args.device (λ state. tells NeedsStore (Error name.Full ∷ []))
     (λ state. learns c.args.device)
     (λ devices. by-desk c.args.device)
     c.in-Some.committed _ entered
@@ -36,7 +36,7 @@ returns-in-None g c =
     let none =
     subst (λ o. Enters g.S.DeviceStore.stored c.args.self.now c.args.device (Ok o) c.enter.new.self) c.in-None.is
     c.in_ok-committed.ensures in
-    tries-full g.S.DeviceStore.stored _ _ c.args.device (λ state. tells (Error name.Full ∷ []))
+    tries-full g.S.DeviceStore.stored _ _ c.args.device (λ state. tells NeedsStore (Error name.Full ∷ []))
     (λ state. learns c.args.device)
     (λ devices. by-desk c.args.device) _ none
     (λ devices. c.denied.ensures)

@@ -3,7 +3,7 @@ use Rattle.std.proofs.lemmas.Result.{err_from_is_err_and}
 use Rattle.device_registry.specs.Devices.{device_of}
 use Rattle.gateway_core.specs.Profiles.{readings_of}
 use Rattle.gateway_core.specs.Step.{case_effect, data_case}
-use Rattle.gateway_core.proofs.TryLemmas.{known_with, tries, tries-behind, data-need, reading-comes}
+use Rattle.gateway_core.proofs.TryLemmas.{known_with, permitted, tries, tries-behind, data-need, reading-comes}
 use Rattle.gateway_core.proofs.handler.Handler.try_data.Goals as goal
 
 pub returns-in_err-device : goal.returns-in_err-device
@@ -13,7 +13,7 @@ returns-in_err-device g c =
     (tries g.S.DeviceStore.stored _ _ _ _ _ _ _ c.find.ensures.clean c.find.ensures.registries
     (λ honest devices has.
     let now = known_with c.self.inside.base c.self.inside.mode c.self.inside.counts devices in (
-      data-need now c.args.telegram.now (device_of devices c.args.telegram.now.sender),
+      permitted _ _ (data-need now c.args.telegram.now (device_of devices c.args.telegram.now.sender)),
       c.in_err-device.ensures.devices honest devices has,
     )))
 
@@ -35,7 +35,7 @@ returns-in_err-done g c =
     (tries g.S.DeviceStore.stored _ _ _ _ _ _ _ c.find.ensures.clean c.find.ensures.registries
     (λ honest devices has.
     let now = known_with c.self.inside.base c.self.inside.mode c.self.inside.counts devices in (
-      data-need now c.args.telegram.now (device_of devices c.args.telegram.now.sender),
+      permitted _ _ (data-need now c.args.telegram.now (device_of devices c.args.telegram.now.sender)),
       (c.in_ok-device.ensures.devices honest devices has).1,
     )))
 

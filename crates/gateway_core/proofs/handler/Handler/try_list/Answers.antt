@@ -1,4 +1,4 @@
-use Rattle.std.proofs.Common.{refl, ap, ◌∙◌}
+use Rattle.std.proofs.Common.{ap, ◌∙◌}
 use Rattle.std.proofs.lemmas.Result.{err_from_is_err_and}
 use Rattle.json_lines.specs.Lines.{listing, texts}
 use Rattle.gateway_core.specs.Step.{said}
@@ -10,14 +10,14 @@ returns-in_err-all g c =
     let error = err_from_is_err_and c.from_residual.result c.from_residual.ensures.1 in
     rw (← c.self.view_is, error.1, error.2)
     (tries g.S.DeviceStore.stored _ _ _ _ _ _ _ c.all.ensures.clean c.all.ensures.registries
-    (λ honest devices has. (refl, c.in_err-all.ensures.devices honest devices has)))
+    (λ honest devices has. (tt, c.in_err-all.ensures.devices honest devices has)))
 
 pub returns-in_err-lines : goal.returns-in_err-lines
 returns-in_err-lines g c =
     let error = err_from_is_err_and c.from_residual-in_err-lines.result c.from_residual-in_err-lines.ensures.1 in
     rw (← c.self.view_is, error.1, error.2)
     (tries g.S.DeviceStore.stored _ _ _ _ _ _ _ c.all.ensures.clean c.all.ensures.registries
-    (λ honest devices has. (refl, (c.in_ok-all.ensures.devices honest devices has).1)))
+    (λ honest devices has. (tt, (c.in_ok-all.ensures.devices honest devices has).1)))
 
 pub returns : goal.returns
 returns g c =

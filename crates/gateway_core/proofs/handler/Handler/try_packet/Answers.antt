@@ -10,7 +10,7 @@ pub returns-in_err-line : goal.returns-in_err-line
 returns-in_err-line g c =
     let error = err_from_is_err_and c.from_residual.result c.from_residual.ensures.1 in
     let found = sym c.response_in.ensures ∙ ap (option_map response_of) c.in-Some.is in
-    rw (error.1, error.2) (tries-alone g.S.DeviceStore.stored _ _ _ (λ devices keeps. rw found (refl, keeps)))
+    rw (error.1, error.2) (tries-alone g.S.DeviceStore.stored _ _ _ (λ devices keeps. rw found (tt, keeps)))
 
 pub returns-in-Some : goal.returns-in-Some
 returns-in-Some g c =

@@ -4,7 +4,7 @@ use Rattle.teach_in.specs.declared.plans.Plan.TheVariants.{Add, Forget, Refuse}
 use Rattle.teach_in.specs.Verdicts.{plan_of}
 use Rattle.gateway_core.specs.Tries.{MayReply, state_of}
 use Rattle.gateway_core.proofs.QueryLemmas.{can_reply}
-use Rattle.gateway_core.proofs.TryLemmas.{refused-gives, tries-alone, tries-same}
+use Rattle.gateway_core.proofs.TryLemmas.{permits-memory, refused-gives, tries-alone, tries-same}
 use Rattle.gateway_core.proofs.handler.Handler.try_plan.Goals as goal
 
 pub try_accept-requires-clause-accepted : goal.try_accept-requires-clause-accepted
@@ -35,7 +35,7 @@ returns-in_err-refused-in-Refuse g c =
     let plan = sym c.plan.ensures ∙ c.in-Refuse.is in
     λ asked.
     rw (← c.self.view_is, error.1, error.2)
-    (tries-alone g.S.DeviceStore.stored _ _ _ (λ devices keeps. rw plan (refl, keeps)))
+    (tries-alone g.S.DeviceStore.stored _ _ _ (λ devices keeps. rw plan (permits-memory asked, keeps)))
 
 pub returns-in-Silent : goal.returns-in-Silent
 returns-in-Silent g c =

@@ -1,13 +1,13 @@
-use Rattle.std.proofs.Common.{◌≡◌, true, false, IsTrue, Some, None, Ok, sym, ap, subst, ◌∙◌}
+use Rattle.std.proofs.Common.{◌≡◌, true, false, Some, None, Ok, sym, ap, subst, ◌∙◌}
 use Rattle.std.specs.Prelude.{is_some}
 use Rattle.std.proofs.lemmas.Result.{err_from_is_err_and}
 use Rattle.actuator_commands.specs.Packets.{order_telegram, recipient}
 use Rattle.std.specs.Option.{option_copied}
 use Rattle.device_registry.specs.Devices.{device_of}
-use Rattle.gateway_core.specs.Step.{Effect, known_of, telegram_sent}
+use Rattle.gateway_core.specs.Step.{Effect, NeedsStore, known_of, telegram_sent}
 use Rattle.gateway_core.specs.Tries.{Comes, Gives, state_of}
 use Rattle.gateway_core.proofs.EffectLemmas.{sends-effect}
-use Rattle.gateway_core.proofs.TryLemmas.{known_with, telegram-comes, telegram-need, tries-alone, tries}
+use Rattle.gateway_core.proofs.TryLemmas.{known_with, permitted, telegram-comes, telegram-need, tries-alone, tries}
 use Rattle.gateway_core.proofs.handler.Handler.try_send.Goals as goal
 
 pub returns-in_default : goal.returns-in_default
@@ -36,8 +36,8 @@ returns-in_err-device g c =
     let now = known_with c.self.inside.base c.self.inside.mode c.self.inside.counts devices in
     let effect = sends-effect now c.args.order.now c.requires.sends
     ∙ ap (λ id. telegram_sent (is_some id) (order_telegram c.args.order.now (known_of devices id) now.base)) some in (
-      subst (λ (e : Effect). IsTrue e.need) (sym effect)
-          (telegram-need (order_telegram c.args.order.now (device_of devices c.in-Some.id) now.base)),
+      permitted _ _ (subst (λ (e : Effect). e.need ≡ NeedsStore) (sym effect)
+          (telegram-need (order_telegram c.args.order.now (device_of devices c.in-Some.id) now.base))),
       c.in_err-device.ensures.devices honest devices has,
     )))
 
