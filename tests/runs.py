@@ -1,4 +1,5 @@
 """What the tests of the built program share that are written in Python."""
+import concurrent.futures
 import os
 import pathlib
 import sqlite3
@@ -9,6 +10,7 @@ ROOT = pathlib.Path(__file__).resolve().parent.parent
 sys.path.insert(0, str(ROOT / "scripts"))
 
 PROGRAM = ROOT / "crates/enogate/out/enogate"
+REFUSE_CALL = "refuse_call.c"
 failed = []
 
 
@@ -37,25 +39,39 @@ def preloading(work, source, **variables):
     return {**os.environ, "LD_PRELOAD": str(library), **told}
 
 
-def refuse_each(work, name, source, variable, script, cases, database=None, is_kept=None, first=1):
-    """The first call refused, or the one of another number, then the next one, and so on, until none is. Each run, on
-    the database of its number, ends as one of these cases, and then `is_kept` holds; each case is met."""
-    mark = work / "mark"
-    number, met, is_over, differs = first, set(), False, None
-    while not is_over and not differs and number < first + 10_000:
-        mark.unlink(missing_ok=True)
-        path = database(number) if database else None
-        told = run(script, database=path, env=preloading(work, source, **{variable: number, "REFUSE_MARK": mark}))
-        case = cases.get(told)
+def calls(work, kind, script, database=None, **settings):
+    """How many calls of this kind a run makes."""
+    counted = work / "calls"
+    run(script, database=database, env=preloading(work, REFUSE_CALL, REFUSE_KIND=kind, COUNT_CALLS=counted), **settings)
+    return int(counted.read_text())
+
+
+def refuse_each(work, name, kind, script, case_of, cases, database=None, is_kept=None, first=1, on=False):
+    """Each call of this kind refused in turn, from the one of number `first` on, alone or with all behind it; in the
+    end none is. Each run is on the database of its number. It ends in a case, `none` where no call is refused, and then
+    `is_kept` holds of the database; each of these cases is met."""
+    last = calls(work, kind, script, database and database(0))
+    preloading(work, REFUSE_CALL)
+
+    def differs(number):
+        mark, path = work / f"mark_{number}", database and database(number)
+        told = {"REFUSE_KIND": kind, "REFUSE_NUMBER": number, "REFUSE_MARK": mark, **({"REFUSE_ON": 1} if on else {})}
+        ended = run(script, database=path, env=preloading(work, REFUSE_CALL, **told))
+        case = case_of(ended)
         met.add(case)
-        if not case or (is_kept and not is_kept(case, told, path)):
-            differs = f"number {number}, {case or 'of no case'}: {told}"
-        is_over = case == "none" and not mark.exists()
-        number += 1
-    wants(f"each of {number - 1 - first} {name}", is_over and not differs and met == set(cases.values()))
-    if differs:
-        print(differs)
-    elif missing := set(cases.values()) - met:
+        was_refused = mark.exists()
+        mark.unlink(missing_ok=True)
+        is_so = case and was_refused == (number <= last) and (was_refused or case == "none")
+        is_so = is_so and (not is_kept or is_kept(case, ended, path))
+        return None if is_so else f"number {number}, {case or 'of no case'}: {ended}"
+
+    met = set()
+    with concurrent.futures.ThreadPoolExecutor(os.cpu_count()) as pool:
+        differ = [text for text in pool.map(differs, range(first, last + 2)) if text]
+    wants(f"each of {last + 1 - first} {name}", not differ and met == set(cases))
+    for text in differ[:3]:
+        print(text)
+    if missing := set(cases) - met:
         print(f"not met: {missing}")
 
 

@@ -1,0 +1,95 @@
+"""What the built program has to write for a script, and what it may leave, by the table of scripts/verdict-rows."""
+import copy
+import re
+import runpy
+
+from runs import ROOT, run
+
+from esp3 import pieces, telegram
+
+TABLE = runpy.run_path(str(ROOT / "scripts/verdict-rows"))
+Gateway, device_lines, error = TABLE["Gateway"], TABLE["device_lines"], TABLE["error"]
+
+
+def sent(text, sender):
+    """The line that brings a telegram: its RORG and payload, in hexadecimal."""
+    rorg, payload = (bytes.fromhex(word) for word in text.split(" "))
+    return pieces(telegram(rorg[0], payload, sender)).strip()
+
+
+CONTACT, QUERY, PRESS, ACTUATOR = "D5 00", "A5 08284680", "F6 50", "D2 0460E4"
+UNSUPPORTED, BARE, REPLY = "A5 50084680", "A5 00000000", "A5 082846F0"
+
+# Universal teach-in: queries, one of them of a profile that is not supported, and a reply.
+UNIVERSAL, DELETION, NOT_USED = "D4 A00146001201D2", "D4 900146001201D2", "D4 B00146001201D2"
+UNIVERSAL_UNSUPPORTED, UNIVERSAL_REPLY = "D4 A00146000032D2", "D4 910146001201D2"
+
+
+def whole(lines):
+    return "".join(line + "\n" for line in lines)
+
+
+def answers(lines, refused=(), fault="memory", gateway=None):
+    """What has to be written for each line, where those of these numbers are refused with this error."""
+    gateway = gateway or Gateway()
+    told = []
+    for number, line in enumerate(lines):
+        if number in refused:
+            gateway.counts["refused"] += 1
+            told.append(error(fault))
+        else:
+            told.append(gateway.answer(line))
+    return told
+
+
+def ending(told, fault="", status=0):
+    """What a run writes to its two streams, and its status."""
+    return "".join(told), fault, status
+
+
+def new_in(work, name):
+    """By its number, a database for each run, which is not there yet."""
+    return lambda number: work / f"{name}_{number}.db"
+
+
+def lists_behind(lines, refused):
+    """The answers to `list` that a start may give behind a run in which the lines of these numbers were refused. By the
+    first all that was told is done, and nothing else. The others are for an end that was not clean: one more change is
+    done, which was refused behind the last that was told."""
+    gateway, others = Gateway(), []
+    for number, line in enumerate(lines):
+        if number in refused:
+            other = copy.deepcopy(gateway)
+            other.answer(line)
+            others.append(device_lines(other.devices))
+        elif re.search('"(accepted|deleted)"', gateway.answer(line)):
+            others = []
+    return [device_lines(gateway.devices), *others]
+
+
+def refused_by_store(lines, told):
+    """The numbers of the lines that were refused, if each line was answered as the table says or, where it needs the
+    store, with `store`; or else None."""
+    gateway, numbers = Gateway(), []
+    for number, line in enumerate(lines):
+        needs_store = not re.match("learn|status|S 5500010002", line)
+        if needs_store and told.startswith(error("store")):
+            numbers.append(number)
+            gateway.counts["refused"] += 1
+            answer = error("store")
+        else:
+            answer = gateway.answer(line)
+        if not told.startswith(answer):
+            return None
+        told = told[len(answer) :]
+    return numbers if told == "" else None
+
+
+def is_kept(lines, refused):
+    """Whether a start behind a run finds what it may, by its case; `refused` has the lines refused in each case."""
+
+    def is_so(case, told, database):
+        lists = lists_behind([] if case == "start" else lines, refused[case])
+        return run("list\n", database=database)[0] in (lists if told[2] else lists[:1])
+
+    return is_so

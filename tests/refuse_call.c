@@ -1,0 +1,105 @@
+/* Preloaded, it refuses a call of one kind, which REFUSE_KIND names: growth (of memory), input (a read of standard
+   input), or read, write, sync or truncation (of a file, at a place). It is the call whose number REFUSE_NUMBER gives,
+   counted from 1; with REFUSE_ON set also each call of the kind behind it. Where it refuses one, it makes the empty file
+   that REFUSE_MARK names. At the end it writes how many calls of the kind there were to the file that COUNT_CALLS
+   names. */
+#define _GNU_SOURCE
+#include <errno.h>
+#include <fcntl.h>
+#include <stdio.h>
+#include <stdlib.h>
+#include <string.h>
+#include <sys/syscall.h>
+#include <unistd.h>
+
+void *__libc_malloc(size_t);
+void *__libc_realloc(void *, size_t);
+void *__libc_memalign(size_t, size_t);
+
+static const char *chosen_kind;
+static long chosen_number, count;
+
+static int refused(const char *kind, int error)
+{
+    if (!chosen_kind) {
+        char *number = getenv("REFUSE_NUMBER");
+        chosen_kind = getenv("REFUSE_KIND");
+        if (!chosen_kind)
+            chosen_kind = "none";
+        chosen_number = number ? atol(number) : 0;
+    }
+    if (strcmp(kind, chosen_kind) != 0)
+        return 0;
+    count++;
+    if (chosen_number == 0 || count < chosen_number || (count > chosen_number && !getenv("REFUSE_ON")))
+        return 0;
+    char *mark = getenv("REFUSE_MARK");
+    if (mark)
+        syscall(SYS_close, syscall(SYS_open, mark, O_CREAT | O_WRONLY, 0600));
+    errno = error;
+    return 1;
+}
+
+void *malloc(size_t size)
+{
+    return refused("growth", ENOMEM) ? NULL : __libc_malloc(size);
+}
+
+void *realloc(void *old, size_t size)
+{
+    return refused("growth", ENOMEM) ? NULL : __libc_realloc(old, size);
+}
+
+void *aligned_alloc(size_t align, size_t size)
+{
+    return refused("growth", ENOMEM) ? NULL : __libc_memalign(align, size);
+}
+
+int posix_memalign(void **out, size_t align, size_t size)
+{
+    if (refused("growth", ENOMEM))
+        return ENOMEM;
+    *out = __libc_memalign(align, size);
+    return *out ? 0 : ENOMEM;
+}
+
+ssize_t read(int file, void *to, size_t size)
+{
+    return file == 0 && refused("input", EIO) ? -1 : syscall(SYS_read, file, to, size);
+}
+
+ssize_t pread(int file, void *to, size_t size, off_t place)
+{
+    return refused("read", EIO) ? -1 : syscall(SYS_pread64, file, to, size, place);
+}
+
+ssize_t pwrite(int file, const void *from, size_t size, off_t place)
+{
+    return refused("write", ENOSPC) ? -1 : syscall(SYS_pwrite64, file, from, size, place);
+}
+
+int fsync(int file)
+{
+    return refused("sync", EIO) ? -1 : syscall(SYS_fsync, file);
+}
+
+int fdatasync(int file)
+{
+    return refused("sync", EIO) ? -1 : syscall(SYS_fdatasync, file);
+}
+
+int ftruncate(int file, off_t length)
+{
+    return refused("truncation", EIO) ? -1 : syscall(SYS_ftruncate, file, length);
+}
+
+__attribute__((destructor)) static void tell(void)
+{
+    char *path = getenv("COUNT_CALLS"), text[32];
+    if (!path)
+        return;
+    int file = open(path, O_CREAT | O_TRUNC | O_WRONLY, 0600);
+    int length = snprintf(text, sizeof text, "%ld\n", count);
+    if (write(file, text, length) == length)
+        close(file);
+}
