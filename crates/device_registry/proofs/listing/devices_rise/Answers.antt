@@ -1,5 +1,5 @@
 use Rattle.std.proofs.lemmas.Grind.{common_steps}
-use Rattle.std.proofs.Common.{arith, rules}
+use Rattle.std.proofs.Common.{arith}
 use Rattle.device_registry.proofs.listing.devices_rise.Goals as goal
 
 pub returns-in-None : goal.returns-in-None

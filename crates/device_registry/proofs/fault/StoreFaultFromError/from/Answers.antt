@@ -1,5 +1,4 @@
-use Rattle.std.proofs.lemmas.Grind.{common_steps}
-use Rattle.std.proofs.Common.{arith, rules}
+use Rattle.std.proofs.Common.{rules}
 use Rattle.device_registry.proofs.fault.StoreFaultFromError.from.Goals as goal
 
 pub returns-in_default : goal.returns-in_default
