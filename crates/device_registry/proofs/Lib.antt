@@ -20,6 +20,7 @@ pub mod ListObjectsAnswer
 pub mod ListObjectsMeaning
 pub mod MakeEffect
 pub mod OpenCalls
+pub mod OpenRenews
 pub mod RefusalKeeps
 pub mod RegistryCalls
 pub mod RenewEffect

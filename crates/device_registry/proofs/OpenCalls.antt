@@ -4,7 +4,9 @@ use Rattle.std.proofs.Common.{IfErr, OnOk, refl, sym, ap, subst, ◌∙◌, arit
 use Rattle.sqlite.specs.declared.error.Error.{Error}
 use Rattle.sqlite.specs.Effect.{Database, IsDatabase}
 use Rattle.sqlite.specs.State.{State, IsUnchanged}
-use Rattle.sqlite.proofs.Callers.{unchanged_then}
+use Rattle.sqlite.specs.Files.{file_state}
+use Rattle.sqlite.proofs.Callers.{unchanged_then, finds_again}
+use Rattle.sqlite_disk.specs.declared.Disk.{Ghosts}
 use Rattle.sqlite.specs.State.{HasCleanDisk, Survives}
 use Rattle.sqlite.proofs.StateLemmas.{survives_weaker, survives_then}
 use Rattle.sqlite_trees.specs.Tree.{Trees}
@@ -19,7 +21,7 @@ use Rattle.sqlite_rules.specs.Lists.{Has}
 use Rattle.device_registry.specs.Holding.{AreRegistries, Finds, Opens}
 use Rattle.device_registry.specs.Ready.{Shows, IsReady, KeepsRows}
 use Rattle.device_registry.specs.Opening.{IsAtRest, IsPrepared, KeepsFound, IsOther}
-use Rattle.device_registry.specs.Opening.{RefusesToOpen, FoundAgain, HandedOn}
+use Rattle.device_registry.specs.Opening.{RefusesToOpen, FoundAgain, HandedOn, RefusedOpensKeep, ClosedFilesAreFound}
 use Rattle.device_registry.specs.Places.{is_clear}
 use Rattle.sqlite_catalog.specs.Listing.{IsSound}
 use Rattle.sqlite_schema.specs.Names.{table_named}
@@ -151,7 +153,7 @@ rests old mid same rest = record {
   sound = subst IsDatabase (sym same.0.now_is) rest.sound;
 }
 
-last : (old mid : State) → IsUnchanged old mid → IsAtRest old → mid.now.trees ≡ old.committed.trees
+pub last : (old mid : State) → IsUnchanged old mid → IsAtRest old → mid.now.trees ≡ old.committed.trees
 last old mid same rest = ap (λ (db : Database). db.trees) (same.0.now_is ∙ rest.settled)
 
 pub opened : (old mid new : State) (devices : Devices) → IsUnchanged old mid → IsAtRest old → IsPrepared mid new devices
@@ -259,9 +261,9 @@ not_bare trees devices holds bare =
     no_place (table_named holds.db.schema meta_name) registry.tables.meta_at registry.tables.meta_stands.named
     (ap (λ s. table_named s meta_name) same ∙ bare.no_meta)
 
-pub clear_rows : (old new : State) → IsAtRest old → IsTrue (is_clear old.now.schema) → IsHeld old.now.trees
-    → KeepsRows old new
-clear_rows old new rest clear held = absurd (not_bare old.now.trees held.devices held.holds (bare old rest clear))
+-- and so its tables cannot be made
+pub not_clear : (s : State) → IsAtRest s → IsTrue (is_clear s.now.schema) → IsHeld s.now.trees → ⊥
+not_clear s rest clear held = not_bare s.now.trees held.devices held.holds (bare s rest clear)
 
 -- what was asked between changed nothing
 pub same_rows : (old mid new : State) → IsUnchanged old mid → KeepsRows mid new → KeepsRows old new
@@ -280,11 +282,37 @@ rows_on (Ok v) old mid new same rest kept =
 rows_on (Err e) old mid new same rest kept = tt
 
 pub found_again : FoundAgain
-found_again trees devices found holds (inl other) = held_once trees devices found holds other
-found_again trees devices found holds (inr bare) =
-    absurd (not_bare trees devices holds bare.0)
+found_again trees left found (inl holds) (inl other) = held_once trees left found holds other
+found_again trees left found (inl holds) (inr none) = absurd (not_bare trees left holds none.0)
+found_again trees left found (inr none) (inl holds) = absurd (not_bare trees found holds none.0)
+found_again trees left found (inr none) (inr other) = none.1 ∙ sym other.1
+
+pub refused_opens_keep : {C : Type 0} (state : C → State) → RefusedOpensKeep state
+refused_opens_keep state old new fault clean refused = (
+  λ before trees may. elim (refused.stop clean trees may) [
+    | inl early ↦ before trees early
+    | inr kept ↦ (kept.1.devices, inl kept.1.holds)
+  ],
+  λ devices next. elim (refused.stop clean next.0 next.1) [
+    | inl early ↦ inl (next.0, early, next.2)
+    | inr kept ↦
+        let same = found_again next.0 kept.1.devices devices (inl kept.1.holds) next.2 in
+        inr (kept.0, subst (Finds (state old).committed.trees) same kept.1.finds)
+  ],
+)
 
 pub handed_on : {C : Type 0} (state : C → State) → HandedOn state
 handed_on state closed opened devices found clean committed has opens =
     let last = state closed in
-    sym (found_again last.committed.trees devices found (committed clean opens.was_open devices has) opens.found)
+    let holds = committed clean opens.was_open devices has in
+    sym (found_again last.committed.trees devices found (inl holds) opens.found)
+
+pub closed_files_are_found : {D : Type 0} (g : Ghosts D) → ClosedFilesAreFound g
+closed_files_are_found g closed opened files devices copied finds committed has =
+    let trees = (file_state opened).committed.trees in
+    let same : trees ≡ (file_state closed).committed.trees = finds_again closed opened files (λ _. copied) finds in
+    let last = committed copied.was_clean copied.was_open devices has in
+    let holds : Holds trees devices = subst (λ t. Holds t devices) (sym same) last in (
+      inl holds,
+      λ found other. sym (found_again trees devices found (inl holds) other),
+    )

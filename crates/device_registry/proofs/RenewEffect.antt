@@ -1,6 +1,6 @@
 -- What the statement that writes the version row as it stands makes of the database.
 use Rattle.std.proofs.Common.{true, false, drop, ◌≡◌, ℕ, pos, not, List, [], ◌∷◌, map, Some, None, Option}
-use Rattle.std.proofs.Common.{Ok, refl, ap, subst, ◌∙◌, slice_get, is_eq, cond}
+use Rattle.std.proofs.Common.{Ok, refl, ap, subst, ◌∙◌, slice_get, is_eq, cond, length}
 use Rattle.std.specs.List.{flat_map}
 use Rattle.std.specs.List.Sorted.{IsPermutation}
 use Rattle.sqlite.specs.declared.types.Value.{Value}
@@ -86,6 +86,7 @@ pub renews : (schema : Schema) (at m : ℕ) (limit : Option ℕ) (mode : Mode) (
     → Does limit mode [] (record { schema = schema; trees = db }) text None (Update at (program_of (renew_query m)))
     (Ok (tally, after))
     → (after.schema ≡ schema) × (after.trees m ≡ version_row ∷ []) × SparesOthers schema m db after.trees
+    × (tally.rows ≡ Some 1)
 renews schema at m limit mode db text tally after row there stands one it does =
     let command = Update at (program_of (renew_query m)) in
     let here = λ (table : Table).
@@ -110,4 +111,7 @@ renews schema at m limit mode db text tally after row there stands one it does =
       ap (λ (db : Database). db.schema) now,
       rows,
       λ i t is other. ap (λ (s : Trees). s t.tree) trees ∙ spares schema mode.keys db edits.0 edit step i t is other,
+      ap (λ (p : Tally × Database). p.0.rows) (same_value shown.2)
+          ∙ ap (λ (w : Written). Some (length w.rows)) (same_value edits.2)
+          ∙ ap (λ rs. Some (length (edit_of db (meta_table m) (ids_of rs) Given 1 rs).news)) are,
     )

@@ -1,6 +1,7 @@
 -- The version row, as it is written once, and as it is written again.
 use Rattle.std.proofs.Common.{◌≢◌, drop, ◌&&◌, ◌==◌, Bool, true, false, suc, arith, ◌≡◌, inl, inr, ℕ, List, []}
 use Rattle.std.proofs.Common.{◌∷◌, Some, None, Option, Ok, Err, Result, OnOk, refl, sym, ap, subst, ◌∙◌, slice_get}
+use Rattle.std.proofs.Common.{unwrap_or}
 use Rattle.sqlite.specs.Schema.{Schema}
 use Rattle.sqlite.specs.Table.{Table}
 use Rattle.sqlite.specs.Command.TheVariants.{Insert, Update}
@@ -97,6 +98,26 @@ renewed old new count devices shows h =
           devices shows.registers w.changed;
     }
 
+-- what the text does to the tables of a registry, and that it changes one row
+effect : (old new : State) (count : ℕ) (devices : Devices) (shows : Shows old devices)
+    → Executes renew_text [] old new (Ok count)
+    → (new.now.schema ≡ old.now.schema)
+    × (new.now.trees shows.registers.registry.tables.meta ≡ version_row ∷ [])
+    × SparesOthers old.now.schema shows.registers.registry.tables.meta old.now.trees new.now.trees × (count ≡ 1)
+effect old new count devices shows h =
+    let r = shows.registers.registry in
+    let it = renew_means old.now.schema r.tables.meta_at r.tables.meta r.tables.meta_stands in
+    let w = runs_as renew_text [] old new old.now.schema refl
+    (Update r.tables.meta_at (program_of (renew_query r.tables.meta))) it.is it.plain count h in
+    let kept =
+    renews old.now.schema r.tables.meta_at r.tables.meta old.step_limit (mode_of old) old.now.trees
+    (statement_of renew_text (understood old.now.schema renew_text)) w.tally new.now r.whole.row
+    r.tables.meta_stands.there (meta_alone old.now r) r.whole.one r.whole.version w.changed in
+    (kept.0, kept.1, kept.2, w.counted ∙ ap (λ rows. unwrap_or rows 0) kept.3)
+
+pub changes_one : (old new : State) (count : ℕ) → IsReady old → Executes renew_text [] old new (Ok count) → count ≡ 1
+changes_one old new count ready h = (effect old new count ready.devices ready.shows h).3
+
 has_at : {X : Type 0} (xs : List X) (x : X) → Has xs x → (i : ℕ) × (slice_get xs i ≡ Some x)
 has_at [] x h = absurd h
 has_at (y ∷ xs) x (inl here) = (0, ap Some (sym here))
@@ -117,13 +138,7 @@ renewed_rows : (old new : State) (count : ℕ) (devices : Devices) → Shows old
     → Executes renew_text [] old new (Ok count) → KeepsRows old new
 renewed_rows old new count devices shows h =
     let r = shows.registers.registry in
-    let it = renew_means old.now.schema r.tables.meta_at r.tables.meta r.tables.meta_stands in
-    let w = runs_as renew_text [] old new old.now.schema refl
-    (Update r.tables.meta_at (program_of (renew_query r.tables.meta))) it.is it.plain count h in
-    let kept =
-    renews old.now.schema r.tables.meta_at r.tables.meta old.step_limit (mode_of old) old.now.trees
-    (statement_of renew_text (understood old.now.schema renew_text)) w.tally new.now r.whole.row
-    r.tables.meta_stands.there (meta_alone old.now r) r.whole.one r.whole.version w.changed in
+    let kept = effect old new count devices shows h in
     let has = has_got old.now.schema.tables r.tables.meta_at (meta_table r.tables.meta) r.tables.meta_stands.there in
     let typed = all_has _ old.now.schema.tables (meta_table r.tables.meta) (shows.sound.obeys.rules Datatype) has in
     let row_typed =

@@ -1,12 +1,18 @@
 -- What an open finds, and what it leaves.
-use Rattle.std.specs.Prelude.{◌≡◌, ◌⊎◌, ◌≤◌, ℕ, List, IsTrue, false}
+use Rattle.std.specs.Prelude.{◌≡◌, ◌⊎◌, ◌≤◌, ℕ, List, [], IsTrue, false, Ok}
 use Rattle.std.specs.FinMap.{len}
 use Rattle.sqlite.specs.declared.types.Value.TheVariants.{Text}
 use Rattle.sqlite.specs.Order.{Row, column}
 use Rattle.sqlite.specs.Schema.{Schema}
 use Rattle.sqlite.specs.Does.{lacks_sequence}
 use Rattle.sqlite.specs.Effect.{Database, IsDatabase}
-use Rattle.sqlite.specs.State.{State, HasCleanDisk, IsUnchanged}
+use Rattle.sqlite.specs.State.{State, HasCleanDisk, IsUnchanged, Executes}
+use Rattle.sqlite.specs.Held.{Held}
+use Rattle.sqlite.specs.Files.{file_state, Finds as FindsFiles}
+use Rattle.sqlite.specs.Closing.{IsCopied}
+use Rattle.sqlite_disk.specs.declared.Disk.{Ghosts}
+use Rattle.sqlite_disk.specs.declared.Files.{Files}
+use Rattle.sqlite_store.specs.declared.store.FileStore.{FileStore}
 use Rattle.sqlite_catalog.specs.Change.{is_used}
 use Rattle.sqlite_rules.specs.Lists.{Has}
 use Rattle.sqlite_trees.specs.Objects.{catalog_tree}
@@ -14,7 +20,7 @@ use Rattle.sqlite_trees.specs.Tree.{Trees, IsTable}
 use Rattle.device_registry.specs.declared.fault.OpenFault.{OpenFault}
 use Rattle.device_registry.specs.declared.fault.OpenFault.TheVariants.{NotARegistry}
 use Rattle.device_registry.specs.Devices.{Devices, most_devices}
-use Rattle.device_registry.specs.Tables.{meta_name, device_name, meta_text, device_text}
+use Rattle.device_registry.specs.Tables.{meta_name, device_name, meta_text, device_text, renew_text}
 use Rattle.device_registry.specs.Stored.{AreSpared, IsRegistry, Holds}
 use Rattle.device_registry.specs.Ready.{Shows}
 use Rattle.device_registry.specs.Holding.{HasDevices, IsCommitted, Finds, Opens}
@@ -34,6 +40,11 @@ Remains old new = IsTrue new.is_open → IsAtRest old → IsAtRest new × (new.n
 pub record IsPrepared (old new : State) (devices : Devices) : Type 0 where
   pub found : Finds old.now.trees devices
   pub shows : Shows new devices
+
+-- What was done to the state is what the text does that writes the version row as it stands, and changes one row.
+-- Outside a transaction that is a commit. It is not nothing: the store counts the row.
+abbrev pub IsRenewed : State → State → Type 0
+IsRenewed old new = Executes renew_text [] old new (Ok 1)
 
 -- the trees of a registry of the devices that are found in others
 pub record KeepsFound (found left : Trees) : Type 0 where
@@ -96,12 +107,37 @@ pub record RefusesToOpen (old new : State) (fault : OpenFault) : Type 0 where
 abbrev pub FewAreHeld : Type 0
 FewAreHeld = (trees : Trees) (devices : Devices) → Holds trees devices → len devices ≤ most_devices
 
--- what a stop left of a registry is what the next open finds
+-- what an open finds in what a stop left is one thing, however often it is opened
 abbrev pub FoundAgain : Type 0
-FoundAgain = (trees : Trees) (left found : Devices) → Holds trees left → Finds trees found → left ≡ found
+FoundAgain = (trees : Trees) (left found : Devices) → Finds trees left → Finds trees found → left ≡ found
+
+-- the next open, behind a stop at this moment, may find these devices
+abbrev pub MayFindNext : State → Devices → Type 0
+MayFindNext s devices = (trees : Trees) × s.may_leave trees × Finds trees devices
+
+-- whatever a stop leaves at this moment, the next open finds some devices there
+abbrev pub FindsSomeNext : State → Type 0
+FindsSomeNext s = (trees : Trees) → s.may_leave trees → (devices : Devices) × Finds trees devices
+
+-- Behind a refused open the next one finds devices wherever it would have found some before. They are what it could
+-- have found before, or what was committed then.
+abbrev pub RefusedOpensKeep : {C : Type 0} → (C → State) → Type 0
+RefusedOpensKeep {C} state = (old new : C) (fault : OpenFault) → HasCleanDisk (state new)
+    → RefusesToOpen (state old) (state new) fault
+    → (FindsSomeNext (state old) → FindsSomeNext (state new))
+    × ((devices : Devices) → MayFindNext (state new) devices → MayFindNext (state old) devices
+    ⊎ (IsTrue (state old).is_open × Finds (state old).committed.trees devices))
 
 -- what is closed and handed on is what the next open finds
 abbrev pub HandedOn : {C : Type 0} → (C → State) → Type 0
 HandedOn {C} state = (closed opened : C) (devices found : Devices) → HasCleanDisk (state closed)
     → IsCommitted (state closed)
     → HasDevices (state closed) devices → Opens (state closed) (state opened) found → found ≡ devices
+
+-- what a registry held whose files the store has closed is what an open of these files finds, and nothing else
+abbrev pub ClosedFilesAreFound : {D : Type 0} → Ghosts D → Type 0
+ClosedFilesAreFound {D} g =
+    (closed opened : Held (FileStore D g)) (files : Files D) (devices : Devices) → IsCopied closed files
+    → FindsFiles files opened → IsCommitted (file_state closed) → HasDevices (file_state closed) devices
+    → Finds (file_state opened).committed.trees devices
+    × ((found : Devices) → Finds (file_state opened).committed.trees found → found ≡ devices)

@@ -10,10 +10,6 @@ use Rattle.device_registry.specs.Devices.{Devices, Learned, Change, changed, dev
 use Rattle.learned_devices.specs.declared.Device.{Device}
 use Rattle.device_registry.specs.Stored.{Registers, Holds, natural, eep_of, maker_in}
 
--- while the disk is honest and the connection is open, no transaction is open
-abbrev pub IsBetweenTransactions : State → Type 0
-IsBetweenTransactions s = HasCleanDisk s → IsTrue s.is_open → s.in_transaction ≡ false
-
 -- the registry is open between two transactions, with these devices
 pub record Shows (s : State) (devices : Devices) : Type 0 where
   pub is_open : IsTrue s.is_open

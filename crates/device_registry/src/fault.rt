@@ -6,8 +6,7 @@ use sqlite::{Error, ErrorCode};
 use std::alloc::{AllocError, AllocFailed};
 
 /// Why the store does not answer: there was no memory, or it refused. It is made by conversion alone, of an error of
-/// the store or of the allocator, or of one of this crate for a row or a transaction that cannot be, and keeps its
-/// cause.
+/// the store or of the allocator, or of one of this crate for a row that cannot be, and keeps its cause.
 #[derive(Clone, Copy, Debug, PartialEq, Eq)]
 pub struct StoreFault {
     is_memory: bool,

@@ -1,23 +1,36 @@
 //! Laws of the definitions, and of every registry. Each function does nothing: its contract is the law.
 ghost use Rattle.device_registry.specs.Holding.{HoldsSome};
-ghost use Rattle.device_registry.specs.Opening.{FewAreHeld, FoundAgain, HandedOn};
+ghost use Rattle.device_registry.specs.Opening.{ClosedFilesAreFound, FewAreHeld, FoundAgain, HandedOn};
+ghost use Rattle.device_registry.specs.Opening.{RefusedOpensKeep};
 
 use crate::registry::RegistryOver;
 use crate::sql_connection::SqlConnection;
+use sqlite_disk::Disk;
 
 /// A registry has at most 1,000 devices.
 pub fn few_are_held()
     ensures { FewAreHeld }
 {}
 
-/// What a stop left of a registry is what the next open finds.
+/// What a stop left, of a registry or of a database that has neither of its tables yet, is what the next open finds.
 pub fn found_again()
     ensures { FoundAgain }
+{}
+
+/// Behind a refused open the next one finds what it could have found before, or what was committed then. It finds
+/// something, where it would have before.
+pub fn refused_opens_keep<C: SqlConnection>()
+    ensures { RefusedOpensKeep C.state }
 {}
 
 /// What is closed and handed on is what the next open finds.
 pub fn handed_on<C: SqlConnection>()
     ensures { HandedOn C.state }
+{}
+
+/// What a registry held whose files the store has closed is what an open of these files finds.
+pub fn closed_files_are_found<D: Disk>()
+    ensures { ClosedFilesAreFound D.Disk }
 {}
 
 /// Whatever registry there is holds some devices, while the disk has returned what was written and the connection is

@@ -5,8 +5,9 @@ ghost use Rattle.sqlite_trees.specs.Tree.{Trees};
 ghost use Rattle.device_registry.specs.Devices.{Devices};
 ghost use Rattle.device_registry.specs.Holding.{AreRegistries, Opens};
 ghost use Rattle.device_registry.specs.Stored.{IsHeld};
-ghost use Rattle.device_registry.specs.Ready.{IsBetweenTransactions, IsReady, KeepsRows};
-ghost use Rattle.device_registry.specs.Opening.{IsAtRest, Remains, IsPrepared, KeepsFound, IsOther, RefusesToOpen};
+ghost use Rattle.device_registry.specs.Ready.{IsReady, KeepsRows};
+ghost use Rattle.device_registry.specs.Opening.{IsAtRest, Remains, IsPrepared, IsRenewed, KeepsFound, IsOther};
+ghost use Rattle.device_registry.specs.Opening.{RefusesToOpen};
 
 use crate::cache::new_cache;
 use crate::device_table::DeviceTable;
@@ -16,15 +17,15 @@ use crate::registry::RegistryOver;
 use crate::sql_connection::SqlConnection;
 use crate::statements::renew;
 use crate::taking::is_registry;
-use sqlite::{Error, ErrorCode};
+use sqlite::Error;
 use std::alloc::Global;
 
 /// How many senders `open` remembers. Own choice.
 const REMEMBERED: usize = 64;
 
-/// Whether the connection is open, with no open transaction: a text is compiled, which writes nothing.
-fn check_idle<C: SqlConnection>(conn: &mut C) -> Result<(), Error>
-    requires idle { IsBetweenTransactions (C.state conn.old) }
+/// Whether the connection is open: a text is compiled, which writes nothing.
+fn check_open<C: SqlConnection>(conn: &mut C) -> Result<(), Error>
+    requires idle { (C.state conn.old).in_transaction ≡ false }
     ensures idle { OnOk result ((C.state conn.new).in_transaction ≡ false) }
     ensures same { HasCleanDisk (C.state conn.new) → OnOk result (IsUnchanged (C.state conn.old)
         (C.state conn.new) × IsAtRest (C.state conn.old)) }
@@ -32,11 +33,10 @@ fn check_idle<C: SqlConnection>(conn: &mut C) -> Result<(), Error>
     ensures kept { HasCleanDisk (C.state conn.new) → OnErr result (IsTrue (C.state conn.new).is_open →
         IsAtRest (C.state conn.new) × ((C.state conn.new).now ≡ (C.state conn.old).now)) }
 {
-    // The proof asks for the schema: it tells that the database of an open connection is sound.
+    // The proof asks for both: they tell of an open connection that its database is sound, and that it is what is
+    // committed.
     let _schema = conn.schema();
-    if !conn.is_autocommit() {
-        return Err(Error::SqliteFailure(ErrorCode::TransactionState));
-    }
+    let _idle = conn.is_autocommit();
     let _statement = conn.prepare("SELECT 1")?;
     Ok(())
 }
@@ -56,6 +56,8 @@ fn make_or_take<C: SqlConnection>(conn: &mut C) -> Result<(), OpenFault>
         (C.state conn.old).now.trees) }
     ensures rows { HasCleanDisk (C.state conn.new) → OnOk result (IsHeld (C.state conn.old).now.trees →
         KeepsRows (C.state conn.old) (C.state conn.new)) }
+    ensures written { HasCleanDisk (C.state conn.new) → OnOk result (IsHeld (C.state conn.old).now.trees →
+        IsRenewed (C.state conn.old) (C.state conn.new)) }
     ensures remains { HasCleanDisk (C.state conn.new) → OnErr result (Remains (C.state conn.old)
         (C.state conn.new)) }
 {
@@ -72,12 +74,13 @@ fn make_or_take<C: SqlConnection>(conn: &mut C) -> Result<(), OpenFault>
 
 /// Makes the database a registry: it takes one that is a registry of version 1, and gives the two tables to a
 /// database that has neither. It is what `open` does to the database, and the connection stays with the caller,
-/// between two transactions; a second call leaves every row as it is.
+/// between two transactions; a second call leaves every row as it is. `Ok` comes after a commit: of a registry that is
+/// taken, the version row is written as it stands.
 ///
 /// `NotARegistry` says that the database is something else, and it is as it was. After `Refused` it holds what it
 /// held, perhaps with the two tables.
 pub fn prepare<C: SqlConnection>(conn: &mut C) -> Result<(), OpenFault>
-    requires idle { IsBetweenTransactions (C.state conn.old) }
+    requires idle { (C.state conn.old).in_transaction ≡ false }
     ensures clean { HasCleanDisk (C.state conn.new) → HasCleanDisk (C.state conn.old) }
     ensures registries { HasCleanDisk (C.state conn.new) → OnOk result (AreRegistries
         (C.state conn.new).may_leave) }
@@ -86,23 +89,27 @@ pub fn prepare<C: SqlConnection>(conn: &mut C) -> Result<(), OpenFault>
     ensures ready { HasCleanDisk (C.state conn.new) → OnOk result (IsReady (C.state conn.new)) }
     ensures rows { HasCleanDisk (C.state conn.new) → OnOk result (IsHeld
         (C.state conn.old).committed.trees → KeepsRows (C.state conn.old) (C.state conn.new)) }
+    ensures written { HasCleanDisk (C.state conn.new) → OnOk result (IsHeld
+        (C.state conn.old).committed.trees → IsRenewed (C.state conn.old) (C.state conn.new)) }
     ensures kept { HasCleanDisk (C.state conn.new) → OnErr result (IsTrue (C.state conn.new).is_open →
         IsAtRest (C.state conn.new) × ((C.state conn.new).now ≡ (C.state conn.old).now)) }
     ensures refused { IfErr result (RefusesToOpen (C.state conn.old) (C.state conn.new)) }
 {
-    check_idle(conn)?;
+    check_open(conn)?;
     make_or_take(conn)
 }
 
 impl<C: SqlConnection + Drop> RegistryOver<C> {
     /// `open_with` a cache of 64 senders.
     pub fn open(alloc: Global, conn: C) -> Result<RegistryOver<C>, OpenFault>
-        requires idle { IsBetweenTransactions (C.state conn) }
+        requires idle { (C.state conn).in_transaction ≡ false }
         ensures registries { IfOk result (λ r. HasCleanDisk (C.state r) → AreRegistries
             (C.state r).may_leave) }
         ensures opens { IfOk result (λ r. HasCleanDisk (C.state r) → (devices : Devices) × Opens
             (C.state conn) (C.state r) devices) }
         ensures ready { IfOk result (λ r. HasCleanDisk (C.state r) → IsReady (C.state r)) }
+        ensures written { IfOk result (λ r. HasCleanDisk (C.state r) → IsHeld (C.state conn).committed.trees →
+            IsRenewed (C.state conn) (C.state r)) }
         ensures refused { IfErr result (λ fault. fault ≡ OpenFault.NotARegistry → (last : C) ×
             RefusesToOpen (C.state conn) (C.state last) fault) }
     {
@@ -113,13 +120,15 @@ impl<C: SqlConnection + Drop> RegistryOver<C> {
     /// looked up are remembered, 1 to 1,024. On a refusal the connection is dropped: as it was, where there is no
     /// memory for the cache, and else as `prepare` left it.
     pub fn open_with(alloc: Global, conn: C, cache: usize) -> Result<RegistryOver<C>, OpenFault>
-        requires idle { IsBetweenTransactions (C.state conn) }
+        requires idle { (C.state conn).in_transaction ≡ false }
         requires cached { (1 ≤ cache) × (cache ≤ 1024) }
         ensures registries { IfOk result (λ r. HasCleanDisk (C.state r) → AreRegistries
             (C.state r).may_leave) }
         ensures opens { IfOk result (λ r. HasCleanDisk (C.state r) → (devices : Devices) × Opens
             (C.state conn) (C.state r) devices) }
         ensures ready { IfOk result (λ r. HasCleanDisk (C.state r) → IsReady (C.state r)) }
+        ensures written { IfOk result (λ r. HasCleanDisk (C.state r) → IsHeld (C.state conn).committed.trees →
+            IsRenewed (C.state conn) (C.state r)) }
         ensures refused { IfErr result (λ fault. fault ≡ OpenFault.NotARegistry → (last : C) ×
             RefusesToOpen (C.state conn) (C.state last) fault) }
     {

@@ -107,7 +107,8 @@ impl<C: SqlConnection> RegistryOver<C> {
         }
     }
 
-    /// Hands the connection on, as it is, with no open transaction. What the registry holds is committed.
+    /// Hands the connection on, as it is, with no open transaction. What the registry holds is committed. Whoever opens
+    /// it again asks `is_autocommit` first: of a disk that lied nothing is known.
     pub fn close(self) -> C
         ensures same { result ≡ self }
         ensures hands_on { HandsOn (C.state self) }

@@ -5,7 +5,7 @@ ghost use Rattle.std.specs.FinMap.{get};
 ghost use Rattle.sqlite.specs.declared.types.Value.TheVariants.{Int};
 ghost use Rattle.sqlite.specs.State.{HasCleanDisk, Survives, Executes, CommitsBy, Shown, FailsToQuery, CommitsShowing};
 ghost use Rattle.device_registry.specs.Devices.{Devices, Change, changed, learned, forgotten, is_full, all_of};
-ghost use Rattle.device_registry.specs.Tables.{learn_text, forget_text};
+ghost use Rattle.device_registry.specs.Tables.{learn_text, forget_text, renew_text};
 ghost use Rattle.device_registry.specs.Stored.{Holds, maker_number, eep_number};
 ghost use Rattle.device_registry.specs.Opening.{Remains};
 ghost use Rattle.device_registry.specs.Ready.{Shows, IsReady, StaysReady, Stays, Turns, KeepsRows, AreFound, listed};
@@ -149,6 +149,8 @@ fn delete<C: SqlConnection>(conn: &mut C, id: u32) -> Result<usize, Error>
 /// Writes the version as it stands, so that there is a commit where a change changes nothing.
 pub(crate) fn renew<C: SqlConnection>(conn: &mut C) -> Result<usize, Error>
     requires { HasCleanDisk (C.state conn.old) → IsReady (C.state conn.old) }
+    ensures runs { HasCleanDisk (C.state conn.new) → Executes renew_text [] (C.state conn.old)
+        (C.state conn.new) result }
     ensures renewed { HasCleanDisk (C.state conn.new) → OnOk result ((devices : Devices) → Shows
         (C.state conn.old) devices → Shows (C.state conn.new) devices) }
     ensures stop { Survives (C.state conn.old) (C.state conn.new) (λ trees. (devices : Devices) →

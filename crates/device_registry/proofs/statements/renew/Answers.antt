@@ -27,3 +27,6 @@ returns-clause-rows g c clean = rows_if (g.C.SqlConnection.state c.args.conn.now
 pub returns-clause-remains : goal.returns-clause-remains
 returns-clause-remains g c clean = executed_if renew_text [] (g.C.SqlConnection.state c.args.conn.now)
     (g.C.SqlConnection.state c.execute.new.self) c.execute.result (c.execute.ensures.runs clean)
+
+pub returns-clause-runs : goal.returns-clause-runs
+returns-clause-runs g c clean = c.execute.ensures.runs clean
