@@ -1,7 +1,6 @@
 //! A gateway over a database.
-ghost use Rattle.std.specs.Prelude.{◌≡◌, ◌≤◌, true, IfErr, IfOk};
+ghost use Rattle.std.specs.Prelude.{◌≡◌, ◌≤◌, false, true, IfErr, IfOk};
 ghost use Rattle.sqlite.specs.State.{HasCleanDisk};
-ghost use Rattle.device_registry.specs.Ready.{IsBetweenTransactions};
 ghost use Rattle.erp1_telegrams.specs.Address;
 ghost use Rattle.gateway_core.specs.Calls.{new_value};
 ghost use Rattle.engines.specs.Played.{IsIdle};
@@ -26,7 +25,7 @@ pub fn start<C: SqlConnection + Drop>(
 ) -> Result<GatewayOver<RegistryOver<C>>, Fault>
     requires base { Address.is_base base ≡ true }
     requires room { (1 ≤ remembered) × (remembered ≤ 1024) }
-    requires idle { IsBetweenTransactions (C.state conn) }
+    requires idle { (C.state conn).in_transaction ≡ false }
     ensures new { IfOk result (λ gateway. gateway ≡ new_value base gateway.handler.registry) }
     ensures idle { IfOk result IsIdle }
     ensures starts { IfOk result (λ gateway. HasCleanDisk (C.state gateway.handler.registry) →
