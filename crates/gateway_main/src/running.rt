@@ -1,6 +1,5 @@
 //! The program.
-ghost use Rattle.std.specs.Prelude.{◌≡◌, ◌≤◌, true};
-ghost use Rattle.device_registry.specs.Ready.{IsBetweenTransactions};
+ghost use Rattle.std.specs.Prelude.{◌≡◌, ◌≤◌, false, true};
 ghost use Rattle.erp1_telegrams.specs.Address;
 ghost use Rattle.engines.specs.Played.{IsIdle};
 
@@ -65,7 +64,7 @@ fn serve<C: SqlConnection + Drop>(
 ) -> Result<(C, Served), Fault>
     requires base { Address.is_base plan.base ≡ true }
     requires room { (1 ≤ plan.remembered) × (plan.remembered ≤ 1024) }
-    requires idle { IsBetweenTransactions (C.state conn) }
+    requires idle { (C.state conn).in_transaction ≡ false }
 {
     let mut gateway = start(rt.alloc(), conn, plan.base, plan.remembered)?;
     let served = match plan.service {
