@@ -6,7 +6,7 @@ use gateway_main::{OverRead, OverWrite};
 use std::alloc::Global;
 
 /// A contact telegram of the device that each script learns first.
-const CONTACT: [u8; 21] = [
+pub const CONTACT: [u8; 21] = [
     0x55, 0x00, 0x07, 0x07, 0x01, 0x7A, 0xD5, 0x09, 0x01, 0x80, 0x0A, 0xBC, 0x00, 0x01, 0xFF, 0xFF,
     0xFF, 0xFF, 0x2D, 0x00, 0x1F,
 ];
@@ -63,7 +63,7 @@ fn stream(alloc: Global, chance: &mut Chance) -> Result<Vec<u8>> {
 }
 
 // Puts a piece of serial bytes behind a script.
-fn add_piece(script: &mut Vec<u8>, piece: &[u8]) -> Result<()> {
+pub(crate) fn add_piece(script: &mut Vec<u8>, piece: &[u8]) -> Result<()> {
     const DIGITS: &[u8; 16] = b"0123456789ABCDEF";
     script.extend_from_slice(b"S ")?;
     for byte in piece {

@@ -1,10 +1,10 @@
 //! New gateways over databases in memory, and one over what another has learned.
 use crate::telling::Telling;
-use anyhow::Result;
+use anyhow::{Result, bail};
 use device_registry::{Registry, RegistryOver, SqlConnection};
-use gateway_core::{Gateway, GatewayOver, Reply, StartFault};
+use gateway_core::{DeviceStore, Gateway, GatewayOver, Reply, StartFault};
 use gateway_main::fault::Fault;
-use gateway_main::{RunFault, Sink, Source, Summary, live, replay, start};
+use gateway_main::{OverRead, OverWrite, RunFault, Sink, Source, Summary, live, replay, start};
 use sqlite::Connection;
 use std::alloc::Global;
 
@@ -24,6 +24,27 @@ pub(crate) fn replay_new<R: Source, W: Sink>(
     let conn = Connection::open_in_memory(alloc)?;
     let mut gateway = start(alloc, conn, BASE, REMEMBERED)?;
     Ok(replay(reader, writer, &mut gateway, turns))
+}
+
+/// More reads than a script takes that is replayed by a gateway which has others too.
+const TURNS: u64 = 100;
+
+/// What is written for a script that this gateway replays to its end.
+pub(crate) fn written_by<S: DeviceStore>(
+    alloc: Global,
+    gateway: &mut GatewayOver<S>,
+    script: &[u8],
+) -> Result<Vec<u8>> {
+    if gateway.is_ready() {
+        bail!("a packet waits");
+    }
+    let mut written = Vec::new(alloc);
+    let mut reader = OverRead::new(script);
+    let mut writer = OverWrite::new(&mut written);
+    if replay(&mut reader, &mut writer, gateway, TURNS).is_err() {
+        bail!("a replay broke off");
+    }
+    Ok(written)
 }
 
 /// Serves a serial line and a desk by a new gateway.

@@ -44,7 +44,7 @@ const TAUGHT: &[u8] =
 const BASE_QUESTION: &[u8] = b"\x55\x00\x01\x00\x05\x70\x08\x38";
 
 /// No call of a writer fails.
-const NEVER: usize = usize::MAX;
+pub const NEVER: usize = usize::MAX;
 
 pub(crate) fn tell(rt: &HostRuntime, telling: &mut Telling) -> Result<()> {
     tell_order_of_sides(rt, telling)?;
@@ -58,10 +58,10 @@ pub(crate) fn tell(rt: &HostRuntime, telling: &mut Telling) -> Result<()> {
 
 /// How a gateway served some turns, and what went out.
 #[derive(Drop)]
-struct Served {
-    ended: Result<Summary, RunFault>,
-    radio: Vec<u8>,
-    desk: Vec<u8>,
+pub struct Served {
+    pub ended: Result<Summary, RunFault>,
+    pub radio: Vec<u8>,
+    pub desk: Vec<u8>,
 }
 
 impl Served {
@@ -83,7 +83,7 @@ fn is_all(bytes: &Vec<u8>, parts: &[&[u8]]) -> bool {
     rest.is_empty()
 }
 
-/// Serves turns with writers that take seven bytes at a call and fail at these calls.
+/// Serves turns by a new gateway, with writers that take seven bytes at a call and fail at these calls.
 fn serve(
     alloc: Global,
     serial: Parts<'_>,
@@ -91,14 +91,35 @@ fn serve(
     turns: u64,
     fails_at: (usize, usize),
 ) -> Result<Served> {
+    let conn = Connection::open_in_memory(alloc)?;
+    let mut gateway = start(alloc, conn, BASE, REMEMBERED)?;
+    serve_by(alloc, &mut gateway, (serial, desk), turns, 7, fails_at)
+}
+
+/// Serves turns by this gateway, with writers that take so many bytes at a call and fail at these calls.
+pub(crate) fn serve_by<S: DeviceStore>(
+    alloc: Global,
+    gateway: &mut GatewayOver<S>,
+    inputs: (Parts<'_>, Parts<'_>),
+    turns: u64,
+    most: usize,
+    fails_at: (usize, usize),
+) -> Result<Served> {
+    if gateway.is_ready() {
+        bail!("a packet waits");
+    }
+    let (serial, desk) = inputs;
     let (radio_fails_at, desk_fails_at) = fails_at;
     let mut radio = Vec::new(alloc);
     let mut told = Vec::new(alloc);
-    let mut radio_out = OverWrite::new(Sips::new(&mut radio, 7, radio_fails_at));
-    let mut desk_out = OverWrite::new(Sips::new(&mut told, 7, desk_fails_at));
-    let serial = (&mut OverRead::new(serial), &mut radio_out);
-    let desk = (&mut OverRead::new(desk), &mut desk_out);
-    let ended = serve_new(alloc, serial, desk, turns)?;
+    let ended = live(
+        &mut OverRead::new(serial),
+        &mut OverRead::new(desk),
+        &mut OverWrite::new(Sips::new(&mut radio, most, radio_fails_at)),
+        &mut OverWrite::new(Sips::new(&mut told, most, desk_fails_at)),
+        gateway,
+        turns,
+    );
     Ok(Served {
         ended,
         radio,

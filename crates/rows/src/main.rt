@@ -1,5 +1,5 @@
 //! The tests of `gateway_core`, `engines` and `gateway_main`, as a program: it replays each worked row, and runs the
-//! gateway over readers, writers and caches that no row has. Each case is told by a line, as `NAME ok` or
+//! gateway over readers, writers, caches and disks that no row has. Each case is told by a line, as `NAME ok` or
 //! `NAME differs`.
 #![tactic(auto)]
 
@@ -8,6 +8,7 @@ mod cuts;
 mod endings;
 mod fakes;
 mod gateways;
+mod hostile;
 mod lives;
 mod replays;
 mod scripts;
@@ -26,6 +27,7 @@ fn main(rt: HostRuntime) -> Result<ExitCode> {
     lives::tell(&rt, &mut telling)?;
     endings::tell(&rt, &mut telling)?;
     cuts::tell(&rt, &mut telling)?;
+    hostile::tell(&rt, &mut telling)?;
     Ok(if telling.is_all_well() {
         ExitCode::SUCCESS
     } else {

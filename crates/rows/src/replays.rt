@@ -35,7 +35,7 @@ fn comes_to<R: Source>(
 }
 
 /// Whether this is written for a script that is replayed to its end.
-fn is_written(alloc: Global, script: &[u8], text: &[u8]) -> Result<bool> {
+pub(crate) fn is_written(alloc: Global, script: &[u8], text: &[u8]) -> Result<bool> {
     let mut out = Vec::new(alloc);
     let mut reader = OverRead::new(script);
     let done = replay_new(alloc, &mut reader, &mut OverWrite::new(&mut out), 9)?;

@@ -20,6 +20,22 @@ impl Telling {
         Ok(())
     }
 
+    /// Tells whether all cases of this name are as they ought to be. The first that is not is given by its number.
+    pub(crate) fn tell_first(
+        &mut self,
+        rt: &HostRuntime,
+        name: &str,
+        wrong: Option<usize>,
+    ) -> Result<()> {
+        match wrong {
+            None => self.tell(rt, name, true),
+            Some(number) => {
+                let title = format!(in rt.alloc(); "{name}, at {number},")?;
+                self.tell(rt, title.as_str(), false)
+            }
+        }
+    }
+
     pub(crate) fn is_all_well(&self) -> bool {
         self.all_well
     }

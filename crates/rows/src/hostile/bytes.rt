@@ -1,0 +1,63 @@
+//! A contact telegram of which one byte is replaced, and a whole one behind it: the whole one alone is found, and at its
+//! last byte.
+//!
+//! A wrong byte in a header or in data is always seen by its check, and none of the headers that a sync byte in place of
+//! another makes has a right check. That no case holds the whole telegram back was found by another program too.
+use super::script::{Item, Known, State};
+use crate::cuts::{CONTACT, add_piece};
+use crate::gateways::{BASE, REMEMBERED, written_by};
+use crate::telling::Telling;
+use anyhow::Result;
+use gateway_core::{DeviceStore, GatewayOver};
+use gateway_main::start;
+use sqlite::Connection;
+use std::alloc::Global;
+
+pub(crate) fn tell(rt: &HostRuntime, telling: &mut Telling) -> Result<()> {
+    let alloc = rt.alloc();
+    let mut gateway = start(alloc, Connection::open_in_memory(alloc)?, BASE, REMEMBERED)?;
+    let wrong = first_wrong(alloc, &mut gateway)?;
+    telling.tell_first(rt, "each byte of a packet replaced by each other", wrong)
+}
+
+/// The number of the first case that goes wrong, if any: 256 times the place of the byte, and what stands for it. The
+/// last number is that of the counts behind all cases.
+fn first_wrong<S: DeviceStore>(
+    alloc: Global,
+    gateway: &mut GatewayOver<S>,
+) -> Result<Option<usize>> {
+    let mut state = State::new(Known::Nothing, 0);
+    let mut number = 0;
+    let _accepted = written_by(alloc, gateway, Item::Add.line())?;
+    let _known = state.take(alloc, Item::Add)?;
+    for at in 0..CONTACT.len() {
+        for byte in 0..=255 {
+            if CONTACT[at] != byte && !is_read_behind(alloc, gateway, &mut state, (at, byte))? {
+                return Ok(Some(number));
+            }
+            number = number.saturating_add(1);
+        }
+    }
+    let counts = written_by(alloc, gateway, b"status")?;
+    let is_counted = state.status(alloc)?.as_bytes() == counts.as_slice();
+    Ok((!is_counted).then_some(number))
+}
+
+/// Whether a whole packet is read behind one of which a byte is replaced, and nothing else.
+fn is_read_behind<S: DeviceStore>(
+    alloc: Global,
+    gateway: &mut GatewayOver<S>,
+    state: &mut State,
+    replaced: (usize, u8),
+) -> Result<bool> {
+    let (at, byte) = replaced;
+    let mut damaged = CONTACT;
+    if let Some(it) = damaged.get_mut(at) {
+        *it = byte;
+    }
+    let mut script = Vec::new(alloc);
+    add_piece(&mut script, &damaged)?;
+    add_piece(&mut script, &CONTACT)?;
+    let text = written_by(alloc, gateway, script.as_slice())?;
+    Ok(state.take(alloc, Item::Contact)?.desk.as_bytes() == text.as_slice())
+}

@@ -1,0 +1,107 @@
+//! Files in memory, of which one stops, connections over them, and what a stop of all leaves.
+use anyhow::{Result, bail};
+use sqlite::{Alter, Connection, FileStore, Files, Options};
+use sqlite_disk::{Crash, Disk, Fuse, Memory};
+use std::alloc::Global;
+
+pub type Disks = Files<Fuse<Memory>>;
+
+pub type Store = FileStore<Fuse<Memory>>;
+
+/// The log, or the database file.
+#[derive(Clone, Copy, Debug, PartialEq, Eq)]
+pub enum Which {
+    Log,
+    Database,
+}
+
+/// What a stop leaves of what was written and not synced.
+#[derive(Clone, Copy, Debug, PartialEq, Eq)]
+pub enum Stop {
+    /// The process dies: all of it.
+    OfProcess,
+    /// The machine stops: nothing.
+    OfMachine,
+}
+
+/// New files.
+pub(crate) fn empty_files(alloc: Global) -> Disks {
+    Files {
+        log: Fuse::new(Memory::new(alloc), u64::MAX),
+        db: Fuse::new(Memory::new(alloc), u64::MAX),
+    }
+}
+
+fn copied(alloc: Global, file: &Fuse<Memory>, calls: u64) -> Result<Fuse<Memory>> {
+    let mut copy = Memory::new(alloc);
+    copy.write_at(0, file.inner().bytes())?;
+    copy.sync()?;
+    Ok(Fuse::new(copy, calls))
+}
+
+/// Copies of the files, of which one passes so many calls, and then refuses each.
+pub(crate) fn fused(alloc: Global, files: &Disks, which: Which, calls: u64) -> Result<Disks> {
+    let (log, db) = match which {
+        Which::Log => (calls, u64::MAX),
+        Which::Database => (u64::MAX, calls),
+    };
+    Ok(Files {
+        log: copied(alloc, &files.log, log)?,
+        db: copied(alloc, &files.db, db)?,
+    })
+}
+
+/// Whether the file passes no call any more.
+pub(crate) fn is_blown(files: &mut Disks, which: Which) -> bool {
+    match which {
+        Which::Log => !files.log.may_be_used() || files.log.len().is_err(),
+        Which::Database => !files.db.may_be_used() || files.db.len().is_err(),
+    }
+}
+
+/// Copies of what a stop leaves of the files. They pass each call.
+pub(crate) fn left_by(alloc: Global, files: &mut Disks, stop: Stop) -> Result<Disks> {
+    if stop == Stop::OfMachine {
+        files.log.crash();
+        files.db.crash();
+    }
+    Ok(Files {
+        log: copied(alloc, &files.log, u64::MAX)?,
+        db: copied(alloc, &files.db, u64::MAX)?,
+    })
+}
+
+/// A connection over the files that keeps so many pages in memory, or the files again.
+pub(crate) fn connected(
+    alloc: Global,
+    files: Disks,
+    pages: usize,
+) -> std::result::Result<Connection<Store>, Disks> {
+    if !files.may_be_used() {
+        return Err(files);
+    }
+    let mut options = Options::new(7);
+    options.cache_pages = pages;
+    match Connection::open_files(alloc, files, options) {
+        Ok(conn) => Ok(conn),
+        Err((_, left)) => Err(left.into_files()),
+    }
+}
+
+/// The files of a connection that is closed.
+pub(crate) fn closed(conn: Connection<Store>) -> Result<Disks> {
+    match conn.close_files() {
+        Ok(files) => Ok(files),
+        Err(_) => bail!("not closed"),
+    }
+}
+
+/// The files of a connection that is left as it is.
+pub(crate) fn files_under(conn: Connection<Store>) -> Disks {
+    store_of(conn).close()
+}
+
+// The store of a connection that nothing uses any more.
+fn store_of<S: Alter + Drop>(conn: Connection<S>) -> S {
+    conn.into_store()
+}

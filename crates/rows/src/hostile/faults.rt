@@ -1,0 +1,282 @@
+//! The script with one read or one write that fails, at each place in turn: what is out then, and what the gateway knows.
+use super::script::{ITEMS, Known, Outcome, State, outcome_of};
+use super::turns::{Turns, serve, whole};
+use crate::fakes::{Parts, Sips};
+use crate::gateways::{BASE, REMEMBERED, written_by};
+use crate::lives::NEVER;
+use crate::telling::Telling;
+use anyhow::{Result, bail};
+use device_registry::{RegistryOver, SqlConnection};
+use gateway_core::{DeviceStore, GatewayOver};
+use gateway_main::{OverRead, OverWrite, RunFault, Summary, replay, start};
+use sqlite::{Connection, MemStore};
+use std::alloc::Global;
+
+/// More reads than these scripts take.
+const TURNS: u64 = 1000;
+
+pub(crate) fn tell(rt: &HostRuntime, telling: &mut Telling) -> Result<()> {
+    let alloc = rt.alloc();
+    let wrong = first_wrong_read(alloc)?;
+    telling.tell_first(rt, "each read of a replay fails in turn", wrong)?;
+    let wrong = first_wrong_write(alloc)?;
+    telling.tell_first(rt, "each write of a replay fails in turn", wrong)?;
+    let wrong = first_wrong_turn(alloc)?;
+    telling.tell_first(rt, "each read of a live gateway fails in turn", wrong)?;
+    let wrong = first_wrong_sent(alloc)?;
+    telling.tell_first(rt, "each write of a live gateway fails in turn", wrong)?;
+    let is_well = is_kept_untold(alloc)?;
+    telling.tell(rt, "a device that could not be told is kept", is_well)
+}
+
+/// The gateway of each case.
+type Fresh = GatewayOver<RegistryOver<Connection<MemStore>>>;
+
+fn fresh(alloc: Global) -> Result<Fresh> {
+    let conn = Connection::open_in_memory(alloc)?;
+    Ok(start(alloc, conn, BASE, REMEMBERED)?)
+}
+
+/// How a replay ended, and what was written.
+#[derive(Drop)]
+struct Replayed {
+    ended: Result<Summary, RunFault>,
+    written: Vec<u8>,
+}
+
+/// Replays by a reader that gives these parts and a writer that takes one byte at a call, which fail at these calls.
+fn replay_parts<S: DeviceStore>(
+    alloc: Global,
+    gateway: &mut GatewayOver<S>,
+    parts: &[&[u8]],
+    read_fails_at: usize,
+    write_fails_at: usize,
+) -> Result<Replayed> {
+    if gateway.is_ready() {
+        bail!("a packet waits");
+    }
+    let mut written = Vec::new(alloc);
+    let mut reader = OverRead::new(Parts::new(parts, read_fails_at));
+    let mut writer = OverWrite::new(Sips::new(&mut written, 1, write_fails_at));
+    let ended = replay(&mut reader, &mut writer, gateway, TURNS);
+    Ok(Replayed { ended, written })
+}
+
+/// Whether the gateway knows this.
+fn knows<S: DeviceStore>(
+    alloc: Global,
+    gateway: &mut GatewayOver<S>,
+    state: &State,
+) -> Result<bool> {
+    let told = written_by(alloc, gateway, b"list\nstatus\n")?;
+    let list = state.listed(alloc)?;
+    let counts = state.status(alloc)?;
+    let behind = told.as_slice().strip_prefix(list.as_bytes());
+    Ok(behind == Some(counts.as_bytes()))
+}
+
+/// The text of the script.
+fn script(alloc: Global) -> Result<Vec<u8>> {
+    let mut script = Vec::new(alloc);
+    for item in ITEMS {
+        script.extend_from_slice(item.line())?;
+        script.push(b'\n')?;
+    }
+    Ok(script)
+}
+
+/// The first number of bytes that came one by one before a read failed, where not just the lines that had ended were
+/// answered, or the lines behind them are answered otherwise when they come again.
+fn first_wrong_read(alloc: Global) -> Result<Option<usize>> {
+    let script = script(alloc)?;
+    let mut ended = 0usize;
+    for came in 0..=script.len() {
+        if came > 0 && script[came - 1] == b'\n' {
+            ended = ended.saturating_add(1);
+        }
+        if !is_read_fault_well(alloc, &script, came, ended)? {
+            return Ok(Some(came));
+        }
+    }
+    Ok(None)
+}
+
+fn is_read_fault_well(alloc: Global, script: &[u8], came: usize, ended: usize) -> Result<bool> {
+    let before = outcome_of(alloc, &ITEMS[..ended.min(ITEMS.len())])?;
+    let mut singles = Vec::new(alloc);
+    for single in script.chunks(1) {
+        singles.push(single)?;
+    }
+    let mut gateway = fresh(alloc)?;
+    let done = replay_parts(alloc, &mut gateway, &singles, came.saturating_add(1), NEVER)?;
+    Ok(
+        done.ended == Err(RunFault::Read)
+            && done.written.as_slice() == before.written.as_slice()
+            && goes_on(alloc, &mut gateway, ended, &before)?,
+    )
+}
+
+/// Whether the items from this one on are answered as if nothing had failed.
+fn goes_on<S: DeviceStore>(
+    alloc: Global,
+    gateway: &mut GatewayOver<S>,
+    ended: usize,
+    before: &Outcome,
+) -> Result<bool> {
+    let mut rest = Vec::new(alloc);
+    for item in ITEMS.iter().skip(ended) {
+        rest.extend_from_slice(item.line())?;
+        rest.push(b'\n')?;
+    }
+    let written = written_by(alloc, gateway, rest.as_slice())?;
+    let all = outcome_of(alloc, &ITEMS)?;
+    let behind = all
+        .written
+        .as_slice()
+        .strip_prefix(before.written.as_slice());
+    Ok(behind == Some(written.as_slice()))
+}
+
+/// The first number of bytes that were out as a write failed where anything is wrong.
+fn first_wrong_write(alloc: Global) -> Result<Option<usize>> {
+    for number in 1..=ITEMS.len() {
+        let before = outcome_of(alloc, &ITEMS[..number - 1])?;
+        let item = outcome_of(alloc, &ITEMS[..number])?;
+        for out in before.written.len()..item.written.len() {
+            if !is_write_fault_well(alloc, out, &item)? {
+                return Ok(Some(out));
+            }
+        }
+    }
+    Ok(None)
+}
+
+/// Whether the text breaks off behind so many bytes, and the item in it is done.
+fn is_write_fault_well(alloc: Global, out: usize, item: &Outcome) -> Result<bool> {
+    let script = script(alloc)?;
+    let mut gateway = fresh(alloc)?;
+    let done = replay_parts(
+        alloc,
+        &mut gateway,
+        &[script.as_slice()],
+        0,
+        out.saturating_add(1),
+    )?;
+    Ok(
+        done.ended == Err(RunFault::Write)
+            && Some(done.written.as_slice()) == item.written.as_slice().get(..out)
+            && knows(alloc, &mut gateway, &item.state)?,
+    )
+}
+
+/// The first turn in which a read fails and anything is wrong.
+fn first_wrong_turn(alloc: Global) -> Result<Option<usize>> {
+    let turns = whole(alloc)?;
+    for turn in 1..=ITEMS.len() {
+        let is_packet = ITEMS[turn - 1].digits().is_some();
+        let done_by_desk = if is_packet { turn } else { turn - 1 };
+        let is_well = is_read_of_turn_well(alloc, &turns, (turn, 0), turn - 1)?
+            && is_read_of_turn_well(alloc, &turns, (0, turn), done_by_desk)?;
+        if !is_well {
+            return Ok(Some(turn));
+        }
+    }
+    Ok(None)
+}
+
+/// Whether so many items are done where these reads fail, of the serial line and of the desk, and nothing more.
+fn is_read_of_turn_well(
+    alloc: Global,
+    turns: &Turns,
+    fails_at: (usize, usize),
+    items: usize,
+) -> Result<bool> {
+    let wanted = outcome_of(alloc, &ITEMS[..items.min(ITEMS.len())])?;
+    let all = (wanted.radio.len(), wanted.desk.len());
+    is_live_fault_well(
+        alloc,
+        turns,
+        RunFault::Read,
+        fails_at,
+        (NEVER, NEVER),
+        all,
+        &wanted,
+    )
+}
+
+/// The first number of bytes that were out as a write failed where anything is wrong.
+fn first_wrong_sent(alloc: Global) -> Result<Option<usize>> {
+    let turns = whole(alloc)?;
+    for number in 1..=ITEMS.len() {
+        let before = outcome_of(alloc, &ITEMS[..number - 1])?;
+        let item = outcome_of(alloc, &ITEMS[..number])?;
+        for out in before.radio.len()..item.radio.len() {
+            let fails_at = (out.saturating_add(1), NEVER);
+            let went = (out, before.desk.len());
+            if !is_sent_well(alloc, &turns, fails_at, went, &item)? {
+                return Ok(Some(out));
+            }
+        }
+        for out in before.desk.len()..item.desk.len() {
+            let fails_at = (NEVER, out.saturating_add(1));
+            let went = (item.radio.len(), out);
+            if !is_sent_well(alloc, &turns, fails_at, went, &item)? {
+                return Ok(Some(out));
+            }
+        }
+    }
+    Ok(None)
+}
+
+fn is_sent_well(
+    alloc: Global,
+    turns: &Turns,
+    fails_at: (usize, usize),
+    went: (usize, usize),
+    item: &Outcome,
+) -> Result<bool> {
+    is_live_fault_well(alloc, turns, RunFault::Write, (0, 0), fails_at, went, item)
+}
+
+/// Whether a live gateway ends with this fault where its readers and writers fail at these calls, so many bytes are out
+/// by radio and to the desk, and it knows what it does behind the item.
+fn is_live_fault_well(
+    alloc: Global,
+    turns: &Turns,
+    fault: RunFault,
+    read_fails_at: (usize, usize),
+    write_fails_at: (usize, usize),
+    went: (usize, usize),
+    item: &Outcome,
+) -> Result<bool> {
+    let (sent, told) = went;
+    let mut gateway = fresh(alloc)?;
+    let served = serve(alloc, &mut gateway, turns, read_fails_at, write_fails_at)?;
+    Ok(
+        served.ended == Err(fault)
+            && Some(served.radio.as_slice()) == item.radio.as_slice().get(..sent)
+            && Some(served.desk.as_slice()) == item.desk.as_slice().get(..told)
+            && knows(alloc, &mut gateway, &item.state)?,
+    )
+}
+
+/// Whether a device is found again whose teach-in was done, and could not be told.
+fn is_kept_untold(alloc: Global) -> Result<bool> {
+    let mut gateway = fresh(alloc)?;
+    let script = b"learn on\nS 55000D0701FDD4A00146001201D201800ABC0001FFFFFFFF2D008A\n".as_slice();
+    let done = replay_parts(alloc, &mut gateway, &[script], 0, 16)?;
+    let is_broken = done.ended == Err(RunFault::Write)
+        && done.written.as_slice() == b"{\"type\":\"ok\"}\nS".as_slice();
+    Ok(is_broken && is_found_again(alloc, gateway)?)
+}
+
+/// Whether the actuator is listed where the gateway's database is opened again.
+fn is_found_again<C: SqlConnection + Drop>(
+    alloc: Global,
+    gateway: GatewayOver<RegistryOver<C>>,
+) -> Result<bool> {
+    let mut again = start(alloc, gateway.close(), BASE, REMEMBERED)?;
+    let list = written_by(alloc, &mut again, b"list")?;
+    let wanted = State::new(Known::Actuator, 0).listed(alloc)?;
+    Ok(list.as_slice() == wanted.as_bytes())
+}

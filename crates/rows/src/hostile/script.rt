@@ -1,0 +1,315 @@
+//! A script with each kind of item, about one sender, and what is to be answered to it. It is written out from the rules
+//! of the gateway, and calls nothing of it.
+use anyhow::Result;
+use std::alloc::Global;
+
+/// An item of the script: an order of the desk, or a packet.
+#[derive(Clone, Copy, Debug, PartialEq, Eq)]
+pub enum Item {
+    /// The order that adds the sender as a contact.
+    Add,
+    /// A contact telegram of the sender.
+    Contact,
+    /// The order that opens the window and has queries answered.
+    Open,
+    /// A universal teach-in query of the sender as an actuator.
+    Actuator,
+    /// A 4BS teach-in query of the sender as a sensor.
+    Sensor,
+    /// The order that lists the devices.
+    List,
+    /// A response of the radio module.
+    Response,
+    /// The order that removes the sender.
+    Remove,
+    /// The order that tells the counts.
+    Status,
+}
+
+/// The script. With ample memory and a store that refuses nothing its second `Remove` finds nobody.
+pub const ITEMS: [Item; 10] = [
+    Item::Add,
+    Item::Contact,
+    Item::Open,
+    Item::Actuator,
+    Item::Sensor,
+    Item::List,
+    Item::Response,
+    Item::Remove,
+    Item::Remove,
+    Item::Status,
+];
+
+/// What is known of the sender.
+#[derive(Clone, Copy, Debug, PartialEq, Eq)]
+pub enum Known {
+    Nothing,
+    Contact,
+    Actuator,
+    Sensor,
+}
+
+pub const OK: &[u8] = b"{\"type\":\"ok\"}\n";
+
+pub const SYNTAX: &[u8] = b"{\"error\":\"syntax\",\"type\":\"error\"}\n";
+
+pub const STORE: &[u8] = b"{\"error\":\"store\",\"type\":\"error\"}\n";
+
+const READING: &str = "{\"dbm\":-45,\"eep\":\"D5-00-01\",\"id\":\"01800ABC\",\
+    \"readings\":[{\"name\":\"CO\",\"word\":\"closed\"}],\"type\":\"reading\"}\n";
+
+const RESPONSE: &str = "{\"code\":0,\"data\":\"\",\"name\":\"OK\",\"type\":\"response\"}\n";
+
+const UNKNOWN: &str = "{\"error\":\"unknown_device\",\"type\":\"error\"}\n";
+
+/// What goes out by radio for the two queries.
+const ACTUATOR_REPLY: &str = "55000d0701fdd4910146001201d2ff800000000301800abcff00f3";
+
+const SENSOR_REPLY: &str = "55000a0701eba5082846f0ff800000000301800abcff00d8";
+
+impl Item {
+    /// Its line in a script, without an end.
+    pub(crate) fn line(self) -> &'static [u8] {
+        match self {
+            Item::Add => b"add 01800ABC D5-00-01",
+            Item::Contact => b"S 55000707017AD50901800ABC0001FFFFFFFF2D001F",
+            Item::Open => b"learn on answer",
+            Item::Actuator => b"S 55000D0701FDD4A00146001201D201800ABC0001FFFFFFFF2D008A",
+            Item::Sensor => b"S 55000A0701EBA50828468001800ABC0001FFFFFFFF2D00C8",
+            Item::List => b"list",
+            Item::Response => b"S 5500010002650000",
+            Item::Remove => b"remove 01800ABC",
+            Item::Status => b"status",
+        }
+    }
+
+    /// The digits of a packet. None: it is an order.
+    pub(crate) fn digits(self) -> Option<&'static [u8]> {
+        self.line().strip_prefix(b"S ".as_slice())
+    }
+
+    /// Whether its answer may need the store.
+    pub(crate) fn asks_store(self) -> bool {
+        match self {
+            Item::Open | Item::Response | Item::Status => false,
+            _ => true,
+        }
+    }
+
+    /// What is known of the sender once it is told that this item learned or forgot it, if it does.
+    pub(crate) fn change(self, known: Known) -> Option<Known> {
+        match self {
+            Item::Add => Some(Known::Contact),
+            Item::Actuator => Some(Known::Actuator),
+            Item::Sensor => Some(Known::Sensor),
+            Item::Remove if known != Known::Nothing => Some(Known::Nothing),
+            _ => None,
+        }
+    }
+}
+
+/// What an item is answered.
+#[derive(Drop)]
+pub struct Answer {
+    /// The digits of what goes out by radio, or none.
+    pub radio: &'static str,
+    /// What the desk is told.
+    pub desk: String,
+}
+
+impl Answer {
+    /// Puts what a replay writes behind this text.
+    pub(crate) fn add_to(&self, text: &mut Vec<u8>) -> Result<()> {
+        if !self.radio.is_empty() {
+            text.extend_from_slice(b"S ")?;
+            text.extend_from_slice(self.radio.as_bytes())?;
+            text.push(b'\n')?;
+        }
+        text.extend_from_slice(self.desk.as_bytes())?;
+        Ok(())
+    }
+}
+
+/// What the gateway knows.
+#[derive(Clone, Copy, Debug, PartialEq, Eq)]
+pub struct State {
+    /// What it knows of the sender.
+    pub known: Known,
+    /// How many other senders it knows. They are contacts, and have the IDs from 1 on.
+    pub others: u32,
+    is_answering: bool,
+    ignored: u64,
+    readings: u64,
+    refused: u64,
+    responses: u64,
+    teach: u64,
+}
+
+impl State {
+    /// That of a new gateway which finds the sender so.
+    pub(crate) fn new(known: Known, others: u32) -> State {
+        State {
+            known,
+            others,
+            is_answering: false,
+            ignored: 0,
+            readings: 0,
+            refused: 0,
+            responses: 0,
+            teach: 0,
+        }
+    }
+
+    /// An item was refused.
+    pub(crate) fn refuse(&mut self) {
+        self.refused = self.refused.saturating_add(1);
+    }
+
+    /// Takes an item, and says what it is answered.
+    pub(crate) fn take(&mut self, alloc: Global, item: Item) -> Result<Answer> {
+        match item {
+            Item::Contact => self.hear_contact(alloc),
+            Item::Actuator => self.learn(alloc, Known::Actuator, ACTUATOR_REPLY),
+            Item::Sensor => self.learn(alloc, Known::Sensor, SENSOR_REPLY),
+            _ => Ok(Answer {
+                radio: "",
+                desk: self.take_quietly(alloc, item)?,
+            }),
+        }
+    }
+
+    // Takes an item for which nothing goes out by radio, and says what the desk is told.
+    fn take_quietly(&mut self, alloc: Global, item: Item) -> Result<String> {
+        match item {
+            Item::Add => {
+                self.known = Known::Contact;
+                taught(alloc, Known::Contact, "accepted")
+            }
+            Item::Open => {
+                self.is_answering = true;
+                Ok(String::from_utf8_lossy(alloc, OK)?)
+            }
+            Item::Response => {
+                self.responses = self.responses.saturating_add(1);
+                Ok(RESPONSE.to_string(alloc)?)
+            }
+            Item::List => self.listed(alloc),
+            Item::Remove => self.remove(alloc),
+            _ => self.status(alloc),
+        }
+    }
+
+    fn hear_contact(&mut self, alloc: Global) -> Result<Answer> {
+        let is_read = self.known == Known::Contact;
+        if is_read {
+            self.readings = self.readings.saturating_add(1);
+        } else {
+            self.ignored = self.ignored.saturating_add(1);
+        }
+        let text = if is_read { READING } else { "" };
+        Ok(Answer {
+            radio: "",
+            desk: text.to_string(alloc)?,
+        })
+    }
+
+    fn learn(&mut self, alloc: Global, known: Known, radio: &'static str) -> Result<Answer> {
+        self.teach = self.teach.saturating_add(1);
+        self.known = known;
+        let desk = taught(alloc, known, "accepted")?;
+        Ok(Answer { radio, desk })
+    }
+
+    fn remove(&mut self, alloc: Global) -> Result<String> {
+        let known = self.known;
+        if known == Known::Nothing {
+            return Ok(UNKNOWN.to_string(alloc)?);
+        }
+        self.known = Known::Nothing;
+        taught(alloc, known, "deleted")
+    }
+
+    /// What `list` is answered.
+    pub(crate) fn listed(&self, alloc: Global) -> Result<String> {
+        let mut text = String::new(alloc);
+        for id in 1..=self.others {
+            let line = format!(in alloc;
+                "{{\"eep\":\"D5-00-01\",\"id\":\"{id:08X}\",\"maker\":null,\"type\":\"device\"}}\n"
+            )?;
+            text.push_str(line.as_str())?;
+        }
+        let mut count = self.others;
+        if self.known != Known::Nothing {
+            let (eep, maker) = eep_and_maker(self.known);
+            let line = format!(in alloc;
+                "{{\"eep\":\"{eep}\",\"id\":\"01800ABC\",\"maker\":{maker},\"type\":\"device\"}}\n"
+            )?;
+            text.push_str(line.as_str())?;
+            count = count.saturating_add(1);
+        }
+        let line = format!(in alloc; "{{\"count\":{count},\"type\":\"list\"}}\n")?;
+        text.push_str(line.as_str())?;
+        Ok(text)
+    }
+
+    /// What `status` is answered.
+    pub(crate) fn status(&self, alloc: Global) -> Result<String> {
+        let mode = if self.is_answering {
+            "answer"
+        } else {
+            "closed"
+        };
+        Ok(format!(in alloc;
+            "{{\"ignored\":{},\"mode\":\"{mode}\",\"readings\":{},\"refused\":{},\"responses\":{},\"teach\":{},\
+            \"type\":\"status\"}}\n",
+            self.ignored, self.readings, self.refused, self.responses, self.teach
+        )?)
+    }
+}
+
+fn eep_and_maker(known: Known) -> (&'static str, &'static str) {
+    match known {
+        Known::Nothing => ("", ""),
+        Known::Contact => ("D5-00-01", "null"),
+        Known::Actuator => ("D2-01-12", "70"),
+        Known::Sensor => ("A5-02-05", "70"),
+    }
+}
+
+/// The line that tells what became of the sender.
+fn taught(alloc: Global, known: Known, outcome: &str) -> Result<String> {
+    let (eep, maker) = eep_and_maker(known);
+    Ok(format!(in alloc;
+        "{{\"eep\":\"{eep}\",\"id\":\"01800ABC\",\"maker\":{maker},\"result\":\"{outcome}\",\"type\":\"teach\"}}\n"
+    )?)
+}
+
+/// What a gateway comes to, and what goes out.
+#[derive(Drop)]
+pub struct Outcome {
+    pub state: State,
+    /// What a replay writes.
+    pub written: Vec<u8>,
+    /// What a live gateway sends by radio.
+    pub radio: Vec<u8>,
+    /// What it tells the desk.
+    pub desk: Vec<u8>,
+}
+
+/// What a new gateway comes to that takes these items.
+pub(crate) fn outcome_of(alloc: Global, items: &[Item]) -> Result<Outcome> {
+    let mut it = Outcome {
+        state: State::new(Known::Nothing, 0),
+        written: Vec::new(alloc),
+        radio: Vec::new(alloc),
+        desk: Vec::new(alloc),
+    };
+    for item in items {
+        let answer = it.state.take(alloc, *item)?;
+        answer.add_to(&mut it.written)?;
+        it.radio
+            .extend_from_slice(&hex::decode(alloc, answer.radio)?)?;
+        it.desk.extend_from_slice(answer.desk.as_bytes())?;
+    }
+    Ok(it)
+}

@@ -1,0 +1,128 @@
+//! The script as the turns of a live gateway: in each turn one item comes.
+use super::script::{ITEMS, Item};
+use crate::fakes::Parts;
+use crate::gateways::{BASE, REMEMBERED};
+use crate::lives::{NEVER, Served, serve_by};
+use anyhow::Result;
+use gateway_core::{DeviceStore, GatewayOver};
+use gateway_main::start;
+use sqlite::Connection;
+use std::alloc::Global;
+
+/// What comes in turns.
+#[derive(Drop)]
+pub struct Turns {
+    serial: Vec<Vec<u8>>,
+    desk: Vec<Vec<u8>>,
+}
+
+impl Turns {
+    fn new(alloc: Global) -> Turns {
+        Turns {
+            serial: Vec::new(alloc),
+            desk: Vec::new(alloc),
+        }
+    }
+
+    fn push(&mut self, alloc: Global, serial: &[u8], desk: &[u8]) -> Result<()> {
+        self.serial.push(Vec::from_slice(alloc, serial)?)?;
+        self.desk.push(Vec::from_slice(alloc, desk)?)?;
+        Ok(())
+    }
+
+    fn push_order(&mut self, alloc: Global, line: &[u8]) -> Result<()> {
+        let mut desk = Vec::from_slice(alloc, line)?;
+        desk.push(b'\n')?;
+        self.push(alloc, b"", desk.as_slice())
+    }
+
+    fn push_item(&mut self, alloc: Global, item: Item) -> Result<()> {
+        match item.digits() {
+            Some(digits) => self.push(alloc, bytes_of(alloc, digits)?.as_slice(), b""),
+            None => self.push_order(alloc, item.line()),
+        }
+    }
+}
+
+fn bytes_of(alloc: Global, digits: &[u8]) -> Result<Vec<u8>> {
+    Ok(hex::decode(alloc, digits)?)
+}
+
+/// The turns of the script.
+pub(crate) fn whole(alloc: Global) -> Result<Turns> {
+    let mut turns = Turns::new(alloc);
+    for item in ITEMS {
+        turns.push_item(alloc, item)?;
+    }
+    Ok(turns)
+}
+
+/// The turns of the script, but that the packet of this number comes in two turns, so many bytes of it in the first.
+pub(crate) fn paused(alloc: Global, at: usize, len: usize) -> Result<Turns> {
+    let mut turns = Turns::new(alloc);
+    for (number, item) in ITEMS.iter().enumerate() {
+        match item.digits() {
+            Some(digits) if number == at => {
+                let bytes = bytes_of(alloc, digits)?;
+                let (front, back) = bytes.as_slice().split_at(len.min(bytes.len()));
+                turns.push(alloc, front, b"")?;
+                turns.push(alloc, back, b"")?;
+            }
+            _ => turns.push_item(alloc, *item)?,
+        }
+    }
+    Ok(turns)
+}
+
+/// The turns of the script, but that no serial bytes come behind so many of the packet of this number.
+pub(crate) fn ended(alloc: Global, at: usize, len: usize) -> Result<Turns> {
+    let mut turns = Turns::new(alloc);
+    for (number, item) in ITEMS.iter().enumerate() {
+        match item.digits() {
+            Some(digits) if number >= at => {
+                let bytes = bytes_of(alloc, digits)?;
+                let len = if number == at {
+                    len.min(bytes.len())
+                } else {
+                    0
+                };
+                turns.push(alloc, &bytes.as_slice()[..len], b"")?;
+            }
+            _ => turns.push_item(alloc, *item)?,
+        }
+    }
+    Ok(turns)
+}
+
+/// Serves the turns by a new gateway.
+pub(crate) fn serve_new(alloc: Global, turns: &Turns) -> Result<Served> {
+    let mut gateway = start(alloc, Connection::open_in_memory(alloc)?, BASE, REMEMBERED)?;
+    serve(alloc, &mut gateway, turns, (0, 0), (NEVER, NEVER))
+}
+
+/// Serves the turns, with readers and writers that fail at these calls. A writer takes one byte at a call.
+pub(crate) fn serve<S: DeviceStore>(
+    alloc: Global,
+    gateway: &mut GatewayOver<S>,
+    turns: &Turns,
+    read_fails_at: (usize, usize),
+    write_fails_at: (usize, usize),
+) -> Result<Served> {
+    let serial = views(alloc, &turns.serial)?;
+    let desk = views(alloc, &turns.desk)?;
+    let (serial_fails_at, desk_fails_at) = read_fails_at;
+    let inputs = (
+        Parts::new(serial.as_slice(), serial_fails_at),
+        Parts::new(desk.as_slice(), desk_fails_at),
+    );
+    let count = turns.serial.len() as u64;
+    serve_by(alloc, gateway, inputs, count, 1, write_fails_at)
+}
+
+fn views(alloc: Global, parts: &[Vec<u8>]) -> Result<Vec<&[u8]>> {
+    let mut views = Vec::new(alloc);
+    for part in parts {
+        views.push(part.as_slice())?;
+    }
+    Ok(views)
+}
