@@ -5,7 +5,7 @@ use device_registry::{Registry, RegistryOver, SqlConnection};
 use gateway_core::{DeviceStore, Gateway, GatewayOver, Reply, StartFault};
 use gateway_main::fault::Fault;
 use gateway_main::{OverRead, OverWrite, RunFault, Sink, Source, Summary, live, replay, start};
-use sqlite::Connection;
+use sqlite::{Connection, MemStore};
 use std::alloc::Global;
 
 /// The base ID of the radio module in every case.
@@ -14,6 +14,14 @@ pub const BASE: u32 = 0xFF80_0000;
 /// How many looked-up senders a registry remembers, as in the program.
 pub const REMEMBERED: usize = 1024;
 
+/// A new gateway, over a new database.
+pub(crate) fn fresh(
+    alloc: Global,
+) -> Result<GatewayOver<RegistryOver<Connection<MemStore>>>, Fault> {
+    let conn = Connection::open_in_memory(alloc)?;
+    start(alloc, conn, BASE, REMEMBERED)
+}
+
 /// Replays a script by a new gateway.
 pub(crate) fn replay_new<R: Source, W: Sink>(
     alloc: Global,
@@ -21,8 +29,7 @@ pub(crate) fn replay_new<R: Source, W: Sink>(
     writer: &mut W,
     turns: u64,
 ) -> Result<Result<Summary, RunFault>, Fault> {
-    let conn = Connection::open_in_memory(alloc)?;
-    let mut gateway = start(alloc, conn, BASE, REMEMBERED)?;
+    let mut gateway = fresh(alloc)?;
     Ok(replay(reader, writer, &mut gateway, turns))
 }
 
@@ -54,8 +61,7 @@ pub(crate) fn serve_new<P: Source, Q: Source, R: Sink, D: Sink>(
     desk: (&mut Q, &mut D),
     turns: u64,
 ) -> Result<Result<Summary, RunFault>, Fault> {
-    let conn = Connection::open_in_memory(alloc)?;
-    let mut gateway = start(alloc, conn, BASE, REMEMBERED)?;
+    let mut gateway = fresh(alloc)?;
     let (serial_in, serial_out) = serial;
     let (desk_in, desk_out) = desk;
     Ok(live(
@@ -94,10 +100,7 @@ const BOTH_LISTED: &[u8] =
 
 /// Whether a gateway lists what another learned over the same database.
 fn finds_what_was_learned_before(alloc: Global) -> Result<bool> {
-    let Ok(first) = start(alloc, Connection::open_in_memory(alloc)?, BASE, REMEMBERED) else {
-        return Ok(false);
-    };
-    Ok(lists_what_it_learned(alloc, first))
+    Ok(lists_what_it_learned(alloc, fresh(alloc)?))
 }
 
 fn lists_what_it_learned<C: SqlConnection + Drop>(

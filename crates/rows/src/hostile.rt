@@ -3,6 +3,7 @@ mod bytes;
 mod cuts;
 mod disks;
 mod faults;
+mod live_faults;
 mod script;
 mod stops;
 mod turns;
@@ -14,5 +15,6 @@ pub(crate) fn tell(rt: &HostRuntime, telling: &mut Telling) -> Result<()> {
     stops::tell(rt, telling)?;
     cuts::tell(rt, telling)?;
     bytes::tell(rt, telling)?;
-    faults::tell(rt, telling)
+    faults::tell(rt, telling)?;
+    live_faults::tell(rt, telling)
 }

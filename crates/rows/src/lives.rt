@@ -1,11 +1,10 @@
 //! Serial lines and desks that are served in turns: what goes where, and what stands where after each fault.
 use crate::fakes::{Parts, Sips, TakesNothing};
-use crate::gateways::{BASE, REMEMBERED, serve_new};
+use crate::gateways::{fresh, serve_new};
 use crate::telling::Telling;
 use anyhow::{Result, bail};
 use gateway_core::{DeviceStore, GatewayOver};
-use gateway_main::{OverRead, OverWrite, RunFault, Summary, live, start};
-use sqlite::Connection;
+use gateway_main::{OverRead, OverWrite, RunFault, Summary, live};
 use std::alloc::Global;
 
 const OK: &[u8] = b"{\"type\":\"ok\"}\n";
@@ -91,8 +90,7 @@ fn serve(
     turns: u64,
     fails_at: (usize, usize),
 ) -> Result<Served> {
-    let conn = Connection::open_in_memory(alloc)?;
-    let mut gateway = start(alloc, conn, BASE, REMEMBERED)?;
+    let mut gateway = fresh(alloc)?;
     serve_by(alloc, &mut gateway, (serial, desk), turns, 7, fails_at)
 }
 
@@ -184,7 +182,7 @@ fn tell_lines(rt: &HostRuntime, telling: &mut Telling) -> Result<()> {
 }
 
 fn drops_what_is_not_ended(alloc: Global) -> Result<bool> {
-    let mut gateway = start(alloc, Connection::open_in_memory(alloc)?, BASE, REMEMBERED)?;
+    let mut gateway = fresh(alloc)?;
     let first = desk_after(alloc, &mut gateway, b"lea")?;
     let second = desk_after(alloc, &mut gateway, b"rn on\n")?;
     Ok(first.is_empty() && second.as_slice() == SYNTAX)

@@ -5,17 +5,15 @@
 //! another makes has a right check. That no case holds the whole telegram back was found by another program too.
 use super::script::{Item, Known, State};
 use crate::cuts::{CONTACT, add_piece};
-use crate::gateways::{BASE, REMEMBERED, written_by};
+use crate::gateways::{fresh, written_by};
 use crate::telling::Telling;
 use anyhow::Result;
 use gateway_core::{DeviceStore, GatewayOver};
-use gateway_main::start;
-use sqlite::Connection;
 use std::alloc::Global;
 
 pub(crate) fn tell(rt: &HostRuntime, telling: &mut Telling) -> Result<()> {
     let alloc = rt.alloc();
-    let mut gateway = start(alloc, Connection::open_in_memory(alloc)?, BASE, REMEMBERED)?;
+    let mut gateway = fresh(alloc)?;
     let wrong = first_wrong(alloc, &mut gateway)?;
     telling.tell_first(rt, "each byte of a packet replaced by each other", wrong)
 }

@@ -1,15 +1,14 @@
-//! The script with one read or one write that fails, at each place in turn: what is out then, and what the gateway knows.
-use super::script::{ITEMS, Known, Outcome, State, outcome_of};
-use super::turns::{Turns, serve, whole};
+//! Replays of the script in which one read or one write fails, at each place in turn: what is written then, and what the
+//! gateway knows.
+use super::script::{ITEMS, Known, Outcome, State, outcome_of, outcome_of_first};
 use crate::fakes::{Parts, Sips};
-use crate::gateways::{BASE, REMEMBERED, written_by};
+use crate::gateways::{BASE, REMEMBERED, fresh, written_by};
 use crate::lives::NEVER;
 use crate::telling::Telling;
 use anyhow::{Result, bail};
 use device_registry::{RegistryOver, SqlConnection};
 use gateway_core::{DeviceStore, GatewayOver};
 use gateway_main::{OverRead, OverWrite, RunFault, Summary, replay, start};
-use sqlite::{Connection, MemStore};
 use std::alloc::Global;
 
 /// More reads than these scripts take.
@@ -21,20 +20,8 @@ pub(crate) fn tell(rt: &HostRuntime, telling: &mut Telling) -> Result<()> {
     telling.tell_first(rt, "each read of a replay fails in turn", wrong)?;
     let wrong = first_wrong_write(alloc)?;
     telling.tell_first(rt, "each write of a replay fails in turn", wrong)?;
-    let wrong = first_wrong_turn(alloc)?;
-    telling.tell_first(rt, "each read of a live gateway fails in turn", wrong)?;
-    let wrong = first_wrong_sent(alloc)?;
-    telling.tell_first(rt, "each write of a live gateway fails in turn", wrong)?;
     let is_well = is_kept_untold(alloc)?;
     telling.tell(rt, "a device that could not be told is kept", is_well)
-}
-
-/// The gateway of each case.
-type Fresh = GatewayOver<RegistryOver<Connection<MemStore>>>;
-
-fn fresh(alloc: Global) -> Result<Fresh> {
-    let conn = Connection::open_in_memory(alloc)?;
-    Ok(start(alloc, conn, BASE, REMEMBERED)?)
 }
 
 /// How a replay ended, and what was written.
@@ -63,7 +50,7 @@ fn replay_parts<S: DeviceStore>(
 }
 
 /// Whether the gateway knows this.
-fn knows<S: DeviceStore>(
+pub(crate) fn knows<S: DeviceStore>(
     alloc: Global,
     gateway: &mut GatewayOver<S>,
     state: &State,
@@ -90,19 +77,20 @@ fn script(alloc: Global) -> Result<Vec<u8>> {
 fn first_wrong_read(alloc: Global) -> Result<Option<usize>> {
     let script = script(alloc)?;
     let mut ended = 0usize;
-    for came in 0..=script.len() {
-        if came > 0 && script[came - 1] == b'\n' {
-            ended = ended.saturating_add(1);
-        }
+    for (came, byte) in script.iter().enumerate() {
         if !is_read_fault_well(alloc, &script, came, ended)? {
             return Ok(Some(came));
         }
+        if *byte == b'\n' {
+            ended = ended.saturating_add(1);
+        }
     }
-    Ok(None)
+    let is_well = is_read_fault_well(alloc, &script, script.len(), ended)?;
+    Ok((!is_well).then_some(script.len()))
 }
 
 fn is_read_fault_well(alloc: Global, script: &[u8], came: usize, ended: usize) -> Result<bool> {
-    let before = outcome_of(alloc, &ITEMS[..ended.min(ITEMS.len())])?;
+    let before = outcome_of_first(alloc, ended)?;
     let mut singles = Vec::new(alloc);
     for single in script.chunks(1) {
         singles.push(single)?;
@@ -139,9 +127,9 @@ fn goes_on<S: DeviceStore>(
 
 /// The first number of bytes that were out as a write failed where anything is wrong.
 fn first_wrong_write(alloc: Global) -> Result<Option<usize>> {
-    for number in 1..=ITEMS.len() {
-        let before = outcome_of(alloc, &ITEMS[..number - 1])?;
-        let item = outcome_of(alloc, &ITEMS[..number])?;
+    for done in 0..ITEMS.len() {
+        let before = outcome_of_first(alloc, done)?;
+        let item = outcome_of_first(alloc, done.saturating_add(1))?;
         for out in before.written.len()..item.written.len() {
             if !is_write_fault_well(alloc, out, &item)? {
                 return Ok(Some(out));
@@ -165,97 +153,6 @@ fn is_write_fault_well(alloc: Global, out: usize, item: &Outcome) -> Result<bool
     Ok(
         done.ended == Err(RunFault::Write)
             && Some(done.written.as_slice()) == item.written.as_slice().get(..out)
-            && knows(alloc, &mut gateway, &item.state)?,
-    )
-}
-
-/// The first turn in which a read fails and anything is wrong.
-fn first_wrong_turn(alloc: Global) -> Result<Option<usize>> {
-    let turns = whole(alloc)?;
-    for turn in 1..=ITEMS.len() {
-        let is_packet = ITEMS[turn - 1].digits().is_some();
-        let done_by_desk = if is_packet { turn } else { turn - 1 };
-        let is_well = is_read_of_turn_well(alloc, &turns, (turn, 0), turn - 1)?
-            && is_read_of_turn_well(alloc, &turns, (0, turn), done_by_desk)?;
-        if !is_well {
-            return Ok(Some(turn));
-        }
-    }
-    Ok(None)
-}
-
-/// Whether so many items are done where these reads fail, of the serial line and of the desk, and nothing more.
-fn is_read_of_turn_well(
-    alloc: Global,
-    turns: &Turns,
-    fails_at: (usize, usize),
-    items: usize,
-) -> Result<bool> {
-    let wanted = outcome_of(alloc, &ITEMS[..items.min(ITEMS.len())])?;
-    let all = (wanted.radio.len(), wanted.desk.len());
-    is_live_fault_well(
-        alloc,
-        turns,
-        RunFault::Read,
-        fails_at,
-        (NEVER, NEVER),
-        all,
-        &wanted,
-    )
-}
-
-/// The first number of bytes that were out as a write failed where anything is wrong.
-fn first_wrong_sent(alloc: Global) -> Result<Option<usize>> {
-    let turns = whole(alloc)?;
-    for number in 1..=ITEMS.len() {
-        let before = outcome_of(alloc, &ITEMS[..number - 1])?;
-        let item = outcome_of(alloc, &ITEMS[..number])?;
-        for out in before.radio.len()..item.radio.len() {
-            let fails_at = (out.saturating_add(1), NEVER);
-            let went = (out, before.desk.len());
-            if !is_sent_well(alloc, &turns, fails_at, went, &item)? {
-                return Ok(Some(out));
-            }
-        }
-        for out in before.desk.len()..item.desk.len() {
-            let fails_at = (NEVER, out.saturating_add(1));
-            let went = (item.radio.len(), out);
-            if !is_sent_well(alloc, &turns, fails_at, went, &item)? {
-                return Ok(Some(out));
-            }
-        }
-    }
-    Ok(None)
-}
-
-fn is_sent_well(
-    alloc: Global,
-    turns: &Turns,
-    fails_at: (usize, usize),
-    went: (usize, usize),
-    item: &Outcome,
-) -> Result<bool> {
-    is_live_fault_well(alloc, turns, RunFault::Write, (0, 0), fails_at, went, item)
-}
-
-/// Whether a live gateway ends with this fault where its readers and writers fail at these calls, so many bytes are out
-/// by radio and to the desk, and it knows what it does behind the item.
-fn is_live_fault_well(
-    alloc: Global,
-    turns: &Turns,
-    fault: RunFault,
-    read_fails_at: (usize, usize),
-    write_fails_at: (usize, usize),
-    went: (usize, usize),
-    item: &Outcome,
-) -> Result<bool> {
-    let (sent, told) = went;
-    let mut gateway = fresh(alloc)?;
-    let served = serve(alloc, &mut gateway, turns, read_fails_at, write_fails_at)?;
-    Ok(
-        served.ended == Err(fault)
-            && Some(served.radio.as_slice()) == item.radio.as_slice().get(..sent)
-            && Some(served.desk.as_slice()) == item.desk.as_slice().get(..told)
             && knows(alloc, &mut gateway, &item.state)?,
     )
 }

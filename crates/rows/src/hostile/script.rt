@@ -313,3 +313,8 @@ pub(crate) fn outcome_of(alloc: Global, items: &[Item]) -> Result<Outcome> {
     }
     Ok(it)
 }
+
+/// What a new gateway comes to that takes so many first items of the script.
+pub(crate) fn outcome_of_first(alloc: Global, items: usize) -> Result<Outcome> {
+    outcome_of(alloc, &ITEMS[..items.min(ITEMS.len())])
+}

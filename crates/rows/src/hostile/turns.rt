@@ -1,12 +1,10 @@
 //! The script as the turns of a live gateway: in each turn one item comes.
 use super::script::{ITEMS, Item};
 use crate::fakes::Parts;
-use crate::gateways::{BASE, REMEMBERED};
+use crate::gateways::fresh;
 use crate::lives::{NEVER, Served, serve_by};
 use anyhow::Result;
 use gateway_core::{DeviceStore, GatewayOver};
-use gateway_main::start;
-use sqlite::Connection;
 use std::alloc::Global;
 
 /// What comes in turns.
@@ -81,12 +79,9 @@ pub(crate) fn ended(alloc: Global, at: usize, len: usize) -> Result<Turns> {
         match item.digits() {
             Some(digits) if number >= at => {
                 let bytes = bytes_of(alloc, digits)?;
-                let len = if number == at {
-                    len.min(bytes.len())
-                } else {
-                    0
-                };
-                turns.push(alloc, &bytes.as_slice()[..len], b"")?;
+                let kept = if number == at { len } else { 0 };
+                let (front, _) = bytes.as_slice().split_at(kept.min(bytes.len()));
+                turns.push(alloc, front, b"")?;
             }
             _ => turns.push_item(alloc, *item)?,
         }
@@ -96,7 +91,7 @@ pub(crate) fn ended(alloc: Global, at: usize, len: usize) -> Result<Turns> {
 
 /// Serves the turns by a new gateway.
 pub(crate) fn serve_new(alloc: Global, turns: &Turns) -> Result<Served> {
-    let mut gateway = start(alloc, Connection::open_in_memory(alloc)?, BASE, REMEMBERED)?;
+    let mut gateway = fresh(alloc)?;
     serve(alloc, &mut gateway, turns, (0, 0), (NEVER, NEVER))
 }
 

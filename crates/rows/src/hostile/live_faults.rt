@@ -1,0 +1,99 @@
+//! A live gateway that serves the script, and of which one read or one write fails, at each place in turn: what is out
+//! then, and what the gateway knows.
+use super::faults::knows;
+use super::script::{ITEMS, Outcome, outcome_of_first};
+use super::turns::{Turns, serve, whole};
+use crate::gateways::fresh;
+use crate::lives::NEVER;
+use crate::telling::Telling;
+use anyhow::Result;
+use gateway_main::RunFault;
+use std::alloc::Global;
+
+/// What fails, each time the call of one number: a read of the serial line and one of the desk, or a write to each.
+#[derive(Clone, Copy)]
+enum Failing {
+    Reads((usize, usize)),
+    Writes((usize, usize)),
+}
+
+pub(crate) fn tell(rt: &HostRuntime, telling: &mut Telling) -> Result<()> {
+    let wrong = first_wrong_read(rt.alloc())?;
+    telling.tell_first(rt, "each read of a live gateway fails in turn", wrong)?;
+    let wrong = first_wrong_write(rt.alloc())?;
+    telling.tell_first(rt, "each write of a live gateway fails in turn", wrong)
+}
+
+/// The first turn in which a read fails and anything is wrong.
+fn first_wrong_read(alloc: Global) -> Result<Option<usize>> {
+    let turns = whole(alloc)?;
+    for (done, item) in ITEMS.iter().enumerate() {
+        let turn = done.saturating_add(1);
+        let is_packet = item.digits().is_some();
+        let done_by_desk = if is_packet { turn } else { done };
+        let is_well = is_read_well(alloc, &turns, (turn, 0), done)?
+            && is_read_well(alloc, &turns, (0, turn), done_by_desk)?;
+        if !is_well {
+            return Ok(Some(turn));
+        }
+    }
+    Ok(None)
+}
+
+/// Whether so many items are done where these reads fail, of the serial line and of the desk, and nothing more.
+fn is_read_well(
+    alloc: Global,
+    turns: &Turns,
+    fails_at: (usize, usize),
+    items: usize,
+) -> Result<bool> {
+    let done = outcome_of_first(alloc, items)?;
+    let went = (done.radio.len(), done.desk.len());
+    is_fault_well(alloc, turns, Failing::Reads(fails_at), went, &done)
+}
+
+/// The first number of bytes that were out on one side as a write there failed, where anything is wrong.
+fn first_wrong_write(alloc: Global) -> Result<Option<usize>> {
+    let turns = whole(alloc)?;
+    for done in 0..ITEMS.len() {
+        let before = outcome_of_first(alloc, done)?;
+        let item = outcome_of_first(alloc, done.saturating_add(1))?;
+        for out in before.radio.len()..item.radio.len() {
+            let failing = Failing::Writes((out.saturating_add(1), NEVER));
+            if !is_fault_well(alloc, &turns, failing, (out, before.desk.len()), &item)? {
+                return Ok(Some(out));
+            }
+        }
+        for out in before.desk.len()..item.desk.len() {
+            let failing = Failing::Writes((NEVER, out.saturating_add(1)));
+            if !is_fault_well(alloc, &turns, failing, (item.radio.len(), out), &item)? {
+                return Ok(Some(out));
+            }
+        }
+    }
+    Ok(None)
+}
+
+/// Whether a live gateway in which this fails ends with its fault, just so many bytes are out by radio and to the desk,
+/// and it knows what it does behind the items.
+fn is_fault_well(
+    alloc: Global,
+    turns: &Turns,
+    failing: Failing,
+    went: (usize, usize),
+    items: &Outcome,
+) -> Result<bool> {
+    let (fault, reads, writes) = match failing {
+        Failing::Reads(reads) => (RunFault::Read, reads, (NEVER, NEVER)),
+        Failing::Writes(writes) => (RunFault::Write, (0, 0), writes),
+    };
+    let (sent, told) = went;
+    let mut gateway = fresh(alloc)?;
+    let served = serve(alloc, &mut gateway, turns, reads, writes)?;
+    Ok(
+        served.ended == Err(fault)
+            && Some(served.radio.as_slice()) == items.radio.as_slice().get(..sent)
+            && Some(served.desk.as_slice()) == items.desk.as_slice().get(..told)
+            && knows(alloc, &mut gateway, &items.state)?,
+    )
+}
