@@ -17,6 +17,7 @@ enum Failing {
     Writes((usize, usize)),
 }
 
+// The wrong bodies of `faults` printed `at 4, differs` and `at 188, differs` here.
 pub(crate) fn tell(rt: &HostRuntime, telling: &mut Telling) -> Result<()> {
     let wrong = first_wrong_read(rt.alloc())?;
     telling.tell_first(rt, "each read of a live gateway fails in turn", wrong)?;
