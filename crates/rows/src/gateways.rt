@@ -110,7 +110,11 @@ fn lists_what_it_learned<C: SqlConnection + Drop>(
     let mut first = first;
     let is_learned = tells(&first.order(b"add 01800ABC D5-00-01"), ACCEPTED)
         && tells(&first.order(b"add 00000001 D5-00-01"), SECOND_ACCEPTED);
-    let Ok(registry) = RegistryOver::open(alloc, first.close()) else {
+    let conn = first.close();
+    if !conn.is_autocommit() {
+        return false;
+    }
+    let Ok(registry) = RegistryOver::open(alloc, conn) else {
         return false;
     };
     match GatewayOver::new(alloc, registry, BASE) {

@@ -174,7 +174,11 @@ fn is_found_again<C: SqlConnection + Drop>(
     alloc: Global,
     gateway: GatewayOver<RegistryOver<C>>,
 ) -> Result<bool> {
-    let mut again = start(alloc, gateway.close(), BASE, REMEMBERED)?;
+    let conn = gateway.close();
+    if !conn.is_autocommit() {
+        return Ok(false);
+    }
+    let mut again = start(alloc, conn, BASE, REMEMBERED)?;
     let list = written_by(alloc, &mut again, b"list")?;
     let wanted = State::new(Known::Actuator, 0).listed(alloc)?;
     Ok(list.as_slice() == wanted.as_bytes())
