@@ -83,27 +83,27 @@ may_become_not_never (s ∷ []) p more hp hm d =
 may_become_not_never (s ∷ h ∷ []) p more hp hm d =
     let e = hp.bytes in let es : s ≡ 0x55 = cc in let eh : h ≡ length p.body / 256 = cc in let body = hp.body in
     kept _ Partial (and_from _ _ (eq-eqb s 0x55 es)
-    (test_fitting h 0 1 (record { low = omega arith; opts = omega arith; some = omega arith; fits = omega arith })))
+    (test_fitting h 0 1 (record { high = omega arith; low = omega arith; opts = omega arith; some = omega arith })))
     partial_apart d
 may_become_not_never (s ∷ h ∷ l ∷ []) p more hp hm d =
     let e = hp.bytes in let es : s ≡ 0x55 = cc in let eh : h ≡ length p.body / 256 =
     cc in let el : l ≡ length p.body % 256 = cc in let body = hp.body in
     kept _ Partial (and_from _ _ (eq-eqb s 0x55 es)
-    (test_fitting h l 1 (record { low = omega arith; opts = omega arith; some = omega arith; fits = omega arith })))
+    (test_fitting h l 1 (record { high = omega arith; low = omega arith; opts = omega arith; some = omega arith })))
     partial_apart d
 may_become_not_never (s ∷ h ∷ l ∷ o ∷ []) p more hp hm d =
     let e = hp.bytes in let es : s ≡ 0x55 = cc in let eh : h ≡ length p.body / 256 = cc in
     let el : l ≡ length p.body % 256 = cc in let eo : o ≡ length p.opt = cc in let body = hp.body in
     let opt = hp.opt in let some = hp.some in
     kept _ Partial (and_from _ _ (eq-eqb s 0x55 es)
-    (test_fitting h l o (record { low = omega arith; opts = omega arith; some = omega arith; fits = omega arith })))
+    (test_fitting h l o (record { high = omega arith; low = omega arith; opts = omega arith; some = omega arith })))
     partial_apart d
 may_become_not_never (s ∷ h ∷ l ∷ o ∷ k ∷ []) p more hp hm d =
     let e = hp.bytes in let es : s ≡ 0x55 = cc in let eh : h ≡ length p.body / 256 = cc in
     let el : l ≡ length p.body % 256 = cc in let eo : o ≡ length p.opt = cc in let body = hp.body in
     let opt = hp.opt in let some = hp.some in
     kept _ Partial (and_from _ _ (eq-eqb s 0x55 es)
-    (test_fitting h l o (record { low = omega arith; opts = omega arith; some = omega arith; fits = omega arith })))
+    (test_fitting h l o (record { high = omega arith; low = omega arith; opts = omega arith; some = omega arith })))
     partial_apart d
 may_become_not_never (s ∷ h ∷ l ∷ o ∷ k ∷ c ∷ t) p more hp hm d = may_become_cells p s h l o k c t more hp hm d
 

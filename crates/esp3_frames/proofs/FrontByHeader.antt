@@ -1,18 +1,17 @@
 -- What stands at the front of a text, by its header.
 use Rattle.std.proofs.Common.{◌≡◌, ◌≢◌, ℕ, ◌+◌, ◌*◌, ◌<◌, ◌≤◌, Bool, true, false, cond, ◌&&◌, ◌==◌}
-use Rattle.std.proofs.Common.{eqb, ltb, leb, List, [], ◌∷◌, ◌++◌, length, take, drop, get_or, refl, sym, ap, ◌∙◌, subst}
+use Rattle.std.proofs.Common.{eqb, leb, List, [], ◌∷◌, ◌++◌, length, take, drop, get_or, refl, sym, ap, ◌∙◌}
 use Rattle.std.proofs.Common.{arith}
 use Rattle.std.specs.Prelude.{Result, Ok, Err}
-use Rattle.std.proofs.lemmas.Bool.{and_parts, and_from, le-ltb, le-leb, lt-leb, eq-eqb, ne_eqb}
+use Rattle.std.proofs.lemmas.Bool.{and_parts, and_from, le-leb, lt-leb, eq-eqb, ne_eqb}
 use Rattle.esp3_frames.specs.Check.{check}
-use Rattle.esp3_frames.specs.Packet.{longest_data}
-use Rattle.esp3_frames.specs.Frames.{lengths_fit, may_begin, Front, front_behind, front_of}
+use Rattle.esp3_frames.specs.Packet.{lengths_fit}
+use Rattle.esp3_frames.specs.Frames.{may_begin, Front, front_behind, front_of}
 use Rattle.esp3_frames.specs.Frames.Front.{Never, Partial, Whole}
 use Rattle.esp3_frames.specs.Outcome.{header_in, header_of}
 use Rattle.esp3_frames.specs.declared.packet.Header.{Header}
 use Rattle.esp3_frames.specs.declared.packet.HeaderFault.{HeaderFault}
 use Rattle.esp3_frames.proofs.HeaderLemmas.{six, heads, six_first}
-use Rattle.esp3_frames.proofs.FrontLemmas.{fitting, test_fitting}
 
 pub front-short : (b : List ℕ) → length b < 6 → front_of b ≡ cond (may_begin b) Partial Never
 unfolding front_of
@@ -28,23 +27,18 @@ chosen : (t : Bool) (x : Front) → t ≡ true → cond t x Never ≡ x
 chosen true x e = refl
 chosen false x e = absurd cc
 
-front-header : (b f w : List ℕ) (x : Header) → ((i : ℕ) → get_or b i 0 < 256) → length f ≡ 6 → f ++ w ≡ b
-    → header_of f ≡ Ok x → front_of b ≡ front_behind x.data_len x.opt_len x.kind w
+front-header : (b f w : List ℕ) (x : Header) → length f ≡ 6 → f ++ w ≡ b → header_of f ≡ Ok x → front_of b ≡ front_behind x.data_len x.opt_len x.kind w
 unfolding front_of
-front-header b f w x fits hf hb hx =
+front-header b f w x hf hb hx =
     let t = six f hf in
     let s = t.0 in let h = t.1 in let l = t.2 in let o = t.3 in let k = t.4 in let c = t.5 in
     let r = heads s h l o k c x (sym (ap header_of t.6) ∙ hx) in
     let eb : s ∷ h ∷ l ∷ o ∷ k ∷ c ∷ w ≡ b = ap (λ (y : List ℕ). y ++ w) (sym t.6) ∙ hb in
-    let hl : l < 256 = subst (λ (y : List ℕ). get_or y 2 0 < 256) (sym eb) (fits 2) in
-    let ho : o < 256 = subst (λ (y : List ℕ). get_or y 3 0 < 256) (sym eb) (fits 3) in
     let ed : x.data_len ≡ 256 * h + l = (let e = r.is in cc) in
     let eo : x.opt_len ≡ o = (let e = r.is in cc) in
     let ek : x.kind ≡ k = (let e = r.is in cc) in
     let good : (s == 0x55 && (lengths_fit h l o && c == check (h ∷ l ∷ o ∷ k ∷ []))) ≡ true =
-    and_from _ _ (eq-eqb s 0x55 r.sync)
-    (and_from _ _ (test_fitting h l o (record { low = hl; opts = ho; some = r.some; fits = r.fits }))
-    (eq-eqb c _ r.checked)) in
+    and_from _ _ (eq-eqb s 0x55 r.sync) (and_from _ _ r.fits (eq-eqb c _ r.checked)) in
     ap front_of (sym eb) ∙ chosen _ (front_behind (256 * h + l) o k w) good
     ∙ sym (ap (λ (n : ℕ). front_behind n x.opt_len x.kind w) ed
     ∙ ap (λ (n : ℕ). front_behind (256 * h + l) n x.kind w) eo ∙ ap (λ (n : ℕ). front_behind (256 * h + l) o n w) ek)
@@ -54,13 +48,10 @@ good_header : (s h l o k c : ℕ) → (s == 0x55 && (lengths_fit h l o && c == c
 good_header s h l o k c e =
     let a = and_parts _ _ e in
     let b = and_parts _ _ a.1 in
-    let f = fitting h l o b.0 in
-    let some = f.some in
     let e1 : eqb s 0x55 ≡ true = a.0 in
     let e2 : eqb c (check (h ∷ l ∷ o ∷ k ∷ [])) ≡ true = b.1 in
-    let e3 : eqb (256 * h + l + o) 0 ≡ false = ne_eqb (256 * h + l + o) 0 (λ z. omega arith) in
-    let e4 : ltb longest_data (256 * h + l) ≡ false = le-ltb longest_data (256 * h + l) f.fits in
-    rw (e1, e2, e3, e4) refl
+    let e3 : lengths_fit h l o ≡ true = b.0 in
+    rw (e1, e2, e3) refl
 
 apart : (y : Header) (e : HeaderFault) → ◌≡◌ {A = Result Header HeaderFault} (Ok y) (Err e) → ⊥
 apart y e h = cc
@@ -98,10 +89,10 @@ front_behind-never d o k w h g =
     rw (e1, e2) refl
 
 -- a text of at least six bytes whose header is good
-pub front-good : (b : List ℕ) (x : Header) → ((i : ℕ) → get_or b i 0 < 256) → 6 ≤ length b → header_of (take 6 b) ≡ Ok x
+pub front-good : (b : List ℕ) (x : Header) → 6 ≤ length b → header_of (take 6 b) ≡ Ok x
     → front_of b ≡ front_behind x.data_len x.opt_len x.kind (drop 6 b)
-front-good b x fits long good =
-    let s = six_first b (take 6 b) (drop 6 b) long refl refl in front-header b (take 6 b) (drop 6 b) x fits s.0 s.1 good
+front-good b x long good =
+    let s = six_first b (take 6 b) (drop 6 b) long refl refl in front-header b (take 6 b) (drop 6 b) x s.0 s.1 good
 
 -- a text of at least six bytes whose header is not
 pub front-bad : (b : List ℕ) (e : HeaderFault) → 6 ≤ length b → header_of (take 6 b) ≡ Err e → front_of b ≡ Never

@@ -4,38 +4,19 @@ use Rattle.std.proofs.Common.{List, [], ◌∷◌, ◌++◌, length, take, drop,
 use Rattle.std.proofs.Common.{subst, append_assoc, arith, length-append, length-take, length-drop, ◌⊎◌, inl, inr}
 use Rattle.std.proofs.Math.ListN.{length-replicate}
 use Rattle.std.proofs.lemmas.List.{take-append-drop}
-use Rattle.std.proofs.lemmas.Bool.{and_parts, and_from, ltb-true, leb-true, leb-false, eqb-true, lt-ltb, le-leb, eq-eqb}
+use Rattle.std.proofs.lemmas.Bool.{and_parts, and_from, leb-true, leb-false, eqb-true, lt-ltb, eq-eqb}
 use Rattle.esp3_frames.specs.Check.{check}
-use Rattle.esp3_frames.specs.Packet.{longest_data, longest_optional_data, Packet, IsPacket}
+use Rattle.esp3_frames.specs.Packet.{lengths_fit, Packet, IsPacket}
 use Rattle.esp3_frames.specs.Framing.{MayBecomePacket}
-use Rattle.esp3_frames.specs.Frames.{lengths_fit, Front, front_of}
+use Rattle.esp3_frames.specs.Frames.{Front, front_of}
 use Rattle.esp3_frames.specs.Frames.Front.{Never, Partial, Whole}
 use Rattle.esp3_frames.proofs.PacketLemmas.{may_become-shorter}
-use Rattle.esp3_frames.proofs.HeaderLemmas.{packet_parts, parts_packet, made, is_made}
-
--- what a test of the lengths says
-pub record Fitting (h l o : ℕ) : Type 0 where
-  pub low : l < 256
-  pub opts : o < 256
-  pub some : 0 < 256 * h + l + o
-  pub fits : 256 * h + l ≤ longest_data
-
-pub fitting : (h l o : ℕ) → lengths_fit h l o ≡ true → Fitting h l o
-fitting h l o e =
-    let a = and_parts _ _ e in
-    let b = and_parts _ _ a.0 in
-    let c = and_parts _ _ a.1 in
-    record {
-      low = ltb-true l 256 b.0;
-      opts = (let e = leb-true o longest_optional_data c.0 in omega arith);
-      some = ltb-true 0 _ c.1;
-      fits = leb-true _ longest_data b.1;
-    }
+use Rattle.esp3_frames.proofs.HeaderLemmas.{packet_parts, parts_packet, Fitting, fitting, made, is_made}
 
 pub test_fitting : (h l o : ℕ) → Fitting h l o → lengths_fit h l o ≡ true
 test_fitting h l o f =
-    and_from _ _ (and_from _ _ (lt-ltb l 256 f.low) (le-leb _ longest_data f.fits))
-    (and_from _ _ (le-leb o longest_optional_data (let e = f.opts in omega arith)) (lt-ltb 0 _ f.some))
+    and_from _ _ (and_from _ _ (lt-ltb h 256 f.high) (lt-ltb l 256 f.low))
+    (and_from _ _ (lt-ltb o 256 f.opts) (lt-ltb 0 _ f.some))
 
 -- a header that fits, with not more than the lengths behind it, may become a packet
 pub completed : (h l o k : ℕ) (w : List ℕ) → Fitting h l o → length w ≤ 256 * h + l + o
@@ -51,7 +32,7 @@ completed h l o k w f hw =
     let low = f.low in
     let opts = f.opts in
     let some = f.some in
-    let fits = f.fits in
+    let high = f.high in
     record {
       packet = p;
       more = z ++ check m ∷ [];
@@ -183,7 +164,7 @@ hit_six s h l o k c w p e =
       front = 0x55 ∷ h ∷ l ∷ o ∷ k ∷ c ∷ take (n + 1) w;
       rest = drop (n + 1) w;
       whole = subst (λ (q : Packet). IsPacket q (0x55 ∷ h ∷ l ∷ o ∷ k ∷ c ∷ take (n + 1) w)) (sym t.2)
-          (is_made h l o k c w f.low f.opts f.some f.fits ec t.0 t.1);
+          (is_made h l o k c w f ec t.0 t.1);
       is = ap (λ (m : ℕ). m ∷ h ∷ l ∷ o ∷ k ∷ c ∷ w) es
           ∙ ap (λ (y : List ℕ). 0x55 ∷ h ∷ l ∷ o ∷ k ∷ c ∷ y) (sym (take-append-drop (n + 1) w));
     }
@@ -212,5 +193,5 @@ fit_parts p s h l o k c w t hp =
     let opt = hp.opt in
     and_from _ _ (eq-eqb s 0x55 sync)
     (and_from _ _ (test_fitting h l o
-    (record { low = omega arith; opts = omega arith; some = omega arith; fits = omega arith }))
+    (record { high = omega arith; low = omega arith; opts = omega arith; some = omega arith }))
     (eq-eqb c _ r.checked))

@@ -4,13 +4,13 @@ use Rattle.std.proofs.Common.{◌∷◌, ◌++◌, length, take, drop, get_or, r
 use Rattle.std.proofs.Common.{length-take, length-drop}
 use Rattle.std.proofs.Math.Seq.{take-append_seam, get_or-append_seam}
 use Rattle.std.proofs.lemmas.List.{take-append-drop, take_all, take_more}
-use Rattle.std.proofs.lemmas.Bool.{eqb-true, not-false, ltb-false, eqb-false}
+use Rattle.std.proofs.lemmas.Bool.{and_parts, eqb-true, ltb-true, not-false}
 use Rattle.std.specs.Prelude.{Result, Ok, Err}
 use Rattle.esp3_frames.specs.Check.{check}
 use Rattle.esp3_frames.specs.Outcome.{header_in, header_of}
 use Rattle.esp3_frames.specs.declared.packet.Header.{Header}
 use Rattle.esp3_frames.specs.declared.packet.HeaderFault.{HeaderFault}
-use Rattle.esp3_frames.specs.Packet.{longest_data, Packet, header, spelling, IsPacket}
+use Rattle.esp3_frames.specs.Packet.{lengths_fit, Packet, header, spelling, IsPacket}
 
 -- what a packet's bytes are, by place
 pub record Parts (p : Packet) (s h l o k c : ℕ) (w : List ℕ) : Type 0 where
@@ -62,16 +62,30 @@ tail_check m r w n en ew =
     ap (λ (i : ℕ). get_or w i 0) en ∙ ap (λ (y : List ℕ). get_or y (length m) 0) ew ∙ at
     ∙ sym (ap (λ (i : ℕ). check (take i w)) en ∙ ap (λ (y : List ℕ). check (take (length m) y)) ew ∙ ap check front)
 
+-- what a test of the lengths says
+pub record Fitting (h l o : ℕ) : Type 0 where
+  pub high : h < 256
+  pub low : l < 256
+  pub opts : o < 256
+  pub some : 0 < h + l + o
+
+pub fitting : (h l o : ℕ) → lengths_fit h l o ≡ true → Fitting h l o
+fitting h l o e =
+    let a = and_parts _ _ e in
+    let b = and_parts _ _ a.0 in
+    let c = and_parts _ _ a.1 in
+    record { high = ltb-true h 256 b.0; low = ltb-true l 256 b.1; opts = ltb-true o 256 c.0; some = ltb-true 0 _ c.1 }
+
 -- what makes a packet
 unfoldable pub made : (k d o : ℕ) (w : List ℕ) → Packet
 made k d o w = record { kind = k; body = take d (take (d + o) w); opt = drop d (take (d + o) w) }
 
-pub is_made : (h l o k c : ℕ) (w : List ℕ) → l < 256 → o < 256 → 0 < 256 * h + l + o → 256 * h + l ≤ longest_data
-    → c ≡ check (h ∷ l ∷ o ∷ k ∷ []) → 256 * h + l + o < length w
+pub is_made : (h l o k c : ℕ) (w : List ℕ) → Fitting h l o → c ≡ check (h ∷ l ∷ o ∷ k ∷ []) → 256 * h + l + o < length w
     → get_or w (256 * h + l + o) 0 ≡ check (take (256 * h + l + o) w)
     → IsPacket (made k (256 * h + l) o w) (0x55 ∷ h ∷ l ∷ o ∷ k ∷ c ∷ take (256 * h + l + o + 1) w)
 unfolding made
-is_made h l o k c w hl ho hs hd hc hw hk =
+is_made h l o k c w f hc hw hk =
+    let high = f.high in let low = f.low in let opts = f.opts in let some = f.some in
     let n : ℕ = 256 * h + l + o in
     let d : ℕ = 256 * h + l in
     let full : length (take n w) ≡ n = omega (arith, length-take n w) in
@@ -125,8 +139,7 @@ six_first b f w h ef ew = (
 pub record Heads (s h l o k c : ℕ) (x : Header) : Type 0 where
   pub sync : s ≡ 0x55
   pub checked : c ≡ check (h ∷ l ∷ o ∷ k ∷ [])
-  pub some : 0 < 256 * h + l + o
-  pub fits : 256 * h + l ≤ longest_data
+  pub fits : lengths_fit h l o ≡ true
   pub is : header_in (s ∷ h ∷ l ∷ o ∷ k ∷ c ∷ []) ≡ x
 
 pub heads : (s h l o k c : ℕ) (x : Header) → header_of (s ∷ h ∷ l ∷ o ∷ k ∷ c ∷ []) ≡ Ok x → Heads s h l o k c x
@@ -134,29 +147,23 @@ heads s h l o k c x e =
     let g1 = guard _ _ _ x e in
     let g2 = guard _ _ _ x g1.1 in
     let g3 = guard _ _ _ x g2.1 in
-    let g4 = guard _ _ _ x g3.1 in
-    let n0 = eqb-false (256 * h + l + o) 0 g3.0 in
     record {
       sync = eqb-true _ _ (not-false _ g1.0);
       checked = eqb-true _ _ (not-false _ g2.0);
-      some = omega (arith, n0);
-      fits = ltb-false _ _ g4.0;
-      is = ok_same _ _ g4.1;
+      fits = not-false _ g3.0;
+      is = ok_same _ _ g3.1;
     }
 
 -- what `read_packet` knows of a slice whose header was read
-pub read_some : (b f w : List ℕ) (x : Header) → ((i : ℕ) → get_or b i 0 < 256) → length f ≡ 6 → f ++ w ≡ b
-    → header_of f ≡ Ok x → length w ≡ x.data_len + x.opt_len + 1
+pub read_some : (b f w : List ℕ) (x : Header) → length f ≡ 6 → f ++ w ≡ b → header_of f ≡ Ok x → length w ≡ x.data_len + x.opt_len + 1
     → get_or w (x.data_len + x.opt_len) 0 ≡ check (take (x.data_len + x.opt_len) w)
     → IsPacket (made x.kind x.data_len x.opt_len w) b
-read_some b f w x fits hf hb hx hw hk =
+read_some b f w x hf hb hx hw hk =
     let t = six f hf in
     let h = t.1 in let l = t.2 in let o = t.3 in let k = t.4 in let c = t.5 in
     let r = heads t.0 h l o k c x (sym (ap header_of t.6) ∙ hx) in
     let eb : 0x55 ∷ h ∷ l ∷ o ∷ k ∷ c ∷ w ≡ b =
     ap (λ (n : ℕ). n ∷ h ∷ l ∷ o ∷ k ∷ c ∷ w) (sym r.sync) ∙ ap (λ (y : List ℕ). y ++ w) (sym t.6) ∙ hb in
-    let hl : l < 256 = subst (λ (y : List ℕ). get_or y 2 0 < 256) (sym eb) (fits 2) in
-    let ho : o < 256 = subst (λ (y : List ℕ). get_or y 3 0 < 256) (sym eb) (fits 3) in
     let ed : x.data_len ≡ 256 * h + l = (let e = r.is in cc) in
     let eo : x.opt_len ≡ o = (let e = r.is in cc) in
     let ek : x.kind ≡ k = (let e = r.is in cc) in
@@ -164,7 +171,7 @@ read_some b f w x fits hf hb hx hw hk =
     let hw2 : 256 * h + l + o < length w = omega (arith, en, hw) in
     let hk2 : get_or w (256 * h + l + o) 0 ≡ check (take (256 * h + l + o) w) =
     sym (ap (λ (n : ℕ). get_or w n 0) en) ∙ hk ∙ ap (λ (n : ℕ). check (take n w)) en in
-    let p = is_made h l o k c w hl ho r.some r.fits r.checked hw2 hk2 in
+    let p = is_made h l o k c w (fitting h l o r.fits) r.checked hw2 hk2 in
     let whole : take (256 * h + l + o + 1) w ≡ w = take_all (256 * h + l + o + 1) w (omega (arith, en, hw)) in
     let q : IsPacket (made k (256 * h + l) o w) b =
     subst (λ (y : List ℕ). IsPacket (made k (256 * h + l) o w) y)

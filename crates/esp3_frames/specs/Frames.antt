@@ -1,14 +1,8 @@
 -- The framing of a stream, computed. That it is the one framing of the stream is the law `one_framing`.
-use Rattle.std.specs.Prelude.{ℕ, zero, suc, ◌+◌, ◌*◌, List, [], ◌∷◌, length, take, drop, Bool, ◌&&◌, nat_lt, nat_le}
+use Rattle.std.specs.Prelude.{ℕ, zero, suc, ◌+◌, ◌*◌, List, [], ◌∷◌, length, take, drop, Bool, ◌&&◌, nat_le}
 use Rattle.std.specs.Prelude.{◌==◌, slice_index, slice_index_or, if◌then◌else◌}
 use Rattle.esp3_frames.specs.Check.{check}
-use Rattle.esp3_frames.specs.Packet.{longest_data, longest_optional_data, Packet}
-
--- a packet may have these two lengths, the first of them in two bytes
-abbrev pub lengths_fit : ℕ → ℕ → ℕ → Bool
-lengths_fit h l o =
-    (nat_lt l 256 && nat_le (256 * h + l) longest_data) &&
-    (nat_le o longest_optional_data && nat_lt 0 (256 * h + l + o))
+use Rattle.esp3_frames.specs.Packet.{lengths_fit, Packet}
 
 -- some packet begins with these bytes, of which there are at most five: what has not come is taken for the best
 abbrev pub may_begin : List ℕ → Bool

@@ -2,7 +2,7 @@
 use Rattle.std.specs.Prelude.{ℕ, ◌+◌, ◌*◌, List, length, not, nat_lt, ◌==◌, ◌||◌, slice_index, slice_range}
 use Rattle.std.specs.Prelude.{if◌then◌else◌, Result, Ok, Err}
 use Rattle.esp3_frames.specs.Check.{check}
-use Rattle.esp3_frames.specs.Packet.{longest_data, longest_optional_data, Packet, spelling}
+use Rattle.esp3_frames.specs.Packet.{longest_data, longest_optional_data, lengths_fit, Packet, spelling}
 use Rattle.esp3_frames.specs.declared.packet.PacketRef.{PacketRef}
 use Rattle.esp3_frames.specs.declared.packet.Header.{Header}
 use Rattle.esp3_frames.specs.declared.packet.HeaderFault.{HeaderFault}
@@ -19,13 +19,12 @@ abbrev pub header_in : List ℕ → Header
 header_in b =
     record { data_len = 256 * slice_index b 1 + slice_index b 2; opt_len = slice_index b 3; kind = slice_index b 4 }
 
--- the header in six bytes, or the first fault
+-- the header in six bytes, or the first fault. Bytes announce what does not fit only where both lengths are 0
 abbrev pub header_of : List ℕ → Result Header HeaderFault
 header_of b =
     if not (slice_index b 0 == 0x55) then Err header.NotSync
     else if not (slice_index b 5 == check (slice_range b 1 5)) then Err header.HeaderCheck
-    else if (header_in b).data_len + (header_in b).opt_len == 0 then Err header.EmptyPacket
-    else if nat_lt longest_data (header_in b).data_len then Err header.TooLong
+    else if not (lengths_fit (slice_index b 1) (slice_index b 2) (slice_index b 3)) then Err header.EmptyPacket
     else Ok (header_in b)
 
 -- what writing a packet into this much room answers: nothing, or the first fault

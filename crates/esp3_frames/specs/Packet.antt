@@ -1,10 +1,10 @@
 -- The packets of a serial line and their bytes (EnOcean Serial Protocol 3, "Packet structure").
-use Rattle.std.specs.Prelude.{◌≡◌, ℕ, ◌+◌, ◌/◌, ◌%◌, ◌<◌, ◌≤◌, List, [], ◌∷◌, ◌++◌, length}
+use Rattle.std.specs.Prelude.{◌≡◌, ℕ, ◌+◌, ◌/◌, ◌%◌, ◌<◌, ◌≤◌, List, [], ◌∷◌, ◌++◌, length, Bool, ◌&&◌, nat_lt}
 use Rattle.esp3_frames.specs.Check.{check}
 
--- the longest data, in bytes. Own choice: the two bytes of its length allow 65,535
+-- the longest data, in bytes: its length is two bytes
 abbrev pub longest_data : ℕ
-longest_data = 1024
+longest_data = 65535
 
 -- the longest optional data, whose length is one byte
 abbrev pub longest_optional_data : ℕ
@@ -13,6 +13,11 @@ longest_optional_data = 255
 -- the longest packet: six bytes up to the check of the header, the data, the optional data and their check
 abbrev pub longest_packet : ℕ
 longest_packet = 6 + longest_data + longest_optional_data + 1
+
+-- what a header may announce: the length of the data in two bytes, high first, and that of the optional data in one.
+-- Own choice: a packet is not empty
+abbrev pub lengths_fit : ℕ → ℕ → ℕ → Bool
+lengths_fit h l o = (nat_lt h 256 && nat_lt l 256) && (nat_lt o 256 && nat_lt 0 (h + l + o))
 
 -- what a packet holds: its type, its data and its optional data
 pub record Packet : Type 0 where

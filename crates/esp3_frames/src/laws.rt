@@ -86,11 +86,10 @@ pub fn frames_by_front()
     ensures one { (p : Packet) (w : List ℕ) → IsPacket p w → packets_in w ≡ p ∷ [] }
 {}
 
-/// What stands at the front of a text of bytes, by its header: by what has come of it, where that is less than six
-/// bytes.
+/// What stands at the front of a text, by its header: by what has come of it, where that is less than six bytes.
 pub fn front_by_header()
     ensures short { (b : List ℕ) → length b < 6 → front_of b ≡ (if may_begin b then Partial else Never) }
     ensures bad { (b : List ℕ) (e : HeaderFault) → 6 ≤ length b → header_of (take 6 b) ≡ Err e → front_of b ≡ Never }
-    ensures good { (b : List ℕ) (x : Header) → ((i : ℕ) → slice_index b i < 256) → 6 ≤ length b →
-        header_of (take 6 b) ≡ Ok x → front_of b ≡ front_behind x.data_len x.opt_len x.kind (drop 6 b) }
+    ensures good { (b : List ℕ) (x : Header) → 6 ≤ length b → header_of (take 6 b) ≡ Ok x →
+        front_of b ≡ front_behind x.data_len x.opt_len x.kind (drop 6 b) }
 {}

@@ -1,5 +1,6 @@
 //! Headers and packets, read and written whole.
 ghost use Rattle.std.specs.Prelude.{◌≡◌, ℕ, ◌+◌, ◌*◌, ◌-◌, ◌++◌, IfSome, IfNone, OnOk, OnErr};
+ghost use Rattle.esp3_frames.specs.Packet;
 ghost use Rattle.esp3_frames.specs.Packet.{Packet, IsPacket, spelling};
 ghost use Rattle.esp3_frames.specs.Outcome.{packet_of, header_of, write_outcome};
 ghost use Rattle.arrayvec.specs.ArrayVec.{array_vec_len};
@@ -10,8 +11,8 @@ use arrayvec::ArrayVec;
 /// The first byte of each packet.
 pub const SYNC_BYTE: u8 = 0x55;
 
-/// The longest data of a packet, in bytes. Own choice: the two bytes of its length allow 65,535.
-pub const LONGEST_DATA: u16 = 1024;
+/// The longest data of a packet, in bytes: its length is two bytes.
+pub const LONGEST_DATA: u16 = 65535;
 
 /// The longest optional data of a packet, in bytes: its length is one byte.
 pub const LONGEST_OPTIONAL_DATA: u8 = 255;
@@ -22,7 +23,7 @@ pub const LONGEST_PACKET: usize = 6 + LONGEST_DATA as usize + LONGEST_OPTIONAL_D
 /// What the first six bytes of a packet announce.
 #[derive(Clone, Copy, Debug, PartialEq, Eq)]
 pub struct Header {
-    /// The length of the data, in bytes: at most `LONGEST_DATA`.
+    /// The length of the data, in bytes.
     pub data_len: u16,
     /// The length of the optional data, in bytes.
     pub opt_len: u8,
@@ -39,8 +40,14 @@ pub enum HeaderFault {
     HeaderCheck,
     /// Both lengths are 0. Own choice: there is no such packet.
     EmptyPacket,
-    /// The data would be longer than `LONGEST_DATA`.
-    TooLong,
+}
+
+/// Whether a header may announce these lengths: that of the data in two bytes, high first, and that of the optional
+/// data. Own choice: a packet is not empty.
+pub fn lengths_fit(high: u8, low: u8, opt_len: u8) -> bool
+    ensures { result ≡ Packet.lengths_fit high low opt_len }
+{
+    high > 0 || low > 0 || opt_len > 0
 }
 
 /// Reads the sync byte, the header and its check: the first six bytes of a packet. Of several faults it answers the
@@ -56,17 +63,12 @@ pub fn read_header(b: &[u8; 6]) -> Result<Header, HeaderFault>
     if b[5] != check8(&b[1..5]) {
         return Err(HeaderFault::HeaderCheck);
     }
-    let data_len = u16::from_be_bytes([b[1], b[2]]);
-    let opt_len = b[3];
-    if data_len == 0 && opt_len == 0 {
+    if !lengths_fit(b[1], b[2], b[3]) {
         return Err(HeaderFault::EmptyPacket);
     }
-    if data_len > LONGEST_DATA {
-        return Err(HeaderFault::TooLong);
-    }
     Ok(Header {
-        data_len,
-        opt_len,
+        data_len: u16::from_be_bytes([b[1], b[2]]),
+        opt_len: b[3],
         kind: b[4],
     })
 }

@@ -36,9 +36,9 @@ len_of h = h.data_len + h.opt_len
 abbrev IsRight : Header → List ℕ → Type 0
 IsRight h w = get_or w (len_of h + 6) 0 ≡ check (take (len_of h) (drop 6 w))
 
-module _ (w : List ℕ) (h : Header) (byte : (i : ℕ) → get_or w i 0 < 256) (has : HasHeader w (Some h)) where
+module _ (w : List ℕ) (h : Header) (has : HasHeader w (Some h)) where
   behind : front_of w ≡ front_behind h.data_len h.opt_len h.kind (drop 6 w)
-  behind = front-good w h byte has.0 has.1
+  behind = front-good w h has.0 has.1
 
   -- the check byte, counted from either front
   last : get_or (drop 6 w) (len_of h) 0 ≡ get_or w (len_of h + 6) 0

@@ -7,7 +7,7 @@ ghost use Rattle.esp3_frames.specs.Frames.Front.{Never, Partial, Whole};
 ghost use Rattle.esp3_resync.specs.Settled.{HasHeader, IsFound, Settled, packet_at};
 
 use crate::window::Window;
-use esp3_frames::{Header, LONGEST_DATA, SYNC_BYTE, read_header};
+use esp3_frames::{Header, SYNC_BYTE, lengths_fit, read_header};
 
 /// What stands at the front of a window.
 #[derive(Clone, Copy)]
@@ -50,11 +50,12 @@ pub fn is_refused(window: &Window, header: Header) -> bool
 fn may_begin(window: &Window) -> bool
     ensures { result ≡ Frames.may_begin window.now }
 {
-    let data_len = u16::from_be_bytes([window.byte_or(1, 0), window.byte_or(2, 0)]);
-    let opt_len = window.byte_or(3, 1);
     window.byte_or(0, SYNC_BYTE) == SYNC_BYTE
-        && data_len <= LONGEST_DATA
-        && (data_len > 0 || opt_len > 0)
+        && lengths_fit(
+            window.byte_or(1, 0),
+            window.byte_or(2, 0),
+            window.byte_or(3, 1),
+        )
 }
 
 fn front(window: &Window) -> Found

@@ -57,7 +57,6 @@ impl Window {
     pub fn len(&self) -> usize
         ensures len { result ≡ length self.now }
         ensures within { result ≤ longest_packet }
-        ensures bytes { (i : ℕ) → slice_index self.now i < 256 }
     {
         self.bytes.len()
     }
