@@ -5,7 +5,7 @@ use Rattle.std.proofs.Common.{inl, inr}
 use Rattle.std.specs.Prelude.{Result, Ok, Err, IsOk, OnOk}
 use Rattle.std.proofs.Math.Seq.{take-add, take-append_seam, take-append-add, get_or-append_seam}
 use Rattle.std.proofs.lemmas.Bool.{cases_lt}
-use Rattle.std.proofs.lemmas.List.{append-nil, get_or-drop, get_or_append_left, get_or_past, take_all, take-append-le}
+use Rattle.std.proofs.lemmas.List.{append-nil, get_or-drop, get_or_append_left, take_all, take-append-le}
 use Rattle.std.proofs.lemmas.List.{take-append-drop}
 use Rattle.circular_buffer.specs.Buffer.{Buffer, buffer}
 use Rattle.esp3_frames.specs.Check.{check}
@@ -17,7 +17,6 @@ pub running_empty : Running (buffer [] longest_packet) (buffer [] longest_packet
 running_empty = record {
   room = (refl, refl);
   within = omega arith;
-  byte = λ i. omega (arith, get_or_past {X = ℕ} [] i 0);
   gone = [];
   count = refl;
   before = λ i h. absurd (omega arith);
@@ -33,15 +32,6 @@ module _ (b c : Buffer ℕ) (n : ℕ) (r : Running b c n) where
       record {
         room = r.room;
         within = omega (arith, length-append b.items (x ∷ []));
-        byte = λ i. elim (cases_lt i (length b.items)) [
-          | inl l ↦ omega (arith, get_or_append_left b.items (x ∷ []) 0 i l, r.byte i)
-          | inr g ↦ elim (cases_lt (length b.items) i) [
-            | inl p ↦ omega (arith, get_or_past (b.items ++ x ∷ []) i 0 (omega (arith, length-append b.items (x ∷ []))))
-            | inr q ↦
-                let e : i ≡ length b.items = omega arith in
-                omega (arith, ap (λ k. get_or (b.items ++ x ∷ []) k 0) e, get_or-append_seam b.items x [] 0)
-          ]
-        ];
         gone = r.gone;
         count = omega (arith, length-append b.items (x ∷ []), length-append c.items (n ∷ []));
         before = λ i h. elim (cases_lt i (length b.items)) [
@@ -68,7 +58,6 @@ module _ (b c : Buffer ℕ) (n : ℕ) (r : Running b c n) where
       record {
         room = r.room;
         within = omega (arith, length-drop k b.items);
-        byte = λ i. omega (arith, get_or-drop k b.items i 0, r.byte (k + i));
         gone = r.gone ++ take k b.items;
         count = omega (arith, length-drop k b.items, length-drop k c.items);
         before = λ i h.

@@ -9,7 +9,6 @@ use Rattle.esp3_frames.specs.Packet.{longest_packet}
 pub record Running (b c : Buffer ℕ) (n : ℕ) : Type 0 where
   pub room : (b.capacity ≡ longest_packet) × (c.capacity ≡ longest_packet)
   pub within : length b.items ≤ longest_packet
-  pub byte : (i : ℕ) → slice_index b.items i < 256
   -- all that came and was let go
   pub gone : List ℕ
   pub count : length c.items ≡ length b.items
