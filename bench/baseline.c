@@ -19,8 +19,8 @@ enum {
     READ = 256,       /* bytes of a read */
     LINE = 200,       /* bytes of the longest line */
     PIECE = 99,       /* bytes of the longest piece */
-    DATA = 1024,      /* bytes of the longest data of a packet */
-    HELD = 8192,      /* room for bytes of the serial line: those held, fewer than 1,286, and pieces */
+    DATA = 65535,     /* bytes of the longest data of a packet */
+    HELD = 262144,    /* room for bytes of the serial line: those held, fewer than 65,797, and pieces */
     DEVICES = 1000,   /* devices at most */
     SLOTS = 4096,     /* places of the hash table, a power of two */
     SLOT_BITS = 12,
@@ -34,9 +34,9 @@ enum { RPS = 0xF6, ONE_BYTE = 0xD5, FOUR_BYTE = 0xA5, VLD = 0xD2, UTE = 0xD4 };
 static const uint32_t ALL = 0xFFFFFFFF; /* the ID of all: of no device, and so the mark of a free slot */
 static const uint32_t CONTACT = 0xD50001; /* the profile of a 1BS device that is taught in */
 
-/* The line of output. The longest is that of a response with 1,023 bytes of data. */
+/* The line of output. The longest is that of a response with the longest data. */
 
-static char text[4096];
+static char text[2 * DATA + 100];
 static size_t length;
 
 #define TEXT(literal) put(literal, sizeof literal - 1)
@@ -751,7 +751,7 @@ static void search(void) {
         if (end < wanted)
             return;
         size_t size = (size_t)sync[1] << 8 | sync[2], more = sync[3];
-        if (header_check(sync + 1) != sync[5] || size > DATA || size + more == 0) {
+        if (header_check(sync + 1) != sync[5] || size + more == 0) {
             wanted = ++start;
             continue;
         }

@@ -29,10 +29,18 @@ again : frames_of (0x55 ∷ 0x00 ∷ 0x07 ∷ 0x07 ∷ 0x01 ∷ 0x7A ∷ 0xD5 �
 unfolding front_of frames_after check bits remainder power byte_bits
 again = refl
 
--- `55 55` announces too much
-too_long : frames_of (0x55 ∷ 0x55 ∷ 0x00 ∷ contact) ≡ one_contact
+-- a false sync byte, whose header has a wrong check
+false_sync : frames_of (0x55 ∷ 0x55 ∷ 0x00 ∷ contact) ≡ one_contact
 unfolding front_of frames_after check bits remainder power byte_bits
-too_long = refl
+false_sync = refl
+
+-- the header of the longest data holds a packet back
+longest : List ℕ
+longest = 0x55 ∷ 0xFF ∷ 0xFF ∷ 0x00 ∷ 0x09 ∷ 0xC5 ∷ contact
+
+longest_waits : frames_of longest ≡ record { ready = []; rest = longest }
+unfolding longest front_of frames_after check bits remainder power byte_bits
+longest_waits = refl
 
 -- a false header holds three packets back
 held : List ℕ

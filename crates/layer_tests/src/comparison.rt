@@ -104,13 +104,12 @@ fn short_stream(bytes: &mut Vec<u8>, draws: &mut Draws) -> Result<(), AllocError
     Ok(())
 }
 
-// Up to five pieces of any length, many as long as can be, with short packets among them, so that they lie anywhere in
-// the ring.
-fn long_stream(bytes: &mut Vec<u8>, draws: &mut Draws) -> Result<(), AllocError> {
+// Up to five pieces of at most so much data, many as long as that, with short packets among them.
+fn long_stream(bytes: &mut Vec<u8>, draws: &mut Draws, most_data: u64) -> Result<(), AllocError> {
     for _ in 0..draws.draw(6) {
         let (data_len, opt_len) = match draws.draw(3) {
-            0 => (1024, 255),
-            1 => (draws.draw(1026), draws.draw(256)),
+            0 => (most_data, 255),
+            1 => (draws.draw(most_data), draws.draw(256)),
             _ => (draws.draw(200), draws.draw(8)),
         };
         push_piece(bytes, draws, data_len, opt_len)?;
@@ -121,22 +120,40 @@ fn long_stream(bytes: &mut Vec<u8>, draws: &mut Draws) -> Result<(), AllocError>
     Ok(())
 }
 
-// A header of the longest packet, `distance` bytes, another such header, and packets for as many bytes as they
+// The header of a packet of 762 bytes, `distance` bytes, another such header, and packets for as many bytes as they
 // announce.
 fn header_at_distance(
     bytes: &mut Vec<u8>,
     draws: &mut Draws,
     distance: u64,
 ) -> Result<(), AllocError> {
-    push_header(bytes, 1024, 255, 1)?;
+    push_header(bytes, 500, 255, 1)?;
     for _ in 0..distance {
         bytes.push(draws.draw_content())?;
     }
-    push_header(bytes, 1024, 255, 1)?;
-    for _ in 0..62_u32 {
+    push_header(bytes, 500, 255, 1)?;
+    for _ in 0..37_u32 {
         push_packet(bytes, draws, 7, 7, 0)?;
     }
     Ok(())
+}
+
+// The same behind a packet that ends up to 1,500 bytes before the end of the ring.
+fn headers_at_end_of_ring(bytes: &mut Vec<u8>, draws: &mut Draws) -> Result<(), AllocError> {
+    let data_len = 65_535_u64.saturating_sub(draws.draw(1_500));
+    push_packet(bytes, draws, data_len, 255, 0)?;
+    let distance = draws.draw(800);
+    header_at_distance(bytes, draws, distance)
+}
+
+fn push_stream(bytes: &mut Vec<u8>, draws: &mut Draws, number: u64) -> Result<(), AllocError> {
+    match number {
+        0..800 => header_at_distance(bytes, draws, number),
+        800..810 => headers_at_end_of_ring(bytes, draws),
+        810..842 => long_stream(bytes, draws, 65_535),
+        842..1_700 => long_stream(bytes, draws, 1_000),
+        _ => short_stream(bytes, draws),
+    }
 }
 
 #[derive(Drop)]
@@ -170,7 +187,7 @@ fn compare(alloc: Global, bytes: &[u8], counts: &mut Counts) -> Result<bool, All
                 return Ok(false);
             }
             counts.packets = counts.packets.saturating_add(1);
-            if wanted.len() == 1286 {
+            if wanted.len() == 65_797 {
                 counts.longest = counts.longest.saturating_add(1);
             }
         }
@@ -189,18 +206,12 @@ fn as_a_plain_framer(rt: HostRuntime) -> Result<(), Fail> {
     let mut bytes = Vec::new(alloc);
     for stream in 0..10_000_u64 {
         bytes.clear();
-        if stream < 1_300 {
-            header_at_distance(&mut bytes, &mut draws, stream)?;
-        } else if stream < 2_300 {
-            long_stream(&mut bytes, &mut draws)?;
-        } else {
-            short_stream(&mut bytes, &mut draws)?;
-        }
+        push_stream(&mut bytes, &mut draws, stream)?;
         let same = compare(alloc, &bytes, &mut counts)?;
         assert_eq!(rt; (stream, same), (stream, true));
     }
     // Another program made the same streams, and found so many packets by the rule.
-    assert_eq!(rt; counts.packets, 100_286);
-    assert_eq!(rt; counts.longest, 331);
+    assert_eq!(rt; counts.packets, 40_186);
+    assert_eq!(rt; counts.longest, 5);
     Ok(())
 }

@@ -64,17 +64,13 @@ fn headers(rt: HostRuntime) {
         Err(HeaderFault::EmptyPacket)
     );
     let longest = Header {
-        data_len: 1024,
-        opt_len: 0,
+        data_len: 65_535,
+        opt_len: 255,
         kind: 9,
     };
     assert_eq!(rt;
-        read_header(&[0x55, 0x04, 0x00, 0x00, 0x09, 0x67]),
+        read_header(&[0x55, 0xFF, 0xFF, 0xFF, 0x09, 0x12]),
         Ok(longest)
-    );
-    assert_eq!(rt;
-        read_header(&[0x55, 0x04, 0x01, 0x00, 0x09, 0x0C]),
-        Err(HeaderFault::TooLong)
     );
     let without_data = Header {
         data_len: 0,
@@ -95,19 +91,11 @@ fn headers_with_two_faults(rt: HostRuntime) {
         Err(HeaderFault::NotSync)
     );
     assert_eq!(rt;
-        read_header(&[0x54, 0x04, 0x01, 0x00, 0x09, 0x0C]),
-        Err(HeaderFault::NotSync)
-    );
-    assert_eq!(rt;
         read_header(&[0x54, 0x00, 0x07, 0x07, 0x01, 0x7B]),
         Err(HeaderFault::NotSync)
     );
     assert_eq!(rt;
         read_header(&[0x55, 0x00, 0x00, 0x00, 0x00, 0x01]),
-        Err(HeaderFault::HeaderCheck)
-    );
-    assert_eq!(rt;
-        read_header(&[0x55, 0x04, 0x01, 0x00, 0x09, 0x0D]),
         Err(HeaderFault::HeaderCheck)
     );
 }
@@ -155,24 +143,24 @@ fn are_zeros(bytes: &[u8], count: usize) -> bool {
 // All bytes behind these headers are 00, and so is the check byte of such data.
 #[test]
 fn long_packets_of_zeros(rt: HostRuntime) -> Result<(), Fail> {
-    let mut text = [0; 1286];
-    text[..6].copy_from_slice(&[0x55, 0x04, 0x00, 0xFF, 0x09, 0xB0]);
-    let packet = read_packet(&text).ok_or("no packet of 1,286 bytes")?;
+    let mut text = vec![in rt.alloc(); 0; 65_797]?;
+    text[..6].copy_from_slice(&[0x55, 0xFF, 0xFF, 0xFF, 0x09, 0x12]);
+    let packet = read_packet(&text).ok_or("no packet of 65,797 bytes")?;
     assert_eq!(rt; packet.kind, 9);
-    assert!(rt; are_zeros(packet.body, 1024) && are_zeros(packet.opt, 255));
+    assert!(rt; are_zeros(packet.body, 65_535) && are_zeros(packet.opt, 255));
+    assert!(rt; read_packet(&text[..65_796]).is_none());
     text[..6].copy_from_slice(&[0x55, 0x00, 0x00, 0xFF, 0x09, 0xE8]);
     let packet = read_packet(&text[..262]).ok_or("no packet without data")?;
     assert!(rt; packet.body.is_empty() && are_zeros(packet.opt, 255));
-    text[..6].copy_from_slice(&[0x55, 0x04, 0x01, 0x00, 0x09, 0x0C]);
-    assert!(rt; read_packet(&text[..1032]).is_none());
     Ok(())
 }
 
+// What is not too long has no room here, and is looked at first for its length.
 #[test]
-fn longest_packets(rt: HostRuntime) {
-    assert_eq!(rt; LONGEST_PACKET, 1286);
-    let data = [0; 1025];
-    let mut out = ArrayVec::<u8, 1286>::new();
+fn longest_packets(rt: HostRuntime) -> Result<(), Fail> {
+    assert_eq!(rt; LONGEST_PACKET, 65_797);
+    let data = vec![in rt.alloc(); 0; 65_536]?;
+    let mut out = ArrayVec::<u8, 262>::new();
     assert_eq!(rt;
         write_packet(9, &data, &[], &mut out),
         Err(PacketFault::TooLong)
@@ -182,19 +170,11 @@ fn longest_packets(rt: HostRuntime) {
         Err(PacketFault::TooLong)
     );
     assert_eq!(rt;
-        write_packet(9, &data[..1024], &data[..255], &mut out),
-        Ok(())
+        write_packet(9, &data[..65_535], &data[..255], &mut out),
+        Err(PacketFault::NoRoom)
     );
-    assert_eq!(rt; out.len(), 1286);
-    // Too long, and with no room for it.
-    assert_eq!(rt;
-        write_packet(9, &data, &[], &mut out),
-        Err(PacketFault::TooLong)
-    );
-    out.clear();
-    assert_eq!(rt; write_packet(9, &data[..1024], &[], &mut out), Ok(()));
-    assert_eq!(rt; out.len(), 1031);
-    out.clear();
+    assert_eq!(rt; out.len(), 0);
     assert_eq!(rt; write_packet(9, &[], &data[..255], &mut out), Ok(()));
     assert_eq!(rt; out.len(), 262);
+    Ok(())
 }

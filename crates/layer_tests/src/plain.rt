@@ -18,8 +18,7 @@ fn byte_or(b: &[u8], i: usize, other: u8) -> u8 {
 // Whether a packet may begin with these bytes, of which there are at most five. What has not come is taken for the
 // best.
 fn may_begin(b: &[u8]) -> bool {
-    let data_len = u16::from_be_bytes([byte_or(b, 1, 0), byte_or(b, 2, 0)]);
-    byte_or(b, 0, 0x55) == 0x55 && data_len <= 1024 && (data_len > 0 || byte_or(b, 3, 1) > 0)
+    byte_or(b, 0, 0x55) == 0x55 && [byte_or(b, 1, 0), byte_or(b, 2, 0), byte_or(b, 3, 1)] != [0; 3]
 }
 
 fn head_of(b: &[u8]) -> Head {
