@@ -27,7 +27,8 @@ chosen : (t : Bool) (x : Front) → t ≡ true → cond t x Never ≡ x
 chosen true x e = refl
 chosen false x e = absurd cc
 
-front-header : (b f w : List ℕ) (x : Header) → length f ≡ 6 → f ++ w ≡ b → header_of f ≡ Ok x → front_of b ≡ front_behind x.data_len x.opt_len x.kind w
+front-header : (b f w : List ℕ) (x : Header) → length f ≡ 6 → f ++ w ≡ b → header_of f ≡ Ok x
+    → front_of b ≡ front_behind x.data_len x.opt_len x.kind w
 unfolding front_of
 front-header b f w x hf hb hx =
     let t = six f hf in

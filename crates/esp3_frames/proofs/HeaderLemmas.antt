@@ -155,7 +155,8 @@ heads s h l o k c x e =
     }
 
 -- what `read_packet` knows of a slice whose header was read
-pub read_some : (b f w : List ℕ) (x : Header) → length f ≡ 6 → f ++ w ≡ b → header_of f ≡ Ok x → length w ≡ x.data_len + x.opt_len + 1
+pub read_some : (b f w : List ℕ) (x : Header) → length f ≡ 6 → f ++ w ≡ b → header_of f ≡ Ok x
+    → length w ≡ x.data_len + x.opt_len + 1
     → get_or w (x.data_len + x.opt_len) 0 ≡ check (take (x.data_len + x.opt_len) w)
     → IsPacket (made x.kind x.data_len x.opt_len w) b
 read_some b f w x hf hb hx hw hk =

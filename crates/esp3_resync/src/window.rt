@@ -1,5 +1,5 @@
 //! The bytes that a framer holds, in a ring, with a running check byte beside each.
-ghost use Rattle.std.specs.Prelude.{◌≡◌, ℕ, ◌+◌, ◌<◌, ◌≤◌, [], ◌∷◌, ◌++◌, length, take, drop, slice_index};
+ghost use Rattle.std.specs.Prelude.{◌≡◌, ◌+◌, ◌<◌, ◌≤◌, [], ◌∷◌, ◌++◌, length, take, drop};
 ghost use Rattle.std.specs.Prelude.{slice_index_or, vec_capacity, ◌==◌, OnSome, IfNone, IfOk};
 ghost use Rattle.esp3_frames.specs.Check.{check};
 ghost use Rattle.esp3_frames.specs.Packet.{longest_packet};

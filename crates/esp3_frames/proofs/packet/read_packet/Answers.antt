@@ -26,7 +26,8 @@ returns-clause-some c =
     let n = x.data_len + x.opt_len in
     let s = six_first c.args.b.now c.in_ok-front.front.now c.in_ok-front.rest.now
     (omega (arith, cases.2)) cases.0 cases.1 in
-    let r = read_some c.args.b.now c.in_ok-front.front.now w x s.0 s.1 (sym c.in-Ok.ensures) c.if-rest-len.false (c.if-rest-len-2.false ∙ c.check8.ensures) in
+    let r = read_some c.args.b.now c.in_ok-front.front.now w x s.0 s.1 (sym c.in-Ok.ensures)
+    c.if-rest-len.false (c.if-rest-len-2.false ∙ c.check8.ensures) in
     let e : made x.kind x.data_len x.opt_len w ≡ record {
       kind = x.kind;
       body = c.split_at.result.0.now;
