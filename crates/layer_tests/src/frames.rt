@@ -4,6 +4,7 @@ use esp3_frames::{
     Header, HeaderFault, LONGEST_PACKET, PacketFault, check8, check8_between, check8_next,
     read_header, read_packet, write_packet,
 };
+use std::alloc::{AllocError, Global};
 use std::test::Fail;
 
 const CONTACT: [u8; 21] = [
@@ -136,6 +137,14 @@ fn no_packets(rt: HostRuntime) {
     assert!(rt; read_packet(&longer[..21]).is_some());
 }
 
+// These six bytes, and so many bytes 00 behind them.
+fn before_zeros(alloc: Global, bytes: &[u8; 6], count: usize) -> Result<Vec<u8>, AllocError> {
+    let mut text = Vec::new(alloc);
+    text.extend_from_slice(bytes)?;
+    text.extend_from_slice(&vec![in alloc; 0; count]?)?;
+    Ok(text)
+}
+
 fn are_zeros(bytes: &[u8], count: usize) -> bool {
     bytes.len() == count && bytes.iter().all(|byte| *byte == 0)
 }
@@ -143,14 +152,16 @@ fn are_zeros(bytes: &[u8], count: usize) -> bool {
 // All bytes behind these headers are 00, and so is the check byte of such data.
 #[test]
 fn long_packets_of_zeros(rt: HostRuntime) -> Result<(), Fail> {
-    let mut text = vec![in rt.alloc(); 0; 65_797]?;
-    text[..6].copy_from_slice(&[0x55, 0xFF, 0xFF, 0xFF, 0x09, 0x12]);
+    let longest = [0x55, 0xFF, 0xFF, 0xFF, 0x09, 0x12];
+    let text = before_zeros(rt.alloc(), &longest, 65_791)?;
     let packet = read_packet(&text).ok_or("no packet of 65,797 bytes")?;
     assert_eq!(rt; packet.kind, 9);
     assert!(rt; are_zeros(packet.body, 65_535) && are_zeros(packet.opt, 255));
-    assert!(rt; read_packet(&text[..65_796]).is_none());
-    text[..6].copy_from_slice(&[0x55, 0x00, 0x00, 0xFF, 0x09, 0xE8]);
-    let packet = read_packet(&text[..262]).ok_or("no packet without data")?;
+    let shorter = before_zeros(rt.alloc(), &longest, 65_790)?;
+    assert!(rt; read_packet(&shorter).is_none());
+    let without_data = [0x55, 0x00, 0x00, 0xFF, 0x09, 0xE8];
+    let text = before_zeros(rt.alloc(), &without_data, 256)?;
+    let packet = read_packet(&text).ok_or("no packet without data")?;
     assert!(rt; packet.body.is_empty() && are_zeros(packet.opt, 255));
     Ok(())
 }
@@ -159,22 +170,23 @@ fn long_packets_of_zeros(rt: HostRuntime) -> Result<(), Fail> {
 #[test]
 fn longest_packets(rt: HostRuntime) -> Result<(), Fail> {
     assert_eq!(rt; LONGEST_PACKET, 65_797);
-    let data = vec![in rt.alloc(); 0; 65_536]?;
+    let too_long = vec![in rt.alloc(); 0; 65_536]?;
+    let longest = vec![in rt.alloc(); 0; 65_535]?;
     let mut out = ArrayVec::<u8, 262>::new();
     assert_eq!(rt;
-        write_packet(9, &data, &[], &mut out),
+        write_packet(9, &too_long, &[], &mut out),
         Err(PacketFault::TooLong)
     );
     assert_eq!(rt;
-        write_packet(9, &[], &data[..256], &mut out),
+        write_packet(9, &[], &[0; 256], &mut out),
         Err(PacketFault::TooLong)
     );
     assert_eq!(rt;
-        write_packet(9, &data[..65_535], &data[..255], &mut out),
+        write_packet(9, &longest, &[0; 255], &mut out),
         Err(PacketFault::NoRoom)
     );
     assert_eq!(rt; out.len(), 0);
-    assert_eq!(rt; write_packet(9, &[], &data[..255], &mut out), Ok(()));
+    assert_eq!(rt; write_packet(9, &[], &[0; 255], &mut out), Ok(()));
     assert_eq!(rt; out.len(), 262);
     Ok(())
 }
