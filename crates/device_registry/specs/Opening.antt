@@ -42,7 +42,8 @@ pub record IsPrepared (old new : State) (devices : Devices) : Type 0 where
   pub shows : Shows new devices
 
 -- What was done to the state is what the text does that writes the version row as it stands, and changes one row.
--- Outside a transaction that is a commit. It is not nothing: the store counts the row.
+-- Outside a transaction that is a commit. It is not nothing: the store counts the row. A rollback behind it would leave
+-- the same.
 abbrev pub IsRenewed : State → State → Type 0
 IsRenewed old new = Executes renew_text [] old new (Ok 1)
 

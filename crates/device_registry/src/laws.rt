@@ -17,8 +17,8 @@ pub fn found_again()
     ensures { FoundAgain }
 {}
 
-/// Behind a refused open the next one finds what it could have found before, or what was committed then. It finds
-/// something, where it would have before.
+/// Behind a refused `prepare`, which is what an open does, the next open finds what it could have found before, or what
+/// was committed then. It finds something, where it would have before.
 pub fn refused_opens_keep<C: SqlConnection>()
     ensures { RefusedOpensKeep C.state }
 {}
@@ -28,7 +28,7 @@ pub fn handed_on<C: SqlConnection>()
     ensures { HandedOn C.state }
 {}
 
-/// What a registry held whose files the store has closed is what an open of these files finds.
+/// What a registry held whose files the store has closed is what an open of these files finds, with no stop between.
 pub fn closed_files_are_found<D: Disk>()
     ensures { ClosedFilesAreFound D.Disk }
 {}

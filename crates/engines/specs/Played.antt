@@ -74,7 +74,8 @@ module _ {S : Type 0} (stored : S → Stored) where
     pub broken : Breaks old new events event breaks
 
   -- an answer did not get out at the last of these events
-  pub record PlaysPartAtEnd (old new : Value S) (all : List Event) (breaks : List Answer → Answer → Type 0) : Type 0 where
+  pub record PlaysPartAtEnd (old new : Value S) (all : List Event) (breaks : List Answer → Answer → Type 0)
+      : Type 0 where
     pub events : List Event
     pub event : Event
     pub whole : all ≡ events ++ event ∷ []

@@ -1,6 +1,7 @@
 //! Laws of the definitions. Each function does nothing: its contract is the law.
 ghost use Rattle.std.specs.Prelude.{List, Option, ℕ};
-ghost use Rattle.engines.specs.Lived.{BrokenClosedPlaysAreLives, BrokenPlaysAreLives, ClosedPlaysAreLives, PlaysAreLives};
+ghost use Rattle.engines.specs.Lived.{BrokenClosedPlaysAreLives, BrokenPlaysAreLives, ClosedPlaysAreLives};
+ghost use Rattle.engines.specs.Lived.{PlaysAreLives};
 ghost use Rattle.engines.specs.Wires.{BreaksWires, PutsWires};
 ghost use Rattle.engines.specs.Written.{WritesAll, WritesPart};
 

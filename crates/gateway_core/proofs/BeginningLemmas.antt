@@ -7,7 +7,7 @@ use Rattle.device_registry.proofs.ForCallers.{handed_on}
 use Rattle.gateway_core.specs.Step.{change_of}
 use Rattle.gateway_core.specs.Stops.{Safe, pending, nothing_left, left_by}
 use Rattle.gateway_core.specs.Lives.{begun}
-use Rattle.gateway_core.specs.Beginnings.{CallsLeaveALife, ClosesLeaveALife, StopsLeaveALife}
+use Rattle.gateway_core.specs.Beginnings.{CallsLeaveALife, ClosesALife, ClosesLeaveALife, EndsLeaveALife, StopsLeaveALife}
 use Rattle.gateway_core.proofs.StopLemmas.{safe-weaker, safe-pending, safe-last}
 
 module _ {S : Type 0} (stored : S → Stored) where
@@ -39,21 +39,28 @@ module _ {S : Type 0} (stored : S → Stored) where
       ] in
       record { fates = went.fates; last = went.last; is = record { run = went.run; safe = safe } }
 
+  pub ends_leave_a_life : EndsLeaveALife stored
+  ends_leave_a_life old new found items answers honest begins handles =
+      let went = handles.went honest (begun old.base found) begins.at in (
+        went.last.devices,
+        went.at.2,
+        record {
+          life = record {
+            fates = went.fates;
+            last = went.last;
+            is = record {
+              run = went.run;
+              safe = safe-last (λ d. d ≡ found) nothing_left (begun old.base found) went.last items went.fates answers
+                  went.run (inr (refl, refl));
+            };
+          };
+          itself = refl;
+        },
+      )
+
   pub closes_leave_a_life : ClosesLeaveALife stored
   closes_leave_a_life old new opened found next items answers honest begins handles closed opens =
-      let went = handles.went honest (begun old.base found) begins.at in
-      let left = left_by nothing_left (begun old.base found) items went.fates in
-      let Before = λ (d : Devices). d ≡ found in
-      let itself : next ≡ went.last.devices =
-      handed_on stored new.registry opened went.last.devices next honest closed.committed went.at.2 opens in
-      let safe : Safe Before left went.last.devices =
-      safe-last Before nothing_left (begun old.base found) went.last items went.fates answers went.run
-      (inr (refl, refl)) in
-      record {
-        life = record {
-          fates = went.fates;
-          last = went.last;
-          is = record { run = went.run; safe = subst (Safe Before left) (sym itself) safe };
-        };
-        itself = itself;
-      }
+      let ends = ends_leave_a_life old new found items answers honest begins handles in
+      let itself : next ≡ ends.0 =
+      handed_on stored new.registry opened ends.0 next honest closed.committed ends.1 opens in
+      subst (ClosesALife old.base found items answers) (sym itself) ends.2

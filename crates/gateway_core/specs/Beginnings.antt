@@ -55,6 +55,12 @@ module _ {S : Type 0} (stored : S → Stored) where
       → MayLeave (stored new.registry) (stored within) change devices)
       → (left : Devices) → MayFind (stored within) left → LeavesALife old.base found items answers (Some item) left
 
+  -- what is known at the end of a life is what it leaves, however it is closed
+  abbrev pub EndsLeaveALife : Type 0
+  EndsLeaveALife = (old new : HandlerValue S) (found : Devices) (items : List Item) (answers : List Answer)
+      → HasCleanDisk (stored new.registry) → BeginsAt old found → Handles stored old items answers new
+      → (last : Devices) × HasDevices (stored new.registry) last × ClosesALife old.base found items answers last
+
   -- what an open finds on the connection that was closed and handed on is what a life that is closed leaves
   abbrev pub ClosesLeaveALife : Type 0
   ClosesLeaveALife =

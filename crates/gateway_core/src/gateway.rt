@@ -114,8 +114,8 @@ impl<S: DeviceStore> GatewayOver<S> {
 }
 
 impl<C: SqlConnection> GatewayOver<RegistryOver<C>> {
-    /// Hands on the connection of the registry, as it is, with no open transaction. What the gateway knows of devices
-    /// is committed.
+    /// Hands on the connection of the registry, as it is. While the disk has returned what was written, it has no open
+    /// transaction, and what the gateway knows of devices is committed.
     pub fn close(self) -> C
         ensures same { result ≡ self.handler.registry }
         ensures hands_on { HandsOn (C.state self.handler.registry) }

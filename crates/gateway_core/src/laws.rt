@@ -3,7 +3,7 @@ ghost use Rattle.std.specs.Prelude.{◌≡◌, ℕ, List, [], ◌++◌};
 ghost use Rattle.esp3_frames.specs.Frames.{packets_in, rest_of};
 ghost use Rattle.device_registry.specs.Devices.{Devices};
 ghost use Rattle.device_registry.specs.Holding.{MayFind};
-ghost use Rattle.gateway_core.specs.Beginnings.{CallsLeaveALife, ClosesLeaveALife, StopsLeaveALife};
+ghost use Rattle.gateway_core.specs.Beginnings.{CallsLeaveALife, ClosesLeaveALife, EndsLeaveALife, StopsLeaveALife};
 ghost use Rattle.gateway_core.specs.Calls.{CallsAreARun};
 ghost use Rattle.gateway_core.specs.Counting.{TakenAreCounted};
 ghost use Rattle.gateway_core.specs.Events.{CutsAreAnsweredAlike, CutsDoNotMatter, Event, brought, bytes_in, items_of};
@@ -150,6 +150,11 @@ pub fn calls_leave_a_life<S: DeviceStore>()
 /// answered, is what a life that is stopped in that item may leave.
 pub fn stops_leave_a_life<S: DeviceStore>()
     ensures { StopsLeaveALife S.stored }
+{}
+
+/// What is known at the end of a life is what it leaves, however it is closed.
+pub fn ends_leave_a_life<S: DeviceStore>()
+    ensures { EndsLeaveALife S.stored }
 {}
 
 /// A life may end by `close`: what the next open finds on the connection that was handed on is what the life may leave,

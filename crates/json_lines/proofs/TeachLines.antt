@@ -13,7 +13,8 @@ use Rattle.hex.specs.declared.FromHexError.{FromHexError}
 use Rattle.hex.proofs.HexLemmas.{decode_of-encode_upper}
 use Rattle.erp1_telegrams.specs.declared.eep.Eep.{Eep}
 use Rattle.teach_in.specs.declared.outcome.Outcome.{Outcome}
-use Rattle.json_lines.specs.Lines.{IsTold, Teach, TeachLine, byte_text, eep_text, id_text, or_null, text}
+use Rattle.json_lines.specs.Lines.{HasNumbersInRange, Teach, TeachLine, byte_text, eep_text, id_text, or_null}
+use Rattle.json_lines.specs.Lines.{text}
 use Rattle.json_lines.proofs.HexTexts.{id_bytes}
 use Rattle.json_lines.proofs.TeachTexts.{result_text, teach-known, teach-more, teach-unknown}
 
@@ -120,8 +121,8 @@ of-parts line told eep id maker outcome =
     ∙ ap (λ m. record told { maker = m; outcome = line.outcome }) maker
     ∙ ap (λ o. record told { outcome = o }) outcome
 
-pub one_teach_line : (line told : TeachLine) → IsTold line → IsTold told → text (Teach line) ≡ text (Teach told)
-    → line ≡ told
+pub one_teach_line : (line told : TeachLine) → HasNumbersInRange line → HasNumbersInRange told
+    → text (Teach line) ≡ text (Teach told) → line ≡ told
 one_teach_line line told in_line in_told e =
     one line.eep told.eep in_line.0 in_told.0 (ap (λ (t : List ℕ). t ++ []) e)
   where

@@ -59,10 +59,10 @@ pub data DeskLine : Type 0 where
   Done : DeskLine
   Error : (name : ErrorName) → DeskLine
 
--- the numbers of a teach line are those that a device and a query can tell: the three bytes of a profile, the four of an
--- ID, and at most two for a maker
-abbrev pub IsTold : TeachLine → Type 0
-IsTold line =
+-- the numbers of a teach line are in the ranges of those of a device and of a query: three bytes of a profile, four of
+-- an ID, and at most two of a maker
+abbrev pub HasNumbersInRange : TeachLine → Type 0
+HasNumbersInRange line =
     IfSome line.eep (λ eep. (eep.rorg < 256) × (eep.func < 256) × (eep.typ < 256))
     × (line.id < 2 ^ 32) × IfSome line.maker (λ maker. maker < 2 ^ 16)
 

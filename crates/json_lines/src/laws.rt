@@ -1,6 +1,6 @@
 //! Laws of the definitions. Each function does nothing: its contract is the law.
 ghost use Rattle.std.specs.Prelude.{◌≡◌, List, [], ◌∷◌};
-ghost use Rattle.json_lines.specs.Lines.{DeskLine, IsTold, Teach, TeachLine, text, texts};
+ghost use Rattle.json_lines.specs.Lines.{DeskLine, HasNumbersInRange, Teach, TeachLine, text, texts};
 
 /// Lines that together have the text of a teach line are one teach line, with the same outcome.
 pub fn teach_texts_are_of_teach_lines()
@@ -10,6 +10,6 @@ pub fn teach_texts_are_of_teach_lines()
 
 /// Teach lines with the same text tell the same: the same profile, ID, maker and outcome.
 pub fn teach_texts_tell_one_line()
-    ensures { (line told : TeachLine) → IsTold line → IsTold told → text (Teach line) ≡ text (Teach told)
-        → line ≡ told }
+    ensures { (line told : TeachLine) → HasNumbersInRange line → HasNumbersInRange told
+        → text (Teach line) ≡ text (Teach told) → line ≡ told }
 {}
