@@ -52,6 +52,15 @@ fn headers(rt: HostRuntime) {
         read_header(&[0x55, 0x00, 0x07, 0x07, 0x01, 0x7A]),
         Ok(contact)
     );
+    let longer = Header {
+        data_len: 1025,
+        opt_len: 0,
+        kind: 9,
+    };
+    assert_eq!(rt;
+        read_header(&[0x55, 0x04, 0x01, 0x00, 0x09, 0x0C]),
+        Ok(longer)
+    );
     assert_eq!(rt;
         read_header(&[0x54, 0x00, 0x07, 0x07, 0x01, 0x7A]),
         Err(HeaderFault::NotSync)

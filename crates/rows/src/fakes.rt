@@ -40,8 +40,8 @@ impl<'a> Read for Parts<'a> {
     }
 }
 
-/// A writer that takes so many bytes at a call, and fails at the call of one number alone, the first being 1: so who
-/// tries a failed write once more is found out.
+/// A writer that takes so many bytes at a call, and fails at the call of one number alone, the first being 1: so a
+/// second try is found out.
 #[derive(Drop)]
 pub struct Sips<'a> {
     taken: &'a mut Vec<u8>,

@@ -28,7 +28,7 @@ enum End {
     NotConnected,
     /// The database is not prepared.
     NotPrepared,
-    /// The database is prepared, and no gateway is made.
+    /// The database is prepared, and no gateway is made: its connection is dropped, so nothing can be found behind it.
     NotStarted,
     /// The script is done, and items were refused.
     Refused,
