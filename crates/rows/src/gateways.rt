@@ -29,7 +29,8 @@ pub(crate) fn replay_new<R: Source, W: Sink>(
     writer: &mut W,
     turns: u64,
 ) -> Result<Result<Summary, RunFault>, Fault> {
-    let mut gateway = fresh(alloc)?;
+    let conn = Connection::open_in_memory(alloc)?;
+    let mut gateway = start(alloc, conn, BASE, REMEMBERED)?;
     Ok(replay(reader, writer, &mut gateway, turns))
 }
 
@@ -61,7 +62,8 @@ pub(crate) fn serve_new<P: Source, Q: Source, R: Sink, D: Sink>(
     desk: (&mut Q, &mut D),
     turns: u64,
 ) -> Result<Result<Summary, RunFault>, Fault> {
-    let mut gateway = fresh(alloc)?;
+    let conn = Connection::open_in_memory(alloc)?;
+    let mut gateway = start(alloc, conn, BASE, REMEMBERED)?;
     let (serial_in, serial_out) = serial;
     let (desk_in, desk_out) = desk;
     Ok(live(

@@ -9,14 +9,14 @@ pub type Disks = Files<Fuse<Memory>>;
 pub type Store = FileStore<Fuse<Memory>>;
 
 /// The log, or the database file.
-#[derive(Clone, Copy, Debug, PartialEq, Eq)]
+#[derive(Clone, Copy)]
 pub enum Which {
     Log,
     Database,
 }
 
 /// What a stop leaves of what was written and not synced.
-#[derive(Clone, Copy, Debug, PartialEq, Eq)]
+#[derive(Clone, Copy)]
 pub enum Stop {
     /// The process dies: all of it.
     OfProcess,
@@ -61,7 +61,7 @@ pub(crate) fn is_blown(files: &mut Disks, which: Which) -> bool {
 
 /// Copies of what a stop leaves of the files. They pass each call.
 pub(crate) fn left_by(alloc: Global, files: &mut Disks, stop: Stop) -> Result<Disks> {
-    if stop == Stop::OfMachine {
+    if let Stop::OfMachine = stop {
         files.log.crash();
         files.db.crash();
     }

@@ -4,7 +4,7 @@ use anyhow::Result;
 use std::alloc::Global;
 
 /// An item of the script: an order of the desk, or a packet.
-#[derive(Clone, Copy, Debug, PartialEq, Eq)]
+#[derive(Clone, Copy)]
 pub enum Item {
     /// The order that adds the sender as a contact.
     Add,
@@ -41,7 +41,7 @@ pub const ITEMS: [Item; 10] = [
 ];
 
 /// What is known of the sender.
-#[derive(Clone, Copy, Debug, PartialEq, Eq)]
+#[derive(Clone, Copy, PartialEq, Eq)]
 pub enum Known {
     Nothing,
     Contact,
@@ -131,7 +131,7 @@ impl Answer {
 }
 
 /// What the gateway knows.
-#[derive(Clone, Copy, Debug, PartialEq, Eq)]
+#[derive(Clone, Copy)]
 pub struct State {
     /// What it knows of the sender.
     pub known: Known,

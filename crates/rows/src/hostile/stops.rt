@@ -22,7 +22,7 @@ const MOST: usize = 5000;
 const MANY: u32 = 350;
 
 /// How a run ends.
-#[derive(Clone, Copy, Debug, PartialEq, Eq)]
+#[derive(Clone, Copy, PartialEq, Eq)]
 enum End {
     /// No connection is made.
     NotConnected,
@@ -114,12 +114,20 @@ fn first_wrong(alloc: Global, trial: &Trial<'_>, ends: &[End]) -> Result<Option<
             return Ok(Some(calls));
         }
         if end == End::Whole {
-            let is_all_met = ends.iter().all(|end| met.contains(end));
-            return Ok((!is_all_met).then_some(calls));
+            return Ok((!is_all_in(ends, &met)).then_some(calls));
         }
         met.push(end)?;
     }
     Ok(Some(MOST))
+}
+
+fn is_all_in(ends: &[End], met: &[End]) -> bool {
+    for end in ends {
+        if !met.contains(end) {
+            return false;
+        }
+    }
+    true
 }
 
 /// The files of a registry that knows so many senders.
