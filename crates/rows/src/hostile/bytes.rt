@@ -11,8 +11,8 @@ use anyhow::Result;
 use gateway_core::{DeviceStore, GatewayOver};
 use std::alloc::Global;
 
-// Tried with a wrong body: a framer that does not compare the highest bit of the check of the data. All other cases were
-// `ok`, and this printed `at 1935, differs`.
+// A wrong body: a framer that does not compare the highest bit of the check of the data. Printed was
+// `at 1935, differs`.
 pub(crate) fn tell(rt: &HostRuntime, telling: &mut Telling) -> Result<()> {
     let alloc = rt.alloc();
     let mut gateway = fresh(alloc)?;

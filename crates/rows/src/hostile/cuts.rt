@@ -16,8 +16,8 @@ struct Line {
     text: Vec<u8>,
 }
 
-// Tried with two wrong bodies: a replay that drops a last line of one byte, and a live gateway that drops a piece of one
-// byte. All other cases were `ok`, and these printed `at 1, differs`, the first two for the replay.
+// Two wrong bodies: a replay that drops a last line of one byte, and a live gateway that drops a piece of one byte. All
+// three cases printed `at 1, differs`, the first two for the replay.
 pub(crate) fn tell(rt: &HostRuntime, telling: &mut Telling) -> Result<()> {
     let alloc = rt.alloc();
     let script = lines_of(alloc, &ITEMS, &[])?;

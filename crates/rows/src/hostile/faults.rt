@@ -14,8 +14,8 @@ use std::alloc::Global;
 /// More reads than these scripts take.
 const TURNS: u64 = 1000;
 
-// Tried with two wrong bodies: engines that close the window at a read that fails, and at a write that fails. All cases
-// but those of this file and of `live_faults` were `ok`, and here were printed `at 83, differs` and `at 188, differs`.
+// Two wrong bodies: engines that close the window at a read that fails, and at a write that fails. Printed were
+// `at 83, differs` and `at 188, differs`.
 pub(crate) fn tell(rt: &HostRuntime, telling: &mut Telling) -> Result<()> {
     let alloc = rt.alloc();
     let wrong = first_wrong_read(alloc)?;
@@ -159,6 +159,9 @@ fn is_write_fault_well(alloc: Global, out: usize, item: &Outcome) -> Result<bool
     )
 }
 
+// A wrong body, tried in a run of its own without the rows, the caches, the endings and the made-up streams: an engine
+// that removes the sender where a write fails. This case differed, and so did each write of a replay and of a live
+// gateway, both at 0.
 /// Whether a device is found again whose teach-in was done, and could not be told.
 fn is_kept_untold(alloc: Global) -> Result<bool> {
     let mut gateway = fresh(alloc)?;

@@ -61,8 +61,8 @@ struct Course {
     is_well: bool,
 }
 
-// Tried with a wrong body: a registry that remembers a device which it was refused to learn. All other cases were `ok`,
-// and these printed `a log that stops, at 28, differs` and `a large database that stops, at 49, differs`.
+// A wrong body: a registry that remembers a device which it was refused to learn. Printed were
+// `a log that stops, at 28, differs` and `a large database that stops, at 49, differs`.
 pub(crate) fn tell(rt: &HostRuntime, telling: &mut Telling) -> Result<()> {
     let alloc = rt.alloc();
     let empty = empty_files(alloc);
