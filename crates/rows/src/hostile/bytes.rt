@@ -1,8 +1,8 @@
-//! A contact telegram of which one byte is replaced, and a whole one behind it: the whole one alone is found, and at its
-//! last byte.
+//! A contact telegram of which one byte is replaced, and a whole one behind it: the whole one alone is found, and at
+//! its last byte.
 //!
-//! A wrong byte in a header or in data is always seen by its check, and none of the headers that a sync byte in place of
-//! another makes has a right check. That no case holds the whole telegram back was found by another program too.
+//! A wrong byte in a header or in data is always seen by its check, and none of the headers that a sync byte in place
+//! of another makes has a right check. That no case holds the whole telegram back was found by another program too.
 use super::script::{Item, Known, State};
 use crate::cuts::{CONTACT, add_piece};
 use crate::gateways::{fresh, written_by};

@@ -1,5 +1,5 @@
-//! Replays of the script in which one read or one write fails, at each place in turn: what is written then, and what the
-//! gateway knows.
+//! Replays of the script in which one read or one write fails, at each place in turn: what is written then, and what
+//! the gateway knows.
 use super::script::{ITEMS, Known, Outcome, State, outcome_of, outcome_of_first};
 use crate::fakes::{Parts, Sips};
 use crate::gateways::{BASE, REMEMBERED, fresh, written_by};

@@ -1,5 +1,5 @@
-//! A script with each kind of item, about one sender, and what is to be answered to it. It is written out from the rules
-//! of the gateway, and calls nothing of it.
+//! A script with each kind of item, about one sender, and what is to be answered to it. It is written out from the
+//! rules of the gateway, and calls nothing of it.
 use anyhow::Result;
 use std::alloc::Global;
 

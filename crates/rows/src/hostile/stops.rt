@@ -1,5 +1,5 @@
-//! The script over files of which one stops, at each of its calls in turn. The gateway goes on to the end of the script.
-//! Then all stops, and the files are opened again.
+//! The script over files of which one stops, at each of its calls in turn. The gateway goes on to the end of the
+//! script. Then all stops, and the files are opened again.
 use super::disks::{
     Disks, Stop, Store, Which, closed, connected, empty_files, files_under, fused, is_blown,
     left_by,
