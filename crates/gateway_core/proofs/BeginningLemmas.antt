@@ -7,7 +7,8 @@ use Rattle.device_registry.proofs.ForCallers.{handed_on}
 use Rattle.gateway_core.specs.Step.{change_of}
 use Rattle.gateway_core.specs.Stops.{Safe, pending, nothing_left, left_by}
 use Rattle.gateway_core.specs.Lives.{begun}
-use Rattle.gateway_core.specs.Beginnings.{CallsLeaveALife, ClosesALife, ClosesLeaveALife, EndsLeaveALife, StopsLeaveALife}
+use Rattle.gateway_core.specs.Beginnings.{CallsLeaveALife, ClosesALife, ClosesLeaveALife, EndsLeaveALife}
+use Rattle.gateway_core.specs.Beginnings.{StopsLeaveALife}
 use Rattle.gateway_core.proofs.StopLemmas.{safe-weaker, safe-pending, safe-last}
 
 module _ {S : Type 0} (stored : S → Stored) where

@@ -36,7 +36,8 @@ use Rattle.json_lines.specs.Lines.{Reading, StatusLine, ResponseLine, Error, Rea
 use Rattle.gateway_core.specs.Profiles.{readings_of}
 use Rattle.gateway_core.specs.Responses.{response_in}
 use Rattle.gateway_core.specs.Step.{State, Item, Received, Ordered, Effect, ignored, unread, unsaid}
-use Rattle.gateway_core.specs.Step.{Need, NeedsMemory, NeedsStore, counted_line, denied, sends_packet, telegram_sent, error_of}
+use Rattle.gateway_core.specs.Step.{Need, NeedsMemory, NeedsStore}
+use Rattle.gateway_core.specs.Step.{counted_line, denied, sends_packet, telegram_sent, error_of}
 use Rattle.gateway_core.specs.Step.{sending_effect}
 use Rattle.gateway_core.specs.Step.{tells, sets, learns, forgets, tells_sender, accepts, deletes, line_with}
 use Rattle.gateway_core.specs.Step.{plan_effect}
@@ -105,7 +106,8 @@ module _ (P : Effect → Type 0) (state : State) (t : Telegram) (each : OfTelegr
       of_plan (λ plan. P (plan_effect state t asked plan)) t state.mode known (record {
         silent = holds;
         adds = λ hears eep maker.
-            either P (is_full state.devices t.sender) _ _ (each.refuses hears NeedsStore _ tt) (each.admits hears eep maker);
+            either P (is_full state.devices t.sender) _ _ (each.refuses hears NeedsStore _ tt)
+            (each.admits hears eep maker);
         forgets = λ told asks. each.deletes told asks;
         refuses = λ hears outcome is.
             each.refuses hears _ (line_with t.sender (teach_in_of t) outcome)

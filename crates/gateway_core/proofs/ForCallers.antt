@@ -1,6 +1,7 @@
 -- The facts about the definitions that proofs cite, also those of the crates above: the laws, and steps that they are
 -- made of.
-pub use Rattle.gateway_core.proofs.BeginningLemmas.{calls_leave_a_life, closes_leave_a_life, ends_leave_a_life, stops_leave_a_life}
+pub use Rattle.gateway_core.proofs.BeginningLemmas.{calls_leave_a_life, closes_leave_a_life, ends_leave_a_life}
+pub use Rattle.gateway_core.proofs.BeginningLemmas.{stops_leave_a_life}
 pub use Rattle.gateway_core.proofs.CallLemmas.{calls_are_a_run}
 pub use Rattle.gateway_core.proofs.CountLemmas.{count_on, refusals_are_counted, taken_are_counted}
 pub use Rattle.gateway_core.proofs.ReplyLemmas.{radio_is_told}

@@ -384,7 +384,10 @@ module _ {S : Type 0} (stored : S → Stored) where
       one : (b : Bool) → is_full devices known.id ≡ b
           → let e : Effect = if b then full else done in IsPending stored old new devices e.need cause e.change
       one true is =
-          rw adds.stays (permitted full.need cause adds.full_needs, keeps-full (stored old) (stored new) known devices is pends)
+          rw adds.stays (
+            permitted full.need cause adds.full_needs,
+            keeps-full (stored old) (stored new) known devices is pends,
+          )
       one false is = rw adds.learns pends
 
   module _ (old new : HandlerValue S) (known : Device) (full done : State → Effect)

@@ -1,6 +1,6 @@
 -- Teach lines with one text are one line.
-use Rattle.std.proofs.Common.{◌≡◌, ◌≢◌, ℕ, zero, suc, ◌+◌, ◌<◌, ◌^◌, ◌/◌, ◌%◌, Bool, true, false, cond, List, [], ◌∷◌}
-use Rattle.std.proofs.Common.{◌++◌, take, drop, codes, decimal, Option, Some, None, Result, Ok, Err}
+use Rattle.std.proofs.Common.{◌≡◌, ◌≢◌, ℕ, zero, suc, ◌+◌, ◌<◌, ◌^◌, ◌/◌, ◌%◌, Bool, true, false, cond}
+use Rattle.std.proofs.Common.{List, [], ◌∷◌, ◌++◌, take, drop, codes, decimal, Option, Some, None, Result, Ok, Err}
 use Rattle.std.proofs.Common.{refl, sym, ap, subst, ◌∙◌, arith}
 use Rattle.std.specs.Prelude.{if◌then◌else◌, ◌==◌, IfSome, nat_lt, slice_index, slice_index_or}
 use Rattle.std.specs.Fmt.{digits_onto, digits, digit_glyph}
@@ -109,7 +109,8 @@ id-shown : (eep : Eep) (line : TeachLine)
 unfolding encode_with
 id-shown eep line = refl
 
-id-shown-alone : (line : TeachLine) → take 8 (drop 18 (text (Teach (record line { eep = None })) ++ [])) ≡ id_text line.id
+id-shown-alone : (line : TeachLine)
+    → take 8 (drop 18 (text (Teach (record line { eep = None })) ++ [])) ≡ id_text line.id
 unfolding encode_with
 id-shown-alone line = refl
 

@@ -210,7 +210,7 @@ fn as_a_plain_framer(rt: HostRuntime) -> Result<(), Fail> {
         let same = compare(alloc, &bytes, &mut counts)?;
         assert_eq!(rt; (stream, same), (stream, true));
     }
-    // scripts/stream-counts makes the same streams, and finds so many packets by the rule.
+    // scripts/rows/stream-counts makes the same streams, and finds so many packets by the rule.
     assert_eq!(rt; counts.packets, 40_186);
     assert_eq!(rt; counts.longest, 5);
     Ok(())
