@@ -52,4 +52,4 @@ uninstall:
 	rm -f "$(BIN)/enogate" "$(BIN)/enogate-backup" "$(MAN)/enogate.1" "$(WORDS)/enogate"
 
 clean:
-	rm -rf crates/*/out target scripts/__pycache__
+	rm -rf crates/*/out target scripts/rows/__pycache__ tests/program/__pycache__

@@ -1,7 +1,7 @@
 """What a text says of the program, one fact in each line: the manual page and the guide have to say the same.
 
-    tests/live/facts.py contrib/enogate.1
-    tests/live/facts.py docs/GUIDE.md
+    tests/around/facts.py contrib/enogate.1
+    tests/around/facts.py docs/GUIDE.md
 """
 import re
 import shlex

@@ -1,4 +1,4 @@
-"""What the built program has to write for a script, and what it may leave, by the table of scripts/verdict-rows."""
+"""What the built program has to write for a script, and what it may leave, by the table of scripts/rows/verdict-rows."""
 import copy
 import re
 import runpy
@@ -7,7 +7,7 @@ from runs import ROOT, run
 
 from esp3 import pieces, telegram
 
-TABLE = runpy.run_path(str(ROOT / "scripts/verdict-rows"))
+TABLE = runpy.run_path(str(ROOT / "scripts/rows/verdict-rows"))
 Gateway, device_lines, error = TABLE["Gateway"], TABLE["device_lines"], TABLE["error"]
 
 

@@ -4,7 +4,7 @@ import json
 import pathlib
 import sys
 
-DATA = pathlib.Path(__file__).resolve().parent.parent / "crates" / "rows" / "data"
+DATA = pathlib.Path(__file__).resolve().parent.parent.parent / "crates" / "rows" / "data"
 
 
 def line(value):

@@ -1,7 +1,7 @@
 """Hangs a terminal up, as the kernel does where a stick is pulled out: from then on each read of it answers 0 bytes at
 once. It wants the rights of root.
 
-    tests/live/hang_up.py TERMINAL
+    tests/around/hang_up.py TERMINAL
 """
 import fcntl
 import os

@@ -1,7 +1,7 @@
 """The commands that systemd runs for a unit, as a script for sh: with ROOT before each folder, NAME for the instance,
 and its variables as the environment has them. Those of ExecStopPost are run at its end, whatever ended it.
 
-    tests/live/unit.py UNIT ROOT NAME
+    tests/around/unit.py UNIT ROOT NAME
 """
 import re
 import shlex

@@ -6,16 +6,17 @@ import sqlite3
 import subprocess
 import sys
 
-ROOT = pathlib.Path(__file__).resolve().parent.parent
-sys.path.insert(0, str(ROOT / "scripts"))
+ROOT = pathlib.Path(__file__).resolve().parent.parent.parent
+sys.path.insert(0, str(ROOT / "scripts" / "rows"))
 
 PROGRAM = ROOT / "crates/enogate/out/enogate"
 REFUSE_CALL = "refuse_call.c"
+TEST = pathlib.Path(sys.argv[0]).name
 failed = []
 
 
 def wants(name, is_so):
-    print(f"program: {name} {'ok' if is_so else 'FAILED'}", flush=True)
+    print(f"{TEST}: {name} {'ok' if is_so else 'FAILED'}", flush=True)
     if not is_so:
         failed.append(name)
 
@@ -34,7 +35,8 @@ def preloading(work, source, **variables):
     """The environment of a run with the library of this source, which these variables tell what to do."""
     library = work / (source + ".so")
     if not library.exists():
-        subprocess.run(["cc", "-O1", "-shared", "-fPIC", "-o", library, ROOT / "tests" / source, "-ldl"], check=True)
+        source = ROOT / "tests" / "preload" / source
+        subprocess.run(["cc", "-O1", "-shared", "-fPIC", "-o", library, source, "-ldl"], check=True)
     told = {name: str(value) for name, value in variables.items()}
     return {**os.environ, "LD_PRELOAD": str(library), **told}
 

@@ -2,7 +2,7 @@
 stands in a file that grows, in lines of hexadecimal digits; what the gateway sends is added to another, without lines.
 It ends by a signal, and that pulls the stick out.
 
-    tests/live/stick.py LINK BROUGHT SENT
+    tests/around/stick.py LINK BROUGHT SENT
 """
 import os
 import select
