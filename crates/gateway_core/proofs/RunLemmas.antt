@@ -3,7 +3,7 @@ use Rattle.std.proofs.Common.{◌≡◌, inr, List, [], ◌∷◌, ◌++◌, ref
 use Rattle.sqlite.specs.State.{State as Stored}
 use Rattle.device_registry.specs.Holding.{MayFind}
 use Rattle.gateway_core.specs.Step.{State, Item, Answer, said}
-use Rattle.gateway_core.specs.Run.{Fate, Taken, Refused, RefusedAtWrite, Run, cause_of, cause_text, answer_with}
+use Rattle.gateway_core.specs.Run.{Fate, Taken, Refused, RefusedAtWrite, Run, refused_for, cause_text, answer_with}
 use Rattle.gateway_core.specs.Run.{state_with, SameRefusals}
 use Rattle.gateway_core.specs.Stops.{nothing_left, left_by, Safe}
 use Rattle.gateway_core.specs.Handling.{HandlerValue, Handles}
@@ -60,7 +60,7 @@ module _ {S : Type 0} (stored : S → Stored) where
   }
 
 -- what is answered, and what is known then, hang on the cause alone
-answer-alike : (state : State) (item : Item) (fate other : Fate) → cause_of fate ≡ cause_of other
+answer-alike : (state : State) (item : Item) (fate other : Fate) → refused_for fate ≡ refused_for other
     → answer_with state item fate ≡ answer_with state item other
 answer-alike state item Taken Taken e = refl
 answer-alike state item (Refused a) (Refused b) e = ap (λ c. said (cause_text c)) (cc)
@@ -72,7 +72,7 @@ answer-alike state item Taken (RefusedAtWrite b) e = absurd cc
 answer-alike state item (Refused a) Taken e = absurd cc
 answer-alike state item (RefusedAtWrite a) Taken e = absurd cc
 
-state-alike : (state : State) (item : Item) (fate other : Fate) → cause_of fate ≡ cause_of other
+state-alike : (state : State) (item : Item) (fate other : Fate) → refused_for fate ≡ refused_for other
     → state_with state item other ≡ state_with state item fate
 state-alike state item Taken Taken e = refl
 state-alike state item (Refused a) (Refused b) e = refl
@@ -88,7 +88,7 @@ pub same_refusals : SameRefusals
 same_refusals old left right [] [] [] [] [] alike x y = (refl, x ∙ sym y)
 same_refusals old left right (item ∷ items) (fate ∷ fates) (other ∷ others) (a ∷ answers) (b ∷ more) alike (_, e, x)
     (_, f, y) =
-    let cause : cause_of fate ≡ cause_of other = cc in
+    let cause : refused_for fate ≡ refused_for other = cc in
     let from = subst (λ s. Run s items others more right) (state-alike old item fate other cause) y in
     let rest = same_refusals (state_with old item fate) left right items fates others answers more (cc) x from in
     (ap (λ c. c ∷ answers) (e ∙ answer-alike old item fate other cause ∙ sym f) ∙ ap (λ cs. b ∷ cs) rest.0, rest.1)

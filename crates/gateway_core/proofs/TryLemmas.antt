@@ -28,7 +28,7 @@ use Rattle.teach_in.specs.Verdicts.{plan_of}
 use Rattle.teach_in.proofs.ForCallers.{either, of_plan}
 use Rattle.json_lines.specs.declared.fixed.ErrorName.TheVariants as error
 use Rattle.gateway_core.specs.declared.handler.changes.Committed.{Committed}
-use Rattle.gateway_core.specs.declared.refusal.Cause as told
+use Rattle.device_registry.specs.declared.fault.StoreFault.{StoreFault}
 use Rattle.gateway_core.specs.declared.refusal.Refusal.{Refusal}
 use Rattle.gateway_core.specs.declared.refusal.Refusal.TheVariants.{Before, AtWrite}
 use Rattle.json_lines.specs.declared.counts.Counts.{Counts}
@@ -52,7 +52,7 @@ use Rattle.gateway_core.specs.Stops.{nothing_left, told, pending, Safe}
 use Rattle.gateway_core.specs.Handling.{HandlerValue, Went, Handles}
 use Rattle.gateway_core.specs.Tries.{state_of, Gives, IsMade, IsPending, Comes, Tries, answer_from, counts_from}
 use Rattle.gateway_core.specs.Tries.{mode_from}
-use Rattle.gateway_core.specs.Tries.{IsRefused, RegistryAlone, Enters, Erases}
+use Rattle.gateway_core.specs.Tries.{IsRefused, RegistryAlone, Learns, Forgets}
 
 -- what is known, of its parts
 abbrev pub known_with : ℕ → Mode → Counts → Devices → State
@@ -232,10 +232,10 @@ module _ {S : Type 0} (stored : S → Stored) where
       → Comes stored old new devices effect r
   comes-after old mid new devices effect (Ok done) keeps (gives, made) =
       (gives, made-after old mid new devices effect.change keeps made)
-  comes-after old mid new devices effect (Err (Before cause)) keeps (needed, kept) =
+  comes-after old mid new devices effect (Err (Before fault)) keeps (needed, kept) =
       (needed, keeps-after (stored old) (stored mid) (stored new) devices keeps kept)
-  comes-after old mid new devices effect (Err (AtWrite cause)) keeps pending =
-      pending-after old mid new devices effect.need (cause_of cause) effect.change keeps pending
+  comes-after old mid new devices effect (Err (AtWrite fault)) keeps pending =
+      pending-after old mid new devices effect.need (cause_of fault) effect.change keeps pending
 
   -- ---- an item that is tried
 
@@ -320,7 +320,7 @@ module _ {S : Type 0} (stored : S → Stored) where
   reading-comes old new devices t eep None done gives keeps = (gives, keeps)
   reading-comes old new devices t eep (Some readings) done gives keeps = (gives, keeps)
 
-  -- ---- a device that is entered or erased
+  -- ---- a device that is learned or forgotten
 
   -- over another registry
   pub alone : (base : ℕ) (mode : Mode) (counts : Counts) (old new : S) (IsSo : Devices → Type 0)
@@ -370,9 +370,9 @@ module _ {S : Type 0} (stored : S → Stored) where
   refused-comes : (old new : S) (devices : Devices) (effect : Effect) (change : Change) (refusal : Refusal)
       → effect.need ≡ NeedsStore → effect.change ≡ Some change → IsRefused stored old new devices change refusal
       → Comes stored old new devices effect (Err refusal)
-  refused-comes old new devices effect change (Before cause) need changes keeps =
-      (permitted effect.need (cause_of cause) need, keeps)
-  refused-comes old new devices effect change (AtWrite cause) need changes pends = rw changes pends
+  refused-comes old new devices effect change (Before fault) need changes keeps =
+      (permitted effect.need (cause_of fault) need, keeps)
+  refused-comes old new devices effect change (AtWrite fault) need changes pends = rw changes pends
 
   -- a device is not learned: the write was tried, though the registry is full perhaps
   addition-pending : (old new : S) (devices : Devices) (known : Device) (full done : Effect) → Adds known full done
@@ -392,69 +392,69 @@ module _ {S : Type 0} (stored : S → Stored) where
 
   module _ (old new : HandlerValue S) (known : Device) (full done : State → Effect)
       (adds : (devices : Devices) → Adds known (full (state_of old devices)) (done (state_of old devices))) where
-    pub tries-refused : (refusal : Refusal) → Enters stored old known (Err refusal) new
+    pub tries-refused : (refusal : Refusal) → Learns stored old known (Err refusal) new
         → Tries stored old (λ state. addition state.devices known (full state) (done state)) (Err refusal) new
-    tries-refused (Before cause) enters =
-        tries-registry old new _ _ _ enters.alone
+    tries-refused (Before fault) learns =
+        tries-registry old new _ _ _ learns.alone
         (λ devices keeps.
         let all = adds devices in (
-          permitted _ (cause_of cause) (addition-need devices known _ _ all.full_needs all.done_needs),
+          permitted _ (cause_of fault) (addition-need devices known _ _ all.full_needs all.done_needs),
           keeps,
         ))
-    tries-refused (AtWrite cause) enters =
-        tries-registry old new _ _ _ enters.alone
+    tries-refused (AtWrite fault) learns =
+        tries-registry old new _ _ _ learns.alone
         (λ devices pends.
         addition-pending old.registry new.registry devices known (full (state_of old devices))
-        (done (state_of old devices)) (adds devices) (cause_of cause) pends)
+        (done (state_of old devices)) (adds devices) (cause_of fault) pends)
 
-    pub tries-full : (told : Done) → Enters stored old known (Ok None) new
+    pub tries-full : (told : Done) → Learns stored old known (Ok None) new
         → ((devices : Devices) → Gives told (full (state_of new devices)))
         → Tries stored old (λ state. addition state.devices known (full state) (done state)) (Ok told) new
-    tries-full told enters gives =
-        tries-registry old new _ _ _ enters.alone
+    tries-full told learns gives =
+        tries-registry old new _ _ _ learns.alone
         (λ devices (is, keeps).
         rw (is, (adds devices).stays)
-        (gives-before old new told full devices enters.alone.same (gives devices), keeps))
+        (gives-before old new told full devices learns.alone.same (gives devices), keeps))
 
     -- there is no memory to tell it
-    pub tries-untold : (cause : told.Cause) → Enters stored old known (Ok None) new
-        → Tries stored old (λ state. addition state.devices known (full state) (done state)) (Err (Before cause)) new
-    tries-untold cause enters =
-        tries-registry old new _ _ _ enters.alone
+    pub tries-untold : (fault : StoreFault) → Learns stored old known (Ok None) new
+        → Tries stored old (λ state. addition state.devices known (full state) (done state)) (Err (Before fault)) new
+    tries-untold fault learns =
+        tries-registry old new _ _ _ learns.alone
         (λ devices (is, keeps).
         let all = adds devices in (
-          permitted _ (cause_of cause) (addition-need devices known _ _ all.full_needs all.done_needs),
+          permitted _ (cause_of fault) (addition-need devices known _ _ all.full_needs all.done_needs),
           keeps,
         ))
 
-    pub tries-entered : (committed : Committed) (told : Done) → Enters stored old known (Ok (Some committed)) new
+    pub tries-learned : (committed : Committed) (told : Done) → Learns stored old known (Ok (Some committed)) new
         → ((devices : Devices) → Gives told (done (state_of new devices)))
         → Tries stored old (λ state. addition state.devices known (full state) (done state)) (Ok told) new
-    tries-entered committed told enters gives =
-        tries-registry old new _ _ _ enters.alone
+    tries-learned committed told learns gives =
+        tries-registry old new _ _ _ learns.alone
         (λ devices (is, commits).
         rw (is, (adds devices).learns)
-        (gives-before old new told done devices enters.alone.same (gives devices), commits))
+        (gives-before old new told done devices learns.alone.same (gives devices), commits))
 
   module _ (old new : HandlerValue S) (line : TeachLine) (effect : State → Effect)
-      (erases : (devices : Devices) → Drops line.id (effect (state_of old devices))) where
-    pub tries-unerased : (refusal : Refusal) → Erases stored old line (Err refusal) new
+      (drops : (devices : Devices) → Drops line.id (effect (state_of old devices))) where
+    pub tries-unforgotten : (refusal : Refusal) → Forgets stored old line (Err refusal) new
         → Tries stored old effect (Err refusal) new
-    tries-unerased refusal erased =
-        tries-registry old new _ _ _ erased.alone
+    tries-unforgotten refusal forgets =
+        tries-registry old new _ _ _ forgets.alone
         (λ devices.
-        let all = erases devices in
+        let all = drops devices in
         refused-comes old.registry new.registry devices (effect (state_of old devices)) (forgotten line.id) refusal
         all.needs all.forgets)
 
-    pub tries-erased : (committed : Committed) (told : Done) → Erases stored old line (Ok committed) new
+    pub tries-forgotten : (committed : Committed) (told : Done) → Forgets stored old line (Ok committed) new
         → ((devices : Devices) → Gives told (effect (state_of new devices)))
         → Tries stored old effect (Ok told) new
-    tries-erased committed told erased gives =
-        tries-registry old new _ _ _ erased.alone
+    tries-forgotten committed told forgets gives =
+        tries-registry old new _ _ _ forgets.alone
         (λ devices commits.
-        rw ((erases devices).forgets)
-        (gives-before old new told effect devices erased.alone.same (gives devices), commits))
+        rw ((drops devices).forgets)
+        (gives-before old new told effect devices forgets.alone.same (gives devices), commits))
 
   -- an order's telegram is sent, or it is told why there is none
   pub telegram-comes : (old new : S) (devices : Devices) (asked : Bool)
@@ -541,15 +541,15 @@ module _ {S : Type 0} (stored : S → Stored) where
     );
     stop = made-safe old.registry new.registry start.devices (change_of start item) made;
   }
-  comes-went old new start item (Err (Before cause)) base mode counts (need, keeps) = record {
-    fates = Refused (cause_of cause) ∷ [];
+  comes-went old new start item (Err (Before fault)) base mode counts (need, keeps) = record {
+    fates = Refused (cause_of fault) ∷ [];
     last = refused start;
     run = (need, refl, refl);
     at = (base, mode, keeps.now, counts);
     stop = λ left may. inr (refl, keeps.stop left may);
   }
-  comes-went old new start item (Err (AtWrite cause)) base mode counts pending =
-      at_write-went old new start item (cause_of cause) (change_of start item) refl base mode counts pending
+  comes-went old new start item (Err (AtWrite fault)) base mode counts pending =
+      at_write-went old new start item (cause_of fault) (change_of start item) refl base mode counts pending
 
   -- what was tried is settled: it is counted
   pub record Settles (mid : HandlerValue S) (r : Result Done Refusal) (answer : Answer)

@@ -47,14 +47,14 @@ Run old (item ∷ items) (fate ∷ fates) (answer ∷ answers) new =
 Run old items fates answers new = ⊥
 
 -- what an item was refused for, if it was
-abbrev pub cause_of : Fate → Option Cause
-cause_of Taken = None
-cause_of (Refused cause) = Some cause
-cause_of (RefusedAtWrite cause) = Some cause
+abbrev pub refused_for : Fate → Option Cause
+refused_for Taken = None
+refused_for (Refused cause) = Some cause
+refused_for (RefusedAtWrite cause) = Some cause
 
 -- the same items are refused, each for the same cause, be it before its write or at it
 abbrev pub RefuseAlike : List Fate → List Fate → Type 0
-RefuseAlike fates others = map cause_of fates ≡ map cause_of others
+RefuseAlike fates others = map refused_for fates ≡ map refused_for others
 
 -- where the same items are refused, each for the same cause, the answers are the same, and so is what is known in the
 -- end

@@ -48,8 +48,8 @@ module _ {S : Type 0} (stored : S → Stored) (old new : S) (devices : Devices) 
   -- the effect comes, or it is refused
   abbrev pub Comes : Effect → Result Done Refusal → Type 0
   Comes effect (Ok done) = Gives done effect × IsMade effect.change
-  Comes effect (Err (Before cause)) = Permits effect.need (cause_of cause) × Keeps (stored old) (stored new) devices
-  Comes effect (Err (AtWrite cause)) = IsPending effect.need (cause_of cause) effect.change
+  Comes effect (Err (Before fault)) = Permits effect.need (cause_of fault) × Keeps (stored old) (stored new) devices
+  Comes effect (Err (AtWrite fault)) = IsPending effect.need (cause_of fault) effect.change
 
 -- the effect, by what the handler knows, comes or is refused; it is not counted yet, nor is its mode set
 pub record Tries {S : Type 0} (stored : S → Stored) (old : HandlerValue S) (effect : State → Effect)
@@ -63,7 +63,7 @@ pub record Tries {S : Type 0} (stored : S → Stored) (old : HandlerValue S) (ef
   pub comes : HasCleanDisk (stored new.registry) → (devices : Devices) → HasDevices (stored old.registry) devices
       → Comes stored old.registry new.registry devices (effect (state_of old devices)) result
 
--- ---- a device that is entered or erased
+-- ---- a device that is learned or forgotten
 
 -- a reply to the telegram, if it may get one, can be made where this comes of this sender
 abbrev pub MayReply : Teach → ℕ → Outcome → Type 0
@@ -87,13 +87,13 @@ pub record RegistryAlone {S : Type 0} (stored : S → Stored) (old : HandlerValu
   pub is_so : HasCleanDisk (stored new.registry) → (devices : Devices) → HasDevices (stored old.registry) devices
       → IsSo devices
 
-abbrev pub WasEntered : Device → Result (Option Committed) Refusal → Type 0
-WasEntered known (Ok (Some committed)) = IsCommittedAs (told_of known Accepted) committed
-WasEntered known result = Unit {0}
+abbrev pub WasLearned : Device → Result (Option Committed) Refusal → Type 0
+WasLearned known (Ok (Some committed)) = IsCommittedAs (told_of known Accepted) committed
+WasLearned known result = Unit {0}
 
-abbrev pub WasErased : TeachLine → Result Committed Refusal → Type 0
-WasErased line (Ok committed) = IsCommittedAs line committed
-WasErased line result = Unit {0}
+abbrev pub WasForgotten : TeachLine → Result Committed Refusal → Type 0
+WasForgotten line (Ok committed) = IsCommittedAs line committed
+WasForgotten line result = Unit {0}
 
 module _ {S : Type 0} (stored : S → Stored) (old new : S) (devices : Devices) where
   -- what is refused leaves what was known, and perhaps the change, if its write was tried
@@ -102,29 +102,29 @@ module _ {S : Type 0} (stored : S → Stored) (old new : S) (devices : Devices) 
   IsRefused change (AtWrite cause) = Pends (stored old) (stored new) change devices
 
   -- a device is committed, or there is no room, or it is refused
-  abbrev pub IsEntering : Device → Result (Option Committed) Refusal → Type 0
-  IsEntering known (Ok (Some committed)) =
+  abbrev pub IsLearning : Device → Result (Option Committed) Refusal → Type 0
+  IsLearning known (Ok (Some committed)) =
       (is_full devices known.id ≡ false) × Commits (stored new) (learned known) devices
-  IsEntering known (Ok None) = (is_full devices known.id ≡ true) × Keeps (stored old) (stored new) devices
-  IsEntering known (Err refusal) = IsRefused (learned known) refusal
+  IsLearning known (Ok None) = (is_full devices known.id ≡ true) × Keeps (stored old) (stored new) devices
+  IsLearning known (Err refusal) = IsRefused (learned known) refusal
 
   -- that a sender is forgotten is committed, or it is refused
-  abbrev pub IsErasing : ℕ → Result Committed Refusal → Type 0
-  IsErasing id (Ok committed) = Commits (stored new) (forgotten id) devices
-  IsErasing id (Err refusal) = IsRefused (forgotten id) refusal
+  abbrev pub IsForgetting : ℕ → Result Committed Refusal → Type 0
+  IsForgetting id (Ok committed) = Commits (stored new) (forgotten id) devices
+  IsForgetting id (Err refusal) = IsRefused (forgotten id) refusal
 
--- a device is entered in the registry
-pub record Enters {S : Type 0} (stored : S → Stored) (old : HandlerValue S) (known : Device)
+-- a device is learned
+pub record Learns {S : Type 0} (stored : S → Stored) (old : HandlerValue S) (known : Device)
     (result : Result (Option Committed) Refusal) (new : HandlerValue S) : Type 0 where
-  pub told : WasEntered known result
-  pub alone : RegistryAlone stored old (λ devices. IsEntering stored old.registry new.registry devices known result) new
+  pub told : WasLearned known result
+  pub alone : RegistryAlone stored old (λ devices. IsLearning stored old.registry new.registry devices known result) new
 
--- a sender is erased there, which this line tells
-pub record Erases {S : Type 0} (stored : S → Stored) (old : HandlerValue S) (line : TeachLine)
+-- a sender is forgotten, which this line tells
+pub record Forgets {S : Type 0} (stored : S → Stored) (old : HandlerValue S) (line : TeachLine)
     (result : Result Committed Refusal) (new : HandlerValue S) : Type 0 where
-  pub told : WasErased line result
+  pub told : WasForgotten line result
   pub alone : RegistryAlone stored old
-      (λ devices. IsErasing stored old.registry new.registry devices line.id result) new
+      (λ devices. IsForgetting stored old.registry new.registry devices line.id result) new
 
 -- ---- what is answered and known
 

@@ -10,7 +10,7 @@ ghost use Rattle.gateway_core.specs.Tries.{answer_from, counts_from, mode_from};
 
 mod changes;
 mod done;
-pub mod lines;
+pub mod orders;
 mod packets;
 mod sending;
 mod teaching;

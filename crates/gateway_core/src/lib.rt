@@ -16,5 +16,5 @@ pub use actuator_commands::id_of;
 pub use device_store::DeviceStore;
 pub use erp1_telegrams::is_base;
 pub use gateway::{Gateway, GatewayOver, StartFault};
-pub use handler::lines::LONGEST_LINE;
+pub use handler::orders::LONGEST_LINE;
 pub use reply::{Desk, Reply};

@@ -4,12 +4,12 @@ ghost use Rattle.std.specs.Prelude.{◌≡◌, [], ◌∷◌};
 ghost use Rattle.json_lines.specs.Lines.{Error};
 ghost use Rattle.json_lines.specs.declared.fixed.ErrorName.{ErrorName};
 ghost use Rattle.gateway_core.specs.Step.{NeedsStore, addition, forgets, learns, tells};
-ghost use Rattle.gateway_core.specs.Tries.{Enters, Erases, Tries};
+ghost use Rattle.gateway_core.specs.Tries.{Learns, Forgets, Tries};
 
 use crate::device_store::DeviceStore;
 use crate::handler::Handler;
 use crate::handler::done::{Done, denied, told};
-use crate::refusal::{Cause, Refusal};
+use crate::refusal::Refusal;
 use crate::reply::Desk;
 use device_registry::{Device, LearnFault};
 use erp1_telegrams::Eep;
@@ -25,8 +25,8 @@ pub(crate) struct Committed {
 
 impl<S: DeviceStore> Handler<S> {
     // Learns a device. It is `None` where the registry is full, which tells so before it writes.
-    pub(crate) fn enter(&mut self, device: Device) -> Result<Option<Committed>, Refusal>
-        ensures { Enters S.stored self.old device result self.new }
+    pub(crate) fn learn(&mut self, device: Device) -> Result<Option<Committed>, Refusal>
+        ensures { Learns S.stored self.old device result self.new }
     {
         let draft = teach_line(
             self.alloc,
@@ -38,7 +38,7 @@ impl<S: DeviceStore> Handler<S> {
         let receipt = match self.registry.learn(device) {
             Ok(receipt) => receipt,
             Err(LearnFault::Full) => return Ok(None),
-            Err(LearnFault::Refused(fault)) => return Err(Refusal::AtWrite(Cause::from(fault))),
+            Err(LearnFault::Refused(fault)) => return Err(Refusal::AtWrite(fault)),
         };
         let verdict = Verdict::committed(receipt);
         let line = draft.tell(&verdict);
@@ -46,19 +46,19 @@ impl<S: DeviceStore> Handler<S> {
     }
 
     // Forgets the device with this ID, learned or not. It is told with this profile and this maker.
-    pub(crate) fn erase(
+    pub(crate) fn forget(
         &mut self,
         id: u32,
         eep: Option<Eep>,
         maker: Option<u16>,
     ) -> Result<Committed, Refusal>
-        ensures { Erases S.stored self.old
+        ensures { Forgets S.stored self.old
             (record { eep = eep; id = id; maker = maker; outcome = Outcome.Deleted }) result self.new }
     {
         let draft = teach_line(self.alloc, id, eep, maker, Outcome::Deleted)?;
         let receipt = match self.registry.forget(id) {
             Ok(receipt) => receipt,
-            Err(fault) => return Err(Refusal::AtWrite(Cause::from(fault))),
+            Err(fault) => return Err(Refusal::AtWrite(fault)),
         };
         let verdict = Verdict::committed(receipt);
         let line = draft.tell(&verdict);
@@ -66,21 +66,21 @@ impl<S: DeviceStore> Handler<S> {
     }
 
     // Learns a device that the desk names.
-    pub(crate) fn learn(&mut self, device: Device) -> Result<Done, Refusal>
+    pub(crate) fn learn_named(&mut self, device: Device) -> Result<Done, Refusal>
         ensures { Tries S.stored self.old (λ state. addition state.devices device
             (tells NeedsStore (Error ErrorName.Full ∷ [])) (learns device)) result self.new }
     {
-        match self.enter(device)? {
+        match self.learn(device)? {
             Some(committed) => Ok(told(Desk::Owned(committed.line))),
             None => Ok(denied(ErrorName::Full)),
         }
     }
 
     // Forgets a device that the desk names.
-    pub(crate) fn forget(&mut self, device: Device) -> Result<Done, Refusal>
+    pub(crate) fn forget_named(&mut self, device: Device) -> Result<Done, Refusal>
         ensures { Tries S.stored self.old (λ state. forgets device) result self.new }
     {
-        let committed = self.erase(device.id, Some(device.eep), device.maker)?;
+        let committed = self.forget(device.id, Some(device.eep), device.maker)?;
         Ok(told(Desk::Owned(committed.line)))
     }
 }

@@ -92,8 +92,8 @@ pub(crate) fn sends_packet(packet: ArrayVec<u8, 64>) -> Done
 pub(crate) fn refused(refusal: Refusal) -> Reply
     ensures { answer_of result ≡ said (cause_text (cause_in refusal)) }
 {
-    let (Refusal::Before(cause) | Refusal::AtWrite(cause)) = refusal;
-    let name = if cause.is_memory() {
+    let (Refusal::Before(fault) | Refusal::AtWrite(fault)) = refusal;
+    let name = if fault.is_memory() {
         ErrorName::Memory
     } else {
         ErrorName::Store

@@ -114,7 +114,7 @@ impl<S: DeviceStore> Handler<S> {
             (Step.tells_sender state teach.now (told_of device outcome.Full)) (accepts state teach.now device))
             result self.new }
     {
-        let Some(Committed { verdict, line }) = self.enter(device)? else {
+        let Some(Committed { verdict, line }) = self.learn(device)? else {
             let full = self.refuse(
                 teach,
                 device.id,
@@ -130,12 +130,12 @@ impl<S: DeviceStore> Handler<S> {
     }
 
     // Forgets the sender of a telegram, learned or not.
-    fn try_forget(&mut self, teach: &Teach, id: u32) -> Result<Done, Refusal>
+    fn try_delete(&mut self, teach: &Teach, id: u32) -> Result<Done, Refusal>
         requires { MayReply teach.now id outcome.Deleted }
         ensures { Tries S.stored self.old (λ state. deletes state teach.now id) result self.new }
     {
         let (eep, maker) = told_by(teach);
-        let Committed { verdict, line } = self.erase(id, eep, maker)?;
+        let Committed { verdict, line } = self.forget(id, eep, maker)?;
         Ok(self.tell_sender(teach, &verdict, line))
     }
 
@@ -148,7 +148,7 @@ impl<S: DeviceStore> Handler<S> {
         match plan(telegram, self.mode, false) {
             Plan::Silent => Ok(ignored()),
             Plan::Add(device) => self.try_accept(&teach, device),
-            Plan::Forget(id) => self.try_forget(&teach, id),
+            Plan::Forget(id) => self.try_delete(&teach, id),
             Plan::Refuse(outcome) => {
                 let (eep, maker) = told_by(&teach);
                 let refused = self.refuse(&teach, telegram.sender(), eep, maker, outcome)?;

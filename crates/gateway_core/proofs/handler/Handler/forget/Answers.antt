@@ -1,23 +1,37 @@
-use Rattle.std.proofs.Common.{refl, sym, ap, ◌∙◌, append-nil}
+use Rattle.std.proofs.Common.{◌≡◌, subst, ◌∙◌}
+use Rattle.std.specs.Bool.{MatchBool}
 use Rattle.std.proofs.lemmas.Result.{err_from_is_err_and}
-use Rattle.teach_in.specs.declared.outcome.Outcome.TheVariants.{Deleted}
-use Rattle.gateway_core.specs.Step.{said, told_of, forgets}
-use Rattle.gateway_core.proofs.TryLemmas.{tries-erased, tries-unerased}
+use Rattle.teach_in.specs.declared.outcome.Outcome.TheVariants.{Accepted, Deleted}
+use Rattle.gateway_core.proofs.TryLemmas.{alone, alone-unasked}
 use Rattle.gateway_core.proofs.handler.Handler.forget.Goals as goal
 
-pub returns-in_err-committed : goal.returns-in_err-committed
-returns-in_err-committed g c =
+pub returns-in_err-draft : goal.returns-in_err-draft
+returns-in_err-draft g c =
     let error = err_from_is_err_and c.from_residual.result c.from_residual.ensures.1 in
-    rw (error.1, error.2)
-    (tries-unerased g.S.DeviceStore.stored _ _ (told_of c.args.device Deleted) (λ state. forgets c.args.device)
-    (λ devices. record { needs = refl; forgets = refl }) c.in_err-committed.field-0.0 c.in_err-committed.ensures)
+    rw (error.1, error.2) (record {
+      told = tt;
+      alone = alone-unasked g.S.DeviceStore.stored _ _
+          (λ devices keeps. keeps);
+    })
+
+pub returns-in-Err : goal.returns-in-Err
+returns-in-Err g c =
+    rw (← c.self.view_is) (record {
+      told = tt;
+      alone = alone g.S.DeviceStore.stored _ _ _ _ _ _ c.forget.ensures.clean c.forget.ensures.registries
+          (λ honest devices has. c.in-Err.ensures.devices honest devices has);
+    })
 
 pub returns : goal.returns
 returns g c =
-    tries-erased g.S.DeviceStore.stored _ _ (told_of c.args.device Deleted) (λ state. forgets c.args.device)
-    (λ devices. record { needs = refl; forgets = refl }) c.in_ok-committed.committed _ c.in_ok-committed.ensures
-    (λ devices. (
-      c.told.ensures.answer ∙ ap said (c.in_ok-committed.ensures.told.2 ∙ sym (append-nil _)),
-      c.told.ensures.count,
-      c.told.ensures.mode,
-    ))
+    rw (← c.self.view_is) (record {
+      told = (
+        c.committed-verdict.ensures.id ∙ c.in-Ok.ensures.receipt.0,
+        subst (λ b. MatchBool b (c.committed-verdict.result.outcome ≡ Accepted)
+            (c.committed-verdict.result.outcome ≡ Deleted)) c.in-Ok.ensures.receipt.1
+            c.committed-verdict.ensures.outcome,
+        c.tell-line.ensures ∙ c.in_ok-draft.ensures.line,
+      );
+      alone = alone g.S.DeviceStore.stored _ _ _ _ _ _ c.forget.ensures.clean c.forget.ensures.registries
+          (λ honest devices has. c.in-Ok.ensures.devices honest devices has);
+    })

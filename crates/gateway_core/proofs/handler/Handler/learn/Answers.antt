@@ -1,42 +1,56 @@
-use Rattle.std.proofs.Common.{[], ◌∷◌, Ok, sym, ap, subst, ◌∙◌, append-nil}
+use Rattle.std.proofs.Common.{◌≡◌, subst, ◌∙◌}
+use Rattle.std.specs.Bool.{MatchBool}
 use Rattle.std.proofs.lemmas.Result.{err_from_is_err_and}
-use Rattle.json_lines.specs.Lines.{Error}
-use Rattle.json_lines.specs.declared.fixed.ErrorName.TheVariants as name
-use Rattle.gateway_core.specs.Step.{said, learns, tells, NeedsStore}
-use Rattle.gateway_core.specs.Tries.{Enters}
-use Rattle.gateway_core.proofs.TryLemmas.{by-desk, tries-entered, tries-full, tries-refused}
+use Rattle.device_registry.specs.declared.fault.LearnFault.{LearnFault}
+use Rattle.device_registry.specs.declared.fault.LearnFault.TheVariants as fault
+use Rattle.device_registry.specs.Holding.{RefusesToLearn}
+use Rattle.teach_in.specs.declared.outcome.Outcome.TheVariants.{Accepted, Deleted}
+use Rattle.gateway_core.proofs.TryLemmas.{alone, alone-unasked}
 use Rattle.gateway_core.proofs.handler.Handler.learn.Goals as goal
 
-pub returns-in_err-committed : goal.returns-in_err-committed
-returns-in_err-committed g c =
+pub returns-in_err-draft : goal.returns-in_err-draft
+returns-in_err-draft g c =
     let error = err_from_is_err_and c.from_residual.result c.from_residual.ensures.1 in
-    rw (error.1, error.2)
-    (tries-refused g.S.DeviceStore.stored _ _ c.args.device (λ state. tells NeedsStore (Error name.Full ∷ []))
-    (λ state. learns c.args.device)
-    (λ devices. by-desk c.args.device)
-    c.in_err-committed.field-0.0 c.in_err-committed.ensures)
+    rw (error.1, error.2) (record {
+      told = tt;
+      alone = alone-unasked g.S.DeviceStore.stored _ _
+          (λ devices keeps. keeps);
+    })
 
-pub returns-in-Some : goal.returns-in-Some
-returns-in-Some g c =
-    let entered =
-    subst (λ o. Enters g.S.DeviceStore.stored c.args.self.now c.args.device (Ok o) c.enter.new.self) c.in-Some.is
-    c.in_ok-committed.ensures in
-    tries-entered g.S.DeviceStore.stored _ _ c.args.device (λ state. tells NeedsStore (Error name.Full ∷ []))
-    (λ state. learns c.args.device)
-    (λ devices. by-desk c.args.device)
-    c.in-Some.committed _ entered
-    (λ devices. (
-      c.told.ensures.answer ∙ ap said (entered.told.2 ∙ sym (append-nil _)),
-      c.told.ensures.count,
-      c.told.ensures.mode,
-    ))
+pub returns-in-Err-Full : goal.returns-in-Err-Full
+returns-in-Err-Full g c =
+    rw (← c.self.view_is) (record {
+      told = tt;
+      alone = alone g.S.DeviceStore.stored _ _ _ _ _ _ c.learn.ensures.clean c.learn.ensures.registries
+          (λ honest devices has.
+          let Why = λ (why : LearnFault). RefusesToLearn (g.S.DeviceStore.stored c.self.inside.registry)
+          (g.S.DeviceStore.stored c.learn.new.self) c.args.device devices why in
+          let full : Why fault.Full = subst Why c.in-Err-Full.field-0-is
+          (c.in-Err-Full.ensures.devices honest devices has) in full);
+    })
 
-pub returns-in-None : goal.returns-in-None
-returns-in-None g c =
-    let none =
-    subst (λ o. Enters g.S.DeviceStore.stored c.args.self.now c.args.device (Ok o) c.enter.new.self) c.in-None.is
-    c.in_ok-committed.ensures in
-    tries-full g.S.DeviceStore.stored _ _ c.args.device (λ state. tells NeedsStore (Error name.Full ∷ []))
-    (λ state. learns c.args.device)
-    (λ devices. by-desk c.args.device) _ none
-    (λ devices. c.denied.ensures)
+pub returns-in-Err-Refused : goal.returns-in-Err-Refused
+returns-in-Err-Refused g c =
+    rw (← c.self.view_is) (record {
+      told = tt;
+      alone = alone g.S.DeviceStore.stored _ _ _ _ _ _ c.learn.ensures.clean c.learn.ensures.registries
+          (λ honest devices has.
+          let Why = λ (why : LearnFault). RefusesToLearn (g.S.DeviceStore.stored c.self.inside.registry)
+          (g.S.DeviceStore.stored c.learn.new.self) c.args.device devices why in
+          let pends : Why (fault.Refused c.in-Err-Refused.fault) = subst Why c.in-Err-Refused.field-0-is
+          (c.in-Err-Refused.ensures.devices honest devices has) in pends);
+    })
+
+pub returns : goal.returns
+returns g c =
+    rw (← c.self.view_is) (record {
+      told = (
+        c.committed-verdict.ensures.id ∙ c.in-Ok.ensures.receipt.0,
+        subst (λ b. MatchBool b (c.committed-verdict.result.outcome ≡ Accepted)
+            (c.committed-verdict.result.outcome ≡ Deleted)) c.in-Ok.ensures.receipt.1
+            c.committed-verdict.ensures.outcome,
+        c.tell-line.ensures ∙ c.in_ok-draft.ensures.line,
+      );
+      alone = alone g.S.DeviceStore.stored _ _ _ _ _ _ c.learn.ensures.clean c.learn.ensures.registries
+          c.in-Ok.ensures.devices;
+    })

@@ -4,8 +4,8 @@ use Rattle.teach_in.specs.declared.outcome.Outcome.TheVariants.{Accepted, Full}
 use Rattle.gateway_core.specs.declared.handler.changes.Committed.{Committed}
 use Rattle.gateway_core.specs.Handling.{HandlerValue}
 use Rattle.gateway_core.specs.Step.{accepts, mode_after_one, tells_sender, told_of}
-use Rattle.gateway_core.specs.Tries.{Enters, state_of}
-use Rattle.gateway_core.proofs.TryLemmas.{by-radio, taught-answer, tries-entered, tries-full, tries-refused}
+use Rattle.gateway_core.specs.Tries.{Learns, state_of}
+use Rattle.gateway_core.proofs.TryLemmas.{by-radio, taught-answer, tries-learned, tries-full, tries-refused}
 use Rattle.gateway_core.proofs.TryLemmas.{tries-untold}
 use Rattle.gateway_core.proofs.handler.Handler.try_accept.Goals as goal
 
@@ -23,7 +23,7 @@ pub returns-in_err-full : goal.returns-in_err-full
 returns-in_err-full g c =
     let error = err_from_is_err_and c.from_residual-in_err-full.result c.from_residual-in_err-full.ensures.1 in
     let none =
-    subst (λ o. Enters g.S.DeviceStore.stored c.args.self.now c.args.device (Ok o) c.enter.new.self) c.in_default.is
+    subst (λ o. Learns g.S.DeviceStore.stored c.args.self.now c.args.device (Ok o) c.learn.new.self) c.in_default.is
     c.in_ok-verdict.ensures in
     rw (error.1, error.2)
     (tries-untold g.S.DeviceStore.stored _ _ c.args.device
@@ -34,7 +34,7 @@ returns-in_err-full g c =
 pub returns-in_default : goal.returns-in_default
 returns-in_default g c =
     let none =
-    subst (λ o. Enters g.S.DeviceStore.stored c.args.self.now c.args.device (Ok o) c.enter.new.self) c.in_default.is
+    subst (λ o. Learns g.S.DeviceStore.stored c.args.self.now c.args.device (Ok o) c.learn.new.self) c.in_default.is
     c.in_ok-verdict.ensures in
     tries-full g.S.DeviceStore.stored _ _ c.args.device
     (λ state. tells_sender state c.args.teach.now (told_of c.args.device Full))
@@ -44,18 +44,18 @@ returns-in_default g c =
 
 pub returns : goal.returns
 returns g c =
-    let entered =
-    subst (λ o. Enters g.S.DeviceStore.stored c.args.self.now c.args.device (Ok o) c.enter.new.self) c.in-Some.is
+    let learned =
+    subst (λ o. Learns g.S.DeviceStore.stored c.args.self.now c.args.device (Ok o) c.learn.new.self) c.in-Some.is
     c.in_ok-verdict.ensures in
-    tries-entered g.S.DeviceStore.stored _ _ c.args.device
+    tries-learned g.S.DeviceStore.stored _ _ c.args.device
     (λ state. tells_sender state c.args.teach.now (told_of c.args.device Full))
     (λ state. accepts state c.args.teach.now c.args.device)
     (λ devices. by-radio (state_of c.args.self.now devices) c.args.teach.now c.args.device)
-    c.in-Some.field-0 _ entered
+    c.in-Some.field-0 _ learned
     (λ devices. (
-      taught-answer (state_of c.enter.new.self devices) c.args.teach.now (told_of c.args.device Accepted) _ _ _
-          (ap (λ (e : Committed). e.verdict.outcome) (sym c.in-Some.field-0-is) ∙ entered.told.1)
-          (ap (λ (e : Committed). e.line) (sym c.in-Some.field-0-is) ∙ entered.told.2)
+      taught-answer (state_of c.learn.new.self devices) c.args.teach.now (told_of c.args.device Accepted) _ _ _
+          (ap (λ (e : Committed). e.verdict.outcome) (sym c.in-Some.field-0-is) ∙ learned.told.1)
+          (ap (λ (e : Committed). e.line) (sym c.in-Some.field-0-is) ∙ learned.told.2)
           c.tell_sender-done.ensures.answer,
       c.tell_sender-done.ensures.count,
       c.mode_after_one-done.ensures ∙ ap (λ (v : HandlerValue _). mode_after_one v.mode) c.self.view_is,

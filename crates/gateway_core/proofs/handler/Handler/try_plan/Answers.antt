@@ -17,8 +17,8 @@ try_accept-requires-clause-full g c =
     (can_reply c.args.telegram.now _ c.classify-teach.result (Add c.in-Add.device) c.classify-teach.ensures
     (sym c.plan.ensures ∙ c.in-Add.is)).1
 
-pub try_forget-requires : goal.try_forget-requires
-try_forget-requires g c =
+pub try_delete-requires : goal.try_delete-requires
+try_delete-requires g c =
     can_reply c.args.telegram.now _ c.classify-teach.result (Forget c.in-Forget.id) c.classify-teach.ensures
     (sym c.plan.ensures ∙ c.in-Forget.is)
 
@@ -58,7 +58,7 @@ returns-in-Forget g c =
     rw (← c.self.view_is) (sym c.plan.ensures ∙ c.in-Forget.is) in
     λ asked.
     tries-same g.S.DeviceStore.stored _ _ _ _ _ (λ devices. rw (plan, ← c.classify-teach.ensures) refl)
-    c.try_forget.ensures
+    c.try_delete.ensures
 
 pub returns-in_ok-refused-in-Refuse : goal.returns-in_ok-refused-in-Refuse
 returns-in_ok-refused-in-Refuse g c =

@@ -22,7 +22,7 @@ returns-in-Some g c =
     (λ honest devices has.
     let found = c.in_ok-device.ensures.devices honest devices has in
     (ap removal (sym (sym c.in-Some.is ∙ found.0)), found.1))
-    c.forget.ensures)
+    c.forget_named.ensures)
 
 pub returns-in-None : goal.returns-in-None
 returns-in-None g c =

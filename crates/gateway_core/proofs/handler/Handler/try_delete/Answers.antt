@@ -4,27 +4,27 @@ use Rattle.teach_in.specs.declared.outcome.Outcome.TheVariants.{Deleted}
 use Rattle.json_lines.specs.Lines.{Teach, TeachLine, text}
 use Rattle.gateway_core.specs.Step.{deletes, line_with}
 use Rattle.gateway_core.specs.Tries.{state_of}
-use Rattle.gateway_core.proofs.TryLemmas.{taught-answer, tries-erased, tries-unerased}
-use Rattle.gateway_core.proofs.handler.Handler.try_forget.Goals as goal
+use Rattle.gateway_core.proofs.TryLemmas.{taught-answer, tries-forgotten, tries-unforgotten}
+use Rattle.gateway_core.proofs.handler.Handler.try_delete.Goals as goal
 
 pub returns-in_err-verdict : goal.returns-in_err-verdict
 returns-in_err-verdict g c =
     let error = err_from_is_err_and c.from_residual.result c.from_residual.ensures.1 in
     rw (error.1, error.2)
-    (tries-unerased g.S.DeviceStore.stored _ _ _ (λ state. deletes state c.args.teach.now c.args.id)
+    (tries-unforgotten g.S.DeviceStore.stored _ _ _ (λ state. deletes state c.args.teach.now c.args.id)
     (λ devices. record { needs = refl; forgets = refl }) c.in_err-verdict.field-0.0 c.in_err-verdict.ensures)
 
 pub returns : goal.returns
 returns g c =
-    let erased = c.in_ok-verdict.ensures in
+    let forgotten = c.in_ok-verdict.ensures in
     let line = sym (c.told_by-eep.ensures c.args.id Deleted) in
-    tries-erased g.S.DeviceStore.stored _ _ _ (λ state. deletes state c.args.teach.now c.args.id)
-    (λ devices. record { needs = refl; forgets = refl }) _ _ erased
+    tries-forgotten g.S.DeviceStore.stored _ _ _ (λ state. deletes state c.args.teach.now c.args.id)
+    (λ devices. record { needs = refl; forgets = refl }) _ _ forgotten
     (λ devices. (
-      taught-answer (state_of c.erase.new.self devices) c.args.teach.now
+      taught-answer (state_of c.forget.new.self devices) c.args.teach.now
           (line_with c.args.id c.args.teach.now Deleted) _ _ _
-          (erased.told.1 ∙ ap (λ (l : TeachLine). l.outcome) line)
-          (erased.told.2 ∙ ap (λ l. text (Teach l)) line) c.tell_sender.ensures.answer,
+          (forgotten.told.1 ∙ ap (λ (l : TeachLine). l.outcome) line)
+          (forgotten.told.2 ∙ ap (λ l. text (Teach l)) line) c.tell_sender.ensures.answer,
       c.tell_sender.ensures.count,
       c.tell_sender.ensures.mode,
     ))

@@ -39,7 +39,7 @@ impl<S: DeviceStore> Handler<S> {
         if !supported(eep) {
             return Ok(denied(ErrorName::UnsupportedProfile));
         }
-        self.learn(Device {
+        self.learn_named(Device {
             id,
             eep,
             maker: None,
@@ -51,7 +51,7 @@ impl<S: DeviceStore> Handler<S> {
         ensures { Tries S.stored self.old (λ state. order_effect state (Ok (Order.Remove id))) result self.new }
     {
         match self.registry.find(id)? {
-            Some(device) => self.forget(device),
+            Some(device) => self.forget_named(device),
             None => Ok(denied(ErrorName::UnknownDevice)),
         }
     }
