@@ -212,24 +212,24 @@ module _ {S : Type 0} (stored : S → Stored) where
   -- ---- an effect that comes behind a look
 
   made-after : (old mid new : S) (devices : Devices) (change : Option Change)
-      → Keeps (stored old) (stored mid) devices → IsMade stored mid new devices change
-      → IsMade stored old new devices change
+      → Keeps (stored old) (stored mid) devices → IsMade (stored mid) (stored new) devices change
+      → IsMade (stored old) (stored new) devices change
   made-after old mid new devices None keeps made =
       keeps-after (stored old) (stored mid) (stored new) devices keeps made
   made-after old mid new devices (Some change) keeps made = made
 
   pending-after : (old mid new : S) (devices : Devices) (need : Need) (cause : Cause)
       (change : Option Change)
-      → Keeps (stored old) (stored mid) devices → IsPending stored mid new devices need cause change
-      → IsPending stored old new devices need cause change
+      → Keeps (stored old) (stored mid) devices → IsPending (stored mid) (stored new) devices need cause change
+      → IsPending (stored old) (stored new) devices need cause change
   pending-after old mid new devices need cause None keeps (needed, kept) =
       (needed, keeps-after (stored old) (stored mid) (stored new) devices keeps kept)
   pending-after old mid new devices need cause (Some change) keeps pends =
       pends-after (stored old) (stored mid) (stored new) change devices keeps pends
 
   pub comes-after : (old mid new : S) (devices : Devices) (effect : Effect) (r : Result Done Refusal)
-      → Keeps (stored old) (stored mid) devices → Comes stored mid new devices effect r
-      → Comes stored old new devices effect r
+      → Keeps (stored old) (stored mid) devices → Comes (stored mid) (stored new) devices effect r
+      → Comes (stored old) (stored new) devices effect r
   comes-after old mid new devices effect (Ok done) keeps (gives, made) =
       (gives, made-after old mid new devices effect.change keeps made)
   comes-after old mid new devices effect (Err (Before fault)) keeps (needed, kept) =
@@ -245,7 +245,7 @@ module _ {S : Type 0} (stored : S → Stored) where
       → (HasCleanDisk (stored new) → HasCleanDisk (stored old))
       → (HasCleanDisk (stored new) → AreRegistries (stored new).may_leave)
       → (HasCleanDisk (stored new) → (devices : Devices) → HasDevices (stored old) devices
-      → Comes stored old new devices
+      → Comes (stored old) (stored new) devices
       (effect (record { base = base; mode = mode; counts = counts; devices = devices })) r)
       → Tries stored (record { base = base; mode = mode; counts = counts; registry = old }) effect r
       (record { base = base; mode = mode; counts = counts; registry = new })
@@ -262,7 +262,8 @@ module _ {S : Type 0} (stored : S → Stored) where
   -- with nothing asked of the registry
   pub tries-alone : (v : HandlerValue S) (effect : State → Effect) (r : Result Done Refusal)
       → ((devices : Devices) → Keeps (stored v.registry) (stored v.registry) devices
-      → Comes stored v.registry v.registry devices (effect (state_of v devices)) r) → Tries stored v effect r v
+      → Comes (stored v.registry) (stored v.registry) devices (effect (state_of v devices)) r)
+      → Tries stored v effect r v
   tries-alone v effect r comes = record {
     base = refl;
     mode = refl;
@@ -283,7 +284,7 @@ module _ {S : Type 0} (stored : S → Stored) where
     clean = tries.clean;
     registries = tries.registries;
     comes = λ honest devices has.
-        subst (λ e. Comes stored old.registry new.registry devices e r) (sym (same devices))
+        subst (λ e. Comes (stored old.registry) (stored new.registry) devices e r) (sym (same devices))
         (tries.comes honest devices has);
   }
 
@@ -308,7 +309,7 @@ module _ {S : Type 0} (stored : S → Stored) where
         registries = λ honest before. over.registries honest (registries (over.clean honest));
         comes = λ honest devices has.
             let f = found (over.clean honest) devices has in
-            subst (λ e. Comes stored v.registry new.registry devices e r) (sym f.0)
+            subst (λ e. Comes (stored v.registry) (stored new.registry) devices e r) (sym f.0)
             (comes-after v.registry registry new.registry devices (other (state_of v devices)) r f.1
             (over.comes honest devices f.1.now));
       }
@@ -316,7 +317,8 @@ module _ {S : Type 0} (stored : S → Stored) where
   -- a telegram that is read gives a line or none, and changes nothing
   pub reading-comes : (old new : S) (devices : Devices) (t : Telegram) (eep : Eep)
       (readings : Option (List Entry)) (done : Done) → Gives done (reading_effect t eep readings)
-      → Keeps (stored old) (stored new) devices → Comes stored old new devices (reading_effect t eep readings) (Ok done)
+      → Keeps (stored old) (stored new) devices
+      → Comes (stored old) (stored new) devices (reading_effect t eep readings) (Ok done)
   reading-comes old new devices t eep None done gives keeps = (gives, keeps)
   reading-comes old new devices t eep (Some readings) done gives keeps = (gives, keeps)
 
@@ -347,7 +349,7 @@ module _ {S : Type 0} (stored : S → Stored) where
   tries-registry : (old new : HandlerValue S) (IsSo : Devices → Type 0) (effect : State → Effect)
       (r : Result Done Refusal) → RegistryAlone stored old IsSo new
       → ((devices : Devices) → IsSo devices
-      → Comes stored old.registry new.registry devices (effect (state_of old devices)) r)
+      → Comes (stored old.registry) (stored new.registry) devices (effect (state_of old devices)) r)
       → Tries stored old effect r new
   tries-registry old new IsSo effect r alone comes =
       record {
@@ -368,8 +370,9 @@ module _ {S : Type 0} (stored : S → Stored) where
 
   -- a change that is refused
   refused-comes : (old new : S) (devices : Devices) (effect : Effect) (change : Change) (refusal : Refusal)
-      → effect.need ≡ NeedsStore → effect.change ≡ Some change → IsRefused stored old new devices change refusal
-      → Comes stored old new devices effect (Err refusal)
+      → effect.need ≡ NeedsStore → effect.change ≡ Some change
+      → IsRefused (stored old) (stored new) devices change refusal
+      → Comes (stored old) (stored new) devices effect (Err refusal)
   refused-comes old new devices effect change (Before fault) need changes keeps =
       (permitted effect.need (cause_of fault) need, keeps)
   refused-comes old new devices effect change (AtWrite fault) need changes pends = rw changes pends
@@ -377,12 +380,13 @@ module _ {S : Type 0} (stored : S → Stored) where
   -- a device is not learned: the write was tried, though the registry is full perhaps
   addition-pending : (old new : S) (devices : Devices) (known : Device) (full done : Effect) → Adds known full done
       → (cause : Cause) → Pends (stored old) (stored new) (learned known) devices
-      → IsPending stored old new devices (addition devices known full done).need cause
+      → IsPending (stored old) (stored new) devices (addition devices known full done).need cause
       (addition devices known full done).change
   addition-pending old new devices known full done adds cause pends = one (is_full devices known.id) refl
     where
       one : (b : Bool) → is_full devices known.id ≡ b
-          → let e : Effect = if b then full else done in IsPending stored old new devices e.need cause e.change
+          → let e : Effect = if b then full else done in
+          IsPending (stored old) (stored new) devices e.need cause e.change
       one true is =
           rw adds.stays (
             permitted full.need cause adds.full_needs,
@@ -459,7 +463,8 @@ module _ {S : Type 0} (stored : S → Stored) where
   -- an order's telegram is sent, or it is told why there is none
   pub telegram-comes : (old new : S) (devices : Devices) (asked : Bool)
       (telegram : Option (Result Telegram OrderFault)) (done : Done) → Gives done (telegram_sent asked telegram)
-      → Keeps (stored old) (stored new) devices → Comes stored old new devices (telegram_sent asked telegram) (Ok done)
+      → Keeps (stored old) (stored new) devices
+      → Comes (stored old) (stored new) devices (telegram_sent asked telegram) (Ok done)
   telegram-comes old new devices asked (Some (Ok t)) done gives keeps = (gives, keeps)
   telegram-comes old new devices asked (Some (Err fault)) done gives keeps = (gives, keeps)
   telegram-comes old new devices asked None done gives keeps = (gives, keeps)
@@ -467,12 +472,12 @@ module _ {S : Type 0} (stored : S → Stored) where
   -- the window is opened, or the profile is not supported
   pub opens-comes : (old new : S) (devices : Devices) (eep : Eep) (done : Done)
       → Gives done (if_supported eep (sets (LearnAs eep))) → Keeps (stored old) (stored new) devices
-      → Comes stored old new devices (if_supported eep (sets (LearnAs eep))) (Ok done)
+      → Comes (stored old) (stored new) devices (if_supported eep (sets (LearnAs eep))) (Ok done)
   opens-comes old new devices eep done gives keeps =
       one (supported eep) gives
     where
       one : (b : Bool) → let e : Effect = if b then sets (LearnAs eep) else denied error.UnsupportedProfile in
-          Gives done e → Comes stored old new devices e (Ok done)
+          Gives done e → Comes (stored old) (stored new) devices e (Ok done)
       one true gives = (gives, keeps)
       one false gives = (gives, keeps)
 
@@ -488,12 +493,14 @@ module _ {S : Type 0} (stored : S → Stored) where
   -- ---- an item that was tried is handled
 
   -- a change that is committed, if any
-  made-now : (old new : S) (devices : Devices) (change : Option Change) → IsMade stored old new devices change
+  made-now : (old new : S) (devices : Devices) (change : Option Change)
+      → IsMade (stored old) (stored new) devices change
       → HasDevices (stored new) (with_change devices change)
   made-now old new devices None keeps = keeps.now
   made-now old new devices (Some change) commits = commits.now
 
-  made-safe : (old new : S) (devices : Devices) (change : Option Change) → IsMade stored old new devices change
+  made-safe : (old new : S) (devices : Devices) (change : Option Change)
+      → IsMade (stored old) (stored new) devices change
       → (left : Devices) → MayFind (stored new) left
       → Safe (MayFind (stored old)) (told nothing_left devices change) left
   made-safe old new devices None keeps left may = inr (refl, keeps.stop left may)
@@ -503,7 +510,7 @@ module _ {S : Type 0} (stored : S → Stored) where
   at_write-went : (old new : HandlerValue S) (start : State) (item : Item) (cause : Cause) (change : Option Change)
       → change_of start item ≡ change → new.base ≡ start.base → new.mode ≡ start.mode
       → new.counts ≡ (refused start).counts
-      → IsPending stored old.registry new.registry start.devices (needs start item) cause change
+      → IsPending (stored old.registry) (stored new.registry) start.devices (needs start item) cause change
       → Went stored old start (item ∷ []) (said (cause_text cause) ∷ []) new
   at_write-went old new start item cause None asks base mode counts (need, keeps) = record {
     fates = Refused cause ∷ [];
@@ -526,7 +533,7 @@ module _ {S : Type 0} (stored : S → Stored) where
       → new.base ≡ start.base
       → new.mode ≡ mode_from start.mode r
       → new.counts ≡ counts_from start.counts r
-      → Comes stored old.registry new.registry start.devices (effect start item) r
+      → Comes (stored old.registry) (stored new.registry) start.devices (effect start item) r
       → Went stored old start (item ∷ []) (answer_from r ∷ []) new
   comes-went old new start item (Ok done) base mode counts ((says, counted, sets), made) = record {
     fates = Taken ∷ [];
@@ -574,7 +581,8 @@ module _ {S : Type 0} (stored : S → Stored) where
         registries = over.registries;
         went = λ honest start at.
             let come = over.comes honest start.devices at.2 in
-            let Here = λ (s : State). Comes stored old.registry new.registry start.devices (effect s item) r in
+            let Here = λ (s : State).
+            Comes (stored old.registry) (stored new.registry) start.devices (effect s item) r in
             let here : Here start = subst Here (same old start at.0 at.1 at.3) come in
             subst (λ a. Went stored old start (item ∷ []) (a ∷ []) new) (sym settles.answer_is)
             (comes-went old new start item r (settles.base ∙ tried.base ∙ at.0)

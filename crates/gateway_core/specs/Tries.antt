@@ -34,21 +34,21 @@ Gives done effect =
 abbrev pub state_of : {S : Type 0} → HandlerValue S → Devices → State
 state_of v devices = record { base = v.base; mode = v.mode; counts = v.counts; devices = devices }
 
-module _ {S : Type 0} (stored : S → Stored) (old new : S) (devices : Devices) where
+module _ (old new : Stored) (devices : Devices) where
   -- the change, if any, is committed
   abbrev pub IsMade : Option Change → Type 0
-  IsMade None = Keeps (stored old) (stored new) devices
-  IsMade (Some change) = Commits (stored new) change devices
+  IsMade None = Keeps old new devices
+  IsMade (Some change) = Commits new change devices
 
   -- what may be refused for this cause was, at its write; where nothing was to be written, nothing is
   abbrev pub IsPending : Need → Cause → Option Change → Type 0
-  IsPending need cause None = Permits need cause × Keeps (stored old) (stored new) devices
-  IsPending need cause (Some change) = Pends (stored old) (stored new) change devices
+  IsPending need cause None = Permits need cause × Keeps old new devices
+  IsPending need cause (Some change) = Pends old new change devices
 
   -- the effect comes, or it is refused
   abbrev pub Comes : Effect → Result Done Refusal → Type 0
   Comes effect (Ok done) = Gives done effect × IsMade effect.change
-  Comes effect (Err (Before fault)) = Permits effect.need (cause_of fault) × Keeps (stored old) (stored new) devices
+  Comes effect (Err (Before fault)) = Permits effect.need (cause_of fault) × Keeps old new devices
   Comes effect (Err (AtWrite fault)) = IsPending effect.need (cause_of fault) effect.change
 
 -- the effect, by what the handler knows, comes or is refused; it is not counted yet, nor is its mode set
@@ -61,7 +61,7 @@ pub record Tries {S : Type 0} (stored : S → Stored) (old : HandlerValue S) (ef
   pub registries : HasCleanDisk (stored new.registry) → AreRegistries (stored old.registry).may_leave
       → AreRegistries (stored new.registry).may_leave
   pub comes : HasCleanDisk (stored new.registry) → (devices : Devices) → HasDevices (stored old.registry) devices
-      → Comes stored old.registry new.registry devices (effect (state_of old devices)) result
+      → Comes (stored old.registry) (stored new.registry) devices (effect (state_of old devices)) result
 
 -- ---- a device that is learned or forgotten
 
@@ -95,36 +95,37 @@ abbrev pub WasForgotten : TeachLine → Result Committed Refusal → Type 0
 WasForgotten line (Ok committed) = IsCommittedAs line committed
 WasForgotten line result = Unit {0}
 
-module _ {S : Type 0} (stored : S → Stored) (old new : S) (devices : Devices) where
+module _ (old new : Stored) (devices : Devices) where
   -- what is refused leaves what was known, and perhaps the change, if its write was tried
   abbrev pub IsRefused : Change → Refusal → Type 0
-  IsRefused change (Before cause) = Keeps (stored old) (stored new) devices
-  IsRefused change (AtWrite cause) = Pends (stored old) (stored new) change devices
+  IsRefused change (Before cause) = Keeps old new devices
+  IsRefused change (AtWrite cause) = Pends old new change devices
 
   -- a device is committed, or there is no room, or it is refused
   abbrev pub IsLearning : Device → Result (Option Committed) Refusal → Type 0
   IsLearning known (Ok (Some committed)) =
-      (is_full devices known.id ≡ false) × Commits (stored new) (learned known) devices
-  IsLearning known (Ok None) = (is_full devices known.id ≡ true) × Keeps (stored old) (stored new) devices
+      (is_full devices known.id ≡ false) × Commits new (learned known) devices
+  IsLearning known (Ok None) = (is_full devices known.id ≡ true) × Keeps old new devices
   IsLearning known (Err refusal) = IsRefused (learned known) refusal
 
   -- that a sender is forgotten is committed, or it is refused
   abbrev pub IsForgetting : ℕ → Result Committed Refusal → Type 0
-  IsForgetting id (Ok committed) = Commits (stored new) (forgotten id) devices
+  IsForgetting id (Ok committed) = Commits new (forgotten id) devices
   IsForgetting id (Err refusal) = IsRefused (forgotten id) refusal
 
 -- a device is learned
 pub record Learns {S : Type 0} (stored : S → Stored) (old : HandlerValue S) (known : Device)
     (result : Result (Option Committed) Refusal) (new : HandlerValue S) : Type 0 where
   pub told : WasLearned known result
-  pub alone : RegistryAlone stored old (λ devices. IsLearning stored old.registry new.registry devices known result) new
+  pub alone : RegistryAlone stored old
+      (λ devices. IsLearning (stored old.registry) (stored new.registry) devices known result) new
 
 -- a sender is forgotten, which this line tells
 pub record Forgets {S : Type 0} (stored : S → Stored) (old : HandlerValue S) (line : TeachLine)
     (result : Result Committed Refusal) (new : HandlerValue S) : Type 0 where
   pub told : WasForgotten line result
   pub alone : RegistryAlone stored old
-      (λ devices. IsForgetting stored old.registry new.registry devices line.id result) new
+      (λ devices. IsForgetting (stored old.registry) (stored new.registry) devices line.id result) new
 
 -- ---- what is answered and known
 

@@ -20,7 +20,8 @@ returns-in_default g c =
     let now = state_of c.args.self.now devices in
     let effect = sends-effect now c.args.order.now c.requires.sends
     ∙ ap (λ id. telegram_sent (is_some id) (order_telegram c.args.order.now (known_of devices id) now.base)) none in
-    subst (λ e. Comes g.S.DeviceStore.stored c.args.self.now.registry c.args.self.now.registry devices e
+    let known = g.S.DeviceStore.stored c.args.self.now.registry in
+    subst (λ e. Comes known known devices e
     (Ok c.send.result))
     (sym effect)
     (telegram-comes g.S.DeviceStore.stored c.args.self.now.registry c.args.self.now.registry devices false
@@ -53,7 +54,8 @@ returns g c =
     ∙ ap (λ id. telegram_sent (is_some id) (order_telegram c.args.order.now (known_of devices id) now.base)) some
     ∙ ap (λ known. telegram_sent true (order_telegram c.args.order.now known now.base))
     (sym (c.as_ref.ensures.value ∙ found.0)) in
-    subst (λ e. Comes g.S.DeviceStore.stored c.self.inside.registry c.find.new.self devices e (Ok c.send-2.result))
+    let stored = g.S.DeviceStore.stored in
+    subst (λ e. Comes (stored c.self.inside.registry) (stored c.find.new.self) devices e (Ok c.send-2.result))
     (sym effect)
     (telegram-comes g.S.DeviceStore.stored c.self.inside.registry c.find.new.self devices true
     (order_telegram c.args.order.now (option_copied c.as_ref.result) now.base) c.send-2.result (c.send-2.ensures true)
