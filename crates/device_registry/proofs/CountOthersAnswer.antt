@@ -26,11 +26,12 @@ use Rattle.sqlite_sql.specs.Group.{Grouping, IsSummary, value_over}
 use Rattle.sqlite_sql.specs.Aggregate.{count}
 use Rattle.sqlite_sql.specs.declared.aggregate.AggregateOp.TheVariants.{CountRows}
 use Rattle.sqlite.proofs.Callers.{IsPlain, reads_as, one_permutation}
-use Rattle.device_registry.specs.Tables.{others_text}
+use Rattle.device_registry.specs.Table.{count_others_text}
 use Rattle.sqlite.specs.Listing.{understood}
 use Rattle.device_registry.specs.Ready.{IsReady, Shows, Stays}
 use Rattle.device_registry.specs.Devices.{Devices, is_full}
-use Rattle.device_registry.specs.Stored.{IsDevice, Registers}
+use Rattle.device_registry.specs.Stored.{Registers}
+use Rattle.device_registry.specs.Table.Rows.{IsDevice}
 use Rattle.device_registry.proofs.StatementTexts.{is_other, others_query, program_of}
 use Rattle.device_registry.proofs.CountOthersMeaning.{count_means}
 use Rattle.device_registry.proofs.RowsAsMap.{devices_without, without_are_devices}
@@ -117,13 +118,13 @@ others_length id (row ∷ rows) all =
     (others id rows) row (without_rowid (pos id) rows) (others_length id rows all.1))
 
 pub counts : (old new : State) (id : ℕ) (rows : List Row) (devices : Devices) → Registers old.now devices
-    → Shown others_text (asked id) old new rows → rows ≡ (count (len (remove devices id)) ∷ []) ∷ []
+    → Shown count_others_text (asked id) old new rows → rows ≡ (count (len (remove devices id)) ∷ []) ∷ []
 counts old new id rows devices had h =
     let r = had.registry in
     let table = old.now.trees r.tables.devices in
     let it = count_means old.now.schema r.tables.devices_at r.tables.devices r.tables.devices_stand in
     let read =
-    reads_as others_text (asked id) old new old.now.schema refl
+    reads_as count_others_text (asked id) old new old.now.schema refl
     (Select (program_of (others_query r.tables.devices)) (codes "count(*)" ∷ [])) it.is it.plain it.unlisted rows h in
     let size : length (others id table) ≡ len (remove devices id) =
     others_length id table r.whole.rows
@@ -132,7 +133,7 @@ counts old new id rows devices had h =
     ∙ ap len (devices_without table id r.whole.rows ∙ ap (λ m. remove m id) had.is) in
     counted r.tables.devices id old.now.trees rows (read.answer Null) ∙ ap (λ n. (count n ∷ []) ∷ []) size
 
-pub others_plain : (s : State) → IsReady s → IsPlain (understood s.now.schema others_text)
+pub others_plain : (s : State) → IsReady s → IsPlain (understood s.now.schema count_others_text)
 others_plain s ready =
     let r = ready.shows.registers.registry in
     (count_means s.now.schema r.tables.devices_at r.tables.devices r.tables.devices_stand).plain
@@ -140,12 +141,12 @@ others_plain s ready =
 -- nothing is written by it
 pub others_stay : {V : Type 0} (id : ℕ) (text : List ℕ) (old mid new : State) (items : V → List Row)
     (r : Result V Error)
-    → Stays old mid → (HasCleanDisk mid → text ≡ others_text) → (HasCleanDisk mid → IsReady mid)
+    → Stays old mid → (HasCleanDisk mid → text ≡ count_others_text) → (HasCleanDisk mid → IsReady mid)
     → Survives mid new (CommitsShowing text (asked id) mid)
     → (HasCleanDisk new → IfOk r (λ v. Shown text (asked id) mid new (items v)))
     → (HasCleanDisk new → IfErr r (FailsToQuery text (asked id) mid new)) → Stays old new
 others_stay id text old mid new items r first is ready survives shown failed =
-    compiled_query_stays others_text text (asked id) old mid new items r first is
+    compiled_query_stays count_others_text text (asked id) old mid new items r first is
     (λ clean. others_plain mid (ready clean))
     survives shown failed
 
@@ -162,7 +163,7 @@ full_told others n is few =
     let same : min others 9223372036854775807 ≡ n = same_number _ n is in ap (nat_le 1000) (omega (arith, same, few))
 
 pub told_full : (old new : State) (id : ℕ) (rows : List Row) (n : ℕ) (row : Row) (more : List Row) (devices : Devices)
-    → Shows old devices → Shown others_text (asked id) old new rows → rows ≡ row ∷ more → column row 0 ≡ Int (pos n)
+    → Shows old devices → Shown count_others_text (asked id) old new rows → rows ≡ row ∷ more → column row 0 ≡ Int (pos n)
     → nat_le 1000 n ≡ is_full devices id
 told_full old new id rows n row more devices shows h are number =
     full_told (len (remove devices id)) n (shown_number (count (len (remove devices id))) n row more

@@ -15,7 +15,7 @@ use Rattle.sqlite_resolve.specs.Compile.{timed, returning, command, create_table
 use Rattle.sqlite_tied.specs.Compute.{everything}
 use Rattle.sqlite.proofs.Callers.{statement_of}
 use Rattle.device_registry.proofs.TextMeaning.{IsRead, Means, means, understood_as}
-use Rattle.device_registry.specs.Tables.{meta_name, device_name, meta_text, device_text, device_table, meta_table}
+use Rattle.device_registry.specs.Table.{meta_name, device_name, meta_text, device_text, device_table, meta_table}
 
 -- nothing in the schema has the name
 pub unused : (schema : Schema) (name : List ℕ) → is_used schema name ≡ false

@@ -11,9 +11,9 @@ use Rattle.sqlite_schema.specs.Rules.{passes_checks}
 use Rattle.sqlite_sql.specs.Ops.{binary, is_false, from_truth, truth, and3}
 use Rattle.sqlite_sql.specs.declared.ops.BinaryOp.TheVariants.{Compare, And}
 use Rattle.sqlite_sql.specs.declared.ops.CompareOp.TheVariants.{Le, Ge}
-use Rattle.device_registry.specs.Tables.{device_table}
+use Rattle.device_registry.specs.Table.{device_table, last_sender, last_profile, last_maker}
 use Rattle.device_registry.specs.Devices.{Learned}
-use Rattle.device_registry.specs.Stored.{IsDevice, stored, eep_number, maker_number}
+use Rattle.device_registry.specs.Table.Rows.{IsDevice, stored, eep_number, maker_number}
 use Rattle.device_registry.proofs.TestSteps.{both}
 
 -- the test of a CHECK that a number lies between two
@@ -46,11 +46,11 @@ lies_between low high n h =
 pub checked : (d id : ℕ) (it : Learned) → passes_checks (device_table d) (stored id it) ≡ true → IsDevice (stored id it)
 unfolding between
 checked d id it h =
-    let sender = both (between (pos 0) (pos 4294967294) (pos id)) _ h in
-    let profile = both (between (pos 0) (pos 16777215) (pos (eep_number it.eep))) _ sender.1 in
-    let maker = both (between (negsuc 0) (pos 2047) (maker_number it.maker)) true profile.1 in
-    let id_lies = lies_between (pos 0) (pos 4294967294) (pos id) sender.0 in
-    let eep_lies = lies_between (pos 0) (pos 16777215) (pos (eep_number it.eep)) profile.0 in
+    let sender = both (between (pos 0) (pos last_sender) (pos id)) _ h in
+    let profile = both (between (pos 0) (pos last_profile) (pos (eep_number it.eep))) _ sender.1 in
+    let maker = both (between (negsuc 0) (pos last_maker) (maker_number it.maker)) true profile.1 in
+    let id_lies = lies_between (pos 0) (pos last_sender) (pos id) sender.0 in
+    let eep_lies = lies_between (pos 0) (pos last_profile) (pos (eep_number it.eep)) profile.0 in
     record {
       id = id;
       id_is = refl;
@@ -60,5 +60,5 @@ checked d id it h =
       is_profile = omega (arith, ints, eep_lies.1);
       maker = maker_number it.maker;
       maker_is = refl;
-      is_maker = lies_between (negsuc 0) (pos 2047) (maker_number it.maker) maker.0;
+      is_maker = lies_between (negsuc 0) (pos last_maker) (maker_number it.maker) maker.0;
     }

@@ -17,7 +17,7 @@ use Rattle.sqlite_trees.specs.Tree.{IsTable, put_row, rowid}
 use Rattle.sqlite_trees.proofs.TreeLemmas.{IsTable-put_row, all-put_row}
 use Rattle.sqlite_trees.proofs.ListLemmas.{all_weaker, all-permutation, along_permutation}
 use Rattle.sqlite_rules.specs.Edit.{is_taken}
-use Rattle.device_registry.specs.Stored.{RowidsDiffer, IsDevice, entry_of, devices_in}
+use Rattle.device_registry.specs.Table.Rows.{RowidsDiffer, IsDevice, entry_of, devices_in}
 use Rattle.device_registry.proofs.RowsAsMap.{seen, seen_row}
 use Rattle.device_registry.proofs.SenderTests.{entries_are, risen_len}
 use Rattle.device_registry.proofs.SchemaTests.{none_any}

@@ -1,6 +1,6 @@
 -- What the query that looks a sender up shows.
 use Rattle.std.proofs.Common.{arith, cond, nat_cmp, ◌≡◌, inl, inr, ℕ, List, [], ◌∷◌, map, Some, None}
-use Rattle.std.proofs.Common.{Option, refl, sym, ap, subst, ◌∙◌, codes}
+use Rattle.std.proofs.Common.{Option, option_map, refl, sym, ap, subst, ◌∙◌, codes}
 use Rattle.std.specs.FinMap.{get, remove, get-from_entries, get-remove, same_map, nat_cmp-IsAntisymmetric}
 use Rattle.std.specs.Ordering.{eq_by_cmp}
 use Rattle.std.proofs.lemmas.Bool.{cases_Bool}
@@ -8,37 +8,40 @@ use Rattle.std.proofs.lemmas.Bool.Decides.{nat_tests}
 use Rattle.std.specs.List.Sorted.{IsPermutation}
 use Rattle.std.proofs.lemmas.Cmp.{nat_cmp_total}
 use Rattle.sqlite.specs.declared.types.Value.TheVariants.{Null}
-use Rattle.sqlite.specs.Order.{Row, column}
+use Rattle.sqlite.specs.Order.{Row}
 use Rattle.sqlite.specs.Query.{IsAnswer, output, page, Output}
 use Rattle.sqlite.specs.Program.{overlay}
 use Rattle.sqlite.specs.State.{State, Shown}
 use Rattle.sqlite.specs.Command.TheVariants.{Select}
 use Rattle.sqlite.proofs.Callers.{IsPlain, reads_as, one_permutation}
-use Rattle.device_registry.specs.Tables.{find_text}
-use Rattle.device_registry.specs.Devices.{Devices, Learned}
-use Rattle.device_registry.specs.Stored.{Registers, devices_in, entry_of}
+use Rattle.device_registry.specs.Table.{find_text}
+use Rattle.device_registry.specs.Devices.{Devices, Learned, device, device_of}
+use Rattle.device_registry.specs.Stored.{Registers}
+use Rattle.device_registry.specs.Table.Rows.{devices_in, entry_of, natural}
 use Rattle.sqlite.specs.Listing.{understood}
-use Rattle.device_registry.specs.Ready.{AreFound, IsReady, Shows}
+use Rattle.device_registry.specs.Ready.{IsReady, Shows}
+use Rattle.device_registry.specs.Table.Rows.{AreFound}
 use Rattle.device_registry.proofs.StatementTexts.{find_query, program_of}
 use Rattle.device_registry.proofs.FindMeaning.{find_means}
+use Rattle.device_registry.proofs.ListDevicesAnswer.{shown}
 use Rattle.device_registry.proofs.RowsAsMap.{seen}
 use Rattle.device_registry.proofs.SenderTests.{asked, hits, found, no_rows, overlay_is}
 use Rattle.device_registry.proofs.StatementSteps.{query_ready}
 
 answered : (id : ℕ) (devices : Devices) (table rows : List Row) (o : Option Learned) → devices_in table ≡ devices
-    → seen id table ≡ o → AreFound o rows → AreFound (get devices id) rows
-answered id devices table rows o is seen_is h = subst (λ m. AreFound (get m id) rows) is
-    (subst (λ o. AreFound o rows) (sym (get-from_entries nat_cmp_total (map entry_of table) id ∙ seen_is)) h)
+    → seen id table ≡ o → AreFound (option_map (device id) o) rows → AreFound (device_of devices id) rows
+answered id devices table rows o is seen_is h = subst (λ m. AreFound (device_of m id) rows) is
+    (subst (λ o. AreFound (option_map (device id) o) rows) (sym (get-from_entries nat_cmp_total (map entry_of table) id ∙ seen_is)) h)
 
 pub finds : (old new : State) (id : ℕ) (rows : List Row) (devices : Devices) → Registers old.now devices
-    → Shown find_text (asked id) old new rows → AreFound (get devices id) rows
+    → Shown find_text (asked id) old new rows → AreFound (device_of devices id) rows
 finds old new id rows devices had h =
     let r = had.registry in
     let q = find_query r.tables.devices in
     let table = old.now.trees r.tables.devices in
     let it = find_means old.now.schema r.tables.devices_at r.tables.devices r.tables.devices_stand in
     let read = reads_as find_text (asked id) old new old.now.schema refl
-    (Select (program_of q) (codes "eep" ∷ codes "maker" ∷ [])) it.is it.plain it.unlisted rows h in
+    (Select (program_of q) (codes "id" ∷ codes "eep" ∷ codes "maker" ∷ [])) it.is it.plain it.unlisted rows h in
     let a : IsAnswer q (overlay old.now.trees []) (asked id) rows = read.answer Null in
     let kept : a.kept ≡ map (output q) (hits id table) =
     a.distinct ∙ ap (map (output q)) (a.grouped ∙ ap (hits id) (overlay_is old.now.trees r.tables.devices)) in
@@ -49,14 +52,14 @@ finds old new id rows devices had h =
           answered id devices table rows None had.is none.0 (a.shown
           ∙ ap (λ xs. page q (asked id) (map (λ (p : Output). p.1) xs)) ordered)
       | inr some ↦
-          let o : Output = ([], column some.0 2 ∷ column some.0 3 ∷ []) in
+          let o : Output = ([], shown some.0) in
           let ordered =
           one_permutation o a.ordered
           (subst (λ k. IsPermutation k a.ordered) (kept ∙ ap (map (output q)) some.2) a.same) in
-          let shown : rows ≡ (column some.0 2 ∷ column some.0 3 ∷ []) ∷ [] =
+          let are : rows ≡ shown some.0 ∷ [] =
           a.shown ∙ ap (λ xs. page q (asked id) (map (λ (p : Output). p.1) xs)) ordered in
           answered id devices table rows (Some (entry_of some.0).1) had.is some.1
-          (column some.0 2 ∷ column some.0 3 ∷ [], shown, refl, refl)
+          (shown some.0, are, ap (λ v. device (natural v) (entry_of some.0).1) some.3)
     ]
 
 pub find_plain : (s : State) → IsReady s → IsPlain (understood s.now.schema find_text)
@@ -65,7 +68,7 @@ find_plain s ready =
     (find_means s.now.schema r.tables.devices_at r.tables.devices r.tables.devices_stand).plain
 
 pub looked_up : (old new : State) (id : ℕ) (rows : List Row) → IsReady old → Shown find_text (asked id) old new rows
-    → IsReady new × ((devices : Devices) → Shows old devices → AreFound (get devices id) rows)
+    → IsReady new × ((devices : Devices) → Shows old devices → AreFound (device_of devices id) rows)
 looked_up old new id rows ready h = (
   query_ready find_text (asked id) old new rows (find_plain old ready) ready h,
   λ devices shows. finds old new id rows devices shows.registers h,
@@ -73,15 +76,16 @@ looked_up old new id rows ready h = (
 
 -- ---- a sender of which nothing is known
 
-none_known : (known : Option Learned) (rows : List Row) → AreFound known rows → rows ≡ [] → known ≡ None
-none_known None rows h none = refl
-none_known (Some it) rows h none = absurd (let e = sym h.1 ∙ none in cc)
+none_known : (id : ℕ) (known : Option Learned) (rows : List Row) → AreFound (option_map (device id) known) rows
+    → rows ≡ [] → known ≡ None
+none_known id None rows h none = refl
+none_known id (Some it) rows h none = absurd (let e = sym h.1 ∙ none in cc)
 
 -- what is not there is not taken out
-pub unknown_is_removed : (devices : Devices) (id : ℕ) (rows : List Row) → AreFound (get devices id) rows → rows ≡ []
+pub unknown_is_removed : (devices : Devices) (id : ℕ) (rows : List Row) → AreFound (device_of devices id) rows → rows ≡ []
     → remove devices id ≡ devices
 unknown_is_removed devices id rows h none = same_map nat_cmp_total nat_cmp-IsAntisymmetric _ _
-    (λ q. get-remove nat_cmp_total devices id q ∙ unseen devices id q (none_known _ rows h none))
+    (λ q. get-remove nat_cmp_total devices id q ∙ unseen devices id q (none_known id _ rows h none))
   where
     unseen : (devices : Devices) (id q : ℕ) → get devices id ≡ None
         → cond (eq_by_cmp nat_cmp q id) None (get devices q) ≡ get devices q

@@ -26,8 +26,8 @@ use Rattle.sqlite.specs.Schema.{Schema}
 use Rattle.sqlite.specs.Table.{Table}
 use Rattle.sqlite.specs.Rows.{Task}
 use Rattle.sqlite.specs.Does.{AtPlace, OnRows}
-use Rattle.device_registry.specs.Tables.{device_table}
-use Rattle.device_registry.specs.Stored.{RowidsDiffer, IsDevice, devices_in}
+use Rattle.device_registry.specs.Table.{device_table}
+use Rattle.device_registry.specs.Table.Rows.{RowidsDiffer, IsDevice, devices_in}
 use Rattle.device_registry.proofs.StatementTexts.{program_of, forget_query}
 use Rattle.device_registry.proofs.TablesAlone.{StandsAlone}
 use Rattle.device_registry.proofs.RowsAsMap.{seen, devices_without, without_are_devices}

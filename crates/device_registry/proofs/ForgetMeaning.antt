@@ -8,7 +8,7 @@ use Rattle.sqlite_tied.specs.Compute.{everything}
 use Rattle.device_registry.proofs.StatementTexts.{id_test, program_of, forget_query}
 use Rattle.device_registry.proofs.TextMeaning.{IsRead, Means, draft_of}
 use Rattle.device_registry.proofs.WriteMeaning.{delete_means}
-use Rattle.device_registry.specs.Tables.{forget_text, device_table}
+use Rattle.device_registry.specs.Table.{forget_text, device_table}
 use Rattle.device_registry.specs.Stored.{Stands}
 
 forget_read : IsRead forget_text (written.Delete (codes "enogate_device") (id_test Eq) [])

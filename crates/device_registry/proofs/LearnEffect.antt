@@ -26,9 +26,9 @@ use Rattle.sqlite.specs.Effect.{Database}
 use Rattle.sqlite.specs.Does.{Tally, Does, AtPlace, OnRows}
 use Rattle.sqlite.specs.Rows.{Written, Task, nothing, count_of, rowids_for, Puts, Clears, Tries, TriesEach}
 use Rattle.sqlite.proofs.Callers.{one_step}
-use Rattle.device_registry.specs.Tables.{device_table}
+use Rattle.device_registry.specs.Table.{device_table}
 use Rattle.device_registry.specs.Devices.{Learned}
-use Rattle.device_registry.specs.Stored.{IsDevice, stored, maker_number, eep_number}
+use Rattle.device_registry.specs.Table.Rows.{IsDevice, stored, maker_number, eep_number}
 use Rattle.device_registry.proofs.StatementTexts.{learn_terms}
 use Rattle.device_registry.proofs.SenderTests.{equal_ids}
 use Rattle.device_registry.proofs.DeviceChecks.{checked}

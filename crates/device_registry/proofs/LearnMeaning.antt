@@ -12,7 +12,7 @@ use Rattle.sqlite_tied.specs.Compute.{everything}
 use Rattle.device_registry.proofs.StatementTexts.{learn_terms}
 use Rattle.device_registry.proofs.TextMeaning.{IsRead, Means}
 use Rattle.device_registry.proofs.WriteMeaning.{insert_means}
-use Rattle.device_registry.specs.Tables.{learn_text, device_name, device_table}
+use Rattle.device_registry.specs.Table.{learn_text, device_name, device_table}
 use Rattle.device_registry.specs.Stored.{Stands}
 
 learn_read : IsRead learn_text

@@ -15,11 +15,13 @@ use Rattle.sqlite_sql.specs.Term.{Env}
 use Rattle.sqlite_sql.proofs.QueryLemmas.{output_cmp_total}
 use Rattle.sqlite_keyed.proofs.SortLemmas.{sorted_unique}
 use Rattle.sqlite.proofs.Callers.{IsPlain, reads_as}
-use Rattle.device_registry.specs.Tables.{all_text}
+use Rattle.device_registry.specs.Table.{find_all_text}
 use Rattle.device_registry.specs.Devices.{Devices, device, all_of}
-use Rattle.device_registry.specs.Stored.{RowidsDiffer, IsDevice, Registers, entry_of}
+use Rattle.device_registry.specs.Stored.{Registers}
+use Rattle.device_registry.specs.Table.Rows.{RowidsDiffer, IsDevice, entry_of}
 use Rattle.sqlite.specs.Listing.{understood}
-use Rattle.device_registry.specs.Ready.{listed, IsReady}
+use Rattle.device_registry.specs.Ready.{IsReady}
+use Rattle.device_registry.specs.Table.Rows.{listed}
 use Rattle.device_registry.proofs.StatementTexts.{all_query, program_of}
 use Rattle.device_registry.proofs.ListDevicesMeaning.{all_means}
 use Rattle.device_registry.proofs.SenderTests.{overlay_is}
@@ -75,19 +77,19 @@ shows_ranked d db rows all apart a =
     a.shown ∙ ap (map (λ (o : Output). o.1)) ordered ∙ shown_are up
 
 pub lists : (old new : State) (rows : List Row) (devices : Devices) → Registers old.now devices
-    → Shown all_text [] old new rows → map listed rows ≡ all_of devices
+    → Shown find_all_text [] old new rows → map listed rows ≡ all_of devices
 lists old new rows devices had h =
     let r = had.registry in
     let table = old.now.trees r.tables.devices in
     let it = all_means old.now.schema r.tables.devices_at r.tables.devices r.tables.devices_stand in
     let read =
-    reads_as all_text [] old new old.now.schema refl (Select (program_of (all_query r.tables.devices))
+    reads_as find_all_text [] old new old.now.schema refl (Select (program_of (all_query r.tables.devices))
     (codes "id" ∷ codes "eep" ∷ codes "maker" ∷ [])) it.is it.plain it.unlisted rows h in
     ap (map listed) (shows_ranked r.tables.devices old.now.trees rows r.whole.rows r.whole.once (read.answer Null))
     ∙ listed_are (ranked table) ∙ ap (map (λ entry. device entry.0 entry.1))
     (sym (entries_ranked table r.whole.rows) ∙ ap entries had.is)
 
-pub all_plain : (s : State) → IsReady s → IsPlain (understood s.now.schema all_text)
+pub all_plain : (s : State) → IsReady s → IsPlain (understood s.now.schema find_all_text)
 all_plain s ready =
     let r = ready.shows.registers.registry in
     (all_means s.now.schema r.tables.devices_at r.tables.devices r.tables.devices_stand).plain

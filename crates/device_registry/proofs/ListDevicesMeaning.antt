@@ -7,10 +7,10 @@ use Rattle.sqlite_tied.specs.Compute.{everything}
 use Rattle.device_registry.proofs.StatementTexts.{by_column, column_read, program_of, all_query}
 use Rattle.device_registry.proofs.TextMeaning.{Means, draft_of}
 use Rattle.device_registry.proofs.SelectMeaning.{IsPlainSelect, plain_select, select_means}
-use Rattle.device_registry.specs.Tables.{all_text, device_name, device_table}
+use Rattle.device_registry.specs.Table.{find_all_text, device_name, device_table}
 use Rattle.device_registry.specs.Stored.{Stands}
 
-all_is : IsPlainSelect all_text (plain_select device_name
+all_is : IsPlainSelect find_all_text (plain_select device_name
     (column_read (codes "id") ∷ column_read (codes "eep") ∷ column_read (codes "maker") ∷ [])
     None (by_column (codes "id") ∷ []))
 unfolding everything
@@ -18,7 +18,7 @@ all_is = record { read = record { parsed = _; read = refl; is = refl; timeless =
 
 -- The rowid has no collation.
 pub all_means : (schema : Schema) (at d : ℕ) → Stands schema (codes "enogate_device") (device_table d) at
-    → Means schema all_text (Select (program_of (all_query d)) (codes "id" ∷ codes "eep" ∷ codes "maker" ∷ []))
+    → Means schema find_all_text (Select (program_of (all_query d)) (codes "id" ∷ codes "eep" ∷ codes "maker" ∷ []))
 unfolding everything
 all_means schema at d it =
     select_means all_is it (draft_of (device_table d) (all_query d)) (None ∷ Some Binary ∷ Some Binary ∷ [])

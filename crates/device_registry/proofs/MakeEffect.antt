@@ -18,10 +18,12 @@ use Rattle.sqlite.specs.Rows.{Gives}
 use Rattle.sqlite.specs.Listing.{understood}
 use Rattle.sqlite.specs.State.{State, ExecutesInside, Shows as IsShowing, KeepsCounts, mode_of}
 use Rattle.sqlite.proofs.Callers.{runs_as, statement_of}
-use Rattle.device_registry.specs.Tables.{meta_text, device_text, version_text, meta_name}
-use Rattle.device_registry.specs.Tables.{device_name, meta_table, device_table}
-use Rattle.device_registry.specs.Stored.{HasTables, KeepsTree, SparesName, RowidsDiffer, IsDevice}
-use Rattle.device_registry.specs.Stored.{Registers, Holds, devices_in}
+use Rattle.device_registry.specs.Table.{meta_text, device_text, write_version_text, meta_name}
+use Rattle.device_registry.specs.Table.{device_name, meta_table, device_table}
+use Rattle.device_registry.specs.Stored.{HasTables, KeepsTree, SparesName}
+use Rattle.device_registry.specs.Table.Rows.{RowidsDiffer, IsDevice}
+use Rattle.device_registry.specs.Stored.{Registers, Holds}
+use Rattle.device_registry.specs.Table.Rows.{devices_in}
 use Rattle.device_registry.specs.Ready.{Shows}
 use Rattle.device_registry.specs.Devices.{most_devices}
 use Rattle.device_registry.specs.Opening.{IsClear}
@@ -148,19 +150,19 @@ module _ (a b c : State) (i j : ℕ) (clear : IsClear a.now.schema) (sound : IsD
 -- and the version row is written
 pub makes : (a b c d : State) (i j k : ℕ) → IsClear a.now.schema → IsDatabase a.now
     → ExecutesInside 0 meta_text [] a b (Ok i) → ExecutesInside 0 device_text [] b c (Ok j)
-    → ExecutesInside 0 version_text [] c d (Ok k)
+    → ExecutesInside 0 write_version_text [] c d (Ok k)
     → Registers d.now empty × IsDatabase d.now
 makes a b c d i j k clear sound first second third =
     let after = whole a b c i j clear sound first second in
     let it = stand a b c i j clear sound first second in
     let t = it.tables in
     let means = number_means c.now.schema t.meta_at t.meta t.meta_stands in
-    let three = runs_as version_text [] c d c.now.schema refl
+    let three = runs_as write_version_text [] c d c.now.schema refl
     (Insert t.meta_at (Values version_terms 3)) means.is means.plain k third.0 in
     let none : c.now.trees t.meta ≡ [] = ap c.now.trees it.meta_is ∙ after.2 in
     let put =
     numbers c.now.schema t.meta_at t.meta c.step_limit (mode_of c) c.now.trees
-    (statement_of version_text (understood c.now.schema version_text)) three.tally d.now t.meta_stands.there
+    (statement_of write_version_text (understood c.now.schema write_version_text)) three.tally d.now t.meta_stands.there
     (meta_alone c.now.schema t) none three.changed in
     let kept : d.now.trees t.devices ≡ [] = put.2 t.devices_at (device_table t.devices) t.devices_stand.there
     (λ e. t.apart (sym e)) ∙ ap c.now.trees it.devices_is ∙ after.1 in

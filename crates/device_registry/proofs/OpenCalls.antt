@@ -15,8 +15,9 @@ use Rattle.device_registry.specs.declared.fault.OpenFault.{OpenFault}
 use Rattle.device_registry.specs.declared.fault.OpenFault.TheVariants.{NotARegistry, Refused}
 use Rattle.device_registry.specs.declared.fault.StoreFault.{StoreFault}
 use Rattle.device_registry.specs.Devices.{Devices}
-use Rattle.device_registry.specs.Tables.{meta_name, device_name}
-use Rattle.device_registry.specs.Stored.{HasTables, IsWhole, IsRegistry, Holds, IsHeld, IsBare, devices_in}
+use Rattle.device_registry.specs.Table.{meta_name, device_name}
+use Rattle.device_registry.specs.Stored.{HasTables, IsWhole, IsRegistry, Holds, IsHeld, IsBare}
+use Rattle.device_registry.specs.Table.Rows.{devices_in}
 use Rattle.sqlite_rules.specs.Lists.{Has}
 use Rattle.device_registry.specs.Holding.{AreRegistries, Finds, Opens}
 use Rattle.device_registry.specs.Ready.{Shows, IsReady, KeepsRows}

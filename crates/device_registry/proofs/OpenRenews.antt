@@ -16,7 +16,7 @@ use Rattle.sqlite.specs.State.{shows_rows, text_of}
 use Rattle.sqlite.proofs.Callers.{command_of}
 use Rattle.sqlite_catalog.specs.Listing.{IsSound}
 use Rattle.device_registry.specs.declared.fault.OpenFault.{OpenFault}
-use Rattle.device_registry.specs.Tables.{renew_text}
+use Rattle.device_registry.specs.Table.{renew_text}
 use Rattle.device_registry.specs.Stored.{HasTables, IsRegistry, IsHeld}
 use Rattle.device_registry.specs.Opening.{IsAtRest, IsRenewed}
 use Rattle.device_registry.proofs.OpenCalls.{last, ready}

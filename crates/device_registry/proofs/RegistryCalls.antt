@@ -16,7 +16,8 @@ use Rattle.device_registry.specs.declared.receipt.Receipt.{Receipt}
 use Rattle.device_registry.specs.Devices.{Devices, Change, changed, learned, forgotten, device_of, all_of, is_full}
 use Rattle.device_registry.specs.Holding.{HasDevices, HoldsSome, AreRegistries, Keeps, Commits, Pends}
 use Rattle.device_registry.specs.Holding.{LooksUp, Learns, Forgets, ListsAll, HandsOn}
-use Rattle.device_registry.specs.Ready.{Shows, IsReady, StaysReady, GoesOn, Stays, Turns, listed}
+use Rattle.device_registry.specs.Ready.{Shows, IsReady, StaysReady, GoesOn, Stays, Turns}
+use Rattle.device_registry.specs.Table.Rows.{listed}
 use Rattle.device_registry.proofs.DevicesHeld.{held_once, registers_once}
 use Rattle.device_registry.proofs.StatementSteps.{ready_on}
 

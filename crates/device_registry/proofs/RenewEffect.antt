@@ -24,8 +24,8 @@ use Rattle.sqlite.specs.Effect.{Database}
 use Rattle.sqlite.specs.Does.{Tally, Does, AtPlace, OnRows}
 use Rattle.sqlite.specs.Rows.{Written, Task}
 use Rattle.sqlite.proofs.Callers.{one_step, one_permutation}
-use Rattle.device_registry.specs.Tables.{meta_table}
-use Rattle.device_registry.specs.Stored.{IsVersion}
+use Rattle.device_registry.specs.Table.{meta_table}
+use Rattle.device_registry.specs.Table.Rows.{IsVersion}
 use Rattle.device_registry.proofs.StatementTexts.{program_of, renew_query}
 use Rattle.device_registry.proofs.SenderTests.{overlay_is}
 use Rattle.device_registry.proofs.TablesAlone.{StandsAlone}

@@ -11,7 +11,7 @@ use Rattle.sqlite.specs.Schema.{Schema}
 use Rattle.sqlite.specs.Table.{Table}
 use Rattle.sqlite_schema.specs.declared.schema.Keys.{Keys}
 use Rattle.sqlite_trees.specs.Tree.{Trees, rowid, has_rowid, without_rowid}
-use Rattle.device_registry.specs.Stored.{RowidsDiffer}
+use Rattle.device_registry.specs.Table.Rows.{RowidsDiffer}
 use Rattle.sqlite_rules.specs.Edit.{Edit, Applies}
 use Rattle.sqlite_catalog.proofs.LayoutLemmas.{ascending_filter}
 use Rattle.device_registry.proofs.TablesAlone.{at_place}

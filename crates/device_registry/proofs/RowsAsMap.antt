@@ -17,8 +17,8 @@ use Rattle.sqlite_trees.specs.Tree.{put_row, without_rowid, has_rowid, rowid}
 use Rattle.sqlite_rules.specs.Edit.{without_all}
 use Rattle.erp1_telegrams.specs.declared.eep.Eep.{Eep}
 use Rattle.device_registry.specs.Devices.{Learned}
-use Rattle.device_registry.specs.Stored.{IsDevice, natural, entry_of, devices_in, stored}
-use Rattle.device_registry.specs.Stored.{maker_number, maker_in, eep_number, eep_of}
+use Rattle.device_registry.specs.Table.Rows.{IsDevice, natural, entry_of, devices_in, stored}
+use Rattle.device_registry.specs.Table.Rows.{maker_number, maker_in, eep_number, eep_of}
 
 maker_back : (maker : Option ℕ) → maker_in (Int (maker_number maker)) ≡ maker
 maker_back (Some n) = refl

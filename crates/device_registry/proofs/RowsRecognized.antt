@@ -1,8 +1,7 @@
 -- What the two queries show that read a whole table.
 use Rattle.sqlite.specs.declared.error.Error.{Error}
-use Rattle.std.proofs.Common.{◌≡◌, ◌≢◌, ◌<◌, ℕ, ℤ, true, false, ◌≤ℤ◌, negsuc, Less, Result, Ok, Err, IfOk}
+use Rattle.std.proofs.Common.{◌≡◌, ◌≢◌, ◌+◌, nat_le, ℕ, ℤ, true, ◌≤ℤ◌, negsuc, Less, Result, Ok, Err, IfOk}
 use Rattle.std.proofs.Common.{◌≤◌, suc, pos, List, [], ◌∷◌, map, length, refl, sym, ap, subst, ◌∙◌, arith, codes}
-use Rattle.std.proofs.lemmas.Bool.{not-true}
 use Rattle.std.specs.List.{flat_map}
 use Rattle.std.specs.List.Sorted.{IsPermutation}
 use Rattle.std.proofs.lemmas.List.Sorted.{length_permutation}
@@ -17,20 +16,20 @@ use Rattle.sqlite.specs.Listing.{understood}
 use Rattle.sqlite.specs.Effect.{Database}
 use Rattle.sqlite.specs.State.{State, Shown, IsUnchanged}
 use Rattle.sqlite.proofs.Callers.{IsPlain, reads_as, one_permutation}
-use Rattle.device_registry.specs.Tables.{all_text, read_version_text}
-use Rattle.device_registry.specs.Stored.{HasTables, IsWhole, RowidsDiffer, IsDevice}
+use Rattle.device_registry.specs.Table.{find_all_text, read_version_text, last_sender, last_profile, last_maker}
+use Rattle.device_registry.specs.Stored.{HasTables, IsWhole}
+use Rattle.device_registry.specs.Table.Rows.{RowidsDiffer, IsDevice}
 use Rattle.device_registry.specs.Devices.{most_devices}
-use Rattle.device_registry.specs.Listing.{ShowsVersion, is_above, is_within, shows_device, devices_rise}
+use Rattle.device_registry.specs.Table.Rows.{ShowsVersion, natural, is_number, is_maker, shows_device, devices_rise}
 use Rattle.device_registry.proofs.DistinctRows.{ranked, ranked_all, ranked_rises, apart_turned}
 use Rattle.device_registry.proofs.ListDevicesAnswer.{shown, out, outs_are, shown_are, shows_ranked, envs as listed_envs}
 use Rattle.std.specs.List.{AllByRecursion}
-use Rattle.std.specs.Ordering.{is_lt, int_cmp}
+use Rattle.std.proofs.lemmas.Bool.Decides.{nat_tests}
 use Rattle.std.proofs.lemmas.Int.{ints}
 use Rattle.std.proofs.lemmas.List.Sorted.{IsPermutation-sym}
 use Rattle.sqlite.specs.declared.types.Value.{Value}
 use Rattle.sqlite.specs.Order.{value_cmp}
 use Rattle.sqlite_trees.proofs.ListLemmas.{all_weaker, all-permutation, pull_back}
-use Rattle.sqlite_rules.specs.Edit.{id_in}
 use Rattle.device_registry.proofs.StatementSteps.{shown_same}
 use Rattle.device_registry.proofs.SenderTests.{overlay_is, above}
 use Rattle.device_registry.proofs.StatementTexts.{program_of, all_query}
@@ -102,60 +101,47 @@ version_reads old new rows t h =
 
 -- ---- rows that rise
 
-Above : ℤ → Row → Type 0
-Above last row = (n : ℤ) × (column row 0 ≡ Int n) × (is_lt (int_cmp last n) ≡ true)
+at_most : (a b : ℕ) → nat_le a b ≡ true → a ≤ b
+at_most a b h = grind (arith, nat_tests, h)
 
-number_above : (last : ℤ) (v : Value) → is_above last v ≡ true → (n : ℤ) × (v ≡ Int n) × (is_lt (int_cmp last n) ≡ true)
-number_above last (Int n) h = (n, refl, h)
-number_above last Null h = absurd cc
-number_above last (Real x) h = absurd cc
-number_above last (Text t) h = absurd cc
-number_above last (Blob b) h = absurd cc
+passes : (a b : ℕ) → a ≤ b → nat_le a b ≡ true
+passes a b h = grind (arith, nat_tests)
 
-not_above : (a b : ℤ) → is_lt (int_cmp b a) ≡ false → a ≤ℤ b
-not_above a b h = grind (arith, ints, h)
+numbered : (last : ℕ) (v : Value) → is_number last v ≡ true → (n : ℕ) × (v ≡ Int (pos n)) × (n ≤ last)
+numbered last (Int (pos n)) h = (n, refl, at_most n last h)
+numbered last (Int (negsuc n)) h = absurd cc
+numbered last Null h = absurd cc
+numbered last (Real x) h = absurd cc
+numbered last (Text t) h = absurd cc
+numbered last (Blob b) h = absurd cc
 
--- a value within two bounds is a number between them
-pub number_within : (low high : ℤ) (v : Value) → is_within low high v ≡ true
-    → (n : ℤ) × (v ≡ Int n) × ((low ≤ℤ n) × (n ≤ℤ high))
-number_within low high (Int n) h =
-    let two = both _ _ h in (n, refl, (not_above low n (not-true _ two.0), not_above n high (not-true _ two.1)))
-number_within low high Null h = absurd cc
-number_within low high (Real x) h = absurd cc
-number_within low high (Text t) h = absurd cc
-number_within low high (Blob b) h = absurd cc
+-- a maker's number, or that of none
+abbrev IsMaker : ℤ → Type 0
+IsMaker n = (negsuc 0 ≤ℤ n) × (n ≤ℤ pos last_maker)
 
--- and it is within them
-within : (low high n : ℤ) → low ≤ℤ n → n ≤ℤ high → is_within low high (Int n) ≡ true
-within low high n up down =
-    let a : is_lt (int_cmp n low) ≡ false = grind (arith, ints, up) in
-    let b : is_lt (int_cmp high n) ≡ false = grind (arith, ints, down) in
-    rw (a, b) refl
+maker_numbered : (v : Value) → is_maker v ≡ true → (n : ℤ) × (v ≡ Int n) × IsMaker n
+maker_numbered (Int (pos n)) h =
+    let low = at_most n last_maker h in (pos n, refl, (omega (arith, ints), omega (arith, ints, low)))
+maker_numbered (Int (negsuc n)) h =
+    let none : n ≡ 0 = grind (arith, nat_tests, h) in
+    (negsuc n, refl, (omega (arith, ints, none), omega (arith, ints)))
+maker_numbered Null h = absurd cc
+maker_numbered (Real x) h = absurd cc
+maker_numbered (Text t) h = absurd cc
+maker_numbered (Blob b) h = absurd cc
 
-further : (a b c : ℤ) → is_lt (int_cmp a b) ≡ true → is_lt (int_cmp b c) ≡ true → is_lt (int_cmp a c) ≡ true
-further a b c h k = grind (arith, ints, h, k)
-
-not_same : (a b : ℤ) → is_lt (int_cmp a b) ≡ true → ◌≡◌ {A = Value} (Int a) (Int b) → ⊥
-not_same a b h e = let same : a ≡ b = cc in grind (arith, ints, h, same)
-
--- a number from 0 to a natural bound
-natural_within : (v : Value) (high : ℕ) → is_within (pos 0) (pos high) v ≡ true
-    → (n : ℕ) × (v ≡ Int (pos n)) × (n ≤ high)
-natural_within v high h = let it = number_within (pos 0) (pos high) v h in named it.0 it.1 it.2.0 it.2.1
-  where
-    named : (n : ℤ) → v ≡ Int n → pos 0 ≤ℤ n → n ≤ℤ pos high → (m : ℕ) × (v ≡ Int (pos m)) × (m ≤ high)
-    named (pos m) is up down = (m, is, omega (arith, ints, down))
-    named (negsuc m) is up down = absurd (omega (arith, ints, up))
+maker_passes : (n : ℤ) → IsMaker n → is_maker (Int n) ≡ true
+maker_passes (pos n) it = passes n last_maker (omega (arith, ints, it.1))
+maker_passes (negsuc n) it = let none : n ≡ 0 = omega (arith, ints, it.0) in rw none refl
 
 -- what is shown as a device is one
-device_is : (last : ℤ) (row : Row) → shows_device last (shown row) ≡ true → IsDevice row
-device_is last row h =
-    let a = both _ _ h in
-    let b = both _ _ a.0 in
-    let c = both _ _ b.0 in
-    let id = natural_within (column row 0) 4294967294 c.1 in
-    let eep = natural_within (column row 2) 16777215 b.1 in
-    let maker = number_within (negsuc 0) (pos 2047) (column row 3) a.1 in
+device_is : (row : Row) → shows_device (shown row) ≡ true → IsDevice row
+device_is row h =
+    let all = both _ _ h in
+    let two = both _ _ all.0 in
+    let id = numbered last_sender (column row 0) two.0 in
+    let eep = numbered last_profile (column row 2) two.1 in
+    let maker = maker_numbered (column row 3) all.1 in
     record {
       id = id.0;
       id_is = id.1;
@@ -168,28 +154,39 @@ device_is last row h =
       is_maker = maker.2;
     }
 
+-- and a device is shown as one
+device_shows : (row : Row) → IsDevice row → shows_device (shown row) ≡ true
+device_shows row it =
+    let id = ap (is_number last_sender) it.id_is ∙ passes it.id last_sender it.is_sender in
+    let eep = ap (is_number last_profile) it.eep_is ∙ passes it.eep last_profile it.is_profile in
+    let maker = ap is_maker it.maker_is ∙ maker_passes it.maker it.is_maker in
+    rw (id, eep, maker) refl
+
+-- the sender of the row is this one or one above
+abbrev AtLeast : ℕ → Row → Type 0
+AtLeast least row = least ≤ natural (column row 0)
+
 -- rows that rise are devices, and no two have one number
-rising : (last : ℤ) (rows : List Row) → devices_rise last (map shown rows) ≡ true
-    → AllByRecursion IsDevice rows × AllByRecursion (Above last) rows × RowidsDiffer rows
-unfolding Above
-rising last [] h = (tt, tt, tt)
-rising last (row ∷ rows) h =
+rising : (least : ℕ) (rows : List Row) → devices_rise least (map shown rows) ≡ true
+    → AllByRecursion IsDevice rows × AllByRecursion (AtLeast least) rows × RowidsDiffer rows
+rising least [] h = (tt, tt, tt)
+rising least (row ∷ rows) h =
     let parts = both _ _ h in
-    let first = both _ _ (both _ _ (both _ _ parts.0).0).0 in
-    let it = number_above last (column row 0) first.0 in
-    let more = rising it.0 rows (subst (λ v. devices_rise (id_in v) (map shown rows) ≡ true) it.1 parts.1) in (
-      (device_is last row parts.0, more.0),
-      (it, all_weaker (Above it.0) (Above last) (λ r up. (up.0, up.1, further last it.0 up.0 it.2 up.2)) rows more.1),
+    let first = both _ _ parts.0 in
+    let up = at_most least (natural (column row 0)) first.1 in
+    let more = rising (natural (column row 0) + 1) rows parts.1 in (
+      (device_is row first.0, more.0),
+      (up, all_weaker _ (AtLeast least) (λ r high. omega (arith, up, high)) rows more.1),
       (
-        all_weaker (Above it.0) (λ r. rowid row ≢ rowid r)
-            (λ r up same. not_same it.0 up.0 up.2 (sym it.1 ∙ same ∙ up.1)) rows more.1,
+        all_weaker _ (λ r. rowid row ≢ rowid r)
+            (λ r high same. let e = ap natural same in omega (arith, high, e)) rows more.1,
         more.2,
       ),
     )
 
 -- the table's rows are devices, none twice, where those that are shown rise
 rows_are : (d : ℕ) (db : Trees) (rows : List Row) → IsAnswer (all_query d) (overlay db []) [] rows
-    → devices_rise (negsuc 0) rows ≡ true → AllByRecursion IsDevice (db d) × RowidsDiffer (db d)
+    → devices_rise 0 rows ≡ true → AllByRecursion IsDevice (db d) × RowidsDiffer (db d)
 rows_are d db rows a h =
     let q = all_query d in
     let table = db d in
@@ -197,71 +194,51 @@ rows_are d db rows a h =
     a.distinct ∙ ap (map (output q)) (a.grouped ∙ ap listed_envs (overlay_is db d)) ∙ outs_are d table in
     let to = pull_back out a.kept a.ordered a.same table kept in
     let are : rows ≡ map shown to.0 = a.shown ∙ ap (map (λ (o : Output). o.1)) to.2 ∙ shown_are to.0 in
-    let it = rising (negsuc 0) to.0 (subst (λ rs. devices_rise (negsuc 0) rs ≡ true) are h) in
+    let it = rising 0 to.0 (subst (λ rs. devices_rise 0 rs ≡ true) are h) in
     let back = IsPermutation-sym table to.0 to.1 in
     (all-permutation IsDevice to.0 table back it.0, apart_turned to.0 table back it.2)
 
--- a device is shown as one, above what its number is above
-device_shows : (last : ℤ) (row : Row) → (it : IsDevice row) → is_above last (column row 0) ≡ true
-    → shows_device last (shown row) ≡ true
-device_shows last row it past =
-    let id : is_within (pos 0) (pos 4294967294) (column row 0) ≡ true = ap (is_within (pos 0) (pos 4294967294)) it.id_is
-    ∙ within (pos 0) (pos 4294967294) (pos it.id) (omega (arith, ints)) (omega (arith, ints, it.is_sender)) in
-    let eep : is_within (pos 0) (pos 16777215) (column row 2) ≡ true = ap (is_within (pos 0) (pos 16777215)) it.eep_is
-    ∙ within (pos 0) (pos 16777215) (pos it.eep) (omega (arith, ints)) (omega (arith, ints, it.is_profile)) in
-    let maker : is_within (negsuc 0) (pos 2047) (column row 3) ≡ true = ap (is_within (negsuc 0) (pos 2047)) it.maker_is
-    ∙ within (negsuc 0) (pos 2047) it.maker it.is_maker.0 it.is_maker.1 in
-    rw (past, id, eep, maker) refl
-
--- and the rows of devices, none twice, are shown to rise
-shown_rise : (last : ℤ) (rows : List Row) → AllByRecursion IsDevice rows → IsTable rows
-    → AllByRecursion (λ r. is_above last (column r 0) ≡ true) rows → devices_rise last (map shown rows) ≡ true
-shown_rise last [] all up above = refl
-shown_rise last (row ∷ rows) all up past =
-    let tail = shown_rise (pos all.0.id) rows all.1 up.1 (raised rows all.1 up.0) in
-    rw (device_shows last row all.0 past.0)
-    (subst (λ v. devices_rise (id_in v) (map shown rows) ≡ true) (sym all.0.id_is) tail)
+-- the rows of devices, none twice, are shown to rise
+shown_rise : (least : ℕ) (rows : List Row) → AllByRecursion IsDevice rows → IsTable rows
+    → AllByRecursion (AtLeast least) rows → devices_rise least (map shown rows) ≡ true
+shown_rise least [] all up high = refl
+shown_rise least (row ∷ rows) all up high =
+    let tail = shown_rise (natural (column row 0) + 1) rows all.1 up.1 (raised rows all.1 up.0) in
+    rw (device_shows row all.0, passes least (natural (column row 0)) high.0, tail) refl
   where
-    less : (a b : ℕ) → a < b → is_lt (int_cmp (pos a) (pos b)) ≡ true
-    less a b h = grind (arith, ints)
-
     raised : (rs : List Row) → AllByRecursion IsDevice rs → AllByRecursion (λ b. value_cmp (rowid row) (rowid b) ≡ Less)
-        rs → AllByRecursion (λ r. is_above (pos all.0.id) (column r 0) ≡ true) rs
+        rs → AllByRecursion (AtLeast (natural (column row 0) + 1)) rs
     raised [] ds low = tt
-    raised (r ∷ rs) ds low = (
-      ap (is_above (pos all.0.id)) ds.0.id_is ∙ less all.0.id ds.0.id (above row r all.0 ds.0 low.0),
-      raised rs ds.1 low.1,
-    )
+    raised (r ∷ rs) ds low =
+        let a = ap natural all.0.id_is in
+        let b = ap natural ds.0.id_is in
+        let less = above row r all.0 ds.0 low.0 in (omega (arith, a, b, less), raised rs ds.1 low.1)
 
-from_zero : (rows : List Row) → AllByRecursion IsDevice rows
-    → AllByRecursion (λ r. is_above (negsuc 0) (column r 0) ≡ true) rows
-from_zero [] all = tt
-from_zero (row ∷ rows) all = (ap (is_above (negsuc 0)) all.0.id_is ∙ least all.0.id, from_zero rows all.1)
-  where
-    least : (n : ℕ) → is_lt (int_cmp (negsuc 0) (pos n)) ≡ true
-    least n = grind (arith, ints)
+from_zero : (rows : List Row) → AllByRecursion (AtLeast 0) rows
+from_zero [] = tt
+from_zero (row ∷ rows) = (omega arith, from_zero rows)
 
 -- what the query of all devices shows
 devices_read : (old mid new : State) (devices : List Row) (t : HasTables old.now.schema) → IsUnchanged old mid
-    → Shown all_text [] mid new devices → IsAnswer (all_query t.devices) (overlay old.now.trees []) [] devices
+    → Shown find_all_text [] mid new devices → IsAnswer (all_query t.devices) (overlay old.now.trees []) [] devices
 devices_read old mid new devices t same h =
     let means = all_means old.now.schema t.devices_at t.devices t.devices_stand in
     let schema = ap (λ (d : Database). d.schema) same.0.now_is in
     let read =
-    reads_as all_text [] mid new old.now.schema schema (Select (program_of (all_query t.devices))
+    reads_as find_all_text [] mid new old.now.schema schema (Select (program_of (all_query t.devices))
     (codes "id" ∷ codes "eep" ∷ codes "maker" ∷ [])) means.is means.plain means.unlisted devices h in
     subst (λ (d : Database). IsAnswer (all_query t.devices) (overlay d.trees []) [] devices) same.0.now_is
     (read.answer Null)
 
 -- the query of all devices shows as many rows as there are
 pub devices_told : (old mid new : State) (devices : List Row) (t : HasTables old.now.schema) → IsUnchanged old mid
-    → Shown all_text [] mid new devices → length devices ≡ length (old.now.trees t.devices)
+    → Shown find_all_text [] mid new devices → length devices ≡ length (old.now.trees t.devices)
 devices_told old mid new devices t same h =
     all_counted t.devices old.now.trees devices (devices_read old mid new devices t same h)
 
 pub whole : (old mid new : State) (versions devices : List Row) (t : HasTables old.now.schema) → ShowsVersion versions
-    → Shown read_version_text [] old mid versions → IsUnchanged old mid → Shown all_text [] mid new devices
-    → length devices ≤ most_devices → devices_rise (negsuc 0) devices ≡ true → IsWhole old.now.trees t.meta t.devices
+    → Shown read_version_text [] old mid versions → IsUnchanged old mid → Shown find_all_text [] mid new devices
+    → length devices ≤ most_devices → devices_rise 0 devices ≡ true → IsWhole old.now.trees t.meta t.devices
 whole old mid new versions devices t version first same second few rise =
     let it = version_shown t.meta old.now.trees versions version (version_reads old mid versions t first) in
     let count = devices_told old mid new devices t same second in
@@ -281,14 +258,14 @@ whole old mid new versions devices t version first same second few rise =
 
 -- a registry's devices are shown to rise
 pub rise_told : (old mid new : State) (devices : List Row) (t : HasTables old.now.schema)
-    → IsWhole old.now.trees t.meta t.devices → IsUnchanged old mid → Shown all_text [] mid new devices
-    → devices_rise (negsuc 0) devices ≡ true
+    → IsWhole old.now.trees t.meta t.devices → IsUnchanged old mid → Shown find_all_text [] mid new devices
+    → devices_rise 0 devices ≡ true
 rise_told old mid new devices t it same h =
     let table = old.now.trees t.devices in
     let all = ranked_all IsDevice table it.rows in
-    ap (devices_rise (negsuc 0))
+    ap (devices_rise 0)
     (shows_ranked t.devices old.now.trees devices it.rows it.once (devices_read old mid new devices t same h))
-    ∙ shown_rise (negsuc 0) (ranked table) all (ranked_rises table) (from_zero (ranked table) all)
+    ∙ shown_rise 0 (ranked table) all (ranked_rises table) (from_zero (ranked table))
 
 pub version_told : (old new : State) (rows : List Row) (t : HasTables old.now.schema)
     (it : IsWhole old.now.trees t.meta t.devices) → Shown read_version_text [] old new rows

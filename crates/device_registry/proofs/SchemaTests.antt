@@ -10,7 +10,7 @@ use Rattle.sqlite.specs.Table.{Table}
 use Rattle.sqlite.specs.Does.{lacks_sequence}
 use Rattle.sqlite_schema.specs.Names.{same_name, table_named}
 use Rattle.sqlite_trees.proofs.ListLemmas.{all_weaker, all_both}
-use Rattle.device_registry.specs.Tables.{meta_name, device_name}
+use Rattle.device_registry.specs.Table.{meta_name, device_name}
 use Rattle.device_registry.specs.Stored.{AreSpared, SparesName, KeepsTree, HasTables}
 use Rattle.device_registry.specs.Opening.{IsClear}
 use Rattle.device_registry.specs.Places.{refers, is_referred, is_indexed, lacks_counts, is_clear, is_lone}

@@ -53,7 +53,7 @@ abbrev pub is_other : Term
 is_other = op2 (Compare Ne Binary) (col 1 0) (col 0 0)
 
 abbrev pub find_query : ℕ → Query
-find_query d = plain_query d (is_sender ∷ []) (col 1 2 ∷ col 1 3 ∷ [])
+find_query d = plain_query d (is_sender ∷ []) (col 1 0 ∷ col 1 2 ∷ col 1 3 ∷ [])
 
 abbrev pub others_query : ℕ → Query
 others_query d = record (plain_query d (is_other ∷ []) (col 1 0 ∷ [])) {

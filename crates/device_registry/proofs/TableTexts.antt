@@ -2,7 +2,7 @@
 use Rattle.std.proofs.Common.{◌≡◌, Ok, refl}
 use Rattle.sqlite.specs.Compile.{table_defined_by}
 use Rattle.sqlite_tied.specs.Compute.{everything}
-use Rattle.device_registry.specs.Tables.{meta_text, device_text, meta_table, device_table}
+use Rattle.device_registry.specs.Table.{meta_text, device_text, meta_table, device_table}
 
 pub meta_is : table_defined_by meta_text ≡ Ok (meta_table 0)
 unfolding everything

@@ -22,7 +22,7 @@ use Rattle.sqlite_trees.specs.Tree.{Trees}
 use Rattle.sqlite_trees.proofs.ListLemmas.{all-append, all_weaker}
 use Rattle.sqlite_rules.specs.Lists.{Has}
 use Rattle.sqlite_rules.proofs.ListLemmas.{all_has, all_from}
-use Rattle.device_registry.specs.Tables.{meta_name, device_name, meta_table, device_table}
+use Rattle.device_registry.specs.Table.{meta_name, device_name, meta_table, device_table}
 use Rattle.device_registry.specs.Stored.{HasTables}
 use Rattle.device_registry.specs.Opening.{IsClear}
 use Rattle.device_registry.proofs.CreateTablesMeaning.{unused}

@@ -18,7 +18,7 @@ use Rattle.sqlite_rules.specs.Action.{works, work_for, work_by, deed_for, pairs}
 use Rattle.sqlite_rules.specs.declared.action.Deed.{Deed}
 use Rattle.sqlite_catalog.proofs.SoundLemmas.{lowered}
 use Rattle.device_registry.specs.Stored.{SparesName, KeepsTree, IsRegistry}
-use Rattle.device_registry.specs.Tables.{meta_name, device_name}
+use Rattle.device_registry.specs.Table.{meta_name, device_name}
 
 same_through : (a b c : List ℕ) → same_name a b ≡ true → same_name a c ≡ true → same_name b c ≡ true
 same_through a b c ab ac = (lowered b c).1 (sym ((lowered a b).0 ab) ∙ (lowered a c).0 ac)

@@ -38,8 +38,8 @@ use Rattle.sqlite_value.specs.Order.{bytes}
 use Rattle.std.specs.Char.{to_ascii_lowercase}
 use Rattle.std.proofs.lemmas.List.Folds.{list_any-append}
 use Rattle.std.proofs.lemmas.Bool.{cases_Bool, not-true}
-use Rattle.device_registry.specs.Tables.{list_text, meta_name, device_name, meta_text}
-use Rattle.device_registry.specs.Tables.{device_text, meta_table, device_table}
+use Rattle.device_registry.specs.Table.{list_objects_text, meta_name, device_name, meta_text}
+use Rattle.device_registry.specs.Table.{device_text, meta_table, device_table}
 use Rattle.device_registry.specs.Stored.{Stands, KeepsTree}
 use Rattle.device_registry.specs.Stored.{HasTables, IsRegistry}
 use Rattle.device_registry.specs.Opening.{IsOwn, IsFree, IsClear, IsAtRest, IsListedAs, AreListed}
@@ -105,7 +105,7 @@ here trees name text h =
     ]
 
 -- what the listing shows is listed
-told : (old new : State) (rows : List Row) → IsDatabase old.now → Shown list_text [] old new rows → (name text : List ℕ)
+told : (old new : State) (rows : List Row) → IsDatabase old.now → Shown list_objects_text [] old new rows → (name text : List ℕ)
     → list_any (is_line name text) rows ≡ true → IsListedAs old.now.trees name text
 told old new rows sound shows name text h =
     let show = listing_shows old new rows sound shows in
@@ -126,7 +126,7 @@ fresh_rising (n ∷ news) rows rising below =
 
 -- and the listing shows each object
 shows_line : (old new : State) (rows : List Row) → IsDatabase old.now → IsTable (old.now.trees catalog_tree)
-    → Shown list_text [] old new rows → (name text : List ℕ) → IsListedAs old.now.trees name text
+    → Shown list_objects_text [] old new rows → (name text : List ℕ) → IsListedAs old.now.trees name text
     → list_any (is_line name text) rows ≡ true
 shows_line old new rows sound rising shows name text it =
     let show = listing_shows old new rows sound shows in
@@ -141,7 +141,7 @@ shows_line old new rows sound rising shows name text it =
     ∙ rw ((bytes_eq-Decides name name).1 refl, (bytes_eq-Decides text text).1 refl) refl in
     same ∙ some_from (λ r. is_line name text (line r)) _ (shown it.row) there passes
 
-pub ours_told : (old new : State) (rows : List Row) → IsDatabase old.now → Shown list_text [] old new rows
+pub ours_told : (old new : State) (rows : List Row) → IsDatabase old.now → Shown list_objects_text [] old new rows
     → are_ours rows ≡ true → AreListed old.now.trees
 ours_told old new rows sound shows h =
     let parts = both _ _ h in (
@@ -150,7 +150,7 @@ ours_told old new rows sound shows h =
     )
 
 pub ours_shown : (old new : State) (rows : List Row) → IsDatabase old.now → IsTable (old.now.trees catalog_tree)
-    → Shown list_text [] old new rows → AreListed old.now.trees → are_ours rows ≡ true
+    → Shown list_objects_text [] old new rows → AreListed old.now.trees → are_ours rows ≡ true
 ours_shown old new rows sound rising shows listed =
     ap (λ b. b && list_any (is_line device_name device_text) rows)
     (shows_line old new rows sound rising shows meta_name meta_text listed.0)

@@ -16,20 +16,20 @@ use Rattle.device_registry.proofs.StatementTexts.{column_read, plain_query, prog
 use Rattle.device_registry.proofs.TextMeaning.{IsRead, Means, draft_of}
 use Rattle.device_registry.proofs.SelectMeaning.{IsPlainSelect, plain_select, select_means}
 use Rattle.device_registry.proofs.WriteMeaning.{insert_means, update_means}
-use Rattle.device_registry.specs.Tables.{version_text, renew_text, read_version_text, meta_table}
+use Rattle.device_registry.specs.Table.{write_version_text, renew_text, read_version_text, meta_table}
 use Rattle.device_registry.specs.Stored.{Stands}
 
 -- the version row, as it is written
 abbrev pub version_terms : List Term
 version_terms = lit (Int (pos 1)) ∷ lit Null ∷ lit (Int (pos 1)) ∷ []
 
-number_read : IsRead version_text (written.Insert Abort (codes "enogate_meta") (codes "k" ∷ codes "version" ∷ [])
+number_read : IsRead write_version_text (written.Insert Abort (codes "enogate_meta") (codes "k" ∷ codes "version" ∷ [])
     (Values ((Integer (codes "1") ∷ Integer (codes "1") ∷ []) ∷ [])) [] [])
 unfolding everything
 number_read = record { parsed = _; read = refl; is = refl; timeless = refl }
 
 pub number_means : (schema : Schema) (at d : ℕ) → Stands schema (codes "enogate_meta") (meta_table d) at
-    → Means schema version_text (Insert at (source.Values version_terms 3))
+    → Means schema write_version_text (Insert at (source.Values version_terms 3))
 unfolding everything
 number_means schema at d it = insert_means it _ number_read refl (λ base. rw (it.named, it.there))
 

@@ -13,7 +13,7 @@ use Rattle.sqlite.specs.Effect.{Database}
 use Rattle.sqlite.specs.Does.{Does, Tally}
 use Rattle.sqlite.specs.State.{State, HasCleanDisk, Survives, Executes, CommitsBy, Runs, Writes, mode_of}
 use Rattle.sqlite.proofs.Callers.{runs_as}
-use Rattle.device_registry.specs.Tables.{learn_text, forget_text, renew_text}
+use Rattle.device_registry.specs.Table.{learn_text, forget_text, renew_text}
 use Rattle.device_registry.specs.Devices.{Devices, Learned, Change, changed, is_full}
 use Rattle.device_registry.specs.Stored.{IsRegistry, Registers, Holds}
 use Rattle.device_registry.specs.Ready.{Shows, IsReady, Turns, GoesOn}

@@ -1,5 +1,5 @@
 -- Why the store does not answer.
-use Rattle.std.specs.Prelude.{Bool, true, false}
+use Rattle.std.specs.Prelude.{◌≡◌, Bool, true, false}
 use Rattle.sqlite.specs.declared.error.Error.{Error}
 use Rattle.sqlite.specs.declared.error.Error.TheVariants.{SqliteFailure}
 use Rattle.sqlite.specs.declared.error.ErrorCode.TheVariants.{OutOfMemory}
@@ -16,3 +16,7 @@ fault_of error = record { is_memory = is_no_memory error }
 
 abbrev pub no_memory : StoreFault
 no_memory = record { is_memory = true }
+
+-- where this is so, it was refused for want of memory: if it was not, this is not so
+abbrev pub IsMemoryWhere : Type 0 → StoreFault → Type 0
+IsMemoryWhere Whole fault = fault.is_memory ≡ false → ¬ Whole

@@ -1,10 +1,9 @@
 pub mod Devices
-pub mod Tables
+pub mod Table
 pub mod Stored
 pub mod Faults
 pub mod Holding
 pub mod Ready
-pub mod Rows
 pub mod Opening
 pub mod Places
 pub mod Listing

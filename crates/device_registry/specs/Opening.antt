@@ -20,7 +20,7 @@ use Rattle.sqlite_trees.specs.Tree.{Trees, IsTable}
 use Rattle.device_registry.specs.declared.fault.OpenFault.{OpenFault}
 use Rattle.device_registry.specs.declared.fault.OpenFault.TheVariants.{NotARegistry}
 use Rattle.device_registry.specs.Devices.{Devices, most_devices}
-use Rattle.device_registry.specs.Tables.{meta_name, device_name, meta_text, device_text, renew_text}
+use Rattle.device_registry.specs.Table.{meta_name, device_name, meta_text, device_text, renew_text}
 use Rattle.device_registry.specs.Stored.{AreSpared, IsRegistry, Holds}
 use Rattle.device_registry.specs.Ready.{Shows}
 use Rattle.device_registry.specs.Holding.{HasDevices, IsCommitted, Finds, Opens}

@@ -6,7 +6,7 @@ use Rattle.sqlite.specs.Schema.{Schema}
 use Rattle.sqlite.specs.Table.{Table}
 use Rattle.sqlite_schema.specs.Names.{same_name, table_named}
 use Rattle.sqlite_catalog.specs.Change.{is_used}
-use Rattle.device_registry.specs.Tables.{meta_name, device_name}
+use Rattle.device_registry.specs.Table.{meta_name, device_name}
 
 -- the table refers to the name by a foreign key
 abbrev pub refers : List ℕ → Table → Bool

@@ -1,14 +1,12 @@
 -- The registry between two of its statements, and what each does to it.
-use Rattle.std.specs.Prelude.{◌≡◌, ◌⊎◌, false, Result, OnOk, OnErr, IsTrue, List, [], ◌∷◌, Option, Some, None}
+use Rattle.std.specs.Prelude.{◌≡◌, ◌⊎◌, false, Result, OnOk, OnErr, IsTrue}
 use Rattle.sqlite.specs.State.{State, HasCleanDisk}
 use Rattle.sqlite.specs.Effect.{IsDatabase}
 use Rattle.sqlite.specs.Table.{Table}
 use Rattle.sqlite_rules.specs.Lists.{Has}
-use Rattle.sqlite.specs.Order.{Row, column}
 use Rattle.sqlite_trees.specs.Tree.{Trees}
-use Rattle.device_registry.specs.Devices.{Devices, Learned, Change, changed, device}
-use Rattle.learned_devices.specs.declared.Device.{Device}
-use Rattle.device_registry.specs.Stored.{Registers, Holds, natural, eep_of, maker_in}
+use Rattle.device_registry.specs.Devices.{Devices, Change, changed}
+use Rattle.device_registry.specs.Stored.{Registers, Holds}
 
 -- the registry is open between two transactions, with these devices
 pub record Shows (s : State) (devices : Devices) : Type 0 where
@@ -53,16 +51,3 @@ pub record Turns {T E : Type 0} (old new : State) (change : Change) (result : Re
 pub record KeepsRows (old new : State) : Type 0 where
   pub schema : new.now.schema ≡ old.now.schema
   pub rows : (table : Table) → Has old.now.schema.tables table → new.now.trees table.tree ≡ old.now.trees table.tree
-
--- ---- what a query shows
-
--- the rows of a sender: its profile and its maker
-abbrev pub AreFound : Option Learned → List Row → Type 0
-AreFound None rows = rows ≡ []
-AreFound (Some it) rows =
-    (row : Row) × (rows ≡ row ∷ []) × (eep_of (natural (column row 0)) ≡ it.eep) × (maker_in (column row 1) ≡ it.maker)
-
--- a row of the list of all devices: the sender, its profile and its maker
-abbrev pub listed : Row → Device
-listed row =
-    device (natural (column row 0)) (record { eep = eep_of (natural (column row 1)); maker = maker_in (column row 2) })

@@ -1,85 +1,16 @@
 -- The devices that a database holds.
-use Rattle.std.specs.Prelude.{◌≡◌, ◌≢◌, ◌≤◌, ◌≤ℤ◌, ◌*◌, ◌+◌, ◌/◌, ◌%◌, ℕ, ℤ, pos, negsuc}
-use Rattle.std.specs.Prelude.{true, false, List, [], ◌∷◌, map, length, slice_get, Option, Some, None}
+use Rattle.std.specs.Prelude.{◌≡◌, ◌≢◌, ◌≤◌, ℕ, true, false, List, [], ◌∷◌, length, slice_get, Some, None}
 use Rattle.std.specs.List.{AllByRecursion}
-use Rattle.std.specs.FinMap.{from_entries}
-use Rattle.erp1_telegrams.specs.declared.eep.Eep.{Eep}
-use Rattle.sqlite.specs.declared.types.Value.{Value}
-use Rattle.sqlite.specs.declared.types.Value.TheVariants.{Null, Int, Real, Text, Blob}
-use Rattle.sqlite.specs.Order.{Row, column}
+use Rattle.sqlite.specs.Order.{Row}
 use Rattle.sqlite.specs.Schema.{Schema}
 use Rattle.sqlite.specs.Table.{Table}
 use Rattle.sqlite.specs.Effect.{Database, IsDatabase}
 use Rattle.sqlite_schema.specs.Names.{table_named, same_name}
-use Rattle.sqlite_trees.specs.Tree.{Trees, IsAscending, rowid}
+use Rattle.sqlite_trees.specs.Tree.{Trees}
 use Rattle.sqlite_typing.specs.Types.{table_classes, row_classes}
-use Rattle.device_registry.specs.Devices.{Learned, Devices, most_devices}
-use Rattle.device_registry.specs.Tables.{meta_name, device_name, meta_table, device_table}
-
--- ---- a row
-
--- a profile as it is stored: its three numbers, one byte each
-abbrev pub eep_number : Eep → ℕ
-eep_number eep = eep.rorg * 65536 + eep.func * 256 + eep.typ
-
-abbrev pub eep_of : ℕ → Eep
-eep_of number = record { rorg = number / 65536 % 256; func = number / 256 % 256; typ = number % 256 }
-
--- a maker as it is stored: -1 for none
-abbrev pub maker_number : Option ℕ → ℤ
-maker_number (Some maker) = pos maker
-maker_number None = negsuc 0
-
-abbrev pub natural : Value → ℕ
-natural (Int (pos n)) = n
-natural (Int (negsuc n)) = 0
-natural Null = 0
-natural (Real x) = 0
-natural (Text t) = 0
-natural (Blob b) = 0
-
-abbrev pub maker_in : Value → Option ℕ
-maker_in (Int (pos n)) = Some n
-maker_in (Int (negsuc n)) = None
-maker_in Null = None
-maker_in (Real x) = None
-maker_in (Text t) = None
-maker_in (Blob b) = None
-
--- a row of the device table has its rowid, which is the sender, and then the columns
-abbrev pub entry_of : Row → ℕ × Learned
-entry_of row =
-    (natural (column row 0), record { eep = eep_of (natural (column row 2)); maker = maker_in (column row 3) })
-
-abbrev pub devices_in : List Row → Devices
-devices_in rows = from_entries (map entry_of rows)
-
--- no two rows have one rowid, in whatever order they come
-abbrev pub RowidsDiffer : List Row → Type 0
-RowidsDiffer = IsAscending (λ a b. rowid a ≢ rowid b)
-
--- a row of the device table: a sender, a profile and a maker, each in its range
-pub record IsDevice (row : Row) : Type 0 where
-  pub id : ℕ
-  pub id_is : column row 0 ≡ Int (pos id)
-  pub is_sender : id ≤ 4294967294
-  pub eep : ℕ
-  pub eep_is : column row 2 ≡ Int (pos eep)
-  pub is_profile : eep ≤ 16777215
-  pub maker : ℤ
-  pub maker_is : column row 3 ≡ Int maker
-  pub is_maker : (negsuc 0 ≤ℤ maker) × (maker ≤ℤ pos 2047)
-
--- the row of a device
-abbrev pub stored : ℕ → Learned → Row
-stored id it = Int (pos id) ∷ Null ∷ Int (pos (eep_number it.eep)) ∷ Int (maker_number it.maker) ∷ []
-
--- the row of version 1
-pub record IsVersion (row : Row) : Type 0 where
-  pub key : column row 0 ≡ Int (pos 1)
-  pub version : column row 2 ≡ Int (pos 1)
-
--- ---- a database
+use Rattle.device_registry.specs.Devices.{Devices, most_devices}
+use Rattle.device_registry.specs.Table.{meta_name, device_name, meta_table, device_table}
+use Rattle.device_registry.specs.Table.Rows.{IsDevice, IsVersion, RowidsDiffer, devices_in}
 
 -- the schema's table of this name is this one, at this place
 pub record Stands (schema : Schema) (name : List ℕ) (table : Table) (at : ℕ) : Type 0 where

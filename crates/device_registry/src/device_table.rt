@@ -6,9 +6,9 @@ ghost use Rattle.device_registry.specs.Ready.{AreReady};
 
 use crate::fault::{LearnFault, StoreFault};
 use crate::receipt::Receipt;
-use crate::rows::{all_listed, found};
 use crate::sql_connection::SqlConnection;
 use crate::statements::{delete_or_renew, has_no_room, list, look_up, write};
+use crate::table::rows::{all_listed, found};
 use learned_devices::Device;
 use std::alloc::Global;
 use std::marker::Model;
@@ -44,7 +44,7 @@ impl<C: SqlConnection> DeviceTable<C> {
             (C.state self.new)) }
     {
         let rows = look_up(&mut self.conn, id)?;
-        found(id, &rows)
+        found(&rows)
     }
 
     /// Learns a device, in place of what was known of its sender.

@@ -16,10 +16,9 @@ mod opening;
 mod places;
 mod receipt;
 mod registry;
-mod rows;
 mod sql_connection;
 mod statements;
-mod tables;
+mod table;
 mod taking;
 #[cfg(test)]
 mod tests;

@@ -9,7 +9,7 @@ ghost use Rattle.device_registry.specs.Ready.{Shows};
 ghost use Rattle.device_registry.specs.Opening.{Remains};
 ghost use Rattle.device_registry.specs.Places.{is_clear};
 
-use crate::tables::{CREATE_DEVICE, CREATE_META};
+use crate::table::{CREATE_DEVICE, CREATE_META, WRITE_VERSION};
 use sqlite::{Alter, Connection, Error};
 
 /// Makes the two tables and writes the version row, in one transaction.
@@ -25,6 +25,6 @@ pub fn make<S: Alter>(conn: &mut Connection<S>) -> Result<(), Error>
     let mut making = conn.transaction();
     making.execute(CREATE_META, &[])?;
     making.execute(CREATE_DEVICE, &[])?;
-    making.execute("INSERT INTO enogate_meta (k, version) VALUES (1, 1)", &[])?;
+    making.execute(WRITE_VERSION, &[])?;
     making.commit()
 }

@@ -6,7 +6,7 @@ ghost use Rattle.sqlite_catalog.specs.Change.{is_used};
 ghost use Rattle.device_registry.specs.Places.{refers, is_referred, is_indexed, lacks_counts, is_clear};
 ghost use Rattle.device_registry.specs.Places.{is_lone, is_left_alone, tree_named, trees_in};
 
-use crate::tables::{DEVICE, META};
+use crate::table::{DEVICE, META};
 use sqlite_schema::names::same_name;
 use sqlite_schema::schema::{Schema, Table};
 

@@ -1,20 +1,21 @@
-//! The registry's statements, each text in one function. A call begins with a text that is compiled, which tells
-//! whether the connection is open: nothing is known of what a shut one writes.
-ghost use Rattle.std.specs.Prelude.{◌≡◌, [], ◌∷◌, map, pos, false, IsTrue, OnOk, OnErr, IfOk, IfErr};
-ghost use Rattle.std.specs.FinMap.{get};
+//! The registry's statements. A call begins with a text that is compiled, which tells whether the connection is open:
+//! nothing is known of what a shut one writes.
+ghost use Rattle.std.specs.Prelude.{◌≡◌, [], ◌∷◌, map, pos, false, OnOk, OnErr, IfOk, IfErr};
 ghost use Rattle.sqlite.specs.declared.types.Value.TheVariants.{Int};
 ghost use Rattle.sqlite.specs.State.{HasCleanDisk, Survives, Executes, CommitsBy, Shown, FailsToQuery, CommitsShowing};
 ghost use Rattle.device_registry.specs.Devices.{Devices, Change, changed, learned, forgotten, is_full, all_of};
-ghost use Rattle.device_registry.specs.Tables.{learn_text, forget_text, renew_text};
-ghost use Rattle.device_registry.specs.Stored.{Holds, maker_number, eep_number};
+ghost use Rattle.device_registry.specs.Devices.{device_of};
+ghost use Rattle.device_registry.specs.Table.{learn_text, forget_text, renew_text};
+ghost use Rattle.device_registry.specs.Stored.{Holds};
 ghost use Rattle.device_registry.specs.Opening.{Remains};
-ghost use Rattle.device_registry.specs.Ready.{Shows, IsReady, StaysReady, Stays, Turns, KeepsRows, AreFound, listed};
+ghost use Rattle.device_registry.specs.Ready.{Shows, IsReady, StaysReady, Stays, Turns, KeepsRows};
+ghost use Rattle.device_registry.specs.Table.Rows.{AreFound, listed};
 
 use crate::fault::StoreFault;
 use crate::limits::MOST_DEVICES;
-use crate::rows::number;
 use crate::sql_connection::SqlConnection;
-use erp1_telegrams::Eep;
+use crate::table::rows::{number, number_of, number_of_maker};
+use crate::table::{COUNT_OTHERS, FIND, FIND_ALL, FORGET, LEARN, RENEW};
 use learned_devices::Device;
 use sqlite::{Error, Row, Statement, params};
 
@@ -51,9 +52,9 @@ pub(crate) fn look_up<C: SqlConnection>(conn: &mut C, id: u32) -> Result<Vec<Row
     requires { StaysReady (C.state conn.old) }
     ensures stays { Stays (C.state conn.old) (C.state conn.new) }
     ensures found { HasCleanDisk (C.state conn.new) → IfOk result (λ rows. IsReady (C.state conn.new) ×
-        ((devices : Devices) → Shows (C.state conn.old) devices → AreFound (get devices id) rows.items)) }
+        ((devices : Devices) → Shows (C.state conn.old) devices → AreFound (device_of devices id) rows.items)) }
 {
-    let find = compiled(conn, "SELECT eep, maker FROM enogate_device WHERE id = ?1")?;
+    let find = compiled(conn, FIND)?;
     rows_of(conn, &find, id)
 }
 
@@ -64,7 +65,7 @@ pub(crate) fn has_no_room<C: SqlConnection>(conn: &mut C, id: u32) -> Result<boo
     ensures full { HasCleanDisk (C.state conn.new) → IfOk result (λ full. IsReady (C.state conn.new) ×
         ((devices : Devices) → Shows (C.state conn.old) devices → full ≡ is_full devices id)) }
 {
-    let others = compiled(conn, "SELECT count(*) FROM enogate_device WHERE id <> ?1")?;
+    let others = compiled(conn, COUNT_OTHERS)?;
     let rows = rows_of(conn, &others, id)?;
     Ok(number(&rows)? >= MOST_DEVICES as u64)
 }
@@ -76,28 +77,8 @@ pub(crate) fn list<C: SqlConnection>(conn: &mut C) -> Result<Vec<Row>, Error>
     ensures all { HasCleanDisk (C.state conn.new) → IfOk result (λ rows. IsReady (C.state conn.new) ×
         ((devices : Devices) → Shows (C.state conn.old) devices → map listed rows.items ≡ all_of devices)) }
 {
-    let all = compiled(
-        conn,
-        "SELECT id, eep, maker FROM enogate_device ORDER BY id",
-    )?;
+    let all = compiled(conn, FIND_ALL)?;
     conn.query_all_prepared(&all, &[])
-}
-
-/// The number of a profile.
-fn number_of(eep: Eep) -> i64
-    ensures { result ≡ pos (eep_number eep) }
-{
-    i64::from(eep.rorg) * 65536 + i64::from(eep.func) * 256 + i64::from(eep.typ)
-}
-
-/// The number of a maker, which is -1 for none.
-fn number_of_maker(maker: Option<u16>) -> i64
-    ensures { result ≡ maker_number maker }
-{
-    match maker {
-        Some(maker) => i64::from(maker),
-        None => -1,
-    }
 }
 
 /// Runs the statement that learns a device.
@@ -107,10 +88,7 @@ fn run_learn<C: SqlConnection>(conn: &mut C, id: i64, eep: i64, maker: i64) -> R
     ensures survives { Survives (C.state conn.old) (C.state conn.new)
         (CommitsBy learn_text (Int id ∷ Int eep ∷ Int maker ∷ []) (C.state conn.old)) }
 {
-    conn.execute(
-        "INSERT OR REPLACE INTO enogate_device (id, eep, maker) VALUES (?1, ?2, ?3)",
-        params![id, eep, maker],
-    )
+    conn.execute(LEARN, params![id, eep, maker])
 }
 
 /// Writes a device, in place of what is known of its sender.
@@ -135,7 +113,7 @@ fn run_delete<C: SqlConnection>(conn: &mut C, id: i64) -> Result<usize, Error>
     ensures survives { Survives (C.state conn.old) (C.state conn.new)
         (CommitsBy forget_text (Int id ∷ []) (C.state conn.old)) }
 {
-    conn.execute("DELETE FROM enogate_device WHERE id = ?1", params![id])
+    conn.execute(FORGET, params![id])
 }
 
 /// Takes out what is known of a sender.
@@ -163,7 +141,7 @@ pub(crate) fn renew<C: SqlConnection>(conn: &mut C) -> Result<usize, Error>
         (C.state conn.old) devices → changed devices change ≡ devices)
         → Turns (C.state conn.old) (C.state conn.new) change result }
 {
-    conn.execute("UPDATE enogate_meta SET version = 1", &[])
+    conn.execute(RENEW, &[])
 }
 
 /// Takes out what is known of a sender, whose rows these are. Where there is none it commits all the same.
@@ -174,7 +152,7 @@ pub(crate) fn delete_or_renew<C: SqlConnection>(
 ) -> Result<usize, Error>
     requires ready { HasCleanDisk (C.state conn.old) → IsReady (C.state conn.old) }
     requires found { HasCleanDisk (C.state conn.old) → (devices : Devices) → Shows
-        (C.state conn.old) devices → AreFound (get devices id) rows.now }
+        (C.state conn.old) devices → AreFound (device_of devices id) rows.now }
     ensures { Turns (C.state conn.old) (C.state conn.new) (forgotten id) result }
 {
     if rows.is_empty() {

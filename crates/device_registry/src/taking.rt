@@ -10,9 +10,11 @@ ghost use Rattle.device_registry.specs.Stored.{HasTables, IsWhole, IsRegistry};
 ghost use Rattle.device_registry.specs.Opening.{IsAtRest, Remains, AreListed, IsOwn};
 
 use crate::limits::MOST_DEVICES;
-use crate::listing::{are_ours, devices_rise, is_version};
+use crate::listing::are_ours;
 use crate::places::trees_in;
 use crate::sql_connection::SqlConnection;
+use crate::table::rows::{devices_rise, is_version};
+use crate::table::{FIND_ALL, LIST_OBJECTS, READ_VERSION};
 use sqlite::{Error, Row};
 
 /// The rows that a query with no parameters shows.
@@ -41,10 +43,7 @@ fn lists_ours<C: SqlConnection>(conn: &mut C) -> Result<bool, Error>
     ensures remains { HasCleanDisk (C.state conn.new) → OnErr result (Remains (C.state conn.old)
         (C.state conn.new)) }
 {
-    let rows = rows_of(
-        conn,
-        "SELECT name, type, sql FROM sqlite_schema ORDER BY rowid",
-    )?;
+    let rows = rows_of(conn, LIST_OBJECTS)?;
     Ok(are_ours(&rows))
 }
 
@@ -60,14 +59,11 @@ fn is_whole<C: SqlConnection>(conn: &mut C) -> Result<bool, Error>
     ensures remains { HasCleanDisk (C.state conn.new) → OnErr result (Remains (C.state conn.old)
         (C.state conn.new)) }
 {
-    let versions = rows_of(conn, "SELECT k, version FROM enogate_meta")?;
+    let versions = rows_of(conn, READ_VERSION)?;
     if !is_version(&versions) {
         return Ok(false);
     }
-    let devices = rows_of(
-        conn,
-        "SELECT id, eep, maker FROM enogate_device ORDER BY id",
-    )?;
+    let devices = rows_of(conn, FIND_ALL)?;
     if devices.len() > MOST_DEVICES {
         return Ok(false);
     }

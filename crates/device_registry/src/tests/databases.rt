@@ -4,7 +4,7 @@ use super::given::{
     DEVICE_TABLE, Fresh, META_TABLE, VERSION_ROW, number, open_idle, prepare_idle, run, sensor,
 };
 use crate::OpenFault;
-use crate::listing::{devices_rise, is_version};
+use crate::table::rows::{devices_rise, is_version};
 use sqlite::{Alter, Connection, MemStore, Row};
 use std::alloc::Global;
 use std::process::Abort;

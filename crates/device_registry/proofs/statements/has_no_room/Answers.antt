@@ -1,6 +1,6 @@
 use Rattle.std.proofs.Common.{rules, arith, subst}
 use Rattle.sqlite.specs.State.{HasCleanDisk, Shown}
-use Rattle.device_registry.specs.Tables.{others_text}
+use Rattle.device_registry.specs.Table.{count_others_text}
 use Rattle.device_registry.proofs.SenderTests.{asked}
 use Rattle.device_registry.proofs.StatementSteps.{query_ready}
 use Rattle.device_registry.proofs.CountOthersAnswer.{others_plain, others_stay, told_full}
@@ -37,11 +37,11 @@ returns-clause-full g c clean =
     let early : HasCleanDisk mid = omega (arith, clean, c.rows_of.ensures.survives.clean) in
     let ready = c.in_ok-others.ensures.ready early in
     let rows = c.in_ok-rows.rows.items in
-    let shown : Shown others_text (asked c.args.id) mid new rows =
+    let shown : Shown count_others_text (asked c.args.id) mid new rows =
     subst (λ t. Shown t (asked c.args.id) mid new rows) (c.in_ok-others.ensures.text early)
     (c.in_ok-rows.ensures.shown clean) in
     let told = c.in_ok-number.ensures.number in (
-      query_ready others_text (asked c.args.id) mid new rows (others_plain mid ready) ready shown,
+      query_ready count_others_text (asked c.args.id) mid new rows (others_plain mid ready) ready shown,
       λ devices shows.
           let showed = (c.compiled.ensures.stays.goes_on early ready.shows.is_open).1 devices shows in
           told_full mid new c.args.id rows c.in_ok-number.field-0 told.0 told.1 devices showed shown

@@ -1,9 +1,9 @@
 use Rattle.std.proofs.Common.{arith, subst}
-use Rattle.std.specs.FinMap.{get}
 use Rattle.sqlite.specs.State.{HasCleanDisk, Shown}
-use Rattle.device_registry.specs.Devices.{Devices}
-use Rattle.device_registry.specs.Ready.{Shows, IsReady, AreFound}
-use Rattle.device_registry.specs.Tables.{find_text}
+use Rattle.device_registry.specs.Devices.{Devices, device_of}
+use Rattle.device_registry.specs.Ready.{Shows, IsReady}
+use Rattle.device_registry.specs.Table.Rows.{AreFound}
+use Rattle.device_registry.specs.Table.{find_text}
 use Rattle.device_registry.proofs.SenderTests.{asked}
 use Rattle.device_registry.proofs.StatementSteps.{compiled_query_stays, ok_then}
 use Rattle.device_registry.proofs.FindAnswer.{find_plain, looked_up}
@@ -28,7 +28,7 @@ returns-clause-found g c clean =
     let early : HasCleanDisk mid = omega (arith, clean, c.rows_of.ensures.survives.clean) in
     let ready = c.in_ok-find.ensures.ready early in
     ok_then (λ v. Shown text (asked id) mid new v.items)
-    (λ v. IsReady new × ((devices : Devices) → Shows old devices → AreFound (get devices id) v.items)) c.rows_of.result
+    (λ v. IsReady new × ((devices : Devices) → Shows old devices → AreFound (device_of devices id) v.items)) c.rows_of.result
     (λ v shown.
     let all = subst (λ t. Shown t (asked id) mid new v.items) (c.in_ok-find.ensures.text early) shown in
     let found = looked_up mid new id v.items ready all in (

@@ -1,7 +1,7 @@
 use Rattle.device_registry.proofs.WritesTurn.{renew_turns}
 use Rattle.device_registry.proofs.VersionWrites.{renewed_if, renew_stop, rows_if}
 use Rattle.std.proofs.Common.{[]}
-use Rattle.device_registry.specs.Tables.{renew_text}
+use Rattle.device_registry.specs.Table.{renew_text}
 use Rattle.device_registry.proofs.RefusalKeeps.{executed_if}
 use Rattle.device_registry.proofs.statements.renew.Goals as goal
 

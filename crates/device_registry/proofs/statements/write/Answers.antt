@@ -1,7 +1,7 @@
 use Rattle.std.proofs.Common.{rules, ◌<◌, SFits, w64, to_z-of_z}
 use Rattle.sqlite.specs.State.{HasCleanDisk, Executes, CommitsBy, Survives}
 use Rattle.device_registry.specs.Devices.{Learned}
-use Rattle.device_registry.specs.Tables.{learn_text}
+use Rattle.device_registry.specs.Table.{learn_text}
 use Rattle.device_registry.proofs.LearnEffect.{learn_params}
 use Rattle.device_registry.proofs.WritesTurn.{learn_turns}
 use Rattle.device_registry.proofs.statements.write.Goals as goal

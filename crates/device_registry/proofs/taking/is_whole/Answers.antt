@@ -1,14 +1,14 @@
 use Rattle.std.proofs.Common.{rules, arith, length, ◌≤◌, ◌≡◌, ◌∷◌, [], IsTrue, true, false, ◌∙◌}
-use Rattle.std.proofs.Common.{◌<◌, ℕ, pos, negsuc, ap, sym, subst}
+use Rattle.std.proofs.Common.{◌<◌, ℕ, pos, ap, sym, subst}
 use Rattle.sqlite.specs.declared.types.Value.TheVariants.{Int}
 use Rattle.sqlite.specs.State.{HasCleanDisk}
 use Rattle.sqlite.specs.Given.{IsPlain}
 use Rattle.sqlite.specs.Listing.{understood}
 use Rattle.sqlite.specs.Effect.{Database}
 use Rattle.sqlite.proofs.Callers.{unchanged_then}
-use Rattle.device_registry.specs.Tables.{all_text}
+use Rattle.device_registry.specs.Table.{find_all_text}
 use Rattle.device_registry.specs.Devices.{most_devices}
-use Rattle.device_registry.specs.Listing.{ShowsVersion, devices_rise}
+use Rattle.device_registry.specs.Table.Rows.{ShowsVersion, devices_rise}
 use Rattle.device_registry.proofs.ListDevicesMeaning.{all_means}
 use Rattle.device_registry.proofs.VersionMeaning.{version_means}
 use Rattle.device_registry.proofs.RowsRecognized.{whole, version_told, devices_told, rise_told}
@@ -25,7 +25,7 @@ rows_of-requires-2 g c clean =
     let early : HasCleanDisk old = omega (arith, clean, c.rows_of.ensures.stop.clean) in
     let t = c.requires early in
     let same = ap (λ (d : Database). d.schema) (c.in_ok-versions.ensures.shown clean).1.0.now_is in
-    subst (λ s. IsPlain (understood s all_text)) (sym same)
+    subst (λ s. IsPlain (understood s find_all_text)) (sym same)
     (all_means old.now.schema t.devices_at t.devices t.devices_stand).plain
 
 pub returns-then-not-is_version-clause-other : goal.returns-then-not-is_version-clause-other
@@ -49,7 +49,7 @@ returns-clause-whole g c clean =
       λ yes t.
           let version : ShowsVersion c.in_ok-versions.versions.items = search rules in
           let few : length c.in_ok-devices.devices.items ≤ most_devices = search rules in
-          let up : devices_rise (negsuc 0) c.in_ok-devices.devices.items ≡ true = search rules in
+          let up : devices_rise 0 c.in_ok-devices.devices.items ≡ true = search rules in
           whole old mid new c.in_ok-versions.versions.items c.in_ok-devices.devices.items t version first.0 first.1
           second.0 few up,
     )
@@ -76,5 +76,5 @@ returns-clause-other g c clean none t it =
     let between : HasCleanDisk mid = omega (arith, clean, c.rows_of-2.ensures.stop.clean) in
     let up = rise_told old mid new c.in_ok-devices.devices.items t it (c.in_ok-versions.ensures.shown between).1
     (c.in_ok-devices.ensures.shown clean).0 in
-    let not_up : devices_rise (negsuc 0) c.in_ok-devices.devices.items ≡ false = search (rules, none) in
+    let not_up : devices_rise 0 c.in_ok-devices.devices.items ≡ false = search (rules, none) in
     absurd (let e = sym up ∙ not_up in cc)

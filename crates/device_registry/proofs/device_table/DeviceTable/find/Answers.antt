@@ -1,4 +1,4 @@
-use Rattle.std.specs.FinMap.{get}
+use Rattle.device_registry.specs.Devices.{device_of}
 use Rattle.device_registry.proofs.RegistryCalls.{had, keeps_well, looks_up, if_err, ready_if}
 use Rattle.device_registry.proofs.device_table.DeviceTable.find.Goals as goal
 
@@ -23,7 +23,7 @@ returns-clause-looks_up g c =
     rw (← c.self.view_is) (looks_up old new c.look_up.ensures.stays c.self.invariant c.args.id c.found.result
     (λ clean devices has.
     let rows = c.in_ok-rows.ensures.found clean in
-    rw c.deref.ensures.value at c.found.ensures.found (get devices c.args.id)
+    rw c.deref.ensures.value at c.found.ensures.found (device_of devices c.args.id)
     (rows.1 devices (had old new c.look_up.ensures.stays c.self.invariant clean rows.0 devices has))))
 
 pub returns-clause-ready : goal.returns-clause-ready

@@ -1,4 +1,6 @@
--- The two tables of the registry.
+-- The two tables of the registry: their names, their version and their ranges, the texts of all statements on them, and
+-- the tables that SQLite reads.
+pub mod Rows
 use Rattle.std.specs.Prelude.{ℕ, true, false, List, [], ◌∷◌, ◌++◌, Some, codes, pos, negsuc}
 use Rattle.sqlite.specs.Collation.TheVariants.{Binary}
 use Rattle.sqlite.specs.declared.types.Value.TheVariants.{Null, Int}
@@ -8,6 +10,24 @@ use Rattle.sqlite.specs.Term.{Term, lit, col, op2}
 use Rattle.sqlite_schema.specs.declared.schema.Column.{Column}
 use Rattle.sqlite_sql.specs.declared.ops.BinaryOp.TheVariants.{Compare, And}
 use Rattle.sqlite_sql.specs.declared.ops.CompareOp.TheVariants.{Eq, Le, Ge}
+
+-- the version of the tables. Own choice
+abbrev pub table_version : ℕ
+table_version = 1
+
+-- FFFFFFFF is no sender
+abbrev pub last_sender : ℕ
+last_sender = 4294967294
+
+-- a profile has three bytes
+abbrev pub last_profile : ℕ
+last_profile = 16777215
+
+-- a maker's number has 11 bits
+abbrev pub last_maker : ℕ
+last_maker = 2047
+
+-- ---- the texts
 
 abbrev pub meta_name : List ℕ
 meta_name = codes "enogate_meta"
@@ -23,6 +43,35 @@ device_text =
     codes "CREATE TABLE enogate_device (id INTEGER PRIMARY KEY CHECK (id >= 0 AND id <= 4294967294), "
     ++ codes "eep INTEGER NOT NULL CHECK (eep >= 0 AND eep <= 16777215), "
     ++ codes "maker INTEGER NOT NULL CHECK (maker >= -1 AND maker <= 2047)) STRICT"
+
+abbrev pub write_version_text : List ℕ
+write_version_text = codes "INSERT INTO enogate_meta (k, version) VALUES (1, 1)"
+
+abbrev pub read_version_text : List ℕ
+read_version_text = codes "SELECT k, version FROM enogate_meta"
+
+abbrev pub renew_text : List ℕ
+renew_text = codes "UPDATE enogate_meta SET version = 1"
+
+abbrev pub find_text : List ℕ
+find_text = codes "SELECT id, eep, maker FROM enogate_device WHERE id = ?1"
+
+abbrev pub find_all_text : List ℕ
+find_all_text = codes "SELECT id, eep, maker FROM enogate_device ORDER BY id"
+
+abbrev pub count_others_text : List ℕ
+count_others_text = codes "SELECT count(*) FROM enogate_device WHERE id <> ?1"
+
+abbrev pub learn_text : List ℕ
+learn_text = codes "INSERT OR REPLACE INTO enogate_device (id, eep, maker) VALUES (?1, ?2, ?3)"
+
+abbrev pub forget_text : List ℕ
+forget_text = codes "DELETE FROM enogate_device WHERE id = ?1"
+
+abbrev pub list_objects_text : List ℕ
+list_objects_text = codes "SELECT name, type, sql FROM sqlite_schema ORDER BY rowid"
+
+-- ---- the tables, as SQLite reads them from the texts
 
 abbrev pub key_column : List ℕ → Column
 key_column name =
@@ -61,32 +110,5 @@ abbrev pub device_table : ℕ → Table
 device_table tree =
     keyed_table device_name tree
     (key_column (codes "id") ∷ number_column (codes "eep") ∷ number_column (codes "maker") ∷ [])
-    (between 0 (lit (Int (pos 0))) (lit (Int (pos 4294967294))) ∷ between 2 (lit (Int (pos 0)))
-    (lit (Int (pos 16777215))) ∷ between 3 (lit (Int (negsuc 0))) (lit (Int (pos 2047))) ∷ [])
-
-abbrev pub learn_text : List ℕ
-learn_text = codes "INSERT OR REPLACE INTO enogate_device (id, eep, maker) VALUES (?1, ?2, ?3)"
-
-abbrev pub find_text : List ℕ
-find_text = codes "SELECT eep, maker FROM enogate_device WHERE id = ?1"
-
-abbrev pub others_text : List ℕ
-others_text = codes "SELECT count(*) FROM enogate_device WHERE id <> ?1"
-
-abbrev pub forget_text : List ℕ
-forget_text = codes "DELETE FROM enogate_device WHERE id = ?1"
-
-abbrev pub renew_text : List ℕ
-renew_text = codes "UPDATE enogate_meta SET version = 1"
-
-abbrev pub all_text : List ℕ
-all_text = codes "SELECT id, eep, maker FROM enogate_device ORDER BY id"
-
-abbrev pub list_text : List ℕ
-list_text = codes "SELECT name, type, sql FROM sqlite_schema ORDER BY rowid"
-
-abbrev pub version_text : List ℕ
-version_text = codes "INSERT INTO enogate_meta (k, version) VALUES (1, 1)"
-
-abbrev pub read_version_text : List ℕ
-read_version_text = codes "SELECT k, version FROM enogate_meta"
+    (between 0 (lit (Int (pos 0))) (lit (Int (pos last_sender))) ∷ between 2 (lit (Int (pos 0)))
+    (lit (Int (pos last_profile))) ∷ between 3 (lit (Int (negsuc 0))) (lit (Int (pos last_maker))) ∷ [])

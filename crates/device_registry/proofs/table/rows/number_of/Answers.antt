@@ -1,5 +1,5 @@
 use Rattle.std.proofs.Common.{rules}
-use Rattle.device_registry.proofs.statements.number_of.Goals as goal
+use Rattle.device_registry.proofs.table.rows.number_of.Goals as goal
 
 pub returns : goal.returns
 returns c = search rules

@@ -1,0 +1,125 @@
+-- The rows of the two tables, and the rows that the queries on them show.
+use Rattle.std.specs.Prelude.{◌≡◌, ◌≢◌, ◌≤◌, ◌≤ℤ◌, ◌*◌, ◌+◌, ◌/◌, ◌%◌, ◌==◌, ◌&&◌, nat_le, ℕ, ℤ, pos, negsuc}
+use Rattle.std.specs.Prelude.{Bool, true, false, List, [], ◌∷◌, map, Option, Some, None}
+use Rattle.std.specs.FinMap.{from_entries}
+use Rattle.erp1_telegrams.specs.declared.eep.Eep.{Eep}
+use Rattle.sqlite.specs.declared.types.Value.{Value}
+use Rattle.sqlite.specs.declared.types.Value.TheVariants.{Null, Int, Real, Text, Blob}
+use Rattle.sqlite.specs.Order.{Row, column}
+use Rattle.sqlite_trees.specs.Tree.{IsAscending, rowid}
+use Rattle.learned_devices.specs.declared.Device.{Device}
+use Rattle.device_registry.specs.Devices.{Learned, Devices, device}
+use Rattle.device_registry.specs.Table.{table_version, last_sender, last_profile, last_maker}
+
+-- ---- the values
+
+-- a profile as it is stored: its three numbers, one byte each
+abbrev pub eep_number : Eep → ℕ
+eep_number eep = eep.rorg * 65536 + eep.func * 256 + eep.typ
+
+abbrev pub eep_of : ℕ → Eep
+eep_of number = record { rorg = number / 65536 % 256; func = number / 256 % 256; typ = number % 256 }
+
+-- a maker as it is stored: -1 for none
+abbrev pub maker_number : Option ℕ → ℤ
+maker_number (Some maker) = pos maker
+maker_number None = negsuc 0
+
+abbrev pub natural : Value → ℕ
+natural (Int (pos n)) = n
+natural (Int (negsuc n)) = 0
+natural Null = 0
+natural (Real x) = 0
+natural (Text t) = 0
+natural (Blob b) = 0
+
+abbrev pub maker_in : Value → Option ℕ
+maker_in (Int (pos n)) = Some n
+maker_in (Int (negsuc n)) = None
+maker_in Null = None
+maker_in (Real x) = None
+maker_in (Text t) = None
+maker_in (Blob b) = None
+
+-- ---- the rows of the tables
+
+-- a row of the device table has its rowid, which is the sender, and then the columns
+abbrev pub entry_of : Row → ℕ × Learned
+entry_of row =
+    (natural (column row 0), record { eep = eep_of (natural (column row 2)); maker = maker_in (column row 3) })
+
+abbrev pub devices_in : List Row → Devices
+devices_in rows = from_entries (map entry_of rows)
+
+-- no two rows have one rowid, in whatever order they come
+abbrev pub RowidsDiffer : List Row → Type 0
+RowidsDiffer = IsAscending (λ a b. rowid a ≢ rowid b)
+
+-- a row of the device table: a sender, a profile and a maker, each in its range
+pub record IsDevice (row : Row) : Type 0 where
+  pub id : ℕ
+  pub id_is : column row 0 ≡ Int (pos id)
+  pub is_sender : id ≤ last_sender
+  pub eep : ℕ
+  pub eep_is : column row 2 ≡ Int (pos eep)
+  pub is_profile : eep ≤ last_profile
+  pub maker : ℤ
+  pub maker_is : column row 3 ≡ Int maker
+  pub is_maker : (negsuc 0 ≤ℤ maker) × (maker ≤ℤ pos last_maker)
+
+-- the row of a device
+abbrev pub stored : ℕ → Learned → Row
+stored id it = Int (pos id) ∷ Null ∷ Int (pos (eep_number it.eep)) ∷ Int (maker_number it.maker) ∷ []
+
+-- the row of the version
+pub record IsVersion (row : Row) : Type 0 where
+  pub key : column row 0 ≡ Int (pos 1)
+  pub version : column row 2 ≡ Int (pos table_version)
+
+-- ---- the rows that queries show
+
+-- the device that a query shows by its sender, its profile and its maker
+abbrev pub listed : Row → Device
+listed row =
+    device (natural (column row 0)) (record { eep = eep_of (natural (column row 1)); maker = maker_in (column row 2) })
+
+-- the row of this device is shown, or none
+abbrev pub AreFound : Option Device → List Row → Type 0
+AreFound None rows = rows ≡ []
+AreFound (Some it) rows = (row : Row) × (rows ≡ row ∷ []) × (listed row ≡ it)
+
+-- the rows show the row of the version
+pub record ShowsVersion (rows : List Row) : Type 0 where
+  pub row : Row
+  pub are : rows ≡ row ∷ []
+  pub key : column row 0 ≡ Int (pos 1)
+  pub version : column row 1 ≡ Int (pos table_version)
+
+-- a number that is not past the last
+abbrev pub is_number : ℕ → Value → Bool
+is_number last (Int (pos n)) = nat_le n last
+is_number last (Int (negsuc n)) = false
+is_number last Null = false
+is_number last (Real x) = false
+is_number last (Text t) = false
+is_number last (Blob b) = false
+
+-- the number of a maker, or that of none
+abbrev pub is_maker : Value → Bool
+is_maker (Int (pos n)) = nat_le n last_maker
+is_maker (Int (negsuc n)) = n == 0
+is_maker Null = false
+is_maker (Real x) = false
+is_maker (Text t) = false
+is_maker (Blob b) = false
+
+-- the row shows a device, each number in its range
+abbrev pub shows_device : Row → Bool
+shows_device row =
+    is_number last_sender (column row 0) && is_number last_profile (column row 1) && is_maker (column row 2)
+
+-- the rows show devices, whose senders rise from this one
+abbrev pub devices_rise : ℕ → List Row → Bool
+devices_rise least [] = true
+devices_rise least (row ∷ rows) =
+    shows_device row && nat_le least (natural (column row 0)) && devices_rise (natural (column row 0) + 1) rows

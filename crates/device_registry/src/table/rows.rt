@@ -1,0 +1,152 @@
+//! The rows of the two tables: what the queries on them show, and the numbers that are put into them.
+ghost use Rattle.std.specs.Prelude.{◌≡◌, ◌≤◌, ◌<◌, [], ◌∷◌, All, ℕ, map, length, pos, false, Option, IsTrue};
+ghost use Rattle.std.specs.Prelude.{IfOk, IfErr, MatchOption};
+ghost use Rattle.sqlite.specs.declared.types.Value.TheVariants.{Int};
+ghost use Rattle.sqlite.specs.Order.{Row as SqlRow, column};
+ghost use Rattle.learned_devices.specs.declared.Device.{Device};
+ghost use Rattle.device_registry.specs.Faults.{IsMemoryWhere};
+ghost use Rattle.device_registry.specs.Table.Rows.{AreFound, ShowsVersion, listed, is_number, is_maker, shows_device};
+ghost use Rattle.device_registry.specs.Table.Rows.{devices_rise, eep_number, eep_of, maker_number, maker_in};
+
+use super::{KEY, LAST_MAKER, LAST_PROFILE, LAST_SENDER, NO_MAKER, VERSION};
+use crate::fault::StoreFault;
+use erp1_telegrams::Eep;
+use learned_devices::Device;
+use sqlite::types::ValueRef;
+use sqlite::{Error, ErrorCode, Row};
+use std::alloc::Global;
+
+/// The number at a place of the row, where there is one that is not past the last.
+fn number_in(row: &Row, at: usize, last: u32) -> Option<u32>
+    ensures { MatchOption result (is_number last (column row.now at) ≡ false)
+        (λ n. (column row.now at ≡ Int (pos n)) × (n ≤ last)) }
+{
+    match row.get_ref(at) {
+        Ok(ValueRef::Int(found)) if 0 <= found && found <= i64::from(last) => Some(found as u32),
+        _ => None,
+    }
+}
+
+/// The maker at a place of the row, where there is a maker's number or that of none.
+fn maker_in(row: &Row, at: usize) -> Option<Option<u16>>
+    ensures { MatchOption result (is_maker (column row.now at) ≡ false)
+        (λ maker. (maker ≡ maker_in (column row.now at)) × IsTrue (is_maker (column row.now at))) }
+{
+    match row.get_ref(at) {
+        Ok(ValueRef::Int(found)) if found == NO_MAKER => Some(None),
+        _ => Some(Some(number_in(row, at, LAST_MAKER)? as u16)),
+    }
+}
+
+/// A profile, of its number.
+fn eep_of_number(number: u32) -> Eep
+    ensures { result ≡ eep_of number }
+{
+    Eep {
+        rorg: (number / 65536 % 256) as u8,
+        func: (number / 256 % 256) as u8,
+        typ: (number % 256) as u8,
+    }
+}
+
+/// The device that a row shows, where each of its numbers is in its range.
+fn device_in(row: &Row) -> Option<Device>
+    ensures { MatchOption result (shows_device row.now ≡ false)
+        (λ it. (it ≡ listed row.now) × IsTrue (shows_device row.now)) }
+{
+    let id = number_in(row, 0, LAST_SENDER)?;
+    let eep = eep_of_number(number_in(row, 1, LAST_PROFILE)?);
+    let maker = maker_in(row, 2)?;
+    Some(Device { id, eep, maker })
+}
+
+/// Whether the rows are those of devices, by rising ID.
+pub fn devices_rise(rows: &[Row]) -> bool
+    ensures { result ≡ devices_rise 0 rows.now }
+{
+    let mut least: u64 = 0;
+    for row in rows {
+        match device_in(row) {
+            Some(device) if least <= u64::from(device.id) => least = u64::from(device.id) + 1,
+            _ => return false,
+        }
+    }
+    true
+}
+
+fn has_number(row: &Row, at: usize, number: i64) -> bool
+    ensures sound { IsTrue result → column row.now at ≡ Int number }
+    ensures complete { column row.now at ≡ Int number → IsTrue result }
+{
+    match row.get_ref(at) {
+        Ok(ValueRef::Int(found)) => found == number,
+        _ => false,
+    }
+}
+
+/// Whether there is one row, the version's.
+pub fn is_version(rows: &[Row]) -> bool
+    ensures version { IsTrue result → ShowsVersion rows.now }
+    ensures complete { rows.now ≡ (Int (pos 1) ∷ Int (pos 1) ∷ []) ∷ [] → IsTrue result }
+{
+    rows.len() == 1 && has_number(&rows[0], 0, KEY) && has_number(&rows[0], 1, VERSION)
+}
+
+/// The device that a row shows. No registry has a row that shows none.
+fn shown(row: &Row) -> Result<Device, StoreFault>
+    ensures shown { IfOk result (λ it. it ≡ listed row.now) }
+    ensures refused { IfErr result (IsMemoryWhere (IsTrue (shows_device row.now))) }
+{
+    Ok(device_in(row).ok_or(Error::SqliteFailure(ErrorCode::DatabaseCorrupt))?)
+}
+
+/// The device of a sender, whose rows these are.
+pub fn found(rows: &[Row]) -> Result<Option<Device>, StoreFault>
+    ensures found { (known : Option Device) → AreFound known rows.now → IfOk result (λ found. found ≡ known) }
+    ensures refused { IfErr result (IsMemoryWhere (All (λ row. IsTrue (shows_device row)) rows.now)) }
+{
+    match rows.first() {
+        Some(row) => Ok(Some(shown(row)?)),
+        None => Ok(None),
+    }
+}
+
+/// The devices that the rows list.
+pub fn all_listed(alloc: Global, rows: &[Row]) -> Result<Vec<Device>, StoreFault>
+    ensures listed { IfOk result (λ all. all.items ≡ map listed rows.now) }
+    ensures refused { IfErr result (IsMemoryWhere (All (λ row. IsTrue (shows_device row)) rows.now)) }
+{
+    let mut all = Vec::with_capacity(alloc, rows.len())?;
+    for row in rows {
+        all.push(shown(row)?)?;
+    }
+    Ok(all)
+}
+
+/// The number that a query shows in one row.
+pub fn number(rows: &[Row]) -> Result<u64, StoreFault>
+    ensures number { IfOk result (λ n. (row : SqlRow) × (more : _) × (rows.now ≡ row ∷ more)
+        × (column row 0 ≡ Int (pos n))) }
+    ensures refused { IfErr result (IsMemoryWhere ((row : SqlRow) × (more : _) × (rows.now ≡ row ∷ more)
+        × (0 < length row) × ((n : ℕ) × (column row 0 ≡ Int (pos n))))) }
+{
+    let row = rows.first().ok_or(Error::QueryReturnedNoRows)?;
+    Ok(row.get(0)?)
+}
+
+/// The number of a profile.
+pub fn number_of(eep: Eep) -> i64
+    ensures { result ≡ pos (eep_number eep) }
+{
+    i64::from(eep.rorg) * 65536 + i64::from(eep.func) * 256 + i64::from(eep.typ)
+}
+
+/// The number of a maker, or that of none.
+pub fn number_of_maker(maker: Option<u16>) -> i64
+    ensures { result ≡ maker_number maker }
+{
+    match maker {
+        Some(maker) => i64::from(maker),
+        None => NO_MAKER,
+    }
+}
