@@ -15,10 +15,8 @@ use Rattle.sqlite_rules.specs.Edit.{without_all}
 use Rattle.sqlite_catalog.proofs.ReadLemmas.{lists_once}
 use Rattle.device_registry.specs.Table.{device_name, device_table, meta_table}
 use Rattle.device_registry.specs.Devices.{Devices, Learned, is_full, most_devices}
-use Rattle.device_registry.specs.Stored.{IsRegistry, Registers}
-use Rattle.device_registry.specs.Table.Rows.{RowidsDiffer, IsDevice, IsVersion}
-use Rattle.device_registry.specs.Stored.{Holds, Stands}
-use Rattle.device_registry.specs.Table.Rows.{devices_in, stored}
+use Rattle.device_registry.specs.Stored.{IsRegistry, Registers, Holds, Stands}
+use Rattle.device_registry.specs.Table.Rows.{RowidsDiffer, IsDevice, IsVersion, devices_in, stored}
 use Rattle.device_registry.specs.Opening.{FewAreHeld}
 use Rattle.device_registry.proofs.RowsAsMap.{IsShort, devices_replaced, put_are_devices, all_without_are_devices}
 use Rattle.device_registry.proofs.DistinctRows.{len_is, apart_put}

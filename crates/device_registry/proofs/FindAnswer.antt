@@ -17,10 +17,9 @@ use Rattle.sqlite.proofs.Callers.{IsPlain, reads_as, one_permutation}
 use Rattle.device_registry.specs.Table.{find_text}
 use Rattle.device_registry.specs.Devices.{Devices, Learned, device, device_of}
 use Rattle.device_registry.specs.Stored.{Registers}
-use Rattle.device_registry.specs.Table.Rows.{devices_in, entry_of, natural}
+use Rattle.device_registry.specs.Table.Rows.{devices_in, entry_of, natural, AreFound}
 use Rattle.sqlite.specs.Listing.{understood}
 use Rattle.device_registry.specs.Ready.{IsReady, Shows}
-use Rattle.device_registry.specs.Table.Rows.{AreFound}
 use Rattle.device_registry.proofs.StatementTexts.{find_query, program_of}
 use Rattle.device_registry.proofs.FindMeaning.{find_means}
 use Rattle.device_registry.proofs.ListDevicesAnswer.{shown}

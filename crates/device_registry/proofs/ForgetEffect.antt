@@ -19,13 +19,11 @@ use Rattle.sqlite_rules.specs.declared.error.Rowids.TheVariants.{Given}
 use Rattle.sqlite_rules.specs.Edit.{edit_of, without_all, id_in, taken_by}
 use Rattle.sqlite_rules.specs.Calls.{ids_of}
 use Rattle.sqlite.specs.Effect.{Database}
-use Rattle.sqlite.specs.Does.{Tally, Does}
-use Rattle.sqlite.specs.Rows.{Written}
+use Rattle.sqlite.specs.Does.{Tally, Does, AtPlace, OnRows}
+use Rattle.sqlite.specs.Rows.{Written, Task}
 use Rattle.sqlite.proofs.Callers.{one_step, one_permutation}
 use Rattle.sqlite.specs.Schema.{Schema}
 use Rattle.sqlite.specs.Table.{Table}
-use Rattle.sqlite.specs.Rows.{Task}
-use Rattle.sqlite.specs.Does.{AtPlace, OnRows}
 use Rattle.device_registry.specs.Table.{device_table}
 use Rattle.device_registry.specs.Table.Rows.{RowidsDiffer, IsDevice, devices_in}
 use Rattle.device_registry.proofs.StatementTexts.{program_of, forget_query}

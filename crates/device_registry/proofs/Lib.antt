@@ -39,6 +39,7 @@ pub mod TablesAdded
 pub mod TablesAlone
 pub mod TablesRecognized
 pub mod TextMeaning
+pub mod TransactionSteps
 pub mod VersionMeaning
 pub mod VersionWrites
 pub mod WriteMeaning

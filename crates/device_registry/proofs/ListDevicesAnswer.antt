@@ -18,10 +18,9 @@ use Rattle.sqlite.proofs.Callers.{IsPlain, reads_as}
 use Rattle.device_registry.specs.Table.{find_all_text}
 use Rattle.device_registry.specs.Devices.{Devices, device, all_of}
 use Rattle.device_registry.specs.Stored.{Registers}
-use Rattle.device_registry.specs.Table.Rows.{RowidsDiffer, IsDevice, entry_of}
+use Rattle.device_registry.specs.Table.Rows.{RowidsDiffer, IsDevice, entry_of, listed}
 use Rattle.sqlite.specs.Listing.{understood}
 use Rattle.device_registry.specs.Ready.{IsReady}
-use Rattle.device_registry.specs.Table.Rows.{listed}
 use Rattle.device_registry.proofs.StatementTexts.{all_query, program_of}
 use Rattle.device_registry.proofs.ListDevicesMeaning.{all_means}
 use Rattle.device_registry.proofs.SenderTests.{overlay_is}

@@ -1,6 +1,6 @@
 -- From the statements that make the two tables to a registry of no devices.
-use Rattle.std.proofs.Common.{◌≡◌, ℕ, List, [], ◌∷◌, length, ◌≤◌, ◌<◌, ◌≢◌, ◌++◌, false, None, Option, Ok}
-use Rattle.std.proofs.Common.{Err, OnOk, Result, arith, IsTrue, MatchBool, refl, sym, ap, subst, ◌∙◌}
+use Rattle.std.proofs.Common.{◌≡◌, ℕ, List, [], ◌∷◌, length, ◌≤◌, ◌<◌, false, None, Option, Ok}
+use Rattle.std.proofs.Common.{Err, OnOk, IfErr, OnErr, true, Result, arith, IsTrue, MatchBool, refl, sym, ap, subst, ◌∙◌}
 use Rattle.std.specs.List.{AllByRecursion}
 use Rattle.std.specs.FinMap.{empty}
 use Rattle.sqlite.specs.Schema.{Schema}
@@ -11,31 +11,35 @@ use Rattle.sqlite.specs.Compile.{table_defined_by}
 use Rattle.sqlite_catalog.specs.Change.{created, next_tree, is_used, KeepsRows}
 use Rattle.sqlite.specs.declared.run.Mode.{Mode}
 use Rattle.sqlite.specs.declared.error.Error.{Error}
-use Rattle.sqlite_trees.specs.Tree.{Trees}
 use Rattle.sqlite.specs.Effect.{Database, IsDatabase}
 use Rattle.sqlite.specs.Does.{Tally, Does, MakesTable, sequence_text, lacks_sequence}
 use Rattle.sqlite.specs.Rows.{Gives}
 use Rattle.sqlite.specs.Listing.{understood}
-use Rattle.sqlite.specs.State.{State, ExecutesInside, Shows as IsShowing, KeepsCounts, mode_of}
+use Rattle.sqlite.specs.State.{State, HasCleanDisk, Survives, ExecutesInside, mode_of}
+use Rattle.sqlite.specs.State.{Shows as IsShowing, KeepsCounts}
+use Rattle.sqlite.specs.Steps.{FailsToCommit}
+use Rattle.sqlite.specs.Held.{Held, state}
+use Rattle.sqlite_trees.specs.declared.store.Store.{Ghosts}
 use Rattle.sqlite.proofs.Callers.{runs_as, statement_of}
-use Rattle.device_registry.specs.Table.{meta_text, device_text, write_version_text, meta_name}
+use Rattle.device_registry.specs.Table.{meta_text, device_text, write_version_text}
 use Rattle.device_registry.specs.Table.{device_name, meta_table, device_table}
-use Rattle.device_registry.specs.Stored.{HasTables, KeepsTree, SparesName}
-use Rattle.device_registry.specs.Table.Rows.{RowidsDiffer, IsDevice}
-use Rattle.device_registry.specs.Stored.{Registers, Holds}
-use Rattle.device_registry.specs.Table.Rows.{devices_in}
+use Rattle.device_registry.specs.Stored.{HasTables, Registers, Holds}
+use Rattle.device_registry.specs.Table.Rows.{RowidsDiffer, IsDevice, devices_in}
 use Rattle.device_registry.specs.Ready.{Shows}
 use Rattle.device_registry.specs.Devices.{most_devices}
-use Rattle.device_registry.specs.Opening.{IsClear}
+use Rattle.device_registry.specs.Opening.{IsClear, Remains}
+use Rattle.device_registry.specs.Places.{is_clear}
+use Rattle.device_registry.specs.Transaction.{IsInside}
 use Rattle.device_registry.proofs.TableTexts.{meta_is, device_is}
 use Rattle.device_registry.proofs.RowWrites.{went, same_value}
 use Rattle.device_registry.proofs.CreateTablesMeaning.{meta_makes, device_makes}
 use Rattle.device_registry.proofs.VersionMeaning.{number_means, version_terms}
 use Rattle.device_registry.proofs.TablesAdded.{with_meta, with_both, made_tables, half_free}
-use Rattle.device_registry.proofs.TablesAdded.{still_counted, lows, owners_below}
-use Rattle.device_registry.proofs.TablesAlone.{StandsAlone, sets_off_nothing}
-use Rattle.sqlite_trees.proofs.ListLemmas.{all_weaker}
+use Rattle.device_registry.proofs.TablesAdded.{still_counted, lows, owners_below, all_last}
+use Rattle.device_registry.proofs.TablesAlone.{meta_alone}
 use Rattle.device_registry.proofs.RenewEffect.{version_row}
+use Rattle.device_registry.proofs.SchemaTests.{cleared}
+use Rattle.device_registry.proofs.TransactionSteps.{since, leaves, uncommitted_remains}
 use Rattle.device_registry.proofs.VersionWrites.{numbers}
 
 -- a table is made, empty, and the tables that were there keep their rows
@@ -63,18 +67,6 @@ record StandIn (schema : Schema) (meta devices : ℕ) : Type 0 where
   tables : HasTables schema
   meta_is : tables.meta ≡ meta
   devices_is : tables.devices ≡ devices
-
-all_last : {X : Type 0} (P : X → Type 0) (xs : List X) (x : X) → AllByRecursion P (xs ++ x ∷ []) → P x
-all_last P [] x all = all.0
-all_last P (y ∷ xs) x all = all_last P xs x all.1
-
-meta_alone : (schema : Schema) (t : HasTables schema) → StandsAlone schema t.meta
-meta_alone schema t = record {
-  free = λ keys olds news. sets_off_nothing schema keys t.meta meta_name
-      (all_weaker _ (KeepsTree meta_name t.meta) (λ t both. both.0) schema.tables t.alone) olds news
-      (all_weaker _ (SparesName meta_name) (λ t both. both.0) schema.tables t.spared);
-  unindexed = all_weaker _ (λ index. index.table ≢ t.meta) (λ index both. both.0) schema.indexes t.unindexed;
-}
 
 -- the two tables hold the version row and nothing else
 registers : (db : Database) (t : HasTables db.schema) → db.trees t.meta ≡ version_row ∷ [] → db.trees t.devices ≡ []
@@ -148,7 +140,7 @@ module _ (a b c : State) (i j : ℕ) (clear : IsClear a.now.schema) (sound : IsD
       (record { tables = t.0; meta_is = t.1; devices_is = t.2 })
 
 -- and the version row is written
-pub makes : (a b c d : State) (i j k : ℕ) → IsClear a.now.schema → IsDatabase a.now
+makes : (a b c d : State) (i j k : ℕ) → IsClear a.now.schema → IsDatabase a.now
     → ExecutesInside 0 meta_text [] a b (Ok i) → ExecutesInside 0 device_text [] b c (Ok j)
     → ExecutesInside 0 write_version_text [] c d (Ok k)
     → Registers d.now empty × IsDatabase d.now
@@ -172,21 +164,58 @@ makes a b c d i j k clear sound first second third =
       three.sound,
     )
 
-committed : (d e : State) → Registers d.now empty × IsDatabase d.now → IsShowing d e d.now d.now false → Shows e empty
-committed d e made ends = record {
-  is_open = ends.is_open;
-  idle = ends.mode;
-  settled = ends.now_is ∙ sym ends.committed_is;
-  sound = subst IsDatabase (sym ends.now_is) made.1;
-  registers = subst (λ db. Registers db empty) (sym ends.now_is) made.0;
-}
+-- ---- the transaction
 
-pub made_if : {V : Type 0} (r : Result V Error) (d e : State) → Registers d.now empty × IsDatabase d.now
-    → OnOk r (IsTrue d.in_transaction × IsShowing d e d.now d.now false × KeepsCounts d e × (e.marks ≡ []))
-    → OnOk r (Shows e empty)
-made_if (Ok v) d e made ends = committed d e made ends.1
-made_if (Err x) d e made ends = tt
+-- it is committed as it stands
+abbrev Commits : State → State → Type 0
+Commits d e = IsTrue d.in_transaction × IsShowing d e d.now d.now false × KeepsCounts d e × (e.marks ≡ [])
 
-pub left_by : (d : State) (trees : Trees) → Registers d.now empty × IsDatabase d.now → trees ≡ d.now.trees
-    → Holds trees empty
-left_by d trees made is = record { db = d.now; same = sym is; sound = made.1; registers = made.0 }
+shows_made : {V : Type 0} (d e : State) (r : Result V Error) → Registers d.now empty × IsDatabase d.now
+    → OnOk r (Commits d e) → OnOk r (Shows e empty)
+shows_made d e (Ok v) db ends =
+    let shown = ends.1 in
+    record {
+      is_open = shown.is_open;
+      idle = shown.mode;
+      settled = shown.now_is ∙ sym shown.committed_is;
+      sound = subst IsDatabase (sym shown.now_is) db.1;
+      registers = subst (λ db. Registers db empty) (sym shown.now_is) db.0;
+    }
+shows_made d e (Err x) db ends = tt
+
+module _ {S : Type 0} (g : Ghosts S) (old start last : Held S) (is : start ≡ record old { in_transaction = true })
+    (it : IsInside g (meta_text ∷ device_text ∷ write_version_text ∷ []) start last)
+    (free : HasCleanDisk (state g old) → IsTrue (is_clear (state g old).now.schema) × IsDatabase (state g old).now) where
+  -- what it shows behind the three texts
+  shows : HasCleanDisk (state g last) → Registers (state g last).now empty × IsDatabase (state g last).now
+  shows clean =
+      let at = subst (λ h. IsInside g (meta_text ∷ device_text ∷ write_version_text ∷ []) h last) is it in
+      let was = free (omega (arith, clean, (since g old start (state g last) is it.uncommitted).stop.clean)) in
+      let first = at.ran clean in
+      let second = first.3 in
+      let third = second.3 in
+      subst (λ h. Registers (state g h).now empty × IsDatabase (state g h).now) third.3
+      (makes (state g (record old { in_transaction = true })) (state g first.0) (state g second.0) (state g third.0)
+      first.1 second.1 third.1 (cleared (state g old).now.schema was.0) was.1 first.2 second.2 third.2)
+
+  module _ {V : Type 0} (r : Result V Error) (e : State)
+      (commits : Survives (state g last) e (λ trees. trees ≡ (state g last).now.trees)) where
+    pub made : (HasCleanDisk e → OnOk r (Commits (state g last) e)) → HasCleanDisk e → OnOk r (Shows e empty)
+    made ends clean = shows_made (state g last) e r (shows (omega (arith, clean, commits.clean))) (ends clean)
+
+    pub made_stop : Survives (state g old) e (λ trees. Holds trees empty)
+    made_stop =
+        leaves (state g old) (state g last) e (since g old start (state g last) is it.uncommitted)
+        commits (λ trees. Holds trees empty)
+        (λ clean. let db = shows clean in record {
+          db = (state g last).now;
+          same = refl;
+          sound = db.1;
+          registers = db.0;
+        })
+
+    pub made_not : (HasCleanDisk e → IfErr r (FailsToCommit (state g last) e)) → HasCleanDisk e
+        → OnErr r (Remains (state g old) e)
+    made_not failed =
+        uncommitted_remains (state g old) (state g last) e (since g old start (state g last) is it.uncommitted) commits r
+        it.inside failed

@@ -1,13 +1,11 @@
 -- What a connection shows after a refusal.
-use Rattle.std.proofs.Common.{◌≡◌, ◌⊎◌, inl, inr, ℕ, List, false, true, Ok, Err, Result, IsTrue}
-use Rattle.std.proofs.Common.{IfErr, OnErr, sym, ap, subst, ◌∙◌, append-nil}
+use Rattle.std.proofs.Common.{◌≡◌, inl, inr, ℕ, List, [], false, Ok, Err, Result, IsTrue, IfErr, OnErr, sym, subst, ◌∙◌}
 use Rattle.sqlite.specs.Order.{Row}
 use Rattle.sqlite.specs.declared.error.Error.{Error}
 use Rattle.sqlite.specs.Listing.{understood}
 use Rattle.sqlite.specs.Effect.{IsDatabase}
 use Rattle.sqlite.specs.State.{State, Executes, ExecutesInside, IsNotRun, IsUnchanged}
 use Rattle.sqlite.specs.State.{IsRolledBack, KeepsCommit, FailsToQuery}
-use Rattle.sqlite.specs.Steps.{FailsToCommit}
 use Rattle.sqlite.proofs.Callers.{IsPlain}
 use Rattle.device_registry.specs.Opening.{IsAtRest, Remains}
 use Rattle.device_registry.proofs.OpenCalls.{rests}
@@ -17,7 +15,7 @@ pub unchanged_remains : (old new : State) → IsUnchanged old new → Remains ol
 unchanged_remains old new same is_open rest = (rests old new same rest, same.0.now_is)
 
 -- it goes back to what was committed, which is what it showed
-back_at : (old new : State) → IsTrue new.is_open → new.in_transaction ≡ false → new.now ≡ old.now
+pub back_at : (old new : State) → IsTrue new.is_open → new.in_transaction ≡ false → new.now ≡ old.now
     → new.committed ≡ old.committed → IsAtRest old → IsAtRest new × (new.now ≡ old.now)
 back_at old new is_open idle same last rest = (
   record {
@@ -88,28 +86,10 @@ then_commit old mid new first second = record {
 }
 
 pub inside_commit : (sql : List ℕ) (old new : State) (e : Error)
-    → ExecutesInside 0 sql Rattle.std.proofs.Common.[] old new (Err e) → KeepsCommit old new
+    → ExecutesInside 0 sql [] old new (Err e) → KeepsCommit old new
 inside_commit sql old new e (inl h) = spared_commit old new h.1
 inside_commit sql old new e (inr h) = spared_commit old new (inl h.2)
 
-pub made_commit : (sql : List ℕ) (old new : State) (n : ℕ) → ExecutesInside 0 sql Rattle.std.proofs.Common.[] old new
+pub made_commit : (sql : List ℕ) (old new : State) (n : ℕ) → ExecutesInside 0 sql [] old new
     (Ok n) → KeepsCommit old new
 made_commit sql old new n h = record { was_open = λ _. h.1.was_open; committed = λ _. h.1.committed_is }
-
--- the transaction is ended, from a start at rest
-pub ended_remains : (old start last new : State) → start.committed ≡ old.committed → KeepsCommit start last
-    → IsRolledBack last new → Remains old new
-ended_remains old start last new begun kept back is_open rest =
-    let both = back.undone is_open in
-    let same : last.committed ≡ old.committed = kept.committed (back.was_open is_open) ∙ begun in
-    back_at old new is_open back.autocommit (both.0 ∙ same ∙ sym rest.settled) (both.1 ∙ same) rest
-
-pub uncommitted : (old start last new : State) (e : Error) → start.committed ≡ old.committed → KeepsCommit start last
-    → IsTrue last.in_transaction → FailsToCommit last new e → Remains old new
-uncommitted old start last new e begun kept inside (inl failed) = ended_remains old start last new begun kept failed.3
-uncommitted old start last new e begun kept inside (inr late) = absurd (let e = sym inside ∙ late.1 in cc)
-
-pub commit_if : {V : Type 0} (r : Result V Error) (old start last new : State) → start.committed ≡ old.committed
-    → KeepsCommit start last → IsTrue last.in_transaction → IfErr r (FailsToCommit last new) → OnErr r (Remains old new)
-commit_if (Ok v) old start last new begun kept inside h = tt
-commit_if (Err e) old start last new begun kept inside h = uncommitted old start last new e begun kept inside h

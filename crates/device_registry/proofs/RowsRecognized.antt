@@ -2,13 +2,11 @@
 use Rattle.sqlite.specs.declared.error.Error.{Error}
 use Rattle.std.proofs.Common.{◌≡◌, ◌≢◌, ◌+◌, nat_le, ℕ, ℤ, true, ◌≤ℤ◌, negsuc, Less, Result, Ok, Err, IfOk}
 use Rattle.std.proofs.Common.{◌≤◌, suc, pos, List, [], ◌∷◌, map, length, refl, sym, ap, subst, ◌∙◌, arith, codes}
-use Rattle.std.specs.List.{flat_map}
 use Rattle.std.specs.List.Sorted.{IsPermutation}
-use Rattle.std.proofs.lemmas.List.Sorted.{length_permutation}
+use Rattle.std.proofs.lemmas.List.Sorted.{length_permutation, IsPermutation-sym}
 use Rattle.sqlite.specs.declared.types.Value.TheVariants.{Null, Int, Real, Text, Blob}
-use Rattle.sqlite.specs.Order.{Row, column}
+use Rattle.sqlite.specs.Order.{Row, column, value_cmp}
 use Rattle.sqlite.specs.Query.{IsAnswer, output, Output}
-use Rattle.sqlite_sql.specs.Term.{Env}
 use Rattle.sqlite.specs.Program.{overlay}
 use Rattle.sqlite_trees.specs.Tree.{Trees, IsTable, rowid}
 use Rattle.sqlite.specs.Command.TheVariants.{Select}
@@ -22,13 +20,12 @@ use Rattle.device_registry.specs.Table.Rows.{RowidsDiffer, IsDevice}
 use Rattle.device_registry.specs.Devices.{most_devices}
 use Rattle.device_registry.specs.Table.Rows.{ShowsVersion, natural, is_number, is_maker, shows_device, devices_rise}
 use Rattle.device_registry.proofs.DistinctRows.{ranked, ranked_all, ranked_rises, apart_turned}
-use Rattle.device_registry.proofs.ListDevicesAnswer.{shown, out, outs_are, shown_are, shows_ranked, envs as listed_envs}
+use Rattle.device_registry.proofs.ListDevicesAnswer.{shown, out, outs_are, shown_are, shows_ranked, envs}
 use Rattle.std.specs.List.{AllByRecursion}
 use Rattle.std.proofs.lemmas.Bool.Decides.{nat_tests}
+use Rattle.std.proofs.lemmas.List.{length-map}
 use Rattle.std.proofs.lemmas.Int.{ints}
-use Rattle.std.proofs.lemmas.List.Sorted.{IsPermutation-sym}
 use Rattle.sqlite.specs.declared.types.Value.{Value}
-use Rattle.sqlite.specs.Order.{value_cmp}
 use Rattle.sqlite_trees.proofs.ListLemmas.{all_weaker, all-permutation, pull_back}
 use Rattle.device_registry.proofs.StatementSteps.{shown_same}
 use Rattle.device_registry.proofs.SenderTests.{overlay_is, above}
@@ -37,25 +34,18 @@ use Rattle.device_registry.proofs.ListDevicesMeaning.{all_means}
 use Rattle.device_registry.proofs.VersionMeaning.{version_query, version_means}
 use Rattle.device_registry.proofs.TestSteps.{both}
 
-abbrev envs : List Row → List Env
-envs rows = flat_map (λ r. ([] ∷ r ∷ []) ∷ []) rows
-
 envs_length : (rows : List Row) → length (envs rows) ≡ length rows
 envs_length [] = refl
 envs_length (r ∷ rows) = ap suc (envs_length rows)
-
-map_length : {A B : Type 0} (f : A → B) (xs : List A) → length (map f xs) ≡ length xs
-map_length f [] = refl
-map_length f (x ∷ xs) = ap suc (map_length f xs)
 
 all_counted : (d : ℕ) (db : Trees) (rows : List Row) → IsAnswer (all_query d) (overlay db []) [] rows
     → length rows ≡ length (db d)
 all_counted d db rows a =
     let kept : a.kept ≡ map (output (all_query d)) (envs (db d)) =
     a.distinct ∙ ap (map (output (all_query d))) (subst (λ rs. a.staged ≡ envs rs) (overlay_is db d) a.grouped) in
-    ap length a.shown ∙ map_length (λ (o : Output). o.1) a.ordered ∙ length_permutation a.kept a.ordered a.same
+    ap length a.shown ∙ length-map a.ordered (λ (o : Output). o.1) ∙ length_permutation a.kept a.ordered a.same
     ∙ ap length kept
-    ∙ map_length (output (all_query d)) (envs (db d)) ∙ envs_length (db d)
+    ∙ length-map (envs (db d)) (output (all_query d)) ∙ envs_length (db d)
 
 -- the table has one row, which has the number that is shown
 record IsOne (table : List Row) (shown : Row) : Type 0 where
@@ -71,7 +61,7 @@ versioned : (d : ℕ) (table : List Row) (shown : Row) (ordered : List Output)
     (map (output (version_query d)) (envs table)) ordered → IsOne table shown
 versioned d [] shown ordered is same =
     absurd (let n = length_permutation _ ordered same in
-    let m = ap length is ∙ map_length (λ (o : Output). o.1) ordered in omega (arith, n, m))
+    let m = ap length is ∙ length-map ordered (λ (o : Output). o.1) in omega (arith, n, m))
 versioned d (r ∷ []) shown ordered is same = record {
   row = r;
   are = refl;
@@ -81,7 +71,7 @@ versioned d (r ∷ []) shown ordered is same = record {
 }
 versioned d (r ∷ s ∷ more) shown ordered is same =
     absurd (let n = length_permutation _ ordered same in
-    let m = ap length is ∙ map_length (λ (o : Output). o.1) ordered in omega (arith, n, m))
+    let m = ap length is ∙ length-map ordered (λ (o : Output). o.1) in omega (arith, n, m))
 
 version_shown : (d : ℕ) (db : Trees) (rows : List Row) (it : ShowsVersion rows)
     → IsAnswer (version_query d) (overlay db []) [] rows → IsOne (db d) it.row
@@ -191,7 +181,7 @@ rows_are d db rows a h =
     let q = all_query d in
     let table = db d in
     let kept : a.kept ≡ map out table =
-    a.distinct ∙ ap (map (output q)) (a.grouped ∙ ap listed_envs (overlay_is db d)) ∙ outs_are d table in
+    a.distinct ∙ ap (map (output q)) (a.grouped ∙ ap envs (overlay_is db d)) ∙ outs_are d table in
     let to = pull_back out a.kept a.ordered a.same table kept in
     let are : rows ≡ map shown to.0 = a.shown ∙ ap (map (λ (o : Output). o.1)) to.2 ∙ shown_are to.0 in
     let it = rising 0 to.0 (subst (λ rs. devices_rise 0 rs ≡ true) are h) in

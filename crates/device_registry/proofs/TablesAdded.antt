@@ -1,8 +1,7 @@
 -- What the transaction that makes the two tables leaves, whatever other tables there are.
-use Rattle.std.proofs.Common.{◌≡◌, ◌≢◌, ◌<◌, inl, inr, ℕ, ◌+◌, ◌^◌, ◌==◌, nat_le, List, [], ◌∷◌}
-use Rattle.std.proofs.Common.{◌++◌, length, Bool, true, false, not, ◌&&◌, ◌||◌, Some, None, Option, arith, refl, sym}
-use Rattle.std.proofs.Common.{ap, subst, ◌∙◌, append_assoc, append-nil, is_some, codes, slice_get, zero, suc}
-use Rattle.std.proofs.Common.{option_and_then}
+use Rattle.std.proofs.Common.{◌≡◌, ◌≢◌, ◌<◌, inl, inr, ℕ, ◌+◌, ◌^◌, ◌==◌, nat_le, List, [], ◌∷◌, ◌++◌, length, Bool}
+use Rattle.std.proofs.Common.{true, false, not, ◌&&◌, ◌||◌, Some, None, Option, arith, refl, sym, ap, subst, ◌∙◌}
+use Rattle.std.proofs.Common.{append_assoc, append-nil, is_some, codes, slice_get, zero, suc, option_and_then}
 use Rattle.std.proofs.lemmas.Bool.Decides.{nat_tests}
 use Rattle.std.proofs.lemmas.Bool.{cases_Bool}
 use Rattle.std.proofs.lemmas.List.Folds.{list_any-append}
@@ -20,7 +19,6 @@ use Rattle.sqlite_catalog.proofs.LayoutLemmas.{index_owner, zipped_left}
 use Rattle.sqlite_catalog.proofs.StepLemmas.{table_below}
 use Rattle.sqlite_trees.specs.Tree.{Trees}
 use Rattle.sqlite_trees.proofs.ListLemmas.{all-append, all_weaker}
-use Rattle.sqlite_rules.specs.Lists.{Has}
 use Rattle.sqlite_rules.proofs.ListLemmas.{all_has, all_from}
 use Rattle.device_registry.specs.Table.{meta_name, device_name, meta_table, device_table}
 use Rattle.device_registry.specs.Stored.{HasTables}
@@ -142,6 +140,10 @@ still_counted schema table plain lacks =
     decided true true h is =
         ap (λ b. true && not b) (sequenced schema table (table_named schema (codes "sqlite_sequence")) refl is)
 
+pub all_last : {X : Type 0} (P : X → Type 0) (xs : List X) (x : X) → AllByRecursion P (xs ++ x ∷ []) → P x
+all_last P [] x all = all.0
+all_last P (y ∷ xs) x all = all_last P xs x all.1
+
 module _ (schema : Schema) (clear : IsClear schema) (low : next_tree schema < 65536)
     (lower : next_tree (with_meta schema) < 65536)
     (owners : AllByRecursion (λ i. i.table < next_tree schema) schema.indexes) where
@@ -161,12 +163,7 @@ module _ (schema : Schema) (clear : IsClear schema) (low : next_tree schema < 65
   front_below = all_below (with_meta schema)
 
   rises : first < second
-  rises =
-      all_has (λ t. t.tree < second) front (meta_table first) front_below (last_has schema.tables (meta_table first))
-    where
-      last_has : {X : Type 0} (xs : List X) (x : X) → Has (xs ++ x ∷ []) x
-      last_has [] x = inl refl
-      last_has (y ∷ xs) x = inr (last_has xs x)
+  rises = all_last (λ t. t.tree < second) schema.tables (meta_table first) front_below
 
   lower_below : AllByRecursion (λ t. t.tree < second) schema.tables
   lower_below = all_weaker (λ t. t.tree < first) (λ t. t.tree < second) (λ t h.

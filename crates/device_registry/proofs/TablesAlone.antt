@@ -5,7 +5,6 @@ use Rattle.std.proofs.lemmas.Bool.Decides.{nat_tests}
 use Rattle.std.proofs.lemmas.Bool.{cases_Bool}
 use Rattle.std.specs.List.{AllByRecursion, flat_map, filter_map, list_any}
 use Rattle.sqlite.specs.Order.{Row}
-use Rattle.sqlite.specs.Effect.{Database}
 use Rattle.sqlite.specs.Schema.{Schema}
 use Rattle.sqlite.specs.Table.{Table}
 use Rattle.sqlite_schema.specs.declared.schema.Keys.{Keys}
@@ -17,7 +16,8 @@ use Rattle.sqlite_schema.specs.Rules.{ParentKey, parent_key, key_in, key_places,
 use Rattle.sqlite_rules.specs.Action.{works, work_for, work_by, deed_for, pairs}
 use Rattle.sqlite_rules.specs.declared.action.Deed.{Deed}
 use Rattle.sqlite_catalog.proofs.SoundLemmas.{lowered}
-use Rattle.device_registry.specs.Stored.{SparesName, KeepsTree, IsRegistry}
+use Rattle.sqlite_trees.proofs.ListLemmas.{all_weaker}
+use Rattle.device_registry.specs.Stored.{SparesName, KeepsTree, HasTables}
 use Rattle.device_registry.specs.Table.{meta_name, device_name}
 
 same_through : (a b c : List ℕ) → same_name a b ≡ true → same_name a c ≡ true → same_name b c ≡ true
@@ -89,32 +89,25 @@ at_place P [] i x all e = absurd (cc)
 at_place P (y ∷ ys) zero x all e = let same : y ≡ x = cc in subst P same all.0
 at_place P (y ∷ ys) (suc i) x all e = at_place P ys i x all.1 e
 
-all_so : {X : Type 0} (P Q : X → Type 0) (xs : List X) → ((x : X) → P x → Q x) → AllByRecursion P xs
-    → AllByRecursion Q xs
-all_so P Q [] so all = tt
-all_so P Q (x ∷ xs) so all = (so x all.0, all_so P Q xs so all.1)
-
 -- nothing refers to the table in this tree, and no index is on it
 pub record StandsAlone (schema : Schema) (tree : ℕ) : Type 0 where
   pub free : (keys : Keys) (olds news : List Row) → works schema keys 0 tree olds news ≡ []
   pub unindexed : AllByRecursion (λ index. index.table ≢ tree) schema.indexes
 
-pub devices_alone : (db : Database) (registry : IsRegistry db) → StandsAlone db.schema registry.tables.devices
-devices_alone db registry = record {
-  free =
-      λ keys olds news. sets_off_nothing db.schema keys registry.tables.devices device_name
-      (all_so _ _ db.schema.tables (λ t both. both.1) registry.tables.alone) olds news
-      (all_so _ _ db.schema.tables (λ t both. both.1) registry.tables.spared);
-  unindexed = all_so _ _ db.schema.indexes (λ index both. both.1) registry.tables.unindexed;
+pub devices_alone : (schema : Schema) (t : HasTables schema) → StandsAlone schema t.devices
+devices_alone schema t = record {
+  free = λ keys olds news. sets_off_nothing schema keys t.devices device_name
+      (all_weaker _ (KeepsTree device_name t.devices) (λ t both. both.1) schema.tables t.alone) olds news
+      (all_weaker _ (SparesName device_name) (λ t both. both.1) schema.tables t.spared);
+  unindexed = all_weaker _ (λ index. index.table ≢ t.devices) (λ index both. both.1) schema.indexes t.unindexed;
 }
 
-pub meta_alone : (db : Database) (registry : IsRegistry db) → StandsAlone db.schema registry.tables.meta
-meta_alone db registry = record {
-  free =
-      λ keys olds news. sets_off_nothing db.schema keys registry.tables.meta meta_name
-      (all_so _ _ db.schema.tables (λ t both. both.0) registry.tables.alone) olds news
-      (all_so _ _ db.schema.tables (λ t both. both.0) registry.tables.spared);
-  unindexed = all_so _ _ db.schema.indexes (λ index both. both.0) registry.tables.unindexed;
+pub meta_alone : (schema : Schema) (t : HasTables schema) → StandsAlone schema t.meta
+meta_alone schema t = record {
+  free = λ keys olds news. sets_off_nothing schema keys t.meta meta_name
+      (all_weaker _ (KeepsTree meta_name t.meta) (λ t both. both.0) schema.tables t.alone) olds news
+      (all_weaker _ (SparesName meta_name) (λ t both. both.0) schema.tables t.spared);
+  unindexed = all_weaker _ (λ index. index.table ≢ t.meta) (λ index both. both.0) schema.indexes t.unindexed;
 }
 
 not_of : (index : Index) (table : Table) (new row : Row) → index.table ≢ table.tree

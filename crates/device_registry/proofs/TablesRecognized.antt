@@ -1,7 +1,6 @@
 -- A database that lists the registry's texts in the trees of its two names has the registry's tables.
-use Rattle.std.proofs.Common.{◌≡◌, inl, inr, ℕ, ◌<◌, ◌==◌, ◌^◌, nat_le, List, [], ◌∷◌, ◌++◌, map, Bool, true}
-use Rattle.std.proofs.Common.{false, ◌&&◌, ◌||◌, Some, option_map, Ok, refl, sym, ap, subst, ◌∙◌, arith, IsTrue, Less}
-use Rattle.std.proofs.Common.{is_eq}
+use Rattle.std.proofs.Common.{◌≡◌, inl, inr, ℕ, ◌<◌, ◌==◌, ◌^◌, nat_le, List, [], ◌∷◌, ◌++◌, map, Bool, true, false}
+use Rattle.std.proofs.Common.{◌&&◌, ◌||◌, Some, option_map, Ok, refl, sym, ap, subst, ◌∙◌, arith, IsTrue, Less, is_eq}
 use Rattle.std.proofs.lemmas.Bool.Decides.{nat_tests}
 use Rattle.std.proofs.lemmas.Slice.Eq.{bytes_eq-Decides}
 use Rattle.std.proofs.lemmas.List.Sorted.{list_any-IsPermutation}
@@ -40,8 +39,7 @@ use Rattle.std.proofs.lemmas.List.Folds.{list_any-append}
 use Rattle.std.proofs.lemmas.Bool.{cases_Bool, not-true}
 use Rattle.device_registry.specs.Table.{list_objects_text, meta_name, device_name, meta_text}
 use Rattle.device_registry.specs.Table.{device_text, meta_table, device_table}
-use Rattle.device_registry.specs.Stored.{Stands, KeepsTree}
-use Rattle.device_registry.specs.Stored.{HasTables, IsRegistry}
+use Rattle.device_registry.specs.Stored.{Stands, KeepsTree, HasTables, IsRegistry}
 use Rattle.device_registry.specs.Opening.{IsOwn, IsFree, IsClear, IsAtRest, IsListedAs, AreListed}
 use Rattle.device_registry.specs.Listing.{has_text, is_line, are_ours}
 use Rattle.device_registry.specs.Places.{is_clear, trees_in}

@@ -79,7 +79,7 @@ renew_does : (s : State) (after : Database) (text : List ℕ) (tally : Tally) (d
 renew_does s after text tally devices had h =
     let r = had.registry in
     let kept = renews s.now.schema r.tables.meta_at r.tables.meta s.step_limit (mode_of s) s.now.trees text tally after
-    r.whole.row r.tables.meta_stands.there (meta_alone s.now r) r.whole.one r.whole.version h in
+    r.whole.row r.tables.meta_stands.there (meta_alone s.now.schema r.tables) r.whole.one r.whole.version h in
     renewed_registers s.now after devices had kept.0 kept.1 kept.2
 
 renewed : (old new : State) (count : ℕ) (devices : Devices) → Shows old devices
@@ -112,7 +112,7 @@ effect old new count devices shows h =
     let kept =
     renews old.now.schema r.tables.meta_at r.tables.meta old.step_limit (mode_of old) old.now.trees
     (statement_of renew_text (understood old.now.schema renew_text)) w.tally new.now r.whole.row
-    r.tables.meta_stands.there (meta_alone old.now r) r.whole.one r.whole.version w.changed in
+    r.tables.meta_stands.there (meta_alone old.now.schema r.tables) r.whole.one r.whole.version w.changed in
     (kept.0, kept.1, kept.2, w.counted ∙ ap (λ rows. unwrap_or rows 0) kept.3)
 
 pub changes_one : (old new : State) (count : ℕ) → IsReady old → Executes renew_text [] old new (Ok count) → count ≡ 1

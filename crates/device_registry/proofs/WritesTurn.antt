@@ -119,7 +119,7 @@ learn_does : (id : ℕ) (it : Learned) → IsShort it.eep → (s : State) (after
 learn_does id it short s after text tally devices had room h =
     let r = had.registry in
     let put = learns s.now.schema r.tables.devices_at r.tables.devices s.step_limit (mode_of s) id it s.now.trees text
-    tally after r.tables.devices_stand.there (devices_alone s.now r) r.whole.rows h in
+    tally after r.tables.devices_stand.there (devices_alone s.now.schema r.tables) r.whole.rows h in
     put_registers s.now after devices had id it short room put.0 put.1
 
 pub learn_turns : (id : ℕ) (it : Learned) → IsShort it.eep → (old new : State) (r : Result ℕ Error)
@@ -145,7 +145,7 @@ forget_does : (id : ℕ) (s : State) (after : Database) (text : List ℕ) (tally
 forget_does id s after text tally devices had room h =
     let r = had.registry in
     let gone = forgets s.now.schema r.tables.devices_at r.tables.devices s.step_limit (mode_of s) id s.now.trees text
-    tally after r.tables.devices_stand.there (devices_alone s.now r) r.whole.rows r.whole.once h in
+    tally after r.tables.devices_stand.there (devices_alone s.now.schema r.tables) r.whole.rows r.whole.once h in
     forgotten_registers s.now after devices had id gone.0 gone.1 gone.2
 
 pub forget_turns : (id : ℕ) (old new : State) (r : Result ℕ Error) → (HasCleanDisk old → IsReady old)
@@ -170,7 +170,7 @@ renew_does : (change : Change) (s : State) (after : Database) (text : List ℕ) 
 renew_does change s after text tally devices had same h =
     let r = had.registry in
     let kept = renews s.now.schema r.tables.meta_at r.tables.meta s.step_limit (mode_of s) s.now.trees text tally after
-    r.whole.row r.tables.meta_stands.there (meta_alone s.now r) r.whole.one r.whole.version h in
+    r.whole.row r.tables.meta_stands.there (meta_alone s.now.schema r.tables) r.whole.one r.whole.version h in
     subst (Registers after) (sym same) (renewed_registers s.now after devices had kept.0 kept.1 kept.2)
 
 -- a change that leaves the devices as they are is made by writing the version row

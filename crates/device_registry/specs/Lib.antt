@@ -1,5 +1,6 @@
 pub mod Devices
 pub mod Table
+pub mod Transaction
 pub mod Stored
 pub mod Faults
 pub mod Holding

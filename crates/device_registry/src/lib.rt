@@ -22,6 +22,7 @@ mod table;
 mod taking;
 #[cfg(test)]
 mod tests;
+mod transaction;
 
 pub use fault::{LearnFault, OpenFault, StoreFault};
 pub use learned_devices::Device;

@@ -10,6 +10,7 @@ ghost use Rattle.device_registry.specs.Opening.{Remains};
 ghost use Rattle.device_registry.specs.Places.{is_clear};
 
 use crate::table::{CREATE_DEVICE, CREATE_META, WRITE_VERSION};
+use crate::transaction::run_all;
 use sqlite::{Alter, Connection, Error};
 
 /// Makes the two tables and writes the version row, in one transaction.
@@ -23,8 +24,6 @@ pub fn make<S: Alter>(conn: &mut Connection<S>) -> Result<(), Error>
         (state S.Store conn.new)) }
 {
     let mut making = conn.transaction();
-    making.execute(CREATE_META, &[])?;
-    making.execute(CREATE_DEVICE, &[])?;
-    making.execute(WRITE_VERSION, &[])?;
+    run_all(&mut making, &[CREATE_META, CREATE_DEVICE, WRITE_VERSION])?;
     making.commit()
 }

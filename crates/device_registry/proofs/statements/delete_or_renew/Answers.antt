@@ -1,5 +1,4 @@
-use Rattle.std.proofs.Common.{rules}
-use Rattle.std.proofs.Common.{arith, ◌≡◌, []}
+use Rattle.std.proofs.Common.{rules, arith, ◌≡◌, []}
 use Rattle.std.proofs.lemmas.Grind.{common_steps}
 use Rattle.device_registry.proofs.FindAnswer.{unknown_is_removed}
 use Rattle.device_registry.specs.Devices.{forgotten}

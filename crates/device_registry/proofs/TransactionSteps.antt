@@ -1,0 +1,118 @@
+-- A transaction of ours, from its begin to its end.
+use Rattle.std.proofs.Common.{◌≡◌, inl, inr, ℕ, List, [], ◌∷◌, ◌++◌, Ok, Err, Result, IsTrue, IfErr, OnErr}
+use Rattle.std.proofs.Common.{true, MatchResult, refl, sym, subst, ◌∙◌, arith}
+use Rattle.std.specs.Result.{IsErr}
+use Rattle.sqlite.specs.declared.error.Error.{Error}
+use Rattle.sqlite.specs.State.{State, HasCleanDisk, Survives, ExecutesInside, IsRolledBack}
+use Rattle.sqlite.specs.Steps.{FailsToCommit}
+use Rattle.sqlite.specs.Held.{Held, state}
+use Rattle.sqlite.proofs.StateLemmas.{survives_then}
+use Rattle.sqlite.proofs.Callers.{survives_begin}
+use Rattle.sqlite_trees.specs.Tree.{Trees}
+use Rattle.sqlite_trees.specs.declared.store.Store.{Ghosts}
+use Rattle.device_registry.specs.Opening.{Remains}
+use Rattle.device_registry.specs.Transaction.{IsUncommitted, IsInside, Ran}
+use Rattle.device_registry.proofs.RefusalKeeps.{back_at, inside_commit, made_commit, then_commit}
+
+-- ---- what is not committed
+
+uncommitted_then : (a b c : State) → IsUncommitted a b → IsUncommitted b c → IsUncommitted a c
+uncommitted_then a b c first second = record {
+  stop = survives_then a b c (λ _. ⊥) (λ _. ⊥) (λ _. ⊥) (λ clean trees no. no) (λ clean trees no. no) first.stop
+      second.stop;
+  kept = λ clean. let early : HasCleanDisk b = omega (arith, clean, second.stop.clean) in
+      then_commit a b c (first.kept early) (second.kept clean);
+}
+
+-- a text that is run commits nothing
+ran_once : (sql : List ℕ) (old new : State) (r : Result ℕ Error) → Survives old new (λ _. ⊥)
+    → (HasCleanDisk new → ExecutesInside 0 sql [] old new r) → IsUncommitted old new
+ran_once sql old new (Ok n) stop ran = record { stop = stop; kept = λ clean. made_commit sql old new n (ran clean) }
+ran_once sql old new (Err e) stop ran = record { stop = stop; kept = λ clean. inside_commit sql old new e (ran clean) }
+
+-- ---- the texts
+
+module _ {S : Type 0} (g : Ghosts S) where
+  pub begun : (s : Held S) → IsTrue (state g s).in_transaction → IsInside g [] s s
+  begun s inside = record {
+    uncommitted = record {
+      stop = record {
+        clean = omega arith;
+        shield = λ shield. shield;
+        counts = omega arith;
+        limit = refl;
+        closes = λ clean is_open. inl is_open;
+        crash = λ clean trees may. inl may;
+      };
+      kept = λ clean. record { was_open = λ is_open. is_open; committed = λ is_open. refl };
+    };
+    inside = λ clean. inside;
+    ran = λ clean. refl;
+  }
+
+  ran_then : (texts : List (List ℕ)) (text : List ℕ) (a b c : Held S) (n : ℕ) → Ran g texts a b
+      → ExecutesInside 0 text [] (state g b) (state g c) (Ok n) → Ran g (texts ++ text ∷ []) a c
+  ran_then [] text a b c n same step =
+      (c, n, subst (λ h. ExecutesInside 0 text [] (state g h) (state g c) (Ok n)) (sym same) step, refl)
+  ran_then (t ∷ texts) text a b c n (mid, m, first, more) step =
+      (mid, m, first, ran_then texts text mid b c n more step)
+
+  -- one text more
+  module _ (texts : List (List ℕ)) (text : List ℕ) (a b c : Held S) (r : Result ℕ Error) (it : IsInside g texts a b)
+      (stop : Survives (state g b) (state g c) (λ _. ⊥))
+      (runs : HasCleanDisk (state g c) → IsTrue (state g b).in_transaction
+      → ExecutesInside 0 text [] (state g b) (state g c) r) where
+    ran : HasCleanDisk (state g c) → ExecutesInside 0 text [] (state g b) (state g c) r
+    ran clean = runs clean (it.inside (omega (arith, clean, stop.clean)))
+
+    pub uncommitted : IsUncommitted (state g a) (state g c)
+    uncommitted = uncommitted_then (state g a) (state g b) (state g c) it.uncommitted
+        (ran_once text (state g b) (state g c) r stop ran)
+
+    pub one_more : (n : ℕ) → r ≡ Ok n → IsInside g (texts ++ text ∷ []) a c
+    one_more n is =
+        let step = λ (clean : HasCleanDisk (state g c)).
+        subst (ExecutesInside 0 text [] (state g b) (state g c)) is (ran clean) in
+        record {
+          uncommitted = uncommitted;
+          inside = λ clean. (step clean).1.mode;
+          ran = λ clean. ran_then texts text a b c n (it.ran (omega (arith, clean, stop.clean))) (step clean);
+        }
+
+-- ---- its end
+
+-- it was begun at this state
+pub since : {S : Type 0} (g : Ghosts S) (old start : Held S) (new : State) → start ≡ record old { in_transaction = true }
+    → IsUncommitted (state g start) new → IsUncommitted (state g old) new
+since g old start new is it =
+    let at = subst (λ h. IsUncommitted (state g h) new) is it in
+    record {
+      stop = survives_begin g old new (λ _. ⊥) at.stop;
+      kept = λ clean. record { was_open = (at.kept clean).was_open; committed = (at.kept clean).committed };
+    }
+
+module _ (old last new : State) (it : IsUncommitted old last) where
+  -- what is rolled back is as it was
+  back : HasCleanDisk last → IsRolledBack last new → Remains old new
+  back clean gone is_open rest =
+      let both = gone.undone is_open in
+      let same : last.committed ≡ old.committed = (it.kept clean).committed (gone.was_open is_open) in
+      back_at old new is_open gone.autocommit (both.0 ∙ same ∙ sym rest.settled) (both.1 ∙ same) rest
+
+  -- a commit leaves what the transaction shows
+  module _ (commits : Survives last new (λ trees. trees ≡ last.now.trees)) where
+    pub leaves : (P : Trees → Type 0) → (HasCleanDisk last → P last.now.trees) → Survives old new P
+    leaves P shows = survives_then old last new (λ _. ⊥) (λ trees. trees ≡ last.now.trees) P (λ clean trees no. absurd no)
+        (λ clean trees is. subst P (sym is) (shows (omega (arith, clean, commits.clean)))) it.stop commits
+
+    pub uncommitted_remains : {V : Type 0} (r : Result V Error) → (HasCleanDisk last → IsTrue last.in_transaction)
+        → (HasCleanDisk new → IfErr r (FailsToCommit last new)) → HasCleanDisk new → OnErr r (Remains old new)
+    uncommitted_remains (Ok v) inside failed clean = tt
+    uncommitted_remains (Err e) inside failed clean = elim (failed clean) [
+      | inl fails ↦ back (omega (arith, clean, commits.clean)) fails.3
+      | inr late ↦ absurd (let e = sym (inside (omega (arith, clean, commits.clean))) ∙ late.1 in cc)
+    ]
+
+pub if_refused : {T E : Type 0} (r : Result T E) (P : T → Type 0) (Q : Type 0) → IsErr r → Q → MatchResult r P (λ _. Q)
+if_refused (Ok v) P Q is q = absurd cc
+if_refused (Err e) P Q is q = q
