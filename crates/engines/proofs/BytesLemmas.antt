@@ -16,7 +16,7 @@ use Rattle.gateway_core.specs.Calls.{Value}
 use Rattle.gateway_core.specs.Events.{Event}
 use Rattle.engines.specs.declared.lines.Lines.{Lines}
 use Rattle.engines.specs.declared.lines.Lines.TheVariants.{OfScript}
-use Rattle.engines.specs.Outlets.{IsOutlet}
+use Rattle.engines.specs.Outlets.{Way}
 use Rattle.engines.specs.Script.{event_of, script}
 use Rattle.engines.specs.Played.{IsIdle, Breaks, PlaysClosed, PlaysPartAtEnd, PlaysPartAtLine}
 use Rattle.engines.specs.Taking.{Takes, TakesOrBreaks, TakesOrStops}
@@ -65,23 +65,22 @@ more_lines first second rest =
     sym (append_assoc (flat_map with_end first) (flat_map with_end second) rest)
     ∙ ap (λ s. s ++ rest) (sym (flat_map-append with_end first second))
 
-module _ {S : Type 0} (stored : S → Stored) {O : Type 0} (puts : O → O → List Answer → Type 0)
-    (breaks : O → O → List Answer → Answer → Type 0) (outlet : IsOutlet puts breaks) (lines : Lines) where
+module _ {S : Type 0} (stored : S → Stored) {O : Type 0} (way : Way O) (lines : Lines) where
   pub bytes_none : (old : Value S) (tail kept : List ℕ) (o : O) (count : ℕ) → IsIdle old → count < 2 ^ 64
-      → Keeps tail kept → TakesBytes stored lines old old tail [] kept (puts o o) count count
+      → Keeps tail kept → TakesBytes stored lines old old tail [] kept (way.puts o o) count count
   bytes_none old tail kept o count idle fits keeps = record {
     ended = [];
     rest = tail;
     whole = append-nil tail;
     each = All-nil IsOneLine;
     keeps = keeps;
-    taken = takes_none stored puts breaks outlet old o count idle fits;
+    taken = takes_none stored way old o count idle fits;
   }
 
   -- bytes that end no line
   pub bytes_without_end : (old new : Value S) (tail bytes kept more : List ℕ) (o now : O) (count total : ℕ)
-      → IsOneLine more → TakesBytes stored lines old new tail bytes kept (puts o now) count total
-      → TakesBytes stored lines old new tail (bytes ++ more) (take longest_kept (kept ++ more)) (puts o now) count total
+      → IsOneLine more → TakesBytes stored lines old new tail bytes kept (way.puts o now) count total
+      → TakesBytes stored lines old new tail (bytes ++ more) (take longest_kept (kept ++ more)) (way.puts o now) count total
   bytes_without_end old new tail bytes kept more o now count total none p = record {
     ended = p.ended;
     rest = p.rest ++ more;
@@ -93,9 +92,9 @@ module _ {S : Type 0} (stored : S → Stored) {O : Type 0} (puts : O → O → L
 
   -- bytes behind bytes
   pub bytes_behind : (old mid new : Value S) (tail a b kept now_kept : List ℕ) (o mids now : O) (count some total : ℕ)
-      → (p : TakesBytes stored lines old mid tail a kept (puts o mids) count some)
-      → TakesBytes stored lines mid new p.rest b now_kept (puts mids now) some total
-      → TakesBytes stored lines old new tail (a ++ b) now_kept (puts o now) count total
+      → (p : TakesBytes stored lines old mid tail a kept (way.puts o mids) count some)
+      → TakesBytes stored lines mid new p.rest b now_kept (way.puts mids now) some total
+      → TakesBytes stored lines old new tail (a ++ b) now_kept (way.puts o now) count total
   bytes_behind old mid new tail a b kept now_kept o mids now count some total p q = record {
     ended = p.ended ++ q.ended;
     rest = q.rest;
@@ -105,15 +104,15 @@ module _ {S : Type 0} (stored : S → Stored) {O : Type 0} (puts : O → O → L
     keeps = q.keeps;
     taken =
         rw (events_by-append lines p.ended q.ended)
-        (takes-append stored puts breaks outlet old mid new (events_by lines p.ended) (events_by lines q.ended) o mids
+        (takes-append stored way old mid new (events_by lines p.ended) (events_by lines q.ended) o mids
         now
         count some total p.taken q.taken);
   }
 
   pub stops_behind : (old mid new : Value S) (tail a b kept : List ℕ) (o mids now : O) (count some : ℕ)
-      → (p : TakesBytes stored lines old mid tail a kept (puts o mids) count some)
-      → StopsAtLine stored lines mid new p.rest b (breaks mids now)
-      → StopsAtLine stored lines old new tail (a ++ b) (breaks o now)
+      → (p : TakesBytes stored lines old mid tail a kept (way.puts o mids) count some)
+      → StopsAtLine stored lines mid new p.rest b (way.breaks mids now)
+      → StopsAtLine stored lines old new tail (a ++ b) (way.breaks o now)
   stops_behind old mid new tail a b kept o mids now count some p q = record {
     ended = p.ended ++ q.ended;
     line = q.line;
@@ -124,15 +123,15 @@ module _ {S : Type 0} (stored : S → Stored) {O : Type 0} (puts : O → O → L
     one = q.one;
     broken =
         rw (events_by-append lines p.ended q.ended)
-        (plays-break stored puts breaks outlet old mid new (events_by lines p.ended) (events_by lines q.ended)
+        (plays-break stored way old mid new (events_by lines p.ended) (events_by lines q.ended)
         (event_by lines (strip_carriage_return q.line)) o mids now p.taken.played q.broken);
   }
 
   -- one line that LF ends
   pub line_taken : (old new : Value S) (tail bytes : List ℕ) (o now : O) (count total : ℕ) → IsOneLine tail
       → IsOneLine bytes
-      → Takes stored old new (event_by lines (strip_carriage_return (tail ++ bytes)) ∷ []) (puts o now) count total
-      → TakesBytes stored lines old new tail (bytes ++ 10 ∷ []) [] (puts o now) count total
+      → Takes stored old new (event_by lines (strip_carriage_return (tail ++ bytes)) ∷ []) (way.puts o now) count total
+      → TakesBytes stored lines old new tail (bytes ++ 10 ∷ []) [] (way.puts o now) count total
   line_taken old new tail bytes o now count total one more takes = record {
     ended = (tail ++ bytes) ∷ [];
     rest = [];
@@ -145,8 +144,8 @@ module _ {S : Type 0} (stored : S → Stored) {O : Type 0} (puts : O → O → L
 
   -- and an answer that does not get out at it, whatever follows
   pub line_stops : (old new : Value S) (tail bytes more : List ℕ) (o now : O) → IsOneLine tail → IsOneLine bytes
-      → Breaks stored old new [] (event_by lines (strip_carriage_return (tail ++ bytes))) (breaks o now)
-      → StopsAtLine stored lines old new tail (bytes ++ 10 ∷ more) (breaks o now)
+      → Breaks stored old new [] (event_by lines (strip_carriage_return (tail ++ bytes))) (way.breaks o now)
+      → StopsAtLine stored lines old new tail (bytes ++ 10 ∷ more) (way.breaks o now)
   line_stops old new tail bytes more o now one others broken = record {
     ended = [];
     line = tail ++ bytes;
@@ -208,24 +207,23 @@ module _ {S : Type 0} (stored : S → Stored) where
         broken = s.broken;
       }
 
-module _ {S : Type 0} (stored : S → Stored) {O : Type 0} (puts : O → O → List Answer → Type 0)
-    (breaks : O → O → List Answer → Answer → Type 0) (outlet : IsOutlet puts breaks) where
+module _ {S : Type 0} (stored : S → Stored) {O : Type 0} (way : Way O) where
   -- a whole script, with the line that its end ends
   pub script_taken : (entry old new : Value S) (input kept : List ℕ) (o mids now : O) (some total : ℕ)
-      → (p : TakesBytes stored OfScript entry old [] input kept (puts o mids) 0 some)
-      → Takes stored old new (script p.rest) (puts mids now) some total
-      → Takes stored entry new (script input) (puts o now) 0 total
+      → (p : TakesBytes stored OfScript entry old [] input kept (way.puts o mids) 0 some)
+      → Takes stored old new (script p.rest) (way.puts mids now) some total
+      → Takes stored entry new (script input) (way.puts o now) 0 total
   script_taken entry old new input kept o mids now some total p last =
-      rw (script_of_bytes stored entry old input kept (puts o mids) 0 some p)
-      (takes-append stored puts breaks outlet entry old new (events_by OfScript p.ended) (script p.rest) o mids now 0
+      rw (script_of_bytes stored entry old input kept (way.puts o mids) 0 some p)
+      (takes-append stored way entry old new (events_by OfScript p.ended) (script p.rest) o mids now 0
       some
       total p.taken last)
 
   pub script_stops : (entry old new : Value S) (input kept : List ℕ) (o mids now : O) (some : ℕ)
-      → (p : TakesBytes stored OfScript entry old [] input kept (puts o mids) 0 some)
-      → PlaysPartAtEnd stored old new (script p.rest) (breaks mids now)
-      → PlaysPartAtEnd stored entry new (script input) (breaks o now)
+      → (p : TakesBytes stored OfScript entry old [] input kept (way.puts o mids) 0 some)
+      → PlaysPartAtEnd stored old new (script p.rest) (way.breaks mids now)
+      → PlaysPartAtEnd stored entry new (script input) (way.breaks o now)
   script_stops entry old new input kept o mids now some p last =
-      rw (script_of_bytes stored entry old input kept (puts o mids) 0 some p)
-      (part_behind stored puts breaks outlet entry old new (events_by OfScript p.ended) (script p.rest) o mids now
+      rw (script_of_bytes stored entry old input kept (way.puts o mids) 0 some p)
+      (part_behind stored way entry old new (events_by OfScript p.ended) (script p.rest) o mids now
       p.taken.played last)

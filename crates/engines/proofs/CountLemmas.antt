@@ -2,7 +2,7 @@
 use Rattle.std.proofs.Common.{◌≡◌, ℕ, ◌+◌, ◌<◌, ◌≤◌, arith}
 use Rattle.std.specs.Prelude.{Result, Ok, Err}
 use Rattle.byte_streams.specs.Counts.{Counts, Went, WentWell, Made, one_more}
-use Rattle.engines.specs.Behind.{well_behind, wrong_behind}
+use Rattle.engines.specs.TextWay.{well_behind, wrong_behind}
 
 pub made_none : (old : Counts) → Made old old 0
 made_none old fits = omega arith

@@ -9,26 +9,25 @@ use Rattle.gateway_core.specs.Step.{Item, Received, Answer}
 use Rattle.gateway_core.specs.Calls.{Value}
 use Rattle.gateway_core.specs.Events.{Event, items_of, bytes_in}
 use Rattle.gateway_core.proofs.ForCallers.{count_on, items_behind, rest_behind}
-use Rattle.engines.specs.Outlets.{IsOutlet}
+use Rattle.engines.specs.Outlets.{Way}
 use Rattle.engines.specs.Played.{IsIdle, Plays, PlaysPartAtEnd, Breaks}
 use Rattle.engines.specs.Taking.{Takes}
 use Rattle.engines.proofs.AnswerLemmas.{answers_nothing, answers-append, answers-part}
 
-module _ {S : Type 0} (stored : S → Stored) {O : Type 0} (puts : O → O → List Answer → Type 0)
-    (breaks : O → O → List Answer → Answer → Type 0) (outlet : IsOutlet puts breaks) where
-  pub plays_nothing : (old : Value S) (o : O) → IsIdle old → Plays stored old old [] (puts o o)
+module _ {S : Type 0} (stored : S → Stored) {O : Type 0} (way : Way O) where
+  pub plays_nothing : (old : Value S) (o : O) → IsIdle old → Plays stored old old [] (way.puts o o)
   plays_nothing old o idle = record {
-    answered = answers_nothing stored puts breaks outlet old.handler o;
+    answered = answers_nothing stored way old.handler o;
     rest = (frames_of-may_become old.rest idle.rest).1 ∙ ap rest_of (sym (append-nil old.rest));
     idle = idle;
   }
 
   pub plays-append : (old mid new : Value S) (events more : List Event) (o mids now : O)
-      → Plays stored old mid events (puts o mids) → Plays stored mid new more (puts mids now)
-      → Plays stored old new (events ++ more) (puts o now)
+      → Plays stored old mid events (way.puts o mids) → Plays stored mid new more (way.puts mids now)
+      → Plays stored old new (events ++ more) (way.puts o now)
   plays-append old mid new events more o mids now first second = record {
     answered = rw (items_behind old.rest mid.rest events more first.rest)
-        (answers-append stored puts breaks outlet old.handler mid.handler new.handler (items_of old.rest events)
+        (answers-append stored way old.handler mid.handler new.handler (items_of old.rest events)
         (items_of mid.rest more) o mids now first.answered second.answered);
     rest = second.rest ∙ rest_behind old.rest mid.rest events more first.rest;
     idle = second.idle;
@@ -36,8 +35,8 @@ module _ {S : Type 0} (stored : S → Stored) {O : Type 0} (puts : O → O → L
 
   -- an answer does not get out behind some events
   pub plays-break : (old mid new : Value S) (events more : List Event) (event : Event) (o mids now : O)
-      → Plays stored old mid events (puts o mids) → Breaks stored mid new more event (breaks mids now)
-      → Breaks stored old new (events ++ more) event (breaks o now)
+      → Plays stored old mid events (way.puts o mids) → Breaks stored mid new more event (way.breaks mids now)
+      → Breaks stored old new (events ++ more) event (way.breaks o now)
   plays-break old mid new events more event o mids now first second =
       let last = more ++ second.begun ∷ [] in
       let all : (events ++ more) ++ second.begun ∷ [] ≡ events ++ last = append_assoc events more (second.begun ∷ []) in
@@ -56,14 +55,14 @@ module _ {S : Type 0} (stored : S → Stored) {O : Type 0} (puts : O → O → L
         rest = second.rest ∙ rest_behind old.rest mid.rest events last first.rest
             ∙ ap (λ (es : List Event). rest_of (old.rest ++ bytes_in es)) (sym all);
         answered =
-            answers-part stored puts breaks outlet old.handler mid.handler new.handler (items_of old.rest events)
+            answers-part stored way old.handler mid.handler new.handler (items_of old.rest events)
             second.items o mids now first.answered second.answered;
       }
 
   -- the same, of events that are known
   pub part_behind : (old mid new : Value S) (events more : List Event) (o mids now : O)
-      → Plays stored old mid events (puts o mids) → PlaysPartAtEnd stored mid new more (breaks mids now)
-      → PlaysPartAtEnd stored old new (events ++ more) (breaks o now)
+      → Plays stored old mid events (way.puts o mids) → PlaysPartAtEnd stored mid new more (way.breaks mids now)
+      → PlaysPartAtEnd stored old new (events ++ more) (way.breaks o now)
   part_behind old mid new events more o mids now first second = record {
     events = events ++ second.events;
     event = second.event;
@@ -73,12 +72,12 @@ module _ {S : Type 0} (stored : S → Stored) {O : Type 0} (puts : O → O → L
   }
 
   pub takes_none : (old : Value S) (o : O) (count : ℕ) → IsIdle old → count < 2 ^ 64
-      → Takes stored old old [] (puts o o) count count
+      → Takes stored old old [] (way.puts o o) count count
   takes_none old o count idle fits = record { played = plays_nothing old o idle; counted = omega arith }
 
   pub takes-append : (old mid new : Value S) (events more : List Event) (o mids now : O) (count some total : ℕ)
-      → Takes stored old mid events (puts o mids) count some → Takes stored mid new more (puts mids now) some total
-      → Takes stored old new (events ++ more) (puts o now) count total
+      → Takes stored old mid events (way.puts o mids) count some → Takes stored mid new more (way.puts mids now) some total
+      → Takes stored old new (events ++ more) (way.puts o now) count total
   takes-append old mid new events more o mids now count some total first second = record {
     played = plays-append old mid new events more o mids now first.played second.played;
     counted =

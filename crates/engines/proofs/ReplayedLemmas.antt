@@ -6,9 +6,11 @@ use Rattle.gateway_core.specs.Step.{Answer}
 use Rattle.gateway_core.specs.Calls.{Value}
 use Rattle.gateway_core.specs.Events.{Event}
 use Rattle.engines.specs.Script.{script}
+use Rattle.byte_streams.specs.declared.sink.Sink as sinks
 use Rattle.byte_streams.specs.Counts.{Counts, OneFailed, OneEmpty}
-use Rattle.engines.specs.Written.{WritesAll, WritesPart}
-use Rattle.engines.specs.TextOutlet.{PutsText, BreaksText}
+use Rattle.engines.specs.Written.{WritesAll, WritesPart, text_of}
+use Rattle.engines.specs.Streams.{sink_value}
+use Rattle.engines.specs.TextWay.{PutsText, BreaksText}
 use Rattle.engines.specs.Played.{Plays, PlaysClosed, PlaysPartAtEnd, PlaysPartAtLine, Breaks}
 use Rattle.engines.specs.Replayed.{Replays, ReplaysClosed, ReplaysPartAtEnd, ReplaysPartAtLine}
 
@@ -80,33 +82,33 @@ module _ {S : Type 0} (stored : S → Stored) where
     broken = breaks-weaker old new p.events p.event P Q so p.broken;
   }
 
-  module _ {W : Type 0} (held : W → Option (List ℕ)) (counts : W → Counts) where
+  module _ {W : Type 0} (members : sinks.Ghosts W) where
     pub replays_at : (entry now gateway : Value S) (events : List Event) (old sink writer : W) → gateway ≡ now
-        → writer ≡ sink → Plays stored entry now events (PutsText held counts old sink)
-        → Replays stored entry gateway events (held old) (held writer)
+        → writer ≡ sink → Plays stored entry now events (PutsText text_of (sink_value members old) (sink_value members sink))
+        → Replays stored entry gateway events (members.held old) (members.held writer)
     replays_at entry now gateway events old sink writer e f p =
-        rw (e, f) (plays-weaker entry now events (PutsText held counts old sink) (WritesAll (held old) (held sink))
+        rw (e, f) (plays-weaker entry now events (PutsText text_of (sink_value members old) (sink_value members sink)) (WritesAll (members.held old) (members.held sink))
         (λ answers out. out.text) p)
 
     pub closed_at : (entry now gateway : Value S) (input : List ℕ) (old sink writer : W) → gateway ≡ now
-        → writer ≡ sink → PlaysClosed stored entry now input (PutsText held counts old sink)
-        → ReplaysClosed stored entry gateway input (held old) (held writer)
+        → writer ≡ sink → PlaysClosed stored entry now input (PutsText text_of (sink_value members old) (sink_value members sink))
+        → ReplaysClosed stored entry gateway input (members.held old) (members.held writer)
     closed_at entry now gateway input old sink writer e f p =
-        rw (e, f) (closed-weaker entry now input (PutsText held counts old sink) (WritesAll (held old) (held sink))
+        rw (e, f) (closed-weaker entry now input (PutsText text_of (sink_value members old) (sink_value members sink)) (WritesAll (members.held old) (members.held sink))
         (λ answers out. out.text) p)
 
     pub part_at : (entry now gateway : Value S) (input : List ℕ) (old sink writer : W) → gateway ≡ now
-        → writer ≡ sink → PlaysPartAtEnd stored entry now (script input) (BreaksText held counts old sink)
-        → ReplaysPartAtEnd stored entry gateway input (held old) (held writer)
+        → writer ≡ sink → PlaysPartAtEnd stored entry now (script input) (BreaksText text_of (sink_value members old) (sink_value members sink))
+        → ReplaysPartAtEnd stored entry gateway input (members.held old) (members.held writer)
     part_at entry now gateway input old sink writer e f p =
-        rw (e, f) (part-weaker entry now (script input) (BreaksText held counts old sink)
-        (WritesPart (held old) (held sink))
+        rw (e, f) (part-weaker entry now (script input) (BreaksText text_of (sink_value members old) (sink_value members sink))
+        (WritesPart (members.held old) (members.held sink))
         (λ answers last out. out.text) p)
 
     pub line_part_at : (entry now gateway : Value S) (input : List ℕ) (old sink writer : W) → gateway ≡ now
-        → writer ≡ sink → PlaysPartAtLine stored entry now input (BreaksText held counts old sink)
-        → ReplaysPartAtLine stored entry gateway input (held old) (held writer)
+        → writer ≡ sink → PlaysPartAtLine stored entry now input (BreaksText text_of (sink_value members old) (sink_value members sink))
+        → ReplaysPartAtLine stored entry gateway input (members.held old) (members.held writer)
     line_part_at entry now gateway input old sink writer e f p =
-        rw (e, f) (line-part-weaker entry now input (BreaksText held counts old sink)
-        (WritesPart (held old) (held sink))
+        rw (e, f) (line-part-weaker entry now input (BreaksText text_of (sink_value members old) (sink_value members sink))
+        (WritesPart (members.held old) (members.held sink))
         (λ answers last out. out.text) p)

@@ -13,7 +13,7 @@ use Rattle.gateway_core.specs.Calls.{Value, Moves, Next, Byte, Order}
 use Rattle.gateway_core.specs.Events.{Piece, Line, items_of}
 use Rattle.gateway_core.proofs.ForCallers.{brought-rest, cuts_do_not_matter, rest_goes_on, items_behind, rest_behind}
 use Rattle.json_lines.specs.Counts.{count_with}
-use Rattle.engines.specs.Outlets.{IsOutlet}
+use Rattle.engines.specs.Outlets.{Way}
 use Rattle.engines.specs.Played.{IsIdle, Answers, AnswersPart, Plays, Breaks}
 use Rattle.engines.specs.Taking.{Drains, DrainsPart, Takes}
 use Rattle.gateway_core.proofs.ForCallers.{count_on}
@@ -39,28 +39,27 @@ items_of-piece rest bytes live =
     append-nil (map Received _) ∙ ap (λ (ps : List Packet). map Received ps)
     (brought-rest rest bytes ∙ ap (λ r. packets_in (r ++ bytes)) (sym (frames_of-may_become rest live).1))
 
-module _ {S : Type 0} (stored : S → Stored) {O : Type 0} (puts : O → O → List Answer → Type 0)
-    (breaks : O → O → List Answer → Answer → Type 0) (outlet : IsOutlet puts breaks) where
+module _ {S : Type 0} (stored : S → Stored) {O : Type 0} (way : Way O) where
   -- ---- the packets that wait
 
   pub drains_nothing : (old : Value S) (o : O) (count : ℕ) → count < 2 ^ 64
-      → Drains stored old old (puts o o) count count
+      → Drains stored old old (way.puts o o) count count
   drains_nothing old o count fits =
-      let none = answers_nothing stored puts breaks outlet old.handler o in
+      let none = answers_nothing stored way old.handler o in
       record { packets = []; ready = refl; rest = refl; answered = none; counted = omega arith }
 
   pub drains_one : (old mid new : Value S) (answer : Answer) (o mids now : O) (count some total : ℕ)
-      → Drains stored old mid (puts o mids) count some → Moves stored mid (Next (Some answer)) new
-      → puts mids now (answer ∷ []) → total ≡ count_with some 1 → Drains stored old new (puts o now) count total
+      → Drains stored old mid (way.puts o mids) count some → Moves stored mid (Next (Some answer)) new
+      → way.puts mids now (answer ∷ []) → total ≡ count_with some 1 → Drains stored old new (way.puts o now) count total
   drains_one old mid new answer o mids now count some total before (packet, first, rest, handled) out counted =
       record {
         packets = before.packets ++ packet ∷ [];
         ready = ready_after old.ready mid.ready new.ready before.packets packet before.ready first;
         rest = rest ∙ before.rest;
         answered = rw (map-append Received before.packets (packet ∷ []))
-            (answers-append stored puts breaks outlet old.handler mid.handler new.handler (map Received before.packets)
+            (answers-append stored way old.handler mid.handler new.handler (map Received before.packets)
             (Received packet ∷ []) o mids now before.answered
-            (answers_one stored puts breaks outlet mid.handler new.handler (Received packet) answer mids now handled
+            (answers_one stored way mid.handler new.handler (Received packet) answer mids now handled
             out));
         counted =
             rw (length-append before.packets (packet ∷ []))
@@ -68,17 +67,17 @@ module _ {S : Type 0} (stored : S → Stored) {O : Type 0} (puts : O → O → L
       }
 
   pub drains_part : (old mid new : Value S) (answer : Answer) (o mids now : O) (count some : ℕ)
-      → Drains stored old mid (puts o mids) count some → Moves stored mid (Next (Some answer)) new
-      → breaks mids now [] answer → DrainsPart stored old new (breaks o now)
+      → Drains stored old mid (way.puts o mids) count some → Moves stored mid (Next (Some answer)) new
+      → way.breaks mids now [] answer → DrainsPart stored old new (way.breaks o now)
   drains_part old mid new answer o mids now count some before (packet, first, rest, handled) part = record {
     packets = before.packets ++ packet ∷ [];
     some = omega (arith, length-append before.packets (packet ∷ []));
     ready = ready_after old.ready mid.ready new.ready before.packets packet before.ready first;
     rest = rest ∙ before.rest;
     answered = rw (map-append Received before.packets (packet ∷ []))
-        (answers-part stored puts breaks outlet old.handler mid.handler new.handler (map Received before.packets)
+        (answers-part stored way old.handler mid.handler new.handler (map Received before.packets)
         (Received packet ∷ []) o mids now before.answered
-        (part_one stored puts breaks outlet mid.handler new.handler (Received packet) answer mids now handled part));
+        (part_one stored way mid.handler new.handler (Received packet) answer mids now handled part));
   }
 
   -- ---- a piece
@@ -90,12 +89,12 @@ module _ {S : Type 0} (stored : S → Stored) {O : Type 0} (puts : O → O → L
       items_of-piece old.rest (byte ∷ []) idle.rest ∙ ap (λ (ps : List Packet). map Received ps) (sym ready)
 
   pub takes_nothing : (old : Value S) (o : O) (count : ℕ) → IsIdle old → count < 2 ^ 64
-      → Takes stored old old (Piece [] ∷ []) (puts o o) count count
+      → Takes stored old old (Piece [] ∷ []) (way.puts o o) count count
   takes_nothing old o count idle fits =
       let none : items_of old.rest (Piece [] ∷ []) ≡ [] =
       items_of-piece old.rest [] idle.rest ∙ ap (λ r. map Received (packets_in r)) (append-nil old.rest)
       ∙ ap (λ (ps : List Packet). map Received ps) (sym (frames_of-may_become old.rest idle.rest).0) in
-      let played = plays_nothing stored puts breaks outlet old o idle in
+      let played = plays_nothing stored way old o idle in
       record {
         played = record { answered = rw none played.answered; rest = played.rest; idle = idle };
         counted = rw none (omega arith);
@@ -104,10 +103,10 @@ module _ {S : Type 0} (stored : S → Stored) {O : Type 0} (puts : O → O → L
   -- one byte more of a piece, and the packets that it brings
   pub takes_more : (old now mid new : Value S) (bytes : List ℕ) (byte : ℕ) (o mids after : O)
       (count some total : ℕ)
-      → Takes stored old now (Piece bytes ∷ []) (puts o mids) count some → Moves stored now (Byte byte) mid
+      → Takes stored old now (Piece bytes ∷ []) (way.puts o mids) count some → Moves stored now (Byte byte) mid
       → new.ready ≡ []
-      → Drains stored mid new (puts mids after) some total
-      → Takes stored old new (Piece (bytes ++ byte ∷ []) ∷ []) (puts o after) count total
+      → Drains stored mid new (way.puts mids after) some total
+      → Takes stored old new (Piece (bytes ++ byte ∷ []) ∷ []) (way.puts o after) count total
   takes_more old now mid new bytes byte o mids after count some total before moved none drained =
       let all : mid.ready ≡ drained.packets =
       drained.ready ∙ ap (λ (ps : List Packet). drained.packets ++ ps) none ∙ append-nil drained.packets in
@@ -115,17 +114,17 @@ module _ {S : Type 0} (stored : S → Stored) {O : Type 0} (puts : O → O → L
       items_of-byte now mid byte before.played.idle moved ∙ ap (λ (ps : List Packet). map Received ps) all in
       let rest : new.rest ≡ rest_of (now.rest ++ byte ∷ []) = drained.rest ∙ moved.3 in
       let answered : Answers stored now.handler new.handler (items_of now.rest (Piece (byte ∷ []) ∷ []))
-      (puts mids after) =
+      (way.puts mids after) =
       rw is (let P : HandlerValue S
-      → Type 0 = λ s. Answers stored s new.handler (map Received drained.packets) (puts mids after) in subst
+      → Type 0 = λ s. Answers stored s new.handler (map Received drained.packets) (way.puts mids after) in subst
       P moved.1 drained.answered) in
-      let next : Plays stored now new (Piece (byte ∷ []) ∷ []) (puts mids after) = record {
+      let next : Plays stored now new (Piece (byte ∷ []) ∷ []) (way.puts mids after) = record {
         answered = answered;
         rest = rest;
         idle = record { ready = none; rest = rw rest (rest_goes_on (now.rest ++ byte ∷ [])) };
       } in
       let joined =
-      plays-append stored puts breaks outlet old now new (Piece bytes ∷ []) (Piece (byte ∷ []) ∷ []) o mids after
+      plays-append stored way old now new (Piece bytes ∷ []) (Piece (byte ∷ []) ∷ []) o mids after
       before.played next in
       let items = items-joined old.rest bytes (byte ∷ []) in
       let behind = items_behind old.rest now.rest (Piece bytes ∷ []) (Piece (byte ∷ []) ∷ []) before.played.rest in
@@ -143,9 +142,9 @@ module _ {S : Type 0} (stored : S → Stored) {O : Type 0} (puts : O → O → L
   -- an answer does not get out at the packets of one byte
   pub takes_part : (old now mid new : Value S) (bytes : List ℕ) (byte : ℕ) (later piece : List ℕ)
       (o mids after : O) (count some : ℕ)
-      → Takes stored old now (Piece bytes ∷ []) (puts o mids) count some → Moves stored now (Byte byte) mid
-      → DrainsPart stored mid new (breaks mids after) → piece ≡ (bytes ++ byte ∷ []) ++ later
-      → Breaks stored old new [] (Piece piece) (breaks o after)
+      → Takes stored old now (Piece bytes ∷ []) (way.puts o mids) count some → Moves stored now (Byte byte) mid
+      → DrainsPart stored mid new (way.breaks mids after) → piece ≡ (bytes ++ byte ∷ []) ++ later
+      → Breaks stored old new [] (Piece piece) (way.breaks o after)
   takes_part old now mid new bytes byte later piece o mids after count some before moved drained whole =
       let is : items_of now.rest (Piece (byte ∷ []) ∷ []) ≡ map Received drained.packets ++ map Received new.ready =
       items_of-byte now mid byte before.played.idle moved ∙ ap (λ (ps : List Packet). map Received ps) drained.ready
@@ -173,11 +172,11 @@ module _ {S : Type 0} (stored : S → Stored) {O : Type 0} (puts : O → O → L
             ∙ rest_behind old.rest now.rest (Piece bytes ∷ []) (Piece (byte ∷ []) ∷ []) before.played.rest
             ∙ ap (λ w. rest_of (old.rest ++ w)) (sym (append_assoc bytes (byte ∷ []) []));
         answered =
-            answers-part stored puts breaks outlet old.handler now.handler new.handler first
+            answers-part stored way old.handler now.handler new.handler first
             (map Received drained.packets)
             o mids after before.played.answered
             (let P : HandlerValue S
-            → Type 0 = λ s. AnswersPart stored s new.handler (map Received drained.packets) (breaks mids after) in
+            → Type 0 = λ s. AnswersPart stored s new.handler (map Received drained.packets) (way.breaks mids after) in
             subst P moved.1 drained.answered);
       }
 
@@ -187,11 +186,11 @@ module _ {S : Type 0} (stored : S → Stored) {O : Type 0} (puts : O → O → L
   rest_stays old new idle e = e ∙ (frames_of-may_become old.rest idle.rest).1 ∙ ap rest_of (sym (append-nil old.rest))
 
   pub takes_order : (old new : Value S) (line : List ℕ) (answer : Answer) (o now : O) (count total : ℕ)
-      → IsIdle old → Moves stored old (Order line answer) new → puts o now (answer ∷ [])
-      → total ≡ count_with count 1 → Takes stored old new (Line line ∷ []) (puts o now) count total
+      → IsIdle old → Moves stored old (Order line answer) new → way.puts o now (answer ∷ [])
+      → total ≡ count_with count 1 → Takes stored old new (Line line ∷ []) (way.puts o now) count total
   takes_order old new line answer o now count total idle (ready, rest, handled) out counted = record {
     played = record {
-      answered = answers_one stored puts breaks outlet old.handler new.handler (Ordered line) answer o now handled out;
+      answered = answers_one stored way old.handler new.handler (Ordered line) answer o now handled out;
       rest = rest_stays old new idle rest;
       idle = record { ready = ready ∙ idle.ready; rest = rw rest idle.rest };
     };
@@ -199,8 +198,8 @@ module _ {S : Type 0} (stored : S → Stored) {O : Type 0} (puts : O → O → L
   }
 
   pub breaks_at_order : (old new : Value S) (line : List ℕ) (answer : Answer) (o now : O)
-      → IsIdle old → Moves stored old (Order line answer) new → breaks o now [] answer
-      → Breaks stored old new [] (Line line) (breaks o now)
+      → IsIdle old → Moves stored old (Order line answer) new → way.breaks o now [] answer
+      → Breaks stored old new [] (Line line) (way.breaks o now)
   breaks_at_order old new line answer o now idle (ready, rest, handled) part = record {
     begun = Line line;
     begins = refl;
@@ -210,5 +209,5 @@ module _ {S : Type 0} (stored : S → Stored) {O : Type 0} (puts : O → O → L
     some = omega arith;
     stand = ap (λ (ps : List Packet). Ordered line ∷ map Received ps) (sym (ready ∙ idle.ready));
     rest = rest_stays old new idle rest;
-    answered = part_one stored puts breaks outlet old.handler new.handler (Ordered line) answer o now handled part;
+    answered = part_one stored way old.handler new.handler (Ordered line) answer o now handled part;
   }

@@ -15,7 +15,7 @@ use Rattle.gateway_core.specs.Step.{Answer}
 use Rattle.gateway_core.specs.Calls.{Value}
 use Rattle.gateway_core.specs.Events.{Event, Piece, Line}
 use Rattle.engines.specs.declared.lines.Lines.TheVariants.{OfDesk}
-use Rattle.engines.specs.Outlets.{IsOutlet}
+use Rattle.engines.specs.Outlets.{Way}
 use Rattle.engines.specs.Played.{IsIdle, Breaks}
 use Rattle.engines.specs.Reads.{BreaksAtOrder}
 use Rattle.engines.specs.Taking.{Takes}
@@ -126,34 +126,33 @@ module _ {S : Type 0} (stored : S → Stored) where
     pub keeps : Keeps rest kept
     pub taken : Takes stored old new (events_of_turns read) puts 0 total
 
-module _ {S : Type 0} (stored : S → Stored) {O : Type 0} (puts : O → O → List Answer → Type 0)
-    (breaks : O → O → List Answer → Answer → Type 0) (outlet : IsOutlet puts breaks) where
-  pub turns_none : (old : Value S) (o : O) → IsIdle old → TakesTurns stored old old [] [] (puts o o) 0
+module _ {S : Type 0} (stored : S → Stored) {O : Type 0} (way : Way O) where
+  pub turns_none : (old : Value S) (o : O) → IsIdle old → TakesTurns stored old old [] [] (way.puts o o) 0
   turns_none old o idle = record {
     ended = [];
     rest = [];
     whole = refl;
     each = All-nil IsOneLine;
     keeps = keeps_none;
-    taken = takes_none stored puts breaks outlet old o 0 idle (omega arith);
+    taken = takes_none stored way old o 0 idle (omega arith);
   }
 
   -- a turn's piece, and not yet its bytes of the desk
   pub piece_taken : (entry old mid : Value S) (read : List Turn) (piece kept : List ℕ) (o mids behind : O)
-      (some more : ℕ) → TakesTurns stored entry old read kept (puts o mids) some
-      → Takes stored old mid (Piece piece ∷ []) (puts mids behind) some more
-      → Takes stored entry mid (events_of_turns read ++ Piece piece ∷ []) (puts o behind) 0 more
+      (some more : ℕ) → TakesTurns stored entry old read kept (way.puts o mids) some
+      → Takes stored old mid (Piece piece ∷ []) (way.puts mids behind) some more
+      → Takes stored entry mid (events_of_turns read ++ Piece piece ∷ []) (way.puts o behind) 0 more
   piece_taken entry old mid read piece kept o mids behind some more p q =
-      takes-append stored puts breaks outlet entry old mid (events_of_turns read) (Piece piece ∷ []) o mids behind 0
+      takes-append stored way entry old mid (events_of_turns read) (Piece piece ∷ []) o mids behind 0
       some
       more p.taken q
 
   pub turn_taken : (entry old mid new : Value S) (read : List Turn) (piece desk kept now_kept : List ℕ)
       (o mids behind now : O) (some more total : ℕ)
-      → (p : TakesTurns stored entry old read kept (puts o mids) some)
-      → Takes stored old mid (Piece piece ∷ []) (puts mids behind) some more
-      → TakesBytes stored OfDesk mid new p.rest desk now_kept (puts behind now) more total
-      → TakesTurns stored entry new (read ++ record { piece = piece; desk = desk } ∷ []) now_kept (puts o now) total
+      → (p : TakesTurns stored entry old read kept (way.puts o mids) some)
+      → Takes stored old mid (Piece piece ∷ []) (way.puts mids behind) some more
+      → TakesBytes stored OfDesk mid new p.rest desk now_kept (way.puts behind now) more total
+      → TakesTurns stored entry new (read ++ record { piece = piece; desk = desk } ∷ []) now_kept (way.puts o now) total
   turn_taken entry old mid new read piece desk kept now_kept o mids behind now some more total p q r =
       let turn : Turn = record { piece = piece; desk = desk } in
       let brought : drop (length (orders (desk_bytes read))) (orders (desk_bytes read ++ desk))
@@ -177,28 +176,28 @@ module _ {S : Type 0} (stored : S → Stored) {O : Type 0} (puts : O → O → L
         keeps = r.keeps;
         taken =
             rw is
-            (takes-append stored puts breaks outlet entry mid new (events_of_turns read ++ Piece piece ∷ [])
+            (takes-append stored way entry mid new (events_of_turns read ++ Piece piece ∷ [])
             (events_by OfDesk r.ended) o behind now 0 more total
             (piece_taken entry old mid read piece kept o mids behind some more p q) r.taken);
       }
 
   -- an answer to a packet of the piece did not get out
   pub piece_stops : (entry old new : Value S) (read : List Turn) (piece kept : List ℕ) (o mids now : O) (some : ℕ)
-      → TakesTurns stored entry old read kept (puts o mids) some
-      → Breaks stored old new [] (Piece piece) (breaks mids now)
-      → Breaks stored entry new (events_of_turns read) (Piece piece) (breaks o now)
+      → TakesTurns stored entry old read kept (way.puts o mids) some
+      → Breaks stored old new [] (Piece piece) (way.breaks mids now)
+      → Breaks stored entry new (events_of_turns read) (Piece piece) (way.breaks o now)
   piece_stops entry old new read piece kept o mids now some p broken =
       rw (← append-nil (events_of_turns read))
-      (plays-break stored puts breaks outlet entry old new (events_of_turns read) [] (Piece piece) o mids now
+      (plays-break stored way entry old new (events_of_turns read) [] (Piece piece) o mids now
       p.taken.played broken)
 
   -- an answer to an order did not get out
   pub order_stops : (entry old mid new : Value S) (read : List Turn) (piece desk kept : List ℕ)
       (o mids behind now : O) (some more : ℕ)
-      → (p : TakesTurns stored entry old read kept (puts o mids) some)
-      → Takes stored old mid (Piece piece ∷ []) (puts mids behind) some more
-      → StopsAtLine stored OfDesk mid new p.rest desk (breaks behind now)
-      → BreaksAtOrder stored entry new (read ++ record { piece = piece; desk = desk } ∷ []) (breaks o now)
+      → (p : TakesTurns stored entry old read kept (way.puts o mids) some)
+      → Takes stored old mid (Piece piece ∷ []) (way.puts mids behind) some more
+      → StopsAtLine stored OfDesk mid new p.rest desk (way.breaks behind now)
+      → BreaksAtOrder stored entry new (read ++ record { piece = piece; desk = desk } ∷ []) (way.breaks o now)
   order_stops entry old mid new read piece desk kept o mids behind now some more p q s =
       let event = event_by OfDesk (strip_carriage_return s.line) in
       let later = orders s.more in
@@ -219,6 +218,6 @@ module _ {S : Type 0} (stored : S → Stored) {O : Type 0} (puts : O → O → L
             ∙ sym (append_assoc (events_of_turns read) (Piece piece ∷ []) (events_by OfDesk s.ended ++ event ∷ later))
             ∙ sym (append_assoc begun (events_by OfDesk s.ended) (event ∷ later));
         broken =
-            plays-break stored puts breaks outlet entry mid new begun (events_by OfDesk s.ended) event o behind now
+            plays-break stored way entry mid new begun (events_by OfDesk s.ended) event o behind now
             (piece_taken entry old mid read piece kept o mids behind some more p q).played s.broken;
       }

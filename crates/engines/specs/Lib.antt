@@ -1,8 +1,8 @@
 pub mod Written
-pub mod Behind
 pub mod Script
 pub mod Outlets
-pub mod TextOutlet
+pub mod Streams
+pub mod TextWay
 pub mod Wires
 pub mod Played
 pub mod Replayed

@@ -1,13 +1,61 @@
--- What an outlet does with answers.
-use Rattle.std.specs.Prelude.{List, [], ◌++◌}
+-- The ways out for answers, and how it is known what was put out. The lemmas stand here, since the ghost members of an
+-- `impl` cite them, which cite nothing outside `specs`.
+use Rattle.std.specs.Prelude.{◌⊎◌, List, [], ◌∷◌, ◌++◌}
+use Rattle.std.proofs.Common.{append_assoc, inl, inr, subst, sym}
 use Rattle.gateway_core.specs.Step.{Answer}
 
 -- puts: just these answers were put out from the first state to the second. breaks: these answers were put out, but of
 -- one more behind them a first part at most, and not all. Both go on from where an outlet stands.
-pub record IsOutlet {O : Type 0} (puts : O → O → List Answer → Type 0) (breaks : O → O → List Answer → Answer → Type 0)
-    : Type 0 where
+pub record Way (O : Type 0) : Type 1 where
+  pub puts : O → O → List Answer → Type 0
+  pub breaks : O → O → List Answer → Answer → Type 0
   pub nothing : (old : O) → puts old old []
   pub more : (old mid new : O) (first second : List Answer) → puts old mid first → puts mid new second
       → puts old new (first ++ second)
   pub broken : (old mid new : O) (first second : List Answer) (last : Answer) → puts old mid first
       → breaks mid new second last → breaks old new (first ++ second) last
+
+-- what an outlet puts out, by what it shows
+abbrev pub way_by : {O V : Type 0} → (O → V) → Way V → Way O
+way_by view way = record {
+  puts = λ old new. way.puts (view old) (view new);
+  breaks = λ old new. way.breaks (view old) (view new);
+  nothing = λ old. way.nothing (view old);
+  more = λ old mid new. way.more (view old) (view mid) (view new);
+  broken = λ old mid new. way.broken (view old) (view mid) (view new);
+}
+
+-- Each answer goes out by two ways, by the second behind the first.
+module _ {A B : Type 0} (one : Way A) (other : Way B) where
+  abbrev pub PutsBoth : A × B → A × B → List Answer → Type 0
+  PutsBoth old new answers = one.puts old.0 new.0 answers × other.puts old.1 new.1 answers
+
+  -- the last answer breaks off by the first way, and nothing of it goes out by the second; or by the second
+  abbrev pub BreaksBoth : A × B → A × B → List Answer → Answer → Type 0
+  BreaksBoth old new answers last =
+      (one.breaks old.0 new.0 answers last × other.puts old.1 new.1 answers)
+      ⊎ (one.puts old.0 new.0 (answers ++ last ∷ []) × other.breaks old.1 new.1 answers last)
+
+  pub both_broken : (old mid new : A × B) (first second : List Answer) (last : Answer) → PutsBoth old mid first
+      → BreaksBoth mid new second last → BreaksBoth old new (first ++ second) last
+  both_broken old mid new first second last a (inl b) = inl (
+    one.broken old.0 mid.0 new.0 first second last a.0 b.0,
+    other.more old.1 mid.1 new.1 first second a.1 b.1,
+  )
+  both_broken old mid new first second last a (inr b) = inr (
+    subst (one.puts old.0 new.0) (sym (append_assoc first second (last ∷ [])))
+        (one.more old.0 mid.0 new.0 first (second ++ last ∷ []) a.0 b.0),
+    other.broken old.1 mid.1 new.1 first second last a.1 b.1,
+  )
+
+  abbrev pub both_ways : Way (A × B)
+  both_ways = record {
+    puts = PutsBoth;
+    breaks = BreaksBoth;
+    nothing = λ old. (one.nothing old.0, other.nothing old.1);
+    more = λ old mid new first second a b. (
+      one.more old.0 mid.0 new.0 first second a.0 b.0,
+      other.more old.1 mid.1 new.1 first second a.1 b.1,
+    );
+    broken = both_broken;
+  }

@@ -26,7 +26,7 @@ impl<O: Outlet, S: DeviceStore> Engine<'_, O, S> {
         ensures gateway { self.new.gateway.ghost_name ≡ self.old.gateway.ghost_name }
         ensures loans { O.loans self.new.outlet ≡ O.loans self.old.outlet }
         ensures taken { TakesOrBreaks S.stored result self.old.gateway.now self.new.gateway.now (PieceEvent piece.now)
-            (O.puts self.old.outlet self.new.outlet) (O.breaks self.old.outlet self.new.outlet)
+            (O.way.puts self.old.outlet self.new.outlet) (O.way.breaks self.old.outlet self.new.outlet)
             self.old.items self.new.items }
     {
         // It tells the proof that the count is a `u64`.
@@ -46,9 +46,9 @@ impl<O: Outlet, S: DeviceStore> Engine<'_, O, S> {
         ensures loans { O.loans self.new.outlet ≡ O.loans self.old.outlet }
         ensures ready { OnOk result (self.new.gateway.now.ready ≡ []) }
         ensures drained { OnOk result (Drains S.stored self.old.gateway.now self.new.gateway.now
-            (O.puts self.old.outlet self.new.outlet) self.old.items self.new.items) }
+            (O.way.puts self.old.outlet self.new.outlet) self.old.items self.new.items) }
         ensures broken { OnErr result (DrainsPart S.stored self.old.gateway.now self.new.gateway.now
-            (O.breaks self.old.outlet self.new.outlet)) }
+            (O.way.breaks self.old.outlet self.new.outlet)) }
     {
         // It tells the proof that the count is a `u64`.
         let _start = self.items;
@@ -64,7 +64,7 @@ impl<O: Outlet, S: DeviceStore> Engine<'_, O, S> {
         ensures gateway { self.new.gateway.ghost_name ≡ self.old.gateway.ghost_name }
         ensures loans { O.loans self.new.outlet ≡ O.loans self.old.outlet }
         ensures taken { TakesOrBreaks S.stored result self.old.gateway.now self.new.gateway.now (LineEvent line.now)
-            (O.puts self.old.outlet self.new.outlet) (O.breaks self.old.outlet self.new.outlet)
+            (O.way.puts self.old.outlet self.new.outlet) (O.way.breaks self.old.outlet self.new.outlet)
             self.old.items self.new.items }
     {
         let reply = self.gateway.order(line);
@@ -77,8 +77,8 @@ impl<O: Outlet, S: DeviceStore> Engine<'_, O, S> {
         ensures kept { self.new.gateway.now ≡ self.old.gateway.now }
         ensures loans { O.loans self.new.outlet ≡ O.loans self.old.outlet }
         ensures counted { self.new.items ≡ one_more self.old.items }
-        ensures put { MatchResult result (λ _. O.puts self.old.outlet self.new.outlet (answer_of reply.now ∷ []))
-            (λ _. O.breaks self.old.outlet self.new.outlet [] (answer_of reply.now)) }
+        ensures put { MatchResult result (λ _. O.way.puts self.old.outlet self.new.outlet (answer_of reply.now ∷ []))
+            (λ _. O.way.breaks self.old.outlet self.new.outlet [] (answer_of reply.now)) }
     {
         self.items = self.items.saturating_add(1);
         self.outlet.put(reply)

@@ -2,7 +2,8 @@
 ghost use Rattle.std.specs.Prelude.{List, Option, ℕ};
 ghost use Rattle.engines.specs.Lived.{BrokenClosedPlaysAreLives, BrokenPlaysAreLives, ClosedPlaysAreLives};
 ghost use Rattle.engines.specs.Lived.{PlaysAreLives};
-ghost use Rattle.engines.specs.Wires.{BreaksWires, PutsWires};
+ghost use Rattle.engines.specs.Streams.{sink_value};
+ghost use Rattle.engines.specs.Wires.{wires};
 ghost use Rattle.engines.specs.Written.{WritesAll, WritesPart};
 
 use byte_streams::Sink;
@@ -14,9 +15,11 @@ pub fn engines_leave_lives<R: Sink, D: Sink, C: SqlConnection>()
     ensures replay { (held now : Option (List ℕ)) → PlaysAreLives C.state (WritesAll held now) }
     ensures broken_replay { (held now : Option (List ℕ)) → BrokenPlaysAreLives C.state (WritesPart held now) }
     ensures live { (serial serial_now : R) (desk desk_now : D) → PlaysAreLives C.state
-        (PutsWires R.held R.counts D.held D.counts serial desk serial_now desk_now) }
+        (wires.puts (sink_value R.Sink serial, sink_value D.Sink desk)
+        (sink_value R.Sink serial_now, sink_value D.Sink desk_now)) }
     ensures broken_live { (serial serial_now : R) (desk desk_now : D) → BrokenPlaysAreLives C.state
-        (BreaksWires R.held R.counts D.held D.counts serial desk serial_now desk_now) }
+        (wires.breaks (sink_value R.Sink serial, sink_value D.Sink desk)
+        (sink_value R.Sink serial_now, sink_value D.Sink desk_now)) }
 {}
 
 /// After `replay` or `live`, by a gateway that `start` made and that is closed then, what the next open finds is what
@@ -25,7 +28,9 @@ pub fn closed_engines_leave_lives<R: Sink, D: Sink, C: SqlConnection>()
     ensures replay { (held now : Option (List ℕ)) → ClosedPlaysAreLives C.state (WritesAll held now) }
     ensures broken_replay { (held now : Option (List ℕ)) → BrokenClosedPlaysAreLives C.state (WritesPart held now) }
     ensures live { (serial serial_now : R) (desk desk_now : D) → ClosedPlaysAreLives C.state
-        (PutsWires R.held R.counts D.held D.counts serial desk serial_now desk_now) }
+        (wires.puts (sink_value R.Sink serial, sink_value D.Sink desk)
+        (sink_value R.Sink serial_now, sink_value D.Sink desk_now)) }
     ensures broken_live { (serial serial_now : R) (desk desk_now : D) → BrokenClosedPlaysAreLives C.state
-        (BreaksWires R.held R.counts D.held D.counts serial desk serial_now desk_now) }
+        (wires.breaks (sink_value R.Sink serial, sink_value D.Sink desk)
+        (sink_value R.Sink serial_now, sink_value D.Sink desk_now)) }
 {}

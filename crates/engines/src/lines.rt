@@ -25,8 +25,8 @@ impl<O: Outlet, S: DeviceStore> Engine<'_, O, S> {
         ensures gateway { self.new.gateway.ghost_name ≡ self.old.gateway.ghost_name }
         ensures loans { O.loans self.new.outlet ≡ O.loans self.old.outlet }
         ensures taken { TakesOrBreaks S.stored result self.old.gateway.now self.new.gateway.now
-            (event_by lines line.now) (O.puts self.old.outlet self.new.outlet)
-            (O.breaks self.old.outlet self.new.outlet) self.old.items self.new.items }
+            (event_by lines line.now) (O.way.puts self.old.outlet self.new.outlet)
+            (O.way.breaks self.old.outlet self.new.outlet) self.old.items self.new.items }
     {
         match lines {
             Lines::OfScript => self.take_script_line(line),

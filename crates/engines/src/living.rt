@@ -6,7 +6,8 @@ ghost use Rattle.byte_streams.specs.Counts.{HasRoom, Made, NoneFailed, WentWell}
 ghost use Rattle.engines.specs.Played.{Plays};
 ghost use Rattle.engines.specs.Reads.{BreaksTurn, NextReadFails, ReadsWell, events_with, pieces_with};
 ghost use Rattle.engines.specs.Turns.{Turn, desks, events_of_turns, pieces};
-ghost use Rattle.engines.specs.Wires.{BreaksWires, PutsWires};
+ghost use Rattle.engines.specs.Streams.{sink_value};
+ghost use Rattle.engines.specs.Wires.{wires};
 
 use crate::engine::Engine;
 use crate::lines::Lines;
@@ -41,18 +42,21 @@ pub fn live<P: Source, Q: Source, R: Sink, D: Sink, S: DeviceStore>(
     ensures ok { IfOk result (λ summary. (read : List Turn) × (length read ≡ turns)
         × ReadsWell P.left P.counts serial_in.old serial_in.new (pieces read)
         × ReadsWell Q.left Q.counts desk_in.old desk_in.new (desks read)
-        × Plays S.stored gateway.old gateway.new (events_of_turns read) (PutsWires R.held R.counts D.held D.counts
-        serial_out.old desk_out.old serial_out.new desk_out.new)
+        × Plays S.stored gateway.old gateway.new (events_of_turns read) (wires.puts
+        (sink_value R.Sink serial_out.old, sink_value D.Sink desk_out.old)
+        (sink_value R.Sink serial_out.new, sink_value D.Sink desk_out.new))
         × (summary.items ≡ min (length (items_of gateway.old.rest (events_of_turns read))) (2 ^ 64 - 1))) }
     ensures stopped { result ≡ Err RunFault.Read → (read : List Turn) × (piece : Option (List ℕ))
         × NextReadFails P.left P.counts Q.left Q.counts serial_in.old serial_in.new desk_in.old desk_in.new read piece
-        × Plays S.stored gateway.old gateway.new (events_with read piece) (PutsWires R.held R.counts D.held D.counts
-        serial_out.old desk_out.old serial_out.new desk_out.new) }
+        × Plays S.stored gateway.old gateway.new (events_with read piece) (wires.puts
+        (sink_value R.Sink serial_out.old, sink_value D.Sink desk_out.old)
+        (sink_value R.Sink serial_out.new, sink_value D.Sink desk_out.new)) }
     ensures broken { result ≡ Err RunFault.Write → (read : List Turn) × (piece : Option (List ℕ))
         × ReadsWell P.left P.counts serial_in.old serial_in.new (pieces_with read piece)
         × ReadsWell Q.left Q.counts desk_in.old desk_in.new (desks read)
-        × BreaksTurn S.stored gateway.old gateway.new read piece (BreaksWires R.held R.counts D.held D.counts
-        serial_out.old desk_out.old serial_out.new desk_out.new) }
+        × BreaksTurn S.stored gateway.old gateway.new read piece (wires.breaks
+        (sink_value R.Sink serial_out.old, sink_value D.Sink desk_out.old)
+        (sink_value R.Sink serial_out.new, sink_value D.Sink desk_out.new)) }
     ensures never { result ≡ Err RunFault.TooManyTurns → ⊥ }
 
     // How many reads are made, and when all turns are.

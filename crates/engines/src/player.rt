@@ -31,8 +31,8 @@ impl<O: Outlet, S: DeviceStore> Player<'_, O, S> {
         ensures idle { OnOk result (IsIdle self.new.engine.gateway.now) }
         ensures taken { (tail : List ℕ) → Keeps tail self.old.unended →
             TakesBytesOrStops S.stored result lines self.old.engine.gateway.now self.new.engine.gateway.now tail
-            bytes.now self.new.unended (O.puts self.old.engine.outlet self.new.engine.outlet)
-            (O.breaks self.old.engine.outlet self.new.engine.outlet) self.old.engine.items self.new.engine.items }
+            bytes.now self.new.unended (O.way.puts self.old.engine.outlet self.new.engine.outlet)
+            (O.way.breaks self.old.engine.outlet self.new.engine.outlet) self.old.engine.items self.new.engine.items }
     {
         // It tells the proof that the count is a `u64`.
         let _start = self.engine.items;
@@ -55,8 +55,8 @@ impl<O: Outlet, S: DeviceStore> Player<'_, O, S> {
         ensures taken { (tail : List ℕ) → Keeps tail self.old.unended →
             TakesOrBreaks S.stored result self.old.engine.gateway.now self.new.engine.gateway.now
             (event_by lines (strip_carriage_return (tail ++ bytes.now)))
-            (O.puts self.old.engine.outlet self.new.engine.outlet)
-            (O.breaks self.old.engine.outlet self.new.engine.outlet) self.old.engine.items self.new.engine.items }
+            (O.way.puts self.old.engine.outlet self.new.engine.outlet)
+            (O.way.breaks self.old.engine.outlet self.new.engine.outlet) self.old.engine.items self.new.engine.items }
     {
         if self.unended.as_slice().is_empty() {
             return self.engine.take_line(lines, strip(bytes));
@@ -75,8 +75,8 @@ impl<O: Outlet, S: DeviceStore> Player<'_, O, S> {
         ensures loans { O.loans self.new.engine.outlet ≡ O.loans self.old.engine.outlet }
         ensures taken { (tail : List ℕ) → Keeps tail self.old.unended →
             TakesOrStops S.stored result self.old.engine.gateway.now self.new.engine.gateway.now (script tail)
-            (O.puts self.old.engine.outlet self.new.engine.outlet)
-            (O.breaks self.old.engine.outlet self.new.engine.outlet) self.old.engine.items self.new.engine.items }
+            (O.way.puts self.old.engine.outlet self.new.engine.outlet)
+            (O.way.breaks self.old.engine.outlet self.new.engine.outlet) self.old.engine.items self.new.engine.items }
     {
         // It tells the proof that the count is a `u64`.
         let _start = self.engine.items;

@@ -2,8 +2,10 @@
 ghost use Rattle.std.specs.Prelude.{[], ◌∷◌, ◌≤◌, Some, length};
 ghost use Rattle.byte_streams.specs.Counts.{Went};
 ghost use Rattle.byte_streams.specs.Writes.{Writes};
-ghost use Rattle.engines.specs.TextOutlet.{BreaksText, PutsText, text_outlet};
-ghost use Rattle.engines.specs.Written.{radio_text};
+ghost use Rattle.engines.specs.Outlets.{way_by};
+ghost use Rattle.engines.specs.Streams.{sink_value};
+ghost use Rattle.engines.specs.TextWay.{text_way};
+ghost use Rattle.engines.specs.Written.{radio_text, text_of};
 
 use crate::outlet::Outlet;
 use byte_streams::{Failed, Sink, write_text};
@@ -16,9 +18,7 @@ pub struct ReplayText<'w, W> {
 }
 
 impl<W: Sink> Outlet for ReplayText<'_, W> {
-    ghost puts = { λ old new. PutsText W.held W.counts old.sink.now new.sink.now };
-
-    ghost breaks = { λ old new. BreaksText W.held W.counts old.sink.now new.sink.now };
+    ghost way = { way_by (λ text. sink_value W.Sink text.sink.now) (text_way text_of) };
 
     ghost loans = { λ text. text.sink.ghost_name ∷ [] };
 
@@ -28,8 +28,6 @@ impl<W: Sink> Outlet for ReplayText<'_, W> {
         }
         write_text(self.sink, reply.desk.as_bytes())
     }
-
-    ghost lawful = { text_outlet W.held W.counts (λ text. text.sink.now) };
 }
 
 /// Writes bytes as a serial piece: behind `S` and a space, as hexadecimal digits, and with LF.

@@ -21,7 +21,7 @@ impl<O: Outlet, S: DeviceStore> Engine<'_, O, S> {
         ensures gateway { self.new.gateway.ghost_name ≡ self.old.gateway.ghost_name }
         ensures loans { O.loans self.new.outlet ≡ O.loans self.old.outlet }
         ensures taken { TakesOrBreaks S.stored result self.old.gateway.now self.new.gateway.now (event_of line.now)
-            (O.puts self.old.outlet self.new.outlet) (O.breaks self.old.outlet self.new.outlet)
+            (O.way.puts self.old.outlet self.new.outlet) (O.way.breaks self.old.outlet self.new.outlet)
             self.old.items self.new.items }
     {
         if line.len() <= LONGEST_LINE && line.starts_with(b"S ".as_slice()) {
@@ -40,7 +40,7 @@ impl<O: Outlet, S: DeviceStore> Engine<'_, O, S> {
         ensures loans { O.loans self.new.outlet ≡ O.loans self.old.outlet }
         ensures taken { TakesOrBreaks S.stored result self.old.gateway.now self.new.gateway.now
             (spelled line.now (decode_of (drop 2 line.now)))
-            (O.puts self.old.outlet self.new.outlet) (O.breaks self.old.outlet self.new.outlet)
+            (O.way.puts self.old.outlet self.new.outlet) (O.way.breaks self.old.outlet self.new.outlet)
             self.old.items self.new.items }
     {
         let digits = &line[2..];

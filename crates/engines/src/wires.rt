@@ -1,6 +1,8 @@
 //! Replies are written to two sinks, by radio and to the desk.
 ghost use Rattle.std.specs.Prelude.{[], ◌∷◌};
-ghost use Rattle.engines.specs.Wires.{BreaksWires, PutsWires, wires_outlet};
+ghost use Rattle.engines.specs.Outlets.{way_by};
+ghost use Rattle.engines.specs.Streams.{sink_value};
+ghost use Rattle.engines.specs.Wires.{wires};
 
 use crate::outlet::Outlet;
 use byte_streams::{Failed, Sink, write_text};
@@ -15,13 +17,9 @@ pub struct Wires<'r, 'd, R, D> {
 }
 
 impl<R: Sink, D: Sink> Outlet for Wires<'_, '_, R, D> {
-    ghost puts = { λ old new.
-        PutsWires R.held R.counts D.held D.counts old.serial.now old.desk.now new.serial.now new.desk.now };
+    ghost way = { way_by (λ out. (sink_value R.Sink out.serial.now, sink_value D.Sink out.desk.now)) wires };
 
-    ghost breaks = { λ old new.
-        BreaksWires R.held R.counts D.held D.counts old.serial.now old.desk.now new.serial.now new.desk.now };
-
-    ghost loans = { λ wires. wires.serial.ghost_name ∷ wires.desk.ghost_name ∷ [] };
+    ghost loans = { λ out. out.serial.ghost_name ∷ out.desk.ghost_name ∷ [] };
 
     fn put(&mut self, reply: &Reply) -> Result<(), Failed> {
         if let Some(bytes) = &reply.radio {
@@ -29,7 +27,4 @@ impl<R: Sink, D: Sink> Outlet for Wires<'_, '_, R, D> {
         }
         write_text(self.desk, reply.desk.as_bytes())
     }
-
-    ghost lawful = { wires_outlet R.held R.counts D.held D.counts (λ wires. wires.serial.now)
-        (λ wires. wires.desk.now) };
 }

@@ -6,7 +6,8 @@ use Rattle.engines.proofs.CountLemmas.{made_both, made_first, made_more, made_no
 use Rattle.engines.proofs.ReadLemmas.{reads_fail, reads_more, reads_none}
 use Rattle.engines.proofs.TurnLemmas.{desks-more, order_stops, piece_stops, piece_taken, pieces-more, turn_taken}
 use Rattle.engines.proofs.TurnLemmas.{turns_none}
-use Rattle.engines.proofs.WiresLemmas.{both_sinks, breaks_turn_at, not_failed, plays_at, well_at}
+use Rattle.engines.specs.Wires.{wires}
+use Rattle.engines.proofs.WiresLemmas.{at_sinks, breaks_turn_at, not_failed, plays_at, well_at}
 use Rattle.engines.proofs.WiresLemmas.{wrong_at_last}
 use Rattle.engines.proofs.living.live.Goals as goal
 
@@ -24,9 +25,8 @@ loop-turn-init g c =
         reads_none g.P.Source.left g.P.Source.counts c.args.serial_in.now,
         reads_none g.Q.Source.left g.Q.Source.counts c.args.desk_in.now,
         rw c.new.ensures
-            (turns_none g.S.DeviceStore.stored _ _
-            (both_sinks g.R.Sink.held g.R.Sink.counts g.D.Sink.held g.D.Sink.counts)
-            c.args.gateway.now (c.args.serial_out.now, c.args.desk_out.now) idle),
+            (turns_none g.S.DeviceStore.stored wires
+            c.args.gateway.now (at_sinks g.R.Sink g.D.Sink c.args.serial_out.now c.args.desk_out.now) idle),
       );
       serial_made = made_none (g.P.Source.counts c.args.serial_in.now);
       desk_made = made_none (g.Q.Source.counts c.args.desk_in.now);
@@ -49,7 +49,7 @@ returns-in_default-clause-stopped g c =
             (pieces read) c.in_default.field-0 serial c.in_default.ensures.bytes c.in_default.ensures.told,
         desk,
       ),
-      plays_at g.R.Sink.held g.R.Sink.counts g.D.Sink.held g.D.Sink.counts g.S.DeviceStore.stored c.args.gateway.now
+      plays_at g.R.Sink g.D.Sink g.S.DeviceStore.stored c.args.gateway.now
           now.gateway.now _ _ c.args.serial_out.now now.outlet.serial.now _ c.args.desk_out.now now.outlet.desk.now _
           (search rules) (search rules) (search rules) taken.taken.played,
     )
@@ -81,7 +81,6 @@ returns-in_default-take_piece-clause-broken g c =
     let new = c.take_piece.new.self in
     let piece = take c.in-Ok.length c.read.new.buffer in
     let (read, count, serial, desk, taken) = c.loop-turn.invariant.progress in
-    let both = both_sinks g.R.Sink.held g.R.Sink.counts g.D.Sink.held g.D.Sink.counts in
     λ _. (
       read,
       Some piece,
@@ -89,13 +88,13 @@ returns-in_default-take_piece-clause-broken g c =
           (pieces read) c.in-Ok.length c.read.new.buffer serial c.in-Ok.ensures.within (omega arith)
           c.in-Ok.ensures.bytes c.in-Ok.ensures.told,
       desk,
-      breaks_turn_at g.R.Sink.held g.R.Sink.counts g.D.Sink.held g.D.Sink.counts g.S.DeviceStore.stored
+      breaks_turn_at g.R.Sink g.D.Sink g.S.DeviceStore.stored
           c.args.gateway.now
           new.gateway.now _ read (Some piece) c.args.serial_out.now new.outlet.serial.now _ c.args.desk_out.now
           new.outlet.desk.now _ (search rules) (search rules) (search rules)
-          (piece_stops g.S.DeviceStore.stored _ _ both c.args.gateway.now old.gateway.now new.gateway.now read piece
-          c.loop-turn.player.unended (c.args.serial_out.now, c.args.desk_out.now)
-          (old.outlet.serial.now, old.outlet.desk.now) (new.outlet.serial.now, new.outlet.desk.now) old.items taken
+          (piece_stops g.S.DeviceStore.stored wires c.args.gateway.now old.gateway.now new.gateway.now read piece
+          c.loop-turn.player.unended (at_sinks g.R.Sink g.D.Sink c.args.serial_out.now c.args.desk_out.now)
+          (at_sinks g.R.Sink g.D.Sink old.outlet.serial.now old.outlet.desk.now) (at_sinks g.R.Sink g.D.Sink new.outlet.serial.now new.outlet.desk.now) old.items taken
           c.in_default-take_piece.ensures.taken),
     )
 
@@ -114,14 +113,13 @@ returns-in_default-take_piece-clause-whole g c =
     let new = c.take_piece.new.self in
     let piece = take c.in-Ok.length c.read.new.buffer in
     let (read, count, serial, desk, taken) = c.loop-turn.invariant.progress in
-    let both = both_sinks g.R.Sink.held g.R.Sink.counts g.D.Sink.held g.D.Sink.counts in
     let part =
-    (piece_stops g.S.DeviceStore.stored _ _ both c.args.gateway.now old.gateway.now new.gateway.now read piece
-    c.loop-turn.player.unended (c.args.serial_out.now, c.args.desk_out.now) (old.outlet.serial.now, old.outlet.desk.now)
-    (new.outlet.serial.now, new.outlet.desk.now) old.items taken c.in_default-take_piece.ensures.taken).answered in
+    (piece_stops g.S.DeviceStore.stored wires c.args.gateway.now old.gateway.now new.gateway.now read piece
+    c.loop-turn.player.unended (at_sinks g.R.Sink g.D.Sink c.args.serial_out.now c.args.desk_out.now) (at_sinks g.R.Sink g.D.Sink old.outlet.serial.now old.outlet.desk.now)
+    (at_sinks g.R.Sink g.D.Sink new.outlet.serial.now new.outlet.desk.now) old.items taken c.in_default-take_piece.ensures.taken).answered in
     λ _ _ room others. (
       λ ok. absurd cc,
-      λ all. absurd (wrong_at_last g.R.Sink.held g.R.Sink.counts g.D.Sink.held g.D.Sink.counts
+      λ all. absurd (wrong_at_last g.R.Sink g.D.Sink
           c.args.serial_out.now new.outlet.serial.now _ c.args.desk_out.now new.outlet.desk.now _ part.answers part.last
           (search rules) (search rules) part.out room others all.2 all.3),
     )
@@ -134,7 +132,6 @@ returns-in_default-read-clause-stopped g c =
     let new = c.take_piece.new.self in
     let piece = take c.in-Ok.length c.read.new.buffer in
     let (read, count, serial, desk, taken) = c.loop-turn.invariant.progress in
-    let both = both_sinks g.R.Sink.held g.R.Sink.counts g.D.Sink.held g.D.Sink.counts in
     λ _. (
       read,
       Some piece,
@@ -146,12 +143,12 @@ returns-in_default-read-clause-stopped g c =
             c.read-in-loop-turn.new.self (desks read) c.in_default-read.field-0 desk c.in_default-read.ensures.bytes
             c.in_default-read.ensures.told,
       ),
-      plays_at g.R.Sink.held g.R.Sink.counts g.D.Sink.held g.D.Sink.counts g.S.DeviceStore.stored c.args.gateway.now
+      plays_at g.R.Sink g.D.Sink g.S.DeviceStore.stored c.args.gateway.now
           new.gateway.now _ _ c.args.serial_out.now new.outlet.serial.now _ c.args.desk_out.now new.outlet.desk.now _
           (search rules) (search rules) (search rules)
-          (piece_taken g.S.DeviceStore.stored _ _ both c.args.gateway.now old.gateway.now new.gateway.now read piece
-          c.loop-turn.player.unended (c.args.serial_out.now, c.args.desk_out.now)
-          (old.outlet.serial.now, old.outlet.desk.now) (new.outlet.serial.now, new.outlet.desk.now) old.items new.items
+          (piece_taken g.S.DeviceStore.stored wires c.args.gateway.now old.gateway.now new.gateway.now read piece
+          c.loop-turn.player.unended (at_sinks g.R.Sink g.D.Sink c.args.serial_out.now c.args.desk_out.now)
+          (at_sinks g.R.Sink g.D.Sink old.outlet.serial.now old.outlet.desk.now) (at_sinks g.R.Sink g.D.Sink new.outlet.serial.now new.outlet.desk.now) old.items new.items
           taken c.in-Ok-take_piece.ensures.taken).played,
     )
 
@@ -186,7 +183,6 @@ returns-in_default-take_bytes-clause-broken g c =
     let bytes = take c.in-Ok-read.length c.read-in-loop-turn.new.buffer in
     let turn : Turn = record { piece = piece; desk = bytes } in
     let (read, count, serial, desk, taken) = c.loop-turn.invariant.progress in
-    let both = both_sinks g.R.Sink.held g.R.Sink.counts g.D.Sink.held g.D.Sink.counts in
     λ _. (
       read ++ turn ∷ [],
       None,
@@ -198,15 +194,15 @@ returns-in_default-take_bytes-clause-broken g c =
           (reads_more g.Q.Source.left g.Q.Source.counts c.args.desk_in.now c.loop-turn.desk_in
           c.read-in-loop-turn.new.self (desks read) c.in-Ok-read.length c.read-in-loop-turn.new.buffer desk
           c.in-Ok-read.ensures.within (omega arith) c.in-Ok-read.ensures.bytes c.in-Ok-read.ensures.told),
-      breaks_turn_at g.R.Sink.held g.R.Sink.counts g.D.Sink.held g.D.Sink.counts g.S.DeviceStore.stored
+      breaks_turn_at g.R.Sink g.D.Sink g.S.DeviceStore.stored
           c.args.gateway.now
           new.gateway.now _ (read ++ turn ∷ []) None c.args.serial_out.now new.outlet.serial.now _ c.args.desk_out.now
           new.outlet.desk.now _ (search rules) (search rules) (search rules)
-          (order_stops g.S.DeviceStore.stored _ _ both c.args.gateway.now old.gateway.now mid.gateway.now
+          (order_stops g.S.DeviceStore.stored wires c.args.gateway.now old.gateway.now mid.gateway.now
           new.gateway.now read piece
-          bytes c.loop-turn.player.unended (c.args.serial_out.now, c.args.desk_out.now)
-          (old.outlet.serial.now, old.outlet.desk.now) (mid.outlet.serial.now, mid.outlet.desk.now)
-          (new.outlet.serial.now, new.outlet.desk.now) old.items mid.items taken c.in-Ok-take_piece.ensures.taken
+          bytes c.loop-turn.player.unended (at_sinks g.R.Sink g.D.Sink c.args.serial_out.now c.args.desk_out.now)
+          (at_sinks g.R.Sink g.D.Sink old.outlet.serial.now old.outlet.desk.now) (at_sinks g.R.Sink g.D.Sink mid.outlet.serial.now mid.outlet.desk.now)
+          (at_sinks g.R.Sink g.D.Sink new.outlet.serial.now new.outlet.desk.now) old.items mid.items taken c.in-Ok-take_piece.ensures.taken
           (c.in_default-take_bytes.ensures.taken taken.rest taken.keeps)),
     )
 
@@ -228,17 +224,16 @@ returns-in_default-take_bytes-clause-whole g c =
     let piece = take c.in-Ok.length c.read.new.buffer in
     let bytes = take c.in-Ok-read.length c.read-in-loop-turn.new.buffer in
     let (read, count, serial, desk, taken) = c.loop-turn.invariant.progress in
-    let both = both_sinks g.R.Sink.held g.R.Sink.counts g.D.Sink.held g.D.Sink.counts in
     let part =
-    (order_stops g.S.DeviceStore.stored _ _ both c.args.gateway.now old.gateway.now mid.gateway.now new.gateway.now
+    (order_stops g.S.DeviceStore.stored wires c.args.gateway.now old.gateway.now mid.gateway.now new.gateway.now
     read piece bytes
-    c.loop-turn.player.unended (c.args.serial_out.now, c.args.desk_out.now) (old.outlet.serial.now, old.outlet.desk.now)
-    (mid.outlet.serial.now, mid.outlet.desk.now) (new.outlet.serial.now, new.outlet.desk.now) old.items mid.items
+    c.loop-turn.player.unended (at_sinks g.R.Sink g.D.Sink c.args.serial_out.now c.args.desk_out.now) (at_sinks g.R.Sink g.D.Sink old.outlet.serial.now old.outlet.desk.now)
+    (at_sinks g.R.Sink g.D.Sink mid.outlet.serial.now mid.outlet.desk.now) (at_sinks g.R.Sink g.D.Sink new.outlet.serial.now new.outlet.desk.now) old.items mid.items
     taken c.in-Ok-take_piece.ensures.taken
     (c.in_default-take_bytes.ensures.taken taken.rest taken.keeps)).broken.answered in
     λ _ _ room others. (
       λ ok. absurd cc,
-      λ all. absurd (wrong_at_last g.R.Sink.held g.R.Sink.counts g.D.Sink.held g.D.Sink.counts
+      λ all. absurd (wrong_at_last g.R.Sink g.D.Sink
           c.args.serial_out.now new.outlet.serial.now _ c.args.desk_out.now new.outlet.desk.now _ part.answers part.last
           (search rules) (search rules) part.out room others all.2 all.3),
     )
@@ -258,7 +253,6 @@ loop-turn-preserved g c =
     let both_read : Turn = record { piece = piece; desk = bytes } in
     let before = c.loop-turn.invariant in
     let (read, count, serial, desk, taken) = before.progress in
-    let both = both_sinks g.R.Sink.held g.R.Sink.counts g.D.Sink.held g.D.Sink.counts in
     record {
       gateway = search rules;
       serial = search rules;
@@ -275,11 +269,11 @@ loop-turn-preserved g c =
             (reads_more g.Q.Source.left g.Q.Source.counts c.args.desk_in.now c.loop-turn.desk_in
             c.read-in-loop-turn.new.self (desks read) c.in-Ok-read.length c.read-in-loop-turn.new.buffer desk
             c.in-Ok-read.ensures.within (omega arith) c.in-Ok-read.ensures.bytes c.in-Ok-read.ensures.told),
-        turn_taken g.S.DeviceStore.stored _ _ both c.args.gateway.now old.gateway.now mid.gateway.now new.gateway.now
+        turn_taken g.S.DeviceStore.stored wires c.args.gateway.now old.gateway.now mid.gateway.now new.gateway.now
             read piece
             bytes c.loop-turn.player.unended c.take_bytes.new.self.unended
-            (c.args.serial_out.now, c.args.desk_out.now) (old.outlet.serial.now, old.outlet.desk.now)
-            (mid.outlet.serial.now, mid.outlet.desk.now) (new.outlet.serial.now, new.outlet.desk.now) old.items
+            (at_sinks g.R.Sink g.D.Sink c.args.serial_out.now c.args.desk_out.now) (at_sinks g.R.Sink g.D.Sink old.outlet.serial.now old.outlet.desk.now)
+            (at_sinks g.R.Sink g.D.Sink mid.outlet.serial.now mid.outlet.desk.now) (at_sinks g.R.Sink g.D.Sink new.outlet.serial.now new.outlet.desk.now) old.items
             mid.items new.items taken c.in-Ok-take_piece.ensures.taken
             (c.in-Ok-take_bytes.ensures.taken taken.rest taken.keeps),
       );
@@ -305,7 +299,7 @@ returns-clause-ok g c =
       count ∙ omega (arith, done, last),
       serial,
       desk,
-      plays_at g.R.Sink.held g.R.Sink.counts g.D.Sink.held g.D.Sink.counts g.S.DeviceStore.stored c.args.gateway.now
+      plays_at g.R.Sink g.D.Sink g.S.DeviceStore.stored c.args.gateway.now
           now.gateway.now _ _ c.args.serial_out.now now.outlet.serial.now _ c.args.desk_out.now now.outlet.desk.now _
           (search rules) (search rules) (search rules) taken.taken.played,
       omega (arith, counted),
@@ -338,8 +332,8 @@ returns-clause-whole g c =
             omega (arith, fits, made, done, last)),
         (let fits = others.calls in let made = before.desk_made (omega (arith, fits)) in
             omega (arith, fits, made, done, last)),
-        well_at g.R.Sink.counts c.args.serial_out.now now.serial.now _ (search rules) out.radio_well,
-        well_at g.D.Sink.counts c.args.desk_out.now now.desk.now _ (search rules) out.told_well,
+        well_at g.R.Sink.counts c.args.serial_out.now now.serial.now _ (search rules) out.0.went,
+        well_at g.D.Sink.counts c.args.desk_out.now now.desk.now _ (search rules) out.1.went,
         serial.well,
         desk.well,
       ),

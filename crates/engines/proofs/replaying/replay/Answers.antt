@@ -8,8 +8,9 @@ use Rattle.byte_streams.specs.Counts.{WentWell, OneFailed, OneEmpty}
 use Rattle.byte_streams.proofs.ForCallers.{went_well}
 use Rattle.engines.specs.Played.{IsIdle}
 use Rattle.engines.specs.declared.lines.Lines.TheVariants.{OfScript}
-use Rattle.engines.specs.Behind.{well_behind, wrong_behind}
-use Rattle.engines.specs.TextOutlet.{PutsText, text_outlet}
+use Rattle.engines.specs.Streams.{sink_value}
+use Rattle.engines.specs.TextWay.{PutsText, text_way, well_behind, wrong_behind}
+use Rattle.engines.specs.Written.{text_of}
 use Rattle.engines.proofs.BytesLemmas.{bytes_none, bytes_behind, closes, keeps_none, part_at_line, script_stops}
 use Rattle.engines.proofs.BytesLemmas.{script_taken, stops_behind}
 use Rattle.engines.proofs.ReadLemmas.{one_read_more, reads_fail, reads_more, reads_none}
@@ -27,9 +28,9 @@ loop-turn-init g c =
         [],
         Consumes-nil (g.R.Source.left c.args.reader.now),
         rw c.new.ensures
-            (bytes_none g.S.DeviceStore.stored _ _ (text_outlet g.W.Sink.held g.W.Sink.counts (λ writer. writer))
+            (bytes_none g.S.DeviceStore.stored (text_way text_of)
             OfScript
-            c.args.gateway.now [] [] c.args.writer.now 0 idle (omega arith) keeps_none),
+            c.args.gateway.now [] [] (sink_value g.W.Sink c.args.writer.now) 0 idle (omega arith) keeps_none),
       );
       writes = (refl, refl);
       reads = (refl, refl);
@@ -39,35 +40,31 @@ loop-turn-init g c =
 pub returns-in-Err-clause-stopped : goal.returns-in-Err-clause-stopped
 returns-in-Err-clause-stopped g c =
     let left = g.R.Source.left in
-    let held = g.W.Sink.held in
-    let counts = g.W.Sink.counts in
     let now = c.loop-turn.player in
     let progress = c.loop-turn.invariant.progress in
     λ _. (
       progress.0,
       Consumes-kept (left c.args.reader.now) (left c.loop-turn.reader) (left c.read.new.self) progress.0 progress.1
           c.in-Err.ensures.bytes,
-      closed_at g.S.DeviceStore.stored held counts c.args.gateway.now now.engine.gateway.now _ progress.0
+      closed_at g.S.DeviceStore.stored g.W.Sink c.args.gateway.now now.engine.gateway.now _ progress.0
           c.args.writer.now
           now.engine.outlet.sink.now _ (search rules) (search rules)
           (closes g.S.DeviceStore.stored c.args.gateway.now now.engine.gateway.now progress.0 now.unended
-          (PutsText held counts c.args.writer.now now.engine.outlet.sink.now) 0 now.engine.items progress.2),
+          (PutsText text_of (sink_value g.W.Sink c.args.writer.now) (sink_value g.W.Sink now.engine.outlet.sink.now)) 0 now.engine.items progress.2),
     )
 
 pub returns-clause-stopped : goal.returns-clause-stopped
 returns-clause-stopped g c =
-    let held = g.W.Sink.held in
-    let counts = g.W.Sink.counts in
     let now = c.loop-turn.player in
     let progress = c.loop-turn.invariant.progress in
     λ _. (
       progress.0,
       progress.1,
-      closed_at g.S.DeviceStore.stored held counts c.args.gateway.now now.engine.gateway.now _ progress.0
+      closed_at g.S.DeviceStore.stored g.W.Sink c.args.gateway.now now.engine.gateway.now _ progress.0
           c.args.writer.now
           now.engine.outlet.sink.now _ (search rules) (search rules)
           (closes g.S.DeviceStore.stored c.args.gateway.now now.engine.gateway.now progress.0 now.unended
-          (PutsText held counts c.args.writer.now now.engine.outlet.sink.now) 0 now.engine.items progress.2),
+          (PutsText text_of (sink_value g.W.Sink c.args.writer.now) (sink_value g.W.Sink now.engine.outlet.sink.now)) 0 now.engine.items progress.2),
     )
 
 pub returns-then-length-eq0-clause-ok : goal.returns-then-length-eq0-clause-ok
@@ -79,16 +76,16 @@ returns-then-length-eq0-clause-ok g c =
     rw c.if-length-eq0.true at c.in-Ok.ensures.bytes.0 in
     let old = c.loop-turn.player.engine in
     let done =
-    script_taken g.S.DeviceStore.stored _ _ (text_outlet g.W.Sink.held g.W.Sink.counts (λ writer. writer))
+    script_taken g.S.DeviceStore.stored (text_way text_of)
     c.args.gateway.now
-    old.gateway.now new.gateway.now progress.0 c.loop-turn.player.unended c.args.writer.now old.outlet.sink.now
-    new.outlet.sink.now old.items new.items progress.2
+    old.gateway.now new.gateway.now progress.0 c.loop-turn.player.unended (sink_value g.W.Sink c.args.writer.now) (sink_value g.W.Sink old.outlet.sink.now)
+    (sink_value g.W.Sink new.outlet.sink.now) old.items new.items progress.2
     (c.in-Ok-take_last.ensures.taken progress.2.rest progress.2.keeps) in (
       progress.0,
       rw append-nil at (Consumes-trans (left c.args.reader.now) (left c.loop-turn.reader) (left c.read.new.self)
           progress.0 [] progress.1 none),
       c.in-Ok.ensures.bytes.1 c.if-length-eq0.true (omega arith),
-      replays_at g.S.DeviceStore.stored g.W.Sink.held g.W.Sink.counts c.args.gateway.now new.gateway.now _ _
+      replays_at g.S.DeviceStore.stored g.W.Sink c.args.gateway.now new.gateway.now _ _
           c.args.writer.now
           new.outlet.sink.now _ (search rules) (search rules) done.played,
       (let counted = done.counted in omega (arith, counted)),
@@ -120,12 +117,12 @@ returns-in_default-clause-broken g c =
       inr (
         search rules,
         c.in-Ok.ensures.bytes.1 c.if-length-eq0.true (omega arith),
-        part_at g.S.DeviceStore.stored g.W.Sink.held g.W.Sink.counts c.args.gateway.now new.gateway.now _ progress.0
+        part_at g.S.DeviceStore.stored g.W.Sink c.args.gateway.now new.gateway.now _ progress.0
             c.args.writer.now
             new.outlet.sink.now _ (search rules) (search rules)
-            (script_stops g.S.DeviceStore.stored _ _ (text_outlet g.W.Sink.held g.W.Sink.counts (λ writer. writer))
-            c.args.gateway.now old.gateway.now new.gateway.now progress.0 c.loop-turn.player.unended c.args.writer.now
-            old.outlet.sink.now new.outlet.sink.now old.items progress.2
+            (script_stops g.S.DeviceStore.stored (text_way text_of)
+            c.args.gateway.now old.gateway.now new.gateway.now progress.0 c.loop-turn.player.unended (sink_value g.W.Sink c.args.writer.now)
+            (sink_value g.W.Sink old.outlet.sink.now) (sink_value g.W.Sink new.outlet.sink.now) old.items progress.2
             (c.in_default.ensures.taken progress.2.rest progress.2.keeps)),
       ),
     )
@@ -159,14 +156,14 @@ returns-in_default-take_bytes-clause-broken g c =
       inl (
         went_well Failed (reads c.args.reader.now) (reads c.loop-turn.reader) (reads c.read.new.self) c.in-Ok.length
             c.loop-turn.invariant.reads c.in-Ok.ensures.told c.if-length-eq0.false,
-        line_part_at g.S.DeviceStore.stored g.W.Sink.held g.W.Sink.counts c.args.gateway.now new.gateway.now _
+        line_part_at g.S.DeviceStore.stored g.W.Sink c.args.gateway.now new.gateway.now _
             (progress.0 ++ chunk)
             c.args.writer.now new.outlet.sink.now _ (search rules) (search rules)
             (part_at_line g.S.DeviceStore.stored c.args.gateway.now new.gateway.now (progress.0 ++ chunk) _
-            (stops_behind g.S.DeviceStore.stored _ _ (text_outlet g.W.Sink.held g.W.Sink.counts (λ writer. writer))
+            (stops_behind g.S.DeviceStore.stored (text_way text_of)
             OfScript
             c.args.gateway.now old.gateway.now new.gateway.now [] progress.0 chunk c.loop-turn.player.unended
-            c.args.writer.now old.outlet.sink.now new.outlet.sink.now 0 old.items progress.2
+            (sink_value g.W.Sink c.args.writer.now) (sink_value g.W.Sink old.outlet.sink.now) (sink_value g.W.Sink new.outlet.sink.now) 0 old.items progress.2
             (c.in_default-take_bytes.ensures.taken progress.2.rest progress.2.keeps))),
       ),
     )
@@ -207,9 +204,9 @@ loop-turn-preserved g c =
     let old = c.loop-turn.player.engine in
     let new = c.take_bytes.new.self.engine in
     let progress =
-    bytes_behind g.S.DeviceStore.stored _ _ (text_outlet g.W.Sink.held g.W.Sink.counts (λ writer. writer)) OfScript
+    bytes_behind g.S.DeviceStore.stored (text_way text_of) OfScript
     c.args.gateway.now old.gateway.now new.gateway.now [] invariant.progress.0 chunk c.loop-turn.player.unended
-    c.take_bytes.new.self.unended c.args.writer.now old.outlet.sink.now new.outlet.sink.now 0 old.items new.items p
+    c.take_bytes.new.self.unended (sink_value g.W.Sink c.args.writer.now) (sink_value g.W.Sink old.outlet.sink.now) (sink_value g.W.Sink new.outlet.sink.now) 0 old.items new.items p
     (after.taken p.rest p.keeps) in
     record {
       gateway = search rules;

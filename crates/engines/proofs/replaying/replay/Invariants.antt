@@ -5,7 +5,9 @@ use Rattle.engines.specs.Played.{IsIdle}
 use Rattle.engines.specs.Bytes.{TakesBytes}
 use Rattle.engines.specs.Reads.{ReadsWell}
 use Rattle.engines.specs.declared.lines.Lines.TheVariants.{OfScript}
-use Rattle.engines.specs.TextOutlet.{PutsText}
+use Rattle.engines.specs.Streams.{sink_value}
+use Rattle.engines.specs.TextWay.{PutsText}
+use Rattle.engines.specs.Written.{text_of}
 use Rattle.engines.proofs.replaying.replay.Given as goal
 
 abbrev pub invariant-loop-turn : goal.invariant-loop-turn
@@ -15,7 +17,7 @@ invariant-loop-turn g l = record {
   idle : IsIdle l.player.engine.gateway.now;
   progress : (input : List ℕ) × Consumes (g.R.Source.left l.fn.reader) (g.R.Source.left l.reader) input
       × TakesBytes g.S.DeviceStore.stored OfScript l.fn.gateway l.player.engine.gateway.now [] input l.player.unended
-      (PutsText g.W.Sink.held g.W.Sink.counts l.fn.writer l.player.engine.outlet.sink.now) 0 l.player.engine.items;
+      (PutsText text_of (sink_value g.W.Sink l.fn.writer) (sink_value g.W.Sink l.player.engine.outlet.sink.now)) 0 l.player.engine.items;
   writes : WentWell (g.W.Sink.counts l.fn.writer) (g.W.Sink.counts l.player.engine.outlet.sink.now);
   reads : WentWell (g.R.Source.counts l.fn.reader) (g.R.Source.counts l.reader);
   gave : (parts : List (List ℕ)) × (length parts ≡ l._turn)

@@ -18,7 +18,7 @@ loop-reply-init g c =
       gateway = refl;
       loans = refl;
       drains =
-          drains_nothing g.S.DeviceStore.stored o.puts o.breaks g.met.O.Outlet.lawful old.gateway.now old.outlet
+          drains_nothing g.S.DeviceStore.stored o.way old.gateway.now old.outlet
           old.items
           (search rules);
     }
@@ -31,7 +31,7 @@ returns-in_err-answer-clause-broken g c =
     let new = c.answer.new.self in
     let exit = err_from_is_err_and c.from_residual.result c.from_residual.ensures.1 in
     rw exit.1
-    (drains_part g.S.DeviceStore.stored o.puts o.breaks g.met.O.Outlet.lawful old.gateway.now now.gateway.now
+    (drains_part g.S.DeviceStore.stored o.way old.gateway.now now.gateway.now
     new.gateway.now
     (answer_of c.in-Some.reply) old.outlet now.outlet new.outlet old.items now.items c.loop-reply.invariant.drains
     (rw c.answer.ensures.kept c.in-Some.ensures) c.in_err-answer.ensures.put)
@@ -41,7 +41,7 @@ abbrev Kept : (g : Over) → Engine g.row.O.Denot g.row.S.Denot → Engine g.row
 Kept g old now = record {
   gateway : now.gateway.ghost_name ≡ old.gateway.ghost_name;
   loans : g.O.Outlet.loans now.outlet ≡ g.O.Outlet.loans old.outlet;
-  drains : Drains g.S.DeviceStore.stored old.gateway.now now.gateway.now (g.O.Outlet.puts old.outlet now.outlet)
+  drains : Drains g.S.DeviceStore.stored old.gateway.now now.gateway.now (g.O.Outlet.way.puts old.outlet now.outlet)
       old.items now.items;
 }
 
@@ -53,7 +53,7 @@ Answered g now new next reply = record {
   kept : new.gateway.now ≡ next;
   loans : g.O.Outlet.loans new.outlet ≡ g.O.Outlet.loans now.outlet;
   counted : new.items ≡ count_with now.items 1;
-  put : g.O.Outlet.puts now.outlet new.outlet (answer_of reply ∷ []);
+  put : g.O.Outlet.way.puts now.outlet new.outlet (answer_of reply ∷ []);
 }
 
 -- one reply more went out, so what the loop keeps holds again
@@ -66,7 +66,7 @@ one_more_out g old now new next reply before moved out =
       gateway = out.gateway ∙ before.gateway;
       loans = out.loans ∙ before.loans;
       drains =
-          drains_one g.S.DeviceStore.stored o.puts o.breaks g.met.O.Outlet.lawful old.gateway.now now.gateway.now
+          drains_one g.S.DeviceStore.stored o.way old.gateway.now now.gateway.now
           new.gateway.now
           (answer_of reply) old.outlet now.outlet new.outlet old.items now.items new.items before.drains
           (rw out.kept moved) out.put out.counted;

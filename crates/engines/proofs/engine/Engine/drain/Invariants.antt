@@ -7,7 +7,7 @@ invariant-loop-reply g l = record {
   gateway : l.self.gateway.ghost_name ≡ l.fn.self.gateway.ghost_name;
   loans : g.O.Outlet.loans l.self.outlet ≡ g.O.Outlet.loans l.fn.self.outlet;
   drains : Drains g.S.DeviceStore.stored l.fn.self.gateway.now l.self.gateway.now
-      (g.O.Outlet.puts l.fn.self.outlet l.self.outlet) l.fn.self.items l.self.items;
+      (g.O.Outlet.way.puts l.fn.self.outlet l.self.outlet) l.fn.self.items l.self.items;
 }
 
 abbrev pub decreases-loop-reply : goal.decreases-loop-reply

@@ -14,7 +14,7 @@ loop-byte-init g c =
       gateway = refl;
       loans = refl;
       takes =
-          takes_nothing g.S.DeviceStore.stored o.puts o.breaks g.met.O.Outlet.lawful old.gateway.now old.outlet
+          takes_nothing g.S.DeviceStore.stored o.way old.gateway.now old.outlet
           old.items c.requires
           (search rules);
     }
@@ -30,7 +30,7 @@ returns-in_err-drain-clause-taken g c =
     let below : i < length piece = omega arith in
     let exit = err_from_is_err_and c.from_residual.result c.from_residual.ensures.1 in
     rw exit.1
-    (takes_part g.S.DeviceStore.stored o.puts o.breaks g.met.O.Outlet.lawful old.gateway.now now.gateway.now
+    (takes_part g.S.DeviceStore.stored o.way old.gateway.now now.gateway.now
     c.byte.new.self
     new.gateway.now (take i piece) (get_or piece i 0) (drop (i + 1) piece) piece old.outlet now.outlet new.outlet
     old.items now.items c.loop-byte.invariant.takes c.byte.ensures c.in_err-drain.ensures.broken
@@ -39,7 +39,6 @@ returns-in_err-drain-clause-taken g c =
 pub loop-byte-preserved : goal.loop-byte-preserved
 loop-byte-preserved g c =
     let o = g.O.Outlet in
-    let lawful = g.met.O.Outlet.lawful in
     let old = c.args.self.now in
     let now = c.loop-byte.self in
     let piece = c.args.piece.now in
@@ -53,7 +52,7 @@ loop-byte-preserved g c =
             gateway = search rules;
             loans = w.in_ok-drain.ensures.loans ∙ before.loans;
             takes = rw (take_more piece i 0 below)
-                (takes_more g.S.DeviceStore.stored o.puts o.breaks lawful old.gateway.now now.gateway.now
+                (takes_more g.S.DeviceStore.stored o.way old.gateway.now now.gateway.now
                 c.byte.new.self
                 new.gateway.now (take i piece) (get_or piece i 0) old.outlet now.outlet new.outlet old.items now.items
                 new.items before.takes c.byte.ensures w.in_ok-drain.ensures.ready w.in_ok-drain.ensures.drained);
@@ -64,11 +63,11 @@ loop-byte-preserved g c =
             gateway = search rules;
             loans = before.loans;
             takes = rw (take_more piece i 0 below)
-                (takes_more g.S.DeviceStore.stored o.puts o.breaks lawful old.gateway.now now.gateway.now
+                (takes_more g.S.DeviceStore.stored o.way old.gateway.now now.gateway.now
                 c.byte.new.self
                 c.byte.new.self (take i piece) (get_or piece i 0) old.outlet now.outlet now.outlet old.items now.items
                 now.items before.takes c.byte.ensures (rw w.if-is_ready.false at c.is_ready.ensures.ready)
-                (drains_nothing g.S.DeviceStore.stored o.puts o.breaks lawful c.byte.new.self now.outlet now.items
+                (drains_nothing g.S.DeviceStore.stored o.way c.byte.new.self now.outlet now.items
                 (omega (arith, counted))));
           })
     ]

@@ -20,7 +20,7 @@ loop-end-init g c =
       taken = (
         [],
         refl,
-        λ tail keeps. bytes_none g.S.DeviceStore.stored o.puts o.breaks g.met.O.Outlet.lawful c.args.lines
+        λ tail keeps. bytes_none g.S.DeviceStore.stored o.way c.args.lines
             old.gateway.now tail
             c.args.self.now.unended old.outlet old.items c.requires (search rules) keeps,
       );
@@ -44,12 +44,12 @@ returns-in_err-take_ended-clause-taken g c =
     rw exit.1 (λ tail keeps.
     let p = taken.2 tail keeps in
     subst (λ s. StopsAtLine g.S.DeviceStore.stored c.args.lines old.gateway.now new.gateway.now tail s
-    (o.breaks old.outlet new.outlet)) whole
-    (stops_behind g.S.DeviceStore.stored o.puts o.breaks g.met.O.Outlet.lawful c.args.lines old.gateway.now
+    (o.way.breaks old.outlet new.outlet)) whole
+    (stops_behind g.S.DeviceStore.stored o.way c.args.lines old.gateway.now
     mid.gateway.now
     new.gateway.now tail done (take end rest ++ 10 ∷ behind) c.loop-end.self.unended old.outlet mid.outlet new.outlet
     old.items mid.items p
-    (line_stops g.S.DeviceStore.stored o.puts o.breaks g.met.O.Outlet.lawful c.args.lines mid.gateway.now
+    (line_stops g.S.DeviceStore.stored o.way c.args.lines mid.gateway.now
     new.gateway.now p.rest
     (take end rest) behind mid.outlet new.outlet p.keeps.one
     (one_line_before rest end (omega arith) found.0.before)
@@ -58,7 +58,6 @@ returns-in_err-take_ended-clause-taken g c =
 pub loop-end-preserved : goal.loop-end-preserved
 loop-end-preserved g c =
     let o = g.O.Outlet in
-    let lawful = g.met.O.Outlet.lawful in
     let old = c.args.self.now.engine in
     let mid = c.loop-end.self.engine in
     let new = c.take_ended.new.self.engine in
@@ -84,10 +83,10 @@ loop-end-preserved g c =
         λ tail keeps.
             let p = taken.2 tail keeps in
             rw c.in_ok-take_ended.ensures.emptied
-            (bytes_behind g.S.DeviceStore.stored o.puts o.breaks lawful c.args.lines old.gateway.now mid.gateway.now
+            (bytes_behind g.S.DeviceStore.stored o.way c.args.lines old.gateway.now mid.gateway.now
             new.gateway.now tail done line c.loop-end.self.unended [] old.outlet mid.outlet new.outlet old.items
             mid.items new.items p
-            (line_taken g.S.DeviceStore.stored o.puts o.breaks lawful c.args.lines mid.gateway.now new.gateway.now
+            (line_taken g.S.DeviceStore.stored o.way c.args.lines mid.gateway.now new.gateway.now
             p.rest
             (take end rest) mid.outlet new.outlet mid.items new.items p.keeps.one
             (one_line_before rest end (omega arith) found.0.before)
@@ -105,6 +104,6 @@ returns-clause-taken g c =
     let done = taken.0 in
     λ tail keeps.
     rw (c.extend.ensures, taken.1)
-    (bytes_without_end g.S.DeviceStore.stored o.puts o.breaks g.met.O.Outlet.lawful c.args.lines old.gateway.now
+    (bytes_without_end g.S.DeviceStore.stored o.way c.args.lines old.gateway.now
     now.engine.gateway.now tail done now.unended rest old.outlet now.engine.outlet old.items now.engine.items
     (one_line rest c.in_default.ensures) (taken.2 tail keeps))

@@ -12,7 +12,7 @@ invariant-loop-end g l = record {
   taken : (done : List ℕ) × (l.bytes ≡ done ++ l.rest) × ((tail : List ℕ) → Keeps tail l.fn.self.unended →
       TakesBytes g.S.DeviceStore.stored l.lines l.fn.self.engine.gateway.now l.self.engine.gateway.now tail done
       l.self.unended
-      (g.O.Outlet.puts l.fn.self.engine.outlet l.self.engine.outlet) l.fn.self.engine.items l.self.engine.items);
+      (g.O.Outlet.way.puts l.fn.self.engine.outlet l.self.engine.outlet) l.fn.self.engine.items l.self.engine.items);
 }
 
 abbrev pub decreases-loop-end : goal.decreases-loop-end

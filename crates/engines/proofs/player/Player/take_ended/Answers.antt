@@ -17,8 +17,8 @@ returns-then-is_empty-clause-taken g c = λ tail keeps.
     let tested = rw c.as_slice.ensures at c.is_empty.ensures in
     let none = eqb-true (length kept) 0 (sym tested ∙ c.if-is_empty.true) in
     subst (λ t. TakesOrBreaks g.S.DeviceStore.stored c.take_line.result old.gateway.now new.gateway.now
-    (event_by c.args.lines (strip_carriage_return (t ++ c.args.bytes.now))) (o.puts old.outlet new.outlet)
-    (o.breaks old.outlet new.outlet) old.items new.items) (sym (none_came tail kept keeps none))
+    (event_by c.args.lines (strip_carriage_return (t ++ c.args.bytes.now))) (o.way.puts old.outlet new.outlet)
+    (o.way.breaks old.outlet new.outlet) old.items new.items) (sym (none_came tail kept keeps none))
     (rw c.strip.ensures at c.take_line.ensures.taken)
 
 pub returns-in_err-take_line-clause-taken : goal.returns-in_err-take_line-clause-taken
@@ -32,8 +32,8 @@ returns-in_err-take_line-clause-taken g c =
     rw exit.1 (λ tail keeps.
     kept_line_alike g.S.DeviceStore.stored {A = Unit {0}} {E = Unit {0}} (Err tt) c.args.lines old.gateway.now
     new.gateway.now
-    (take longest_kept (kept ++ bytes)) (tail ++ bytes) (o.puts old.outlet new.outlet)
-    (o.breaks old.outlet new.outlet) old.items old.items (kept_more tail kept bytes keeps.is)
+    (take longest_kept (kept ++ bytes)) (tail ++ bytes) (o.way.puts old.outlet new.outlet)
+    (o.way.breaks old.outlet new.outlet) old.items old.items (kept_more tail kept bytes keeps.is)
     (rw (c.strip-2.ensures, c.as_slice-2.ensures, c.extend.ensures) at c.in_err-take_line.ensures.taken))
 
 pub returns-clause-taken : goal.returns-clause-taken
@@ -45,6 +45,6 @@ returns-clause-taken g c = λ tail keeps.
     let bytes = c.args.bytes.now in
     kept_line_alike g.S.DeviceStore.stored {A = Unit {0}} {E = Unit {0}} (Ok tt) c.args.lines old.gateway.now
     new.gateway.now
-    (take longest_kept (kept ++ bytes)) (tail ++ bytes) (o.puts old.outlet new.outlet)
-    (o.breaks old.outlet new.outlet) old.items new.items (kept_more tail kept bytes keeps.is)
+    (take longest_kept (kept ++ bytes)) (tail ++ bytes) (o.way.puts old.outlet new.outlet)
+    (o.way.breaks old.outlet new.outlet) old.items new.items (kept_more tail kept bytes keeps.is)
     (rw (c.strip-2.ensures, c.as_slice-2.ensures, c.extend.ensures) at c.in_ok-take_line.ensures.taken)

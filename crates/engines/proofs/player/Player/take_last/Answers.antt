@@ -13,10 +13,10 @@ returns-then-is_empty-clause-taken g c = λ tail keeps.
     let kept = c.args.self.now.unended in
     let tested = rw c.as_slice-line.ensures at c.is_empty.ensures in
     let none = eqb-true (length kept) 0 (sym tested ∙ c.if-is_empty.true) in
-    subst (λ t. Takes g.S.DeviceStore.stored old.gateway.now old.gateway.now (script t) (o.puts old.outlet old.outlet)
+    subst (λ t. Takes g.S.DeviceStore.stored old.gateway.now old.gateway.now (script t) (o.way.puts old.outlet old.outlet)
     old.items
     old.items) (sym (none_came tail kept keeps none))
-    (takes_none g.S.DeviceStore.stored o.puts o.breaks g.met.O.Outlet.lawful old.gateway.now old.outlet old.items
+    (takes_none g.S.DeviceStore.stored o.way old.gateway.now old.outlet old.items
     c.requires
     (search rules))
 
@@ -29,6 +29,6 @@ returns-clause-taken g c = λ tail keeps.
     let tested = rw c.as_slice-line.ensures at c.is_empty.ensures in
     let there = eqb-false (length kept) 0 (sym tested ∙ c.if-is_empty.false) in
     last_line g.S.DeviceStore.stored c.take_line.result old.gateway.now new.gateway.now tail kept
-    (o.puts old.outlet new.outlet)
-    (o.breaks old.outlet new.outlet) old.items new.items keeps there
+    (o.way.puts old.outlet new.outlet)
+    (o.way.breaks old.outlet new.outlet) old.items new.items keeps there
     (rw c.as_slice-line.ensures at c.take_line.ensures.taken)
