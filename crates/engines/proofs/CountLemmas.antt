@@ -1,8 +1,8 @@
 -- How counts of calls go on.
-use Rattle.std.proofs.Common.{◌≡◌, ℕ, ◌+◌, ◌<◌, ◌≤◌, arith}
+use Rattle.std.proofs.Common.{◌≡◌, ℕ, ◌+◌, ◌<◌, ◌≤◌, arith, inl, inr}
 use Rattle.std.specs.Prelude.{Result, Ok, Err}
-use Rattle.byte_streams.specs.Counts.{Counts, Went, WentWell, Made, one_more}
-use Rattle.engines.specs.TextWay.{well_behind, wrong_behind}
+use Rattle.byte_streams.specs.Counts.{Counts, HasRoom, Made, NoneFailed, OneMoreFailed, Went, WentWell, one_more}
+use Rattle.engines.specs.Calls.{OneWrong, well_behind, wrong_behind}
 
 pub made_none : (old : Counts) → Made old old 0
 made_none old fits = omega arith
@@ -39,3 +39,21 @@ pub went_behind : {A E : Type 0} (r : Result A E) (old mid new : Counts) → Wen
     → Went r old new
 went_behind (Ok done) old mid new first second = well_behind old mid new first second
 went_behind (Err failed) old mid new first second = wrong_behind old mid new first second
+
+-- also where the loan of the writer has ended
+pub wrong_at : {W : Type 0} (counts : W → Counts) (old sink writer : W) → writer ≡ sink
+    → OneWrong (counts old) (counts sink) → OneWrong (counts old) (counts writer)
+wrong_at counts old sink writer e wrong = rw e wrong
+
+pub not_well : (old new : Counts) → HasRoom old 0 → OneWrong old new → WentWell old new → ⊥
+not_well old new room (inl failed) well =
+    let space = room.failed in let more = failed.0 in let same = well.0 in omega (arith, space, more, same)
+not_well old new room (inr empty) well =
+    let space = room.empty in let more = empty.1 in let same = well.1 in omega (arith, space, more, same)
+
+pub not_failed : (old new : Counts) (n : ℕ) → HasRoom old n → OneMoreFailed old new → NoneFailed old new → ⊥
+not_failed old new n room more same = let space = room.failed in omega (arith, space, more, same)
+
+pub well_at : {W : Type 0} (counts : W → Counts) (old sink writer : W) → writer ≡ sink
+    → WentWell (counts old) (counts sink) → WentWell (counts old) (counts writer)
+well_at counts old sink writer e well = rw e well

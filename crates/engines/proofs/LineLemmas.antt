@@ -8,7 +8,7 @@ use Rattle.std.proofs.lemmas.List.Splits.{slice_split_none, slice_split_at, leng
 use Rattle.std.proofs.lemmas.Bool.{ne_eqb}
 use Rattle.gateway_core.specs.Events.{Event}
 use Rattle.engines.specs.Script.{event_of, script, IsClosed}
-use Rattle.engines.specs.Bytes.{IsOneLine, with_end, events_by}
+use Rattle.engines.specs.Lines.{IsOneLine, with_end, events_by}
 use Rattle.engines.specs.declared.lines.Lines.TheVariants.{OfScript}
 
 lines_of_parts-cons : (x : List ℕ) (parts : List (List ℕ)) → 0 < length parts

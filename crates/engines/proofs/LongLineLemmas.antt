@@ -17,9 +17,11 @@ use Rattle.gateway_core.specs.Calls.{Value}
 use Rattle.gateway_core.specs.Events.{Event, Piece, Line, items_of, bytes_in}
 use Rattle.esp3_frames.specs.Frames.{rest_of}
 use Rattle.engines.specs.Script.{event_of, spelled}
+use Rattle.engines.specs.declared.engine.Engine.{Engine}
+use Rattle.engines.specs.Outlets.{Way}
 use Rattle.engines.specs.Played.{AnswersPart, Breaks, IsBegun}
 use Rattle.engines.specs.Taking.{Takes, TakesOrBreaks}
-use Rattle.engines.specs.Bytes.{longest_kept, event_by}
+use Rattle.engines.specs.Lines.{longest_kept, event_by}
 use Rattle.engines.specs.declared.lines.Lines.{Lines}
 use Rattle.engines.specs.declared.lines.Lines.TheVariants.{OfScript, OfDesk}
 
@@ -59,33 +61,14 @@ length-strip line =
     ]
 
 module _ {S : Type 0} (stored : S → Stored) where
-  takes_long : (old new : Value S) (short long : List ℕ) (puts : List Answer → Type 0) (count total : ℕ)
-      → longest_line < length short → longest_line < length long
-      → Takes stored old new (Line short ∷ []) puts count total
-      → Takes stored old new (Line long ∷ []) puts count total
-  takes_long old new short long puts count total a b takes =
-      let done = takes.played.answered in
-      record {
-        played = record {
-          answered = record {
-            answers = done.answers;
-            handled = handles_alike stored old.handler new.handler short long done.answers a b done.handled;
-            out = done.out;
-          };
-          rest = takes.played.rest;
-          idle = takes.played.idle;
-        };
-        counted = takes.counted;
-      }
-
   -- a break at one order, in its parts
-  record BreaksAtOrder (old new : Value S) (line : List ℕ) (breaks : List Answer → Answer → Type 0) : Type 0 where
+  record OneBroken (old new : Value S) (line : List ℕ) (breaks : List Answer → Answer → Type 0) : Type 0 where
     pub none : map Received new.ready ≡ []
     pub answered : AnswersPart stored old.handler new.handler (Ordered line ∷ []) breaks
 
   at_order : (old new : Value S) (line : List ℕ) (items : List Item) (breaks : List Answer → Answer → Type 0)
       → (Ordered line ∷ []) ≡ items ++ map Received new.ready → AnswersPart stored old.handler new.handler items breaks
-      → BreaksAtOrder old new line breaks
+      → OneBroken old new line breaks
   at_order old new line [] breaks e part = absurd (no_packets line new.ready e)
   at_order old new line (item ∷ []) breaks e part =
       let one = one_item line item new.ready e in
@@ -122,49 +105,61 @@ module _ {S : Type 0} (stored : S → Stored) where
         };
       }
 
-  long_lines_alike : {A E : Type 0} (r : Result A E) (lines : Lines) (old new : Value S) (short long : List ℕ)
-      (puts : List Answer → Type 0) (breaks : List Answer → Answer → Type 0)
-      (count total : ℕ) → longest_line < length short → longest_line < length long
-      → TakesOrBreaks stored r old new (event_by lines short) puts breaks count total
-      → TakesOrBreaks stored r old new (event_by lines long) puts breaks count total
-  long_lines_alike r lines old new short long puts breaks count total a b given =
-      let P : Event → Type 0 = λ e. TakesOrBreaks stored r old new e puts breaks count total in
+module _ {O S : Type 0} (stored : S → Stored) (way : Way O) {A E : Type 0} (r : Result A E) (old new : Engine O S) where
+  takes_long : (short long : List ℕ) → longest_line < length short → longest_line < length long
+      → Takes stored way old new (Line short ∷ []) → Takes stored way old new (Line long ∷ [])
+  takes_long short long a b takes =
+      let done = takes.played.answered in
+      record {
+        played = record {
+          answered = record {
+            answers = done.answers;
+            handled =
+                handles_alike stored old.gateway.now.handler new.gateway.now.handler short long done.answers a b
+                done.handled;
+            out = done.out;
+          };
+          rest = takes.played.rest;
+          idle = takes.played.idle;
+        };
+        counted = takes.counted;
+      }
+
+  long_lines_alike : (lines : Lines) (short long : List ℕ) → longest_line < length short → longest_line < length long
+      → TakesOrBreaks stored way r old new (event_by lines short)
+      → TakesOrBreaks stored way r old new (event_by lines long)
+  long_lines_alike lines short long a b given =
+      let P : Event → Type 0 = λ e. TakesOrBreaks stored way r old new e in
       subst P (sym (event_by-long lines long b))
       (MatchResult-weaker r (subst P (event_by-long lines short a) given)
-      (λ _ takes. takes_long old new short long puts count total a b takes)
-      (λ _ broken. breaks_long old new short long breaks broken.begun broken.items a b broken.begins broken.stand
-      broken.rest broken.answered))
+      (λ _ takes. takes_long short long a b takes)
+      (λ _ broken. breaks_long stored old.gateway.now new.gateway.now short long (way.breaks old.outlet new.outlet)
+      broken.begun broken.items a b broken.begins broken.stand broken.rest broken.answered))
 
   -- what is kept of a line that LF ends stands for the line
-  pub kept_line_alike : {A E : Type 0} (r : Result A E) (lines : Lines) (old new : Value S) (kept line : List ℕ)
-      (puts : List Answer → Type 0) (breaks : List Answer → Answer → Type 0)
-      (count total : ℕ) → kept ≡ take longest_kept line
-      → TakesOrBreaks stored r old new (event_by lines (strip_carriage_return kept)) puts breaks count total
-      → TakesOrBreaks stored r old new (event_by lines (strip_carriage_return line)) puts breaks count total
-  kept_line_alike r lines old new kept line puts breaks count total e given =
+  pub kept_line_alike : (lines : Lines) (kept line : List ℕ) → kept ≡ take longest_kept line
+      → TakesOrBreaks stored way r old new (event_by lines (strip_carriage_return kept))
+      → TakesOrBreaks stored way r old new (event_by lines (strip_carriage_return line))
+  kept_line_alike lines kept line e given =
       elim (cases_lt longest_kept (length line)) [
-        | inl far ↦ long_lines_alike r lines old new (strip_carriage_return kept)
-            (strip_carriage_return line) puts breaks count total
+        | inl far ↦ long_lines_alike lines (strip_carriage_return kept) (strip_carriage_return line)
             (omega (arith, far, length-strip kept, ap length e, length-take longest_kept line))
             (omega (arith, far, length-strip line)) given
-        | inr near ↦ let P : List ℕ → Type 0 =
-            λ l. TakesOrBreaks stored r old new (event_by lines (strip_carriage_return l)) puts breaks count total in
+        | inr near ↦
+            let P : List ℕ → Type 0 =
+            λ l. TakesOrBreaks stored way r old new (event_by lines (strip_carriage_return l)) in
             subst P (e ∙ take_all longest_kept line near) given
       ]
 
   -- and so does what is kept of a line that the end of the input ends
-  pub kept_last_line_alike : {A E : Type 0} (r : Result A E) (old new : Value S) (kept line : List ℕ)
-      (puts : List Answer → Type 0) (breaks : List Answer → Answer → Type 0)
-      (count total : ℕ) → kept ≡ take longest_kept line
-      → TakesOrBreaks stored r old new (event_of kept) puts breaks count total
-      → TakesOrBreaks stored r old new (event_of line) puts breaks count total
-  kept_last_line_alike r old new kept line puts breaks count total e given =
+  pub kept_last_line_alike : (kept line : List ℕ) → kept ≡ take longest_kept line
+      → TakesOrBreaks stored way r old new (event_of kept) → TakesOrBreaks stored way r old new (event_of line)
+  kept_last_line_alike kept line e given =
       elim (cases_lt longest_kept (length line)) [
         | inl far ↦
-            long_lines_alike r OfScript old new kept line puts breaks count total
-            (omega (arith, far, ap length e, length-take longest_kept line))
+            long_lines_alike OfScript kept line (omega (arith, far, ap length e, length-take longest_kept line))
             (omega (arith, far)) given
-        | inr near ↦ let P : List ℕ → Type 0 = λ l. TakesOrBreaks stored r old new (event_of l) puts breaks count total
-            in
+        | inr near ↦
+            let P : List ℕ → Type 0 = λ l. TakesOrBreaks stored way r old new (event_of l) in
             subst P (e ∙ take_all longest_kept line near) given
       ]

@@ -9,9 +9,10 @@ use Rattle.std.proofs.KnownBytes.{Consumes-nil, Consumes-trans, Consumes-kept}
 use Rattle.std.proofs.lemmas.List.{length-take}
 use Rattle.std.proofs.lemmas.List.Concat.{concat_is, flat_map-append}
 use Rattle.byte_streams.specs.declared.tally.Failed.{Failed}
-use Rattle.byte_streams.specs.Counts.{Counts, counted, one_more}
-use Rattle.engines.specs.Reads.{AreReads, Gave, IsRead, MakesReads, ReadsFail, ReadsWell}
+use Rattle.byte_streams.specs.Counts.{counted, one_more}
+use Rattle.engines.specs.Reads.{AreReads, IsRead, MakesReads, ReadsFail, ReadsWell}
 use Rattle.byte_streams.specs.Reads.{longest_read}
+use Rattle.engines.specs.Streams.{SourceValue}
 use Rattle.engines.proofs.CountLemmas.{made_at, made_more, made_none}
 
 -- one read more behind others
@@ -43,74 +44,58 @@ concat-more reads bytes =
 empty_take : (n : ℕ) (buffer : List ℕ) → n ≤ length buffer → take n buffer ≡ [] → n ≡ 0
 empty_take n buffer within none = let e = ap length none in omega (arith, within, e, length-take n buffer)
 
-module _ {P : Type 0} (left : P → Option (List ℕ)) (counts : P → Counts) where
-  pub reads_none : (source : P) → ReadsWell left counts source source []
-  reads_none source = record {
-    gave = record {
-      all = Consumes-nil (left source);
-      each = tt;
-    };
-    made = made_none (counts source);
-    well = refl;
-  }
+pub reads_none : (source : SourceValue) → ReadsWell source source []
+reads_none source = record {
+  gave = record { all = Consumes-nil source.left; each = tt };
+  made = made_none source.counts;
+  well = refl;
+}
 
-  gave_kept : (source mid now : P) (reads : List (List ℕ)) → Gave left counts source mid reads
-      → Keeps (left mid) (left now) → Gave left counts source now reads
-  gave_kept source mid now reads p kept = record {
-    all = Consumes-kept (left source) (left mid) (left now) (concat reads) p.all kept;
-    each = p.each;
-  }
+-- a read more
+pub reads_more : (old mid new : SourceValue) (reads : List (List ℕ)) (n : ℕ) (buffer : List ℕ) → ReadsWell old mid reads
+    → n ≤ length buffer → length buffer ≡ longest_read → ReadConsumes {E = Failed} mid.left new.left (Ok n) buffer
+    → new.counts ≡ counted {E = Failed} mid.counts (Ok n) → ReadsWell old new (reads ++ take n buffer ∷ [])
+reads_more old mid new reads n buffer p within room (some, end) told =
+    let bytes = take n buffer in
+    let read : IsRead old.left (concat reads) bytes = record {
+      short = omega (arith, room, length-take n buffer);
+      empty = λ none. all_read old.left mid.left new.left (concat reads) bytes p.gave.all some none
+          (end (empty_take n buffer within none) (omega (arith, room)));
+    } in
+    record {
+      gave = record {
+        all =
+            subst (Consumes old.left new.left) (sym (concat-more reads bytes))
+            (Consumes-trans old.left mid.left new.left (concat reads) bytes p.gave.all some);
+        each = reads_and old.left [] reads bytes p.gave.each read;
+      };
+      made =
+          made_at old.counts new.counts (length reads + 1) _ (sym (length-append reads (bytes ∷ [])))
+          (made_more old.counts mid.counts new.counts (length reads) p.made (ap (λ t. t.calls) told));
+      well = ap (λ t. t.failed) told ∙ p.well;
+    }
 
-  gave_more : (source mid now : P) (reads : List (List ℕ)) (bytes : List ℕ) → Gave left counts source mid reads
-      → Consumes (left mid) (left now) bytes → IsRead (left source) (concat reads) bytes
-      → Gave left counts source now (reads ++ bytes ∷ [])
-  gave_more source mid now reads bytes p some read = record {
-    all =
-        subst (Consumes (left source) (left now)) (sym (concat-more reads bytes))
-        (Consumes-trans (left source) (left mid) (left now) (concat reads) bytes p.all some);
-    each = reads_and (left source) [] reads bytes p.each read;
-  }
+-- a read more, of those that may be made
+pub one_read_more : (old mid new : SourceValue) (reads : List (List ℕ)) (n turn turns : ℕ) (buffer : List ℕ)
+    → ReadsWell old mid reads → length reads ≡ turn → turn < turns → n ≤ length buffer → length buffer ≡ longest_read
+    → ReadConsumes {E = Failed} mid.left new.left (Ok n) buffer → new.counts ≡ counted {E = Failed} mid.counts (Ok n)
+    → MakesReads old new turns
+one_read_more old mid new reads n turn turns buffer p count below within room bytes told = (
+  reads ++ take n buffer ∷ [],
+  inl (
+    reads_more old mid new reads n buffer p within room bytes told,
+    omega (arith, count, below, length-append reads (take n buffer ∷ [])),
+  ),
+)
 
-  -- a read more
-  pub reads_more : (source mid now : P) (reads : List (List ℕ)) (n : ℕ) (buffer : List ℕ)
-      → ReadsWell left counts source mid reads → n ≤ length buffer → length buffer ≡ longest_read
-      → ReadConsumes {E = Failed} (left mid) (left now) (Ok n) buffer
-      → counts now ≡ counted {E = Failed} (counts mid) (Ok n)
-      → ReadsWell left counts source now (reads ++ take n buffer ∷ [])
-  reads_more source mid now reads n buffer p within room (some, end) told =
-      let bytes = take n buffer in
-      let read : IsRead (left source) (concat reads) bytes = record {
-        short = omega (arith, room, length-take n buffer);
-        empty = λ none. all_read (left source) (left mid) (left now) (concat reads) bytes p.gave.all some none
-            (end (empty_take n buffer within none) (omega (arith, room)));
-      } in
-      record {
-        gave = gave_more source mid now reads bytes p.gave some read;
-        made =
-            made_at (counts source) (counts now) (length reads + 1) _ (sym (length-append reads (bytes ∷ [])))
-            (made_more (counts source) (counts mid) (counts now) (length reads) p.made (ap (λ t. t.calls) told));
-        well = ap (λ t. t.failed) told ∙ p.well;
-      }
-
-  -- a read more, of those that may be made
-  pub one_read_more : (source mid now : P) (reads : List (List ℕ)) (n turn turns : ℕ) (buffer : List ℕ)
-      → ReadsWell left counts source mid reads → length reads ≡ turn → turn < turns → n ≤ length buffer
-      → length buffer ≡ longest_read → ReadConsumes {E = Failed} (left mid) (left now) (Ok n) buffer
-      → counts now ≡ counted {E = Failed} (counts mid) (Ok n) → MakesReads left counts source now turns
-  one_read_more source mid now reads n turn turns buffer p count below within room bytes told = (
-    reads ++ take n buffer ∷ [],
-    inl (
-      reads_more source mid now reads n buffer p within room bytes told,
-      omega (arith, count, below, length-append reads (take n buffer ∷ [])),
-    ),
-  )
-
-  -- a read that fails
-  pub reads_fail : (source mid now : P) (reads : List (List ℕ)) (error : Failed)
-      → ReadsWell left counts source mid reads → Keeps (left mid) (left now)
-      → counts now ≡ counted {E = Failed} (counts mid) (Err error) → ReadsFail left counts source now reads
-  reads_fail source mid now reads error p kept told = record {
-    gave = gave_kept source mid now reads p.gave kept;
-    made = made_more (counts source) (counts mid) (counts now) (length reads) p.made (ap (λ t. t.calls) told);
-    failed = ap (λ t. t.failed) told ∙ ap one_more p.well;
-  }
+-- a read that fails
+pub reads_fail : (old mid new : SourceValue) (reads : List (List ℕ)) (error : Failed) → ReadsWell old mid reads
+    → Keeps mid.left new.left → new.counts ≡ counted {E = Failed} mid.counts (Err error) → ReadsFail old new reads
+reads_fail old mid new reads error p kept told = record {
+  gave = record {
+    all = Consumes-kept old.left mid.left new.left (concat reads) p.gave.all kept;
+    each = p.gave.each;
+  };
+  made = made_more old.counts mid.counts new.counts (length reads) p.made (ap (λ t. t.calls) told);
+  failed = ap (λ t. t.failed) told ∙ ap one_more p.well;
+}

@@ -1,114 +1,120 @@
--- What was put out into a sink was written, also where the loans of the gateway and of the sink have ended.
-use Rattle.std.proofs.Common.{◌≡◌, List, ℕ, Option}
-use Rattle.std.specs.Prelude.{◌⊎◌}
+-- What an engine put out into a sink was written, also where the loans of the gateway and of the sink have ended.
+use Rattle.std.proofs.Common.{◌≡◌, ℕ, List, [], ◌∷◌, ◌++◌, ap, sym, ◌∙◌, append_assoc, append-nil}
+use Rattle.std.specs.List.{flat_map}
+use Rattle.std.specs.Str.Lines.{strip_carriage_return}
 use Rattle.sqlite.specs.State.{State as Stored}
-use Rattle.gateway_core.specs.Step.{Answer}
 use Rattle.gateway_core.specs.Calls.{Value}
 use Rattle.gateway_core.specs.Events.{Event}
-use Rattle.engines.specs.Script.{script}
 use Rattle.byte_streams.specs.declared.sink.Sink as sinks
-use Rattle.byte_streams.specs.Counts.{Counts, OneFailed, OneEmpty}
-use Rattle.engines.specs.Written.{WritesAll, WritesPart, text_of}
-use Rattle.engines.specs.Streams.{sink_value}
-use Rattle.engines.specs.TextWay.{PutsText, BreaksText}
-use Rattle.engines.specs.Played.{Plays, PlaysClosed, PlaysPartAtEnd, PlaysPartAtLine, Breaks}
-use Rattle.engines.specs.Replayed.{Replays, ReplaysClosed, ReplaysPartAtEnd, ReplaysPartAtLine}
+use Rattle.engines.specs.declared.engine.Engine.{Engine}
+use Rattle.engines.specs.declared.lines.Lines.TheVariants.{OfScript}
+use Rattle.engines.specs.declared.player.Player.{Player}
+use Rattle.engines.specs.declared.replay_text.ReplayText.{ReplayText}
+use Rattle.engines.specs.Bytes.{StopsAtLine, TakesBytes}
+use Rattle.engines.specs.Lines.{event_by, events_by, with_end}
+use Rattle.engines.specs.Outlets.{Way}
+use Rattle.engines.specs.Played.{Breaks, Plays, PlaysClosed, PlaysPartAtEnd, PlaysPartAtLine}
+use Rattle.engines.specs.Script.{script}
+use Rattle.engines.specs.Taking.{EngineBreaks, EnginePlays, Takes}
+use Rattle.engines.specs.Written.{WritesAll, WritesPart, way_of_text}
+use Rattle.engines.proofs.LineLemmas.{closed_of_lines, script-ended, script-first}
+use Rattle.engines.proofs.PlayLemmas.{plays-break, takes-append}
 
-pub wrong_at : {W : Type 0} (counts : W → Counts) (old sink writer : W) → writer ≡ sink
-    → OneFailed (counts old) (counts sink) ⊎ OneEmpty (counts old) (counts sink)
-    → OneFailed (counts old) (counts writer) ⊎ OneEmpty (counts old) (counts writer)
-wrong_at counts old sink writer e wrong = rw e wrong
+module _ {W S : Type 0} (stored : S → Stored) (sink : sinks.Ghosts W) where
+  abbrev way : Way (ReplayText W)
+  way = way_of_text sink
 
-module _ {S : Type 0} (stored : S → Stored) where
-  pub plays-weaker : (old new : Value S) (events : List Event) (P Q : List Answer → Type 0)
-      → ((answers : List Answer) → P answers → Q answers) → Plays stored old new events P
-      → Plays stored old new events Q
-  plays-weaker old new events P Q so p = record {
-    answered = record {
-      answers = p.answered.answers;
-      handled = p.answered.handled;
-      out = so p.answered.answers p.answered.out;
-    };
-    rest = p.rest;
-    idle = p.idle;
-  }
+  module _ (entry now : Engine (ReplayText W) S) (gateway : Value S) (writer : W) (e : gateway ≡ now.gateway.now)
+      (f : writer ≡ now.outlet.sink.now) where
+    pub written : (events : List Event) → EnginePlays stored way entry now events
+        → Plays stored entry.gateway.now gateway events (WritesAll (sink.held entry.outlet.sink.now) (sink.held writer))
+    written events p = rw (e, f) (record {
+      answered = record { answers = p.answered.answers; handled = p.answered.handled; out = p.answered.out.text };
+      rest = p.rest;
+      idle = p.idle;
+    })
 
-  closed-weaker : (old new : Value S) (input : List ℕ) (P Q : List Answer → Type 0)
-      → ((answers : List Answer) → P answers → Q answers)
-      → PlaysClosed stored old new input P → PlaysClosed stored old new input Q
-  closed-weaker old new input P Q so p =
-      record { closed = p.closed; is = p.is; played = plays-weaker old new _ P Q so p.played }
+    broken : (events : List Event) (event : Event) → EngineBreaks stored way entry now events event
+        → Breaks stored entry.gateway.now gateway events event
+        (WritesPart (sink.held entry.outlet.sink.now) (sink.held writer))
+    broken events event p = rw (e, f) (record {
+      begun = p.begun;
+      begins = p.begins;
+      items = p.items;
+      own = p.own;
+      behind = p.behind;
+      some = p.some;
+      stand = p.stand;
+      rest = p.rest;
+      answered = record {
+        answers = p.answered.answers;
+        last = p.answered.last;
+        handled = p.answered.handled;
+        out = p.answered.out.text;
+      };
+    })
 
-  breaks-weaker : (old new : Value S) (events : List Event) (event : Event) (P Q : List Answer → Answer → Type 0)
-      → ((answers : List Answer) (last : Answer) → P answers last → Q answers last)
-      → Breaks stored old new events event P → Breaks stored old new events event Q
-  breaks-weaker old new events event P Q so broken = record {
-    begun = broken.begun;
-    begins = broken.begins;
-    items = broken.items;
-    own = broken.own;
-    behind = broken.behind;
-    some = broken.some;
-    stand = broken.stand;
-    rest = broken.rest;
-    answered = record {
-      answers = broken.answered.answers;
-      last = broken.answered.last;
-      handled = broken.answered.handled;
-      out = so broken.answered.answers broken.answered.last broken.answered.out;
-    };
-  }
+    -- at the last event behind some that were played
+    pub part_at_end : (old : Engine (ReplayText W) S) (input : List ℕ) (events more : List Event)
+        → script input ≡ events ++ more → EnginePlays stored way entry old events
+        → PlaysPartAtEnd stored old.gateway.now now.gateway.now more (way.breaks old.outlet now.outlet)
+        → PlaysPartAtEnd stored entry.gateway.now gateway (script input)
+        (WritesPart (sink.held entry.outlet.sink.now) (sink.held writer))
+    part_at_end old input events more is p q = record {
+      events = events ++ q.events;
+      event = q.event;
+      whole = is ∙ ap (λ (es : List Event). events ++ es) q.whole
+          ∙ sym (append_assoc events q.events (q.event ∷ []));
+      broken =
+          broken (events ++ q.events) q.event
+          (plays-break stored way entry old now events q.events q.event p q.broken);
+    }
 
-  part-weaker : (old new : Value S) (all : List Event) (P Q : List Answer → Answer → Type 0)
-      → ((answers : List Answer) (last : Answer) → P answers last → Q answers last)
-      → PlaysPartAtEnd stored old new all P → PlaysPartAtEnd stored old new all Q
-  part-weaker old new all P Q so p = record {
-    events = p.events;
-    event = p.event;
-    whole = p.whole;
-    broken = breaks-weaker old new p.events p.event P Q so p.broken;
-  }
+  module _ (entry now : Player (ReplayText W) S) (input : List ℕ) where
+    -- the script of an input whose lines are known
+    pub script_of_bytes : (p : TakesBytes stored way OfScript entry now input)
+        → script input ≡ events_by OfScript p.ended ++ script p.rest
+    script_of_bytes p = ap script p.whole ∙ script-ended p.ended p.rest p.each
 
-  line-part-weaker : (old new : Value S) (input : List ℕ) (P Q : List Answer → Answer → Type 0)
-      → ((answers : List Answer) (last : Answer) → P answers last → Q answers last)
-      → PlaysPartAtLine stored old new input P → PlaysPartAtLine stored old new input Q
-  line-part-weaker old new input P Q so p = record {
-    part = p.part;
-    more = p.more;
-    whole = p.whole;
-    events = p.events;
-    event = p.event;
-    is = p.is;
-    broken = breaks-weaker old new p.events p.event P Q so p.broken;
-  }
+    -- a whole script, with the line that its end ends
+    pub script_taken : (new : Engine (ReplayText W) S) → (p : TakesBytes stored way OfScript entry now input)
+        → Takes stored way now.engine new (script p.rest) → Takes stored way entry.engine new (script input)
+    script_taken new p last =
+        rw (script_of_bytes p)
+        (takes-append stored way entry.engine now.engine new (events_by OfScript p.ended) (script p.rest) p.taken last)
 
-  module _ {W : Type 0} (members : sinks.Ghosts W) where
-    pub replays_at : (entry now gateway : Value S) (events : List Event) (old sink writer : W) → gateway ≡ now
-        → writer ≡ sink → Plays stored entry now events (PutsText text_of (sink_value members old) (sink_value members sink))
-        → Replays stored entry gateway events (members.held old) (members.held writer)
-    replays_at entry now gateway events old sink writer e f p =
-        rw (e, f) (plays-weaker entry now events (PutsText text_of (sink_value members old) (sink_value members sink)) (WritesAll (members.held old) (members.held sink))
-        (λ answers out. out.text) p)
+    module _ (gateway : Value S) (writer : W) (e : gateway ≡ now.engine.gateway.now)
+        (f : writer ≡ now.engine.outlet.sink.now) where
+      -- a stop before the end of a script
+      pub closes : TakesBytes stored way OfScript entry now input
+          → PlaysClosed stored entry.engine.gateway.now gateway input
+          (WritesAll (sink.held entry.engine.outlet.sink.now) (sink.held writer))
+      closes p =
+          let closed = flat_map with_end p.ended in
+          let is : script closed ≡ events_by OfScript p.ended =
+          ap script (sym (append-nil closed)) ∙ script-ended p.ended [] p.each
+          ∙ append-nil (events_by OfScript p.ended) in
+          record {
+            closed = closed;
+            is = record { tail = p.rest; whole = p.whole; ends = closed_of_lines p.ended; no_end = p.keeps.one };
+            played =
+                rw is
+                (written entry.engine now.engine gateway writer e f (events_by OfScript p.ended) p.taken.played);
+          }
 
-    pub closed_at : (entry now gateway : Value S) (input : List ℕ) (old sink writer : W) → gateway ≡ now
-        → writer ≡ sink → PlaysClosed stored entry now input (PutsText text_of (sink_value members old) (sink_value members sink))
-        → ReplaysClosed stored entry gateway input (members.held old) (members.held writer)
-    closed_at entry now gateway input old sink writer e f p =
-        rw (e, f) (closed-weaker entry now input (PutsText text_of (sink_value members old) (sink_value members sink)) (WritesAll (members.held old) (members.held sink))
-        (λ answers out. out.text) p)
-
-    pub part_at : (entry now gateway : Value S) (input : List ℕ) (old sink writer : W) → gateway ≡ now
-        → writer ≡ sink → PlaysPartAtEnd stored entry now (script input) (BreaksText text_of (sink_value members old) (sink_value members sink))
-        → ReplaysPartAtEnd stored entry gateway input (members.held old) (members.held writer)
-    part_at entry now gateway input old sink writer e f p =
-        rw (e, f) (part-weaker entry now (script input) (BreaksText text_of (sink_value members old) (sink_value members sink))
-        (WritesPart (members.held old) (members.held sink))
-        (λ answers last out. out.text) p)
-
-    pub line_part_at : (entry now gateway : Value S) (input : List ℕ) (old sink writer : W) → gateway ≡ now
-        → writer ≡ sink → PlaysPartAtLine stored entry now input (BreaksText text_of (sink_value members old) (sink_value members sink))
-        → ReplaysPartAtLine stored entry gateway input (members.held old) (members.held writer)
-    line_part_at entry now gateway input old sink writer e f p =
-        rw (e, f) (line-part-weaker entry now input (BreaksText text_of (sink_value members old) (sink_value members sink))
-        (WritesPart (members.held old) (members.held sink))
-        (λ answers last out. out.text) p)
+      -- and a stop at one of its lines
+      pub part_at_line : StopsAtLine stored way OfScript entry now input
+          → PlaysPartAtLine stored entry.engine.gateway.now gateway input
+          (WritesPart (sink.held entry.engine.outlet.sink.now) (sink.held writer))
+      part_at_line s =
+          let ended = flat_map with_end s.ended in
+          record {
+            part = ended ++ s.line;
+            more = s.more;
+            whole = s.whole ∙ sym (append_assoc ended s.line (10 ∷ s.more));
+            events = events_by OfScript s.ended;
+            event = event_by OfScript (strip_carriage_return s.line);
+            is = ap script (append_assoc ended s.line (10 ∷ [])) ∙ script-ended s.ended (s.line ++ 10 ∷ []) s.each
+                ∙ ap (λ (es : List Event). events_by OfScript s.ended ++ es) (script-first s.line [] s.one);
+            broken = broken entry.engine now.engine gateway writer e f _ _ s.broken;
+          }

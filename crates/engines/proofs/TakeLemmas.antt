@@ -14,8 +14,9 @@ use Rattle.gateway_core.specs.Events.{Piece, Line, items_of}
 use Rattle.gateway_core.proofs.ForCallers.{brought-rest, cuts_do_not_matter, rest_goes_on, items_behind, rest_behind}
 use Rattle.json_lines.specs.Counts.{count_with}
 use Rattle.engines.specs.Outlets.{Way}
-use Rattle.engines.specs.Played.{IsIdle, Answers, AnswersPart, Plays, Breaks}
-use Rattle.engines.specs.Taking.{Drains, DrainsPart, Takes}
+use Rattle.engines.specs.declared.engine.Engine.{Engine}
+use Rattle.engines.specs.Played.{IsIdle, Answers, AnswersPart}
+use Rattle.engines.specs.Taking.{Drains, DrainsPart, EngineBreaks, EnginePlays, Takes}
 use Rattle.gateway_core.proofs.ForCallers.{count_on}
 use Rattle.engines.proofs.AnswerLemmas.{answers_nothing, answers_one, answers-append, part_one, answers-part}
 use Rattle.engines.proofs.PlayLemmas.{plays_nothing, plays-append}
@@ -80,6 +81,7 @@ module _ {S : Type 0} (stored : S → Stored) {O : Type 0} (way : Way O) where
         (part_one stored way mid.handler new.handler (Received packet) answer mids now handled part));
   }
 
+module _ {O S : Type 0} (stored : S → Stored) (way : Way O) where
   -- ---- a piece
 
   -- a byte, and the packets that it makes ready
@@ -88,95 +90,94 @@ module _ {S : Type 0} (stored : S → Stored) {O : Type 0} (way : Way O) where
   items_of-byte old mid byte idle (none, state, ready, rest) =
       items_of-piece old.rest (byte ∷ []) idle.rest ∙ ap (λ (ps : List Packet). map Received ps) (sym ready)
 
-  pub takes_nothing : (old : Value S) (o : O) (count : ℕ) → IsIdle old → count < 2 ^ 64
-      → Takes stored old old (Piece [] ∷ []) (way.puts o o) count count
-  takes_nothing old o count idle fits =
-      let none : items_of old.rest (Piece [] ∷ []) ≡ [] =
-      items_of-piece old.rest [] idle.rest ∙ ap (λ r. map Received (packets_in r)) (append-nil old.rest)
-      ∙ ap (λ (ps : List Packet). map Received ps) (sym (frames_of-may_become old.rest idle.rest).0) in
-      let played = plays_nothing stored way old o idle in
+  pub takes_nothing : (old : Engine O S) → IsIdle old.gateway.now → old.items < 2 ^ 64
+      → Takes stored way old old (Piece [] ∷ [])
+  takes_nothing old idle fits =
+      let rest = old.gateway.now.rest in
+      let none : items_of rest (Piece [] ∷ []) ≡ [] =
+      items_of-piece rest [] idle.rest ∙ ap (λ r. map Received (packets_in r)) (append-nil rest)
+      ∙ ap (λ (ps : List Packet). map Received ps) (sym (frames_of-may_become rest idle.rest).0) in
+      let played = plays_nothing stored way old idle in
       record {
         played = record { answered = rw none played.answered; rest = played.rest; idle = idle };
         counted = rw none (omega arith);
       }
 
   -- one byte more of a piece, and the packets that it brings
-  pub takes_more : (old now mid new : Value S) (bytes : List ℕ) (byte : ℕ) (o mids after : O)
-      (count some total : ℕ)
-      → Takes stored old now (Piece bytes ∷ []) (way.puts o mids) count some → Moves stored now (Byte byte) mid
-      → new.ready ≡ []
-      → Drains stored mid new (way.puts mids after) some total
-      → Takes stored old new (Piece (bytes ++ byte ∷ []) ∷ []) (way.puts o after) count total
-  takes_more old now mid new bytes byte o mids after count some total before moved none drained =
+  pub takes_more : (old now new : Engine O S) (mid : Value S) (bytes : List ℕ) (byte : ℕ)
+      → Takes stored way old now (Piece bytes ∷ []) → Moves stored now.gateway.now (Byte byte) mid
+      → new.gateway.now.ready ≡ []
+      → Drains stored mid new.gateway.now (way.puts now.outlet new.outlet) now.items new.items
+      → Takes stored way old new (Piece (bytes ++ byte ∷ []) ∷ [])
+  takes_more old now new mid bytes byte before moved none drained =
+      let rest = old.gateway.now.rest in
+      let after = now.gateway.now.rest in
+      let ended = new.gateway.now in
+      let out = way.puts now.outlet new.outlet in
       let all : mid.ready ≡ drained.packets =
       drained.ready ∙ ap (λ (ps : List Packet). drained.packets ++ ps) none ∙ append-nil drained.packets in
-      let is : items_of now.rest (Piece (byte ∷ []) ∷ []) ≡ map Received drained.packets =
-      items_of-byte now mid byte before.played.idle moved ∙ ap (λ (ps : List Packet). map Received ps) all in
-      let rest : new.rest ≡ rest_of (now.rest ++ byte ∷ []) = drained.rest ∙ moved.3 in
-      let answered : Answers stored now.handler new.handler (items_of now.rest (Piece (byte ∷ []) ∷ []))
-      (way.puts mids after) =
-      rw is (let P : HandlerValue S
-      → Type 0 = λ s. Answers stored s new.handler (map Received drained.packets) (way.puts mids after) in subst
-      P moved.1 drained.answered) in
-      let next : Plays stored now new (Piece (byte ∷ []) ∷ []) (way.puts mids after) = record {
+      let is : items_of after (Piece (byte ∷ []) ∷ []) ≡ map Received drained.packets =
+      items_of-byte now.gateway.now mid byte before.played.idle moved
+      ∙ ap (λ (ps : List Packet). map Received ps) all in
+      let rests : ended.rest ≡ rest_of (after ++ byte ∷ []) = drained.rest ∙ moved.3 in
+      let answered : Answers stored now.gateway.now.handler ended.handler
+      (items_of after (Piece (byte ∷ []) ∷ [])) out =
+      rw is (let P : HandlerValue S → Type 0 = λ s. Answers stored s ended.handler (map Received drained.packets) out in
+      subst P moved.1 drained.answered) in
+      let next : EnginePlays stored way now new (Piece (byte ∷ []) ∷ []) = record {
         answered = answered;
-        rest = rest;
-        idle = record { ready = none; rest = rw rest (rest_goes_on (now.rest ++ byte ∷ [])) };
+        rest = rests;
+        idle = record { ready = none; rest = rw rests (rest_goes_on (after ++ byte ∷ [])) };
       } in
       let joined =
-      plays-append stored way old now new (Piece bytes ∷ []) (Piece (byte ∷ []) ∷ []) o mids after
-      before.played next in
-      let items = items-joined old.rest bytes (byte ∷ []) in
-      let behind = items_behind old.rest now.rest (Piece bytes ∷ []) (Piece (byte ∷ []) ∷ []) before.played.rest in
+      plays-append stored way old now new (Piece bytes ∷ []) (Piece (byte ∷ []) ∷ []) before.played next in
+      let items = items-joined rest bytes (byte ∷ []) in
+      let behind = items_behind rest after (Piece bytes ∷ []) (Piece (byte ∷ []) ∷ []) before.played.rest in
       record {
         played = record {
           answered = rw items joined.answered;
-          rest = joined.rest ∙ ap (λ w. rest_of (old.rest ++ w)) (sym (append_assoc bytes (byte ∷ []) []));
+          rest = joined.rest ∙ ap (λ w. rest_of (rest ++ w)) (sym (append_assoc bytes (byte ∷ []) []));
           idle = joined.idle;
         };
         counted =
             rw (items, behind, length-append, is, length-map)
-            (count_on count some total _ (length drained.packets) before.counted drained.counted);
+            (count_on old.items now.items new.items _ (length drained.packets) before.counted drained.counted);
       }
 
   -- an answer does not get out at the packets of one byte
-  pub takes_part : (old now mid new : Value S) (bytes : List ℕ) (byte : ℕ) (later piece : List ℕ)
-      (o mids after : O) (count some : ℕ)
-      → Takes stored old now (Piece bytes ∷ []) (way.puts o mids) count some → Moves stored now (Byte byte) mid
-      → DrainsPart stored mid new (way.breaks mids after) → piece ≡ (bytes ++ byte ∷ []) ++ later
-      → Breaks stored old new [] (Piece piece) (way.breaks o after)
-  takes_part old now mid new bytes byte later piece o mids after count some before moved drained whole =
-      let is : items_of now.rest (Piece (byte ∷ []) ∷ []) ≡ map Received drained.packets ++ map Received new.ready =
-      items_of-byte now mid byte before.played.idle moved ∙ ap (λ (ps : List Packet). map Received ps) drained.ready
-      ∙ map-append Received drained.packets new.ready in
-      let first = items_of old.rest (Piece bytes ∷ []) in
+  pub takes_part : (old now new : Engine O S) (mid : Value S) (bytes : List ℕ) (byte : ℕ) (later piece : List ℕ)
+      → Takes stored way old now (Piece bytes ∷ []) → Moves stored now.gateway.now (Byte byte) mid
+      → DrainsPart stored mid new.gateway.now (way.breaks now.outlet new.outlet)
+      → piece ≡ (bytes ++ byte ∷ []) ++ later → EngineBreaks stored way old new [] (Piece piece)
+  takes_part old now new mid bytes byte later piece before moved drained whole =
+      let rest = old.gateway.now.rest in
+      let after = now.gateway.now.rest in
+      let ended = new.gateway.now in
+      let brought = map Received drained.packets in
+      let is : items_of after (Piece (byte ∷ []) ∷ []) ≡ brought ++ map Received ended.ready =
+      items_of-byte now.gateway.now mid byte before.played.idle moved
+      ∙ ap (λ (ps : List Packet). map Received ps) drained.ready ∙ map-append Received drained.packets ended.ready in
+      let first = items_of rest (Piece bytes ∷ []) in
       record {
         begun = Piece (bytes ++ byte ∷ []);
         begins = (later, whole);
-        items = first ++ map Received drained.packets;
-        own = first ++ map Received drained.packets;
+        items = first ++ brought;
+        own = first ++ brought;
         behind = refl;
         some =
-            let brought = drained.some in
-            omega (
-              arith,
-              brought,
-              length-append first (map Received drained.packets),
-              length-map drained.packets Received,
-            );
-        stand = items-joined old.rest bytes (byte ∷ [])
-            ∙ items_behind old.rest now.rest (Piece bytes ∷ []) (Piece (byte ∷ []) ∷ []) before.played.rest
-            ∙ ap (λ (is : List Item). first ++ is) is
-            ∙ sym (append_assoc first (map Received drained.packets) (map Received new.ready));
+            let more = drained.some in
+            omega (arith, more, length-append first brought, length-map drained.packets Received);
+        stand = items-joined rest bytes (byte ∷ [])
+            ∙ items_behind rest after (Piece bytes ∷ []) (Piece (byte ∷ []) ∷ []) before.played.rest
+            ∙ ap (λ (is : List Item). first ++ is) is ∙ sym (append_assoc first brought (map Received ended.ready));
         rest = drained.rest ∙ moved.3
-            ∙ rest_behind old.rest now.rest (Piece bytes ∷ []) (Piece (byte ∷ []) ∷ []) before.played.rest
-            ∙ ap (λ w. rest_of (old.rest ++ w)) (sym (append_assoc bytes (byte ∷ []) []));
+            ∙ rest_behind rest after (Piece bytes ∷ []) (Piece (byte ∷ []) ∷ []) before.played.rest
+            ∙ ap (λ w. rest_of (rest ++ w)) (sym (append_assoc bytes (byte ∷ []) []));
         answered =
-            answers-part stored way old.handler now.handler new.handler first
-            (map Received drained.packets)
-            o mids after before.played.answered
+            answers-part stored way old.gateway.now.handler now.gateway.now.handler ended.handler first brought
+            old.outlet now.outlet new.outlet before.played.answered
             (let P : HandlerValue S
-            → Type 0 = λ s. AnswersPart stored s new.handler (map Received drained.packets) (way.breaks mids after) in
+            → Type 0 = λ s. AnswersPart stored s ended.handler brought (way.breaks now.outlet new.outlet) in
             subst P moved.1 drained.answered);
       }
 
@@ -185,22 +186,25 @@ module _ {S : Type 0} (stored : S → Stored) {O : Type 0} (way : Way O) where
   rest_stays : (old new : Value S) → IsIdle old → new.rest ≡ old.rest → new.rest ≡ rest_of (old.rest ++ [])
   rest_stays old new idle e = e ∙ (frames_of-may_become old.rest idle.rest).1 ∙ ap rest_of (sym (append-nil old.rest))
 
-  pub takes_order : (old new : Value S) (line : List ℕ) (answer : Answer) (o now : O) (count total : ℕ)
-      → IsIdle old → Moves stored old (Order line answer) new → way.puts o now (answer ∷ [])
-      → total ≡ count_with count 1 → Takes stored old new (Line line ∷ []) (way.puts o now) count total
-  takes_order old new line answer o now count total idle (ready, rest, handled) out counted = record {
+  pub takes_order : (old new : Engine O S) (line : List ℕ) (answer : Answer) → IsIdle old.gateway.now
+      → Moves stored old.gateway.now (Order line answer) new.gateway.now
+      → way.puts old.outlet new.outlet (answer ∷ []) → new.items ≡ count_with old.items 1
+      → Takes stored way old new (Line line ∷ [])
+  takes_order old new line answer idle (ready, rest, handled) out counted = record {
     played = record {
-      answered = answers_one stored way old.handler new.handler (Ordered line) answer o now handled out;
-      rest = rest_stays old new idle rest;
+      answered =
+          answers_one stored way old.gateway.now.handler new.gateway.now.handler (Ordered line) answer old.outlet
+          new.outlet handled out;
+      rest = rest_stays old.gateway.now new.gateway.now idle rest;
       idle = record { ready = ready ∙ idle.ready; rest = rw rest idle.rest };
     };
     counted = counted;
   }
 
-  pub breaks_at_order : (old new : Value S) (line : List ℕ) (answer : Answer) (o now : O)
-      → IsIdle old → Moves stored old (Order line answer) new → way.breaks o now [] answer
-      → Breaks stored old new [] (Line line) (way.breaks o now)
-  breaks_at_order old new line answer o now idle (ready, rest, handled) part = record {
+  pub breaks_at_order : (old new : Engine O S) (line : List ℕ) (answer : Answer) → IsIdle old.gateway.now
+      → Moves stored old.gateway.now (Order line answer) new.gateway.now → way.breaks old.outlet new.outlet [] answer
+      → EngineBreaks stored way old new [] (Line line)
+  breaks_at_order old new line answer idle (ready, rest, handled) part = record {
     begun = Line line;
     begins = refl;
     items = Ordered line ∷ [];
@@ -208,6 +212,8 @@ module _ {S : Type 0} (stored : S → Stored) {O : Type 0} (way : Way O) where
     behind = refl;
     some = omega arith;
     stand = ap (λ (ps : List Packet). Ordered line ∷ map Received ps) (sym (ready ∙ idle.ready));
-    rest = rest_stays old new idle rest;
-    answered = part_one stored way old.handler new.handler (Ordered line) answer o now handled part;
+    rest = rest_stays old.gateway.now new.gateway.now idle rest;
+    answered =
+        part_one stored way old.gateway.now.handler new.gateway.now.handler (Ordered line) answer old.outlet
+        new.outlet handled part;
   }

@@ -1,5 +1,5 @@
 -- How a live gateway goes on with turns.
-use Rattle.std.proofs.Common.{◌≡◌, ℕ, ◌-◌, ◌<◌, List, [], ◌∷◌, ◌++◌}
+use Rattle.std.proofs.Common.{◌≡◌, ℕ, ◌-◌, ◌<◌, ◌^◌, List, [], ◌∷◌, ◌++◌}
 use Rattle.std.proofs.Common.{length, take, drop, map, refl, ap, sym, ◌∙◌}
 use Rattle.std.proofs.Common.{append_assoc, append-nil, arith, suc}
 use Rattle.std.specs.Prelude.{◌==◌, All}
@@ -11,17 +11,18 @@ use Rattle.std.proofs.lemmas.List.Concat.{flat_map-append}
 use Rattle.std.proofs.lemmas.List.Elements.{All-append, All-nil}
 use Rattle.std.proofs.lemmas.List.Splits.{slice_split_none, slice_split_at, length-slice_split}
 use Rattle.sqlite.specs.State.{State as Stored}
-use Rattle.gateway_core.specs.Step.{Answer}
-use Rattle.gateway_core.specs.Calls.{Value}
 use Rattle.gateway_core.specs.Events.{Event, Piece, Line}
 use Rattle.engines.specs.declared.lines.Lines.TheVariants.{OfDesk}
+use Rattle.engines.specs.declared.engine.Engine.{Engine}
+use Rattle.engines.specs.declared.player.Player.{Player}
 use Rattle.engines.specs.Outlets.{Way}
-use Rattle.engines.specs.Played.{IsIdle, Breaks}
-use Rattle.engines.specs.Reads.{BreaksAtOrder}
-use Rattle.engines.specs.Taking.{Takes}
-use Rattle.engines.specs.Bytes.{IsOneLine, Keeps, TakesBytes, StopsAtLine, event_by, events_by, with_end}
+use Rattle.engines.specs.Played.{IsIdle}
+use Rattle.engines.specs.Served.{BreaksAtOrder}
+use Rattle.engines.specs.Taking.{EngineBreaks, Takes}
+use Rattle.engines.specs.Bytes.{TakesBytes, StopsAtLine}
+use Rattle.engines.specs.Lines.{IsOneLine, Keeps, event_by, events_by, with_end}
 use Rattle.engines.specs.Turns.{Turn, desks, ended_lines, events_behind, events_of_turns, orders, pieces}
-use Rattle.engines.proofs.BytesLemmas.{keeps_none}
+use Rattle.engines.proofs.BytesLemmas.{keeps_none, whole_behind}
 use Rattle.engines.proofs.LineLemmas.{test_of_one_line}
 use Rattle.engines.proofs.PlayLemmas.{takes_none, takes-append, plays-break}
 
@@ -115,109 +116,101 @@ pieces-more read turn = map-append (λ (turn : Turn). turn.piece) read (turn ∷
 pub desks-more : (read : List Turn) (turn : Turn) → desks (read ++ turn ∷ []) ≡ desks read ++ turn.desk ∷ []
 desks-more read turn = map-append (λ (turn : Turn). turn.desk) read (turn ∷ [])
 
-module _ {S : Type 0} (stored : S → Stored) where
+module _ {O S : Type 0} (stored : S → Stored) (way : Way O) where
   -- the turns were taken, and of the desk's line that is not ended the first bytes are kept
-  pub record TakesTurns (old new : Value S) (read : List Turn) (kept : List ℕ) (puts : List Answer → Type 0) (total : ℕ)
-      : Type 0 where
+  pub record TakesTurns (old new : Player O S) (read : List Turn) : Type 0 where
     pub ended : List (List ℕ)
     pub rest : List ℕ
     pub whole : desk_bytes read ≡ flat_map with_end ended ++ rest
     pub each : All IsOneLine ended
-    pub keeps : Keeps rest kept
-    pub taken : Takes stored old new (events_of_turns read) puts 0 total
+    pub keeps : Keeps rest new.unended
+    pub taken : Takes stored way old.engine new.engine (events_of_turns read)
 
-module _ {S : Type 0} (stored : S → Stored) {O : Type 0} (way : Way O) where
-  pub turns_none : (old : Value S) (o : O) → IsIdle old → TakesTurns stored old old [] [] (way.puts o o) 0
-  turns_none old o idle = record {
+  -- the player at first
+  abbrev pub first_player : {old new : Player O S} {read : List Turn} → TakesTurns old new read → Player O S
+  first_player {old = old} taken = old
+
+  pub turns_none : (old : Player O S) → IsIdle old.engine.gateway.now → old.engine.items < 2 ^ 64 → old.unended ≡ []
+      → TakesTurns old old []
+  turns_none old idle fits none = record {
     ended = [];
     rest = [];
     whole = refl;
     each = All-nil IsOneLine;
-    keeps = keeps_none;
-    taken = takes_none stored way old o 0 idle (omega arith);
+    keeps = rw none keeps_none;
+    taken = takes_none stored way old.engine idle fits;
   }
 
-  -- a turn's piece, and not yet its bytes of the desk
-  pub piece_taken : (entry old mid : Value S) (read : List Turn) (piece kept : List ℕ) (o mids behind : O)
-      (some more : ℕ) → TakesTurns stored entry old read kept (way.puts o mids) some
-      → Takes stored old mid (Piece piece ∷ []) (way.puts mids behind) some more
-      → Takes stored entry mid (events_of_turns read ++ Piece piece ∷ []) (way.puts o behind) 0 more
-  piece_taken entry old mid read piece kept o mids behind some more p q =
-      takes-append stored way entry old mid (events_of_turns read) (Piece piece ∷ []) o mids behind 0
-      some
-      more p.taken q
+module _ {O S : Type 0} (stored : S → Stored) (way : Way O) (entry old : Player O S) (read : List Turn)
+    (piece : List ℕ) (p : TakesTurns stored way entry old read) where
+  abbrev begun : List Event
+  begun = events_of_turns read ++ Piece piece ∷ []
 
-  pub turn_taken : (entry old mid new : Value S) (read : List Turn) (piece desk kept now_kept : List ℕ)
-      (o mids behind now : O) (some more total : ℕ)
-      → (p : TakesTurns stored entry old read kept (way.puts o mids) some)
-      → Takes stored old mid (Piece piece ∷ []) (way.puts mids behind) some more
-      → TakesBytes stored OfDesk mid new p.rest desk now_kept (way.puts behind now) more total
-      → TakesTurns stored entry new (read ++ record { piece = piece; desk = desk } ∷ []) now_kept (way.puts o now) total
-  turn_taken entry old mid new read piece desk kept now_kept o mids behind now some more total p q r =
+  -- an answer to a packet of the piece did not get out
+  pub piece_stops : (new : Engine O S) → EngineBreaks stored way old.engine new [] (Piece piece)
+      → EngineBreaks stored way entry.engine new (events_of_turns read) (Piece piece)
+  piece_stops new broken =
+      rw (← append-nil (events_of_turns read))
+      (plays-break stored way entry.engine old.engine new (events_of_turns read) [] (Piece piece) p.taken.played broken)
+
+  -- a turn's piece, and not yet its bytes of the desk
+  pub piece_taken : (new : Engine O S) → Takes stored way old.engine new (Piece piece ∷ [])
+      → Takes stored way entry.engine new (events_of_turns read ++ Piece piece ∷ [])
+  piece_taken new taken =
+      takes-append stored way entry.engine old.engine new (events_of_turns read) (Piece piece ∷ []) p.taken taken
+
+  -- `mid` is the player behind the piece
+  pub turn_taken : (mid new : Player O S) (desk : List ℕ) → Takes stored way old.engine mid.engine (Piece piece ∷ [])
+      → TakesBytes stored way OfDesk mid new (p.rest ++ desk)
+      → TakesTurns stored way entry new (read ++ record { piece = piece; desk = desk } ∷ [])
+  turn_taken mid new desk q r =
       let turn : Turn = record { piece = piece; desk = desk } in
       let brought : drop (length (orders (desk_bytes read))) (orders (desk_bytes read ++ desk))
       ≡ events_by OfDesk r.ended =
       orders-behind (desk_bytes read) desk p.ended r.ended p.rest r.rest p.whole p.each p.keeps.one r.whole r.each
       ∙ ap (λ (es : List Event). events_by OfDesk r.ended ++ es) (orders-none r.rest r.keeps.one)
       ∙ append-nil (events_by OfDesk r.ended) in
-      let is : events_of_turns (read ++ turn ∷ [])
-      ≡ (events_of_turns read ++ Piece piece ∷ []) ++ events_by OfDesk r.ended =
-      events_behind-more [] read turn
-      ∙ ap (λ (es : List Event). events_of_turns read ++ Piece piece ∷ es) brought
+      let is : events_of_turns (read ++ turn ∷ []) ≡ begun ++ events_by OfDesk r.ended =
+      events_behind-more [] read turn ∙ ap (λ (es : List Event). events_of_turns read ++ Piece piece ∷ es) brought
       ∙ sym (append_assoc (events_of_turns read) (Piece piece ∷ []) (events_by OfDesk r.ended)) in
       record {
         ended = p.ended ++ r.ended;
         rest = r.rest;
-        whole = desk_bytes-more read turn ∙ ap (λ s. s ++ desk) p.whole
-            ∙ append_assoc (flat_map with_end p.ended) p.rest desk ∙ ap (λ s. flat_map with_end p.ended ++ s) r.whole
-            ∙ sym (append_assoc (flat_map with_end p.ended) (flat_map with_end r.ended) r.rest)
-            ∙ ap (λ s. s ++ r.rest) (sym (flat_map-append with_end p.ended r.ended));
+        whole = desk_bytes-more read turn
+            ∙ whole_behind (desk_bytes read) desk p.ended r.ended p.rest r.rest p.whole r.whole;
         each = All-append IsOneLine p.ended r.ended p.each r.each;
         keeps = r.keeps;
         taken =
             rw is
-            (takes-append stored way entry mid new (events_of_turns read ++ Piece piece ∷ [])
-            (events_by OfDesk r.ended) o behind now 0 more total
-            (piece_taken entry old mid read piece kept o mids behind some more p q) r.taken);
+            (takes-append stored way entry.engine mid.engine new.engine begun (events_by OfDesk r.ended)
+            (piece_taken mid.engine q) r.taken);
       }
 
-  -- an answer to a packet of the piece did not get out
-  pub piece_stops : (entry old new : Value S) (read : List Turn) (piece kept : List ℕ) (o mids now : O) (some : ℕ)
-      → TakesTurns stored entry old read kept (way.puts o mids) some
-      → Breaks stored old new [] (Piece piece) (way.breaks mids now)
-      → Breaks stored entry new (events_of_turns read) (Piece piece) (way.breaks o now)
-  piece_stops entry old new read piece kept o mids now some p broken =
-      rw (← append-nil (events_of_turns read))
-      (plays-break stored way entry old new (events_of_turns read) [] (Piece piece) o mids now
-      p.taken.played broken)
-
   -- an answer to an order did not get out
-  pub order_stops : (entry old mid new : Value S) (read : List Turn) (piece desk kept : List ℕ)
-      (o mids behind now : O) (some more : ℕ)
-      → (p : TakesTurns stored entry old read kept (way.puts o mids) some)
-      → Takes stored old mid (Piece piece ∷ []) (way.puts mids behind) some more
-      → StopsAtLine stored OfDesk mid new p.rest desk (way.breaks behind now)
-      → BreaksAtOrder stored entry new (read ++ record { piece = piece; desk = desk } ∷ []) (way.breaks o now)
-  order_stops entry old mid new read piece desk kept o mids behind now some more p q s =
+  pub order_stops : (mid new : Player O S) (desk : List ℕ) → Takes stored way old.engine mid.engine (Piece piece ∷ [])
+      → StopsAtLine stored way OfDesk mid new (p.rest ++ desk)
+      → BreaksAtOrder stored entry.engine.gateway.now new.engine.gateway.now
+      (read ++ record { piece = piece; desk = desk } ∷ []) (way.breaks entry.engine.outlet new.engine.outlet)
+  order_stops mid new desk q s =
       let event = event_by OfDesk (strip_carriage_return s.line) in
       let later = orders s.more in
-      let begun = events_of_turns read ++ Piece piece ∷ [] in
+      let done = events_by OfDesk s.ended in
       let brought : drop (length (orders (desk_bytes read))) (orders (desk_bytes read ++ desk))
-      ≡ events_by OfDesk s.ended ++ event ∷ later =
+      ≡ done ++ event ∷ later =
       orders-behind (desk_bytes read) desk p.ended s.ended p.rest (s.line ++ 10 ∷ s.more) p.whole p.each p.keeps.one
-      s.whole s.each ∙ ap (λ (es : List Event). events_by OfDesk s.ended ++ es) (orders-first s.line s.more s.one) in
+      s.whole s.each ∙ ap (λ (es : List Event). done ++ es) (orders-first s.line s.more s.one) in
       record {
         before = read;
         last = record { piece = piece; desk = desk };
         is_last = refl;
-        done = events_by OfDesk s.ended;
+        done = done;
         order = event;
         later = later;
         whole = events_behind-more [] read (record { piece = piece; desk = desk })
             ∙ ap (λ (es : List Event). events_of_turns read ++ Piece piece ∷ es) brought
-            ∙ sym (append_assoc (events_of_turns read) (Piece piece ∷ []) (events_by OfDesk s.ended ++ event ∷ later))
-            ∙ sym (append_assoc begun (events_by OfDesk s.ended) (event ∷ later));
+            ∙ sym (append_assoc (events_of_turns read) (Piece piece ∷ []) (done ++ event ∷ later))
+            ∙ sym (append_assoc begun done (event ∷ later));
         broken =
-            plays-break stored way entry mid new begun (events_by OfDesk s.ended) event o behind now
-            (piece_taken entry old mid read piece kept o mids behind some more p q).played s.broken;
+            plays-break stored way entry.engine mid.engine new.engine begun done event (piece_taken mid.engine q).played
+            s.broken;
       }

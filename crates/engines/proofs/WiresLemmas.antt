@@ -1,64 +1,52 @@
--- What was put out into two sinks, and that a break of it shows in how their writes went.
-use Rattle.std.proofs.Common.{◌≡◌, List, ℕ, Option, arith, inl, inr}
-use Rattle.std.specs.Prelude.{◌⊎◌}
+-- What an engine put out into two sinks, also where the loans of the gateway and of the sinks have ended.
+use Rattle.std.proofs.Common.{◌≡◌, List, inl, inr}
 use Rattle.sqlite.specs.State.{State as Stored}
 use Rattle.gateway_core.specs.Step.{Answer}
 use Rattle.gateway_core.specs.Calls.{Value}
 use Rattle.gateway_core.specs.Events.{Event}
+use Rattle.byte_streams.specs.Counts.{HasRoom, WentWell}
 use Rattle.byte_streams.specs.declared.sink.Sink as sinks
-use Rattle.byte_streams.specs.Counts.{Counts, HasRoom, OneEmpty, OneFailed, OneMoreFailed, NoneFailed, WentWell}
-use Rattle.engines.specs.Played.{Plays}
-use Rattle.engines.specs.Reads.{BreaksTurn}
-use Rattle.engines.specs.Turns.{Turn}
+use Rattle.engines.specs.declared.engine.Engine.{Engine}
+use Rattle.engines.specs.declared.wires.Wires.{Wires}
+use Rattle.engines.specs.Outlets.{Way}
+use Rattle.engines.specs.Played.{Breaks, Plays}
+use Rattle.engines.specs.Served.{BreaksAtOrder}
 use Rattle.engines.specs.Streams.{SinkValue, sink_value}
-use Rattle.engines.specs.Wires.{wires}
+use Rattle.engines.specs.Taking.{EngineBreaks, EnginePlays}
+use Rattle.engines.specs.Turns.{Turn}
+use Rattle.engines.specs.Wires.{way_of_wires, wires}
+use Rattle.engines.proofs.CountLemmas.{not_well}
 
-pub not_well : (old new : Counts) → HasRoom old 0 → OneFailed old new ⊎ OneEmpty old new → WentWell old new → ⊥
-not_well old new room (inl failed) well =
-    let space = room.failed in let more = failed.0 in let same = well.0 in omega (arith, space, more, same)
-not_well old new room (inr empty) well =
-    let space = room.empty in let more = empty.1 in let same = well.1 in omega (arith, space, more, same)
+module _ {R D S : Type 0} (stored : S → Stored) (serials : sinks.Ghosts R) (desks : sinks.Ghosts D)
+    (entry now : Engine (Wires R D) S) (gateway : Value S) (serial : R) (desk : D) (e : gateway ≡ now.gateway.now)
+    (f : serial ≡ now.outlet.serial.now) (h : desk ≡ now.outlet.desk.now) where
+  abbrev way : Way (Wires R D)
+  way = way_of_wires serials desks
 
-pub not_failed : (old new : Counts) (n : ℕ) → HasRoom old n → OneMoreFailed old new → NoneFailed old new → ⊥
-not_failed old new n room more same = let space = room.failed in omega (arith, space, more, same)
+  abbrev old_sinks : SinkValue × SinkValue
+  old_sinks = (sink_value serials entry.outlet.serial.now, sink_value desks entry.outlet.desk.now)
 
-pub well_at : {W : Type 0} (counts : W → Counts) (old sink writer : W) → writer ≡ sink
-    → WentWell (counts old) (counts sink) → WentWell (counts old) (counts writer)
-well_at counts old sink writer e well = rw e well
+  abbrev new_sinks : SinkValue × SinkValue
+  new_sinks = (sink_value serials serial, sink_value desks desk)
 
-module _ {R D : Type 0} (serials : sinks.Ghosts R) (desks : sinks.Ghosts D) where
-  -- what is known of the two sinks of a live gateway
-  abbrev pub at_sinks : R → D → SinkValue × SinkValue
-  at_sinks serial desk = (sink_value serials serial, sink_value desks desk)
+  pub plays_at : (events : List Event) → EnginePlays stored way entry now events
+      → Plays stored entry.gateway.now gateway events (wires.puts old_sinks new_sinks)
+  plays_at events p = rw (e, f, h) p
 
-  -- where a break is out, not all writes went well, also where the loans of the sinks have ended
-  pub wrong_at_last : (serial serial_now serial_out : R) (desk desk_now desk_out : D) (answers : List Answer)
-      (last : Answer) → serial_out ≡ serial_now → desk_out ≡ desk_now
-      → wires.breaks (at_sinks serial desk) (at_sinks serial_now desk_now) answers last
-      → HasRoom (serials.counts serial) 0 → HasRoom (desks.counts desk) 0
-      → WentWell (serials.counts serial) (serials.counts serial_out)
-      → WentWell (desks.counts desk) (desks.counts desk_out) → ⊥
-  wrong_at_last serial serial_now serial_out desk desk_now desk_out answers last e f (inl broken) room others well
-      wells =
-      not_well (serials.counts serial) (serials.counts serial_now) room broken.0.went (rw e at well)
-  wrong_at_last serial serial_now serial_out desk desk_now desk_out answers last e f (inr broken) room others well
-      wells =
-      not_well (desks.counts desk) (desks.counts desk_now) others broken.1.went (rw f at wells)
+  pub breaks_at : (events : List Event) (event : Event) → EngineBreaks stored way entry now events event
+      → Breaks stored entry.gateway.now gateway events event (wires.breaks old_sinks new_sinks)
+  breaks_at events event p = rw (e, f, h) p
 
-  module _ {S : Type 0} (stored : S → Stored) where
-    -- also where the loans of the gateway and of the sinks have ended
-    pub plays_at : (entry now gateway : Value S) (events : List Event) (serial serial_now serial_out : R)
-        (desk desk_now desk_out : D) → gateway ≡ now → serial_out ≡ serial_now → desk_out ≡ desk_now
-        → Plays stored entry now events (wires.puts (at_sinks serial desk) (at_sinks serial_now desk_now))
-        → Plays stored entry gateway events (wires.puts (at_sinks serial desk) (at_sinks serial_out desk_out))
-    plays_at entry now gateway events serial serial_now serial_out desk desk_now desk_out e f h p = rw (e, f, h) p
+  pub breaks_at_order : (turns : List Turn)
+      → BreaksAtOrder stored entry.gateway.now now.gateway.now turns (way.breaks entry.outlet now.outlet)
+      → BreaksAtOrder stored entry.gateway.now gateway turns (wires.breaks old_sinks new_sinks)
+  breaks_at_order turns p = rw (e, f, h) p
 
-    pub breaks_turn_at : (entry now gateway : Value S) (turns : List Turn) (piece : Option (List ℕ))
-        (serial serial_now serial_out : R) (desk desk_now desk_out : D) → gateway ≡ now → serial_out ≡ serial_now
-        → desk_out ≡ desk_now
-        → BreaksTurn stored entry now turns piece
-        (wires.breaks (at_sinks serial desk) (at_sinks serial_now desk_now))
-        → BreaksTurn stored entry gateway turns piece
-        (wires.breaks (at_sinks serial desk) (at_sinks serial_out desk_out))
-    breaks_turn_at entry now gateway turns piece serial serial_now serial_out desk desk_now desk_out e f h p =
-        rw (e, f, h) p
+  -- where a break is out, not all writes went well
+  pub not_all_well : (answers : List Answer) (last : Answer) → way.breaks entry.outlet now.outlet answers last
+      → HasRoom old_sinks.0.counts 0 → HasRoom old_sinks.1.counts 0
+      → WentWell old_sinks.0.counts new_sinks.0.counts → WentWell old_sinks.1.counts new_sinks.1.counts → ⊥
+  not_all_well answers last (inl broken) room others well wells =
+      not_well old_sinks.0.counts (serials.counts now.outlet.serial.now) room broken.0.went (rw f at well)
+  not_all_well answers last (inr broken) room others well wells =
+      not_well old_sinks.1.counts (desks.counts now.outlet.desk.now) others broken.1.went (rw h at wells)

@@ -6,6 +6,8 @@ use Rattle.json_lines.specs.Counts.{count_with}
 use Rattle.gateway_core.specs.Step.{Received, Answer}
 use Rattle.gateway_core.specs.Calls.{Value}
 use Rattle.gateway_core.specs.Events.{Event, items_of}
+use Rattle.engines.specs.declared.engine.Engine.{Engine}
+use Rattle.engines.specs.Outlets.{Way}
 use Rattle.engines.specs.Played.{Answers, AnswersPart, Plays, PlaysPartAtEnd, Breaks}
 
 module _ {S : Type 0} (stored : S → Stored) where
@@ -25,20 +27,28 @@ module _ {S : Type 0} (stored : S → Stored) where
     pub rest : new.rest ≡ old.rest
     pub answered : AnswersPart stored old.handler new.handler (map Received packets) breaks
 
+module _ {O S : Type 0} (stored : S → Stored) (way : Way O) where
+  -- the events were played, and their answers put out
+  abbrev pub EnginePlays : Engine O S → Engine O S → List Event → Type 0
+  EnginePlays old new events = Plays stored old.gateway.now new.gateway.now events (way.puts old.outlet new.outlet)
+
+  -- behind these events an answer to an item of one more did not get out
+  abbrev pub EngineBreaks : Engine O S → Engine O S → List Event → Event → Type 0
+  EngineBreaks old new events event =
+      Breaks stored old.gateway.now new.gateway.now events event (way.breaks old.outlet new.outlet)
+
   -- the events' items were handled and counted
-  pub record Takes (old new : Value S) (events : List Event) (puts : List Answer → Type 0) (count total : ℕ)
-      : Type 0 where
-    pub played : Plays stored old new events puts
-    pub counted : total ≡ count_with count (length (items_of old.rest events))
+  pub record Takes (old new : Engine O S) (events : List Event) : Type 0 where
+    pub played : EnginePlays old new events
+    pub counted : new.items ≡ count_with old.items (length (items_of old.gateway.now.rest events))
 
   -- a call that takes events: it does so at `Ok`, and at `Err` stops at some event of them
-  abbrev pub TakesOrStops : {A E : Type 0} → Result A E → Value S → Value S → List Event
-      → (List Answer → Type 0) → (List Answer → Answer → Type 0) → ℕ → ℕ → Type 0
-  TakesOrStops result old new events puts breaks count total =
-      MatchResult result (λ _. Takes old new events puts count total) (λ _. PlaysPartAtEnd stored old new events breaks)
+  abbrev pub TakesOrStops : {A E : Type 0} → Result A E → Engine O S → Engine O S → List Event → Type 0
+  TakesOrStops result old new events =
+      MatchResult result (λ _. Takes old new events)
+      (λ _. PlaysPartAtEnd stored old.gateway.now new.gateway.now events (way.breaks old.outlet new.outlet))
 
   -- a call that takes one event: it does so at `Ok`, and breaks off at `Err`
-  abbrev pub TakesOrBreaks : {A E : Type 0} → Result A E → Value S → Value S → Event
-      → (List Answer → Type 0) → (List Answer → Answer → Type 0) → ℕ → ℕ → Type 0
-  TakesOrBreaks result old new event puts breaks count total =
-      MatchResult result (λ _. Takes old new (event ∷ []) puts count total) (λ _. Breaks stored old new [] event breaks)
+  abbrev pub TakesOrBreaks : {A E : Type 0} → Result A E → Engine O S → Engine O S → Event → Type 0
+  TakesOrBreaks result old new event =
+      MatchResult result (λ _. Takes old new (event ∷ [])) (λ _. EngineBreaks old new [] event)

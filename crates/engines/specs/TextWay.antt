@@ -1,27 +1,16 @@
 -- A sink that is given a text of each answer is a way out.
-use Rattle.std.specs.Prelude.{◌⊎◌, ℕ, List, ◌++◌}
+use Rattle.std.specs.Prelude.{ℕ, List, ◌++◌}
 use Rattle.std.specs.Io.KnownBytes.{Appends}
 use Rattle.std.specs.List.{flat_map}
-use Rattle.std.proofs.Common.{ap, sym, ◌∙◌, append_assoc, subst, inl, inr, refl}
+use Rattle.std.proofs.Common.{ap, sym, ◌∙◌, append_assoc, subst, refl}
 use Rattle.std.proofs.KnownBytes.{Appends-nil, Appends-trans}
 use Rattle.std.proofs.lemmas.List.Concat.{flat_map-append}
 use Rattle.gateway_core.specs.Step.{Answer}
-use Rattle.byte_streams.specs.Counts.{Counts, WentWell, OneFailed, OneEmpty, one_more}
+use Rattle.byte_streams.specs.Counts.{WentWell}
 use Rattle.byte_streams.specs.Writes.{AppendsPart}
+use Rattle.engines.specs.Calls.{OneWrong, well_behind, wrong_behind}
 use Rattle.engines.specs.Outlets.{Way}
 use Rattle.engines.specs.Streams.{SinkValue}
-
--- one call went wrong: it failed or answered 0 bytes
-abbrev pub OneWrong : Counts → Counts → Type 0
-OneWrong old new = OneFailed old new ⊎ OneEmpty old new
-
-pub well_behind : (old mid new : Counts) → WentWell old mid → WentWell mid new → WentWell old new
-well_behind old mid new first second = (second.0 ∙ first.0, second.1 ∙ first.1)
-
--- the last call went wrong, and those before it well
-pub wrong_behind : (old mid new : Counts) → WentWell old mid → OneWrong mid new → OneWrong old new
-wrong_behind old mid new well (inl failed) = inl (failed.0 ∙ ap one_more well.0, failed.1 ∙ well.1)
-wrong_behind old mid new well (inr empty) = inr (empty.0 ∙ well.0, empty.1 ∙ ap one_more well.1)
 
 module _ (says : Answer → List ℕ) where
   -- a sink was given the texts of the answers, and no write went wrong

@@ -5,6 +5,11 @@ use Rattle.std.specs.List.{flat_map}
 use Rattle.hex.specs.Hex.{encode_lower}
 use Rattle.gateway_core.specs.Step.{Answer}
 use Rattle.byte_streams.specs.Writes.{AppendsPart}
+use Rattle.byte_streams.specs.declared.sink.Sink as sinks
+use Rattle.engines.specs.declared.replay_text.ReplayText.{ReplayText}
+use Rattle.engines.specs.Outlets.{Way, way_by}
+use Rattle.engines.specs.Streams.{sink_value}
+use Rattle.engines.specs.TextWay.{text_way}
 
 -- the radio bytes as a serial piece, if there are any
 abbrev pub radio_text : Option (List ℕ) → List ℕ
@@ -24,3 +29,7 @@ WritesAll held now answers = Appends held now (written answers)
 -- the text of the answers was written, and of the last one's behind them only a first part, and not all of it
 abbrev pub WritesPart : Option (List ℕ) → Option (List ℕ) → List Answer → Answer → Type 0
 WritesPart held now answers last = AppendsPart held now (written answers) (text_of last)
+
+-- of each answer its text goes to the sink
+abbrev pub way_of_text : {W : Type 0} → sinks.Ghosts W → Way (ReplayText W)
+way_of_text {W} sink = way_by {O = ReplayText W} (λ out. sink_value sink out.sink.now) (text_way text_of)

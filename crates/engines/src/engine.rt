@@ -25,9 +25,7 @@ impl<O: Outlet, S: DeviceStore> Engine<'_, O, S> {
         requires { IsIdle self.old.gateway.now }
         ensures gateway { self.new.gateway.ghost_name ≡ self.old.gateway.ghost_name }
         ensures loans { O.loans self.new.outlet ≡ O.loans self.old.outlet }
-        ensures taken { TakesOrBreaks S.stored result self.old.gateway.now self.new.gateway.now (PieceEvent piece.now)
-            (O.way.puts self.old.outlet self.new.outlet) (O.way.breaks self.old.outlet self.new.outlet)
-            self.old.items self.new.items }
+        ensures taken { TakesOrBreaks S.stored O.way result self.old self.new (PieceEvent piece.now) }
     {
         // It tells the proof that the count is a `u64`.
         let _start = self.items;
@@ -63,9 +61,7 @@ impl<O: Outlet, S: DeviceStore> Engine<'_, O, S> {
         requires { IsIdle self.old.gateway.now }
         ensures gateway { self.new.gateway.ghost_name ≡ self.old.gateway.ghost_name }
         ensures loans { O.loans self.new.outlet ≡ O.loans self.old.outlet }
-        ensures taken { TakesOrBreaks S.stored result self.old.gateway.now self.new.gateway.now (LineEvent line.now)
-            (O.way.puts self.old.outlet self.new.outlet) (O.way.breaks self.old.outlet self.new.outlet)
-            self.old.items self.new.items }
+        ensures taken { TakesOrBreaks S.stored O.way result self.old self.new (LineEvent line.now) }
     {
         let reply = self.gateway.order(line);
         self.answer(&reply)

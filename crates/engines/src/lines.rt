@@ -1,6 +1,6 @@
 //! A line is taken, of a script or of the desk.
 ghost use Rattle.std.specs.Prelude.{◌≡◌};
-ghost use Rattle.engines.specs.Bytes.{event_by};
+ghost use Rattle.engines.specs.Lines.{event_by};
 ghost use Rattle.engines.specs.Played.{IsIdle};
 ghost use Rattle.engines.specs.Taking.{TakesOrBreaks};
 
@@ -24,9 +24,7 @@ impl<O: Outlet, S: DeviceStore> Engine<'_, O, S> {
         requires { IsIdle self.old.gateway.now }
         ensures gateway { self.new.gateway.ghost_name ≡ self.old.gateway.ghost_name }
         ensures loans { O.loans self.new.outlet ≡ O.loans self.old.outlet }
-        ensures taken { TakesOrBreaks S.stored result self.old.gateway.now self.new.gateway.now
-            (event_by lines line.now) (O.way.puts self.old.outlet self.new.outlet)
-            (O.way.breaks self.old.outlet self.new.outlet) self.old.items self.new.items }
+        ensures taken { TakesOrBreaks S.stored O.way result self.old self.new (event_by lines line.now) }
     {
         match lines {
             Lines::OfScript => self.take_script_line(line),

@@ -1,13 +1,7 @@
 //! A gateway serves a serial line and a desk.
-ghost use Rattle.std.specs.Prelude.{◌≡◌, ◌↔◌, ◌+◌, ◌-◌, ◌^◌, ◌≤◌, min, Err, [], ℕ, List, Option, length};
-ghost use Rattle.std.specs.Prelude.{IfOk, IsOk};
-ghost use Rattle.gateway_core.specs.Events.{items_of};
-ghost use Rattle.byte_streams.specs.Counts.{HasRoom, Made, NoneFailed, WentWell};
-ghost use Rattle.engines.specs.Played.{Plays};
-ghost use Rattle.engines.specs.Reads.{BreaksTurn, NextReadFails, ReadsWell, events_with, pieces_with};
-ghost use Rattle.engines.specs.Turns.{Turn, desks, events_of_turns, pieces};
-ghost use Rattle.engines.specs.Streams.{sink_value};
-ghost use Rattle.engines.specs.Wires.{wires};
+ghost use Rattle.std.specs.Prelude.{◌≡◌, ◌+◌, ◌≤◌, ℕ, [], IfErr, IfOk};
+ghost use Rattle.byte_streams.specs.Counts.{Made};
+ghost use Rattle.engines.specs.Served.{Serves, ServesUntil, TellsAllTurns, live_at};
 
 use crate::engine::Engine;
 use crate::lines::Lines;
@@ -39,38 +33,20 @@ pub fn live<P: Source, Q: Source, R: Sink, D: Sink, S: DeviceStore>(
 ) -> Result<Summary, RunFault>
     requires { gateway.old.ready ≡ [] }
     // What is read, handled and written.
-    ensures ok { IfOk result (λ summary. (read : List Turn) × (length read ≡ turns)
-        × ReadsWell P.left P.counts serial_in.old serial_in.new (pieces read)
-        × ReadsWell Q.left Q.counts desk_in.old desk_in.new (desks read)
-        × Plays S.stored gateway.old gateway.new (events_of_turns read) (wires.puts
-        (sink_value R.Sink serial_out.old, sink_value D.Sink desk_out.old)
-        (sink_value R.Sink serial_out.new, sink_value D.Sink desk_out.new))
-        × (summary.items ≡ min (length (items_of gateway.old.rest (events_of_turns read))) (2 ^ 64 - 1))) }
-    ensures stopped { result ≡ Err RunFault.Read → (read : List Turn) × (piece : Option (List ℕ))
-        × NextReadFails P.left P.counts Q.left Q.counts serial_in.old serial_in.new desk_in.old desk_in.new read piece
-        × Plays S.stored gateway.old gateway.new (events_with read piece) (wires.puts
-        (sink_value R.Sink serial_out.old, sink_value D.Sink desk_out.old)
-        (sink_value R.Sink serial_out.new, sink_value D.Sink desk_out.new)) }
-    ensures broken { result ≡ Err RunFault.Write → (read : List Turn) × (piece : Option (List ℕ))
-        × ReadsWell P.left P.counts serial_in.old serial_in.new (pieces_with read piece)
-        × ReadsWell Q.left Q.counts desk_in.old desk_in.new (desks read)
-        × BreaksTurn S.stored gateway.old gateway.new read piece (wires.breaks
-        (sink_value R.Sink serial_out.old, sink_value D.Sink desk_out.old)
-        (sink_value R.Sink serial_out.new, sink_value D.Sink desk_out.new)) }
-    ensures never { result ≡ Err RunFault.TooManyTurns → ⊥ }
+    ensures ok { IfOk result (Serves S.stored (live_at P.Source Q.Source R.Sink D.Sink)
+        (gateway.old, serial_in.old, desk_in.old, serial_out.old, desk_out.old)
+        (gateway.new, serial_in.new, desk_in.new, serial_out.new, desk_out.new) turns) }
+    ensures err { IfErr result (ServesUntil S.stored (live_at P.Source Q.Source R.Sink D.Sink)
+        (gateway.old, serial_in.old, desk_in.old, serial_out.old, desk_out.old)
+        (gateway.new, serial_in.new, desk_in.new, serial_out.new, desk_out.new)) }
 
     // How many reads are made, and when all turns are.
     ensures reads { (n m : ℕ) × (n ≤ turns) × (m ≤ n) × (n ≤ m + 1)
         × Made (P.counts serial_in.old) (P.counts serial_in.new) n
         × Made (Q.counts desk_in.old) (Q.counts desk_in.new) m }
-    ensures whole { HasRoom (P.counts serial_in.old) turns → HasRoom (Q.counts desk_in.old) turns →
-        HasRoom (R.counts serial_out.old) 0 → HasRoom (D.counts desk_out.old) 0 →
-        (IsOk result ↔ (((P.counts serial_in.new).calls ≡ (P.counts serial_in.old).calls + turns)
-        × ((Q.counts desk_in.new).calls ≡ (Q.counts desk_in.old).calls + turns)
-        × WentWell (R.counts serial_out.old) (R.counts serial_out.new)
-        × WentWell (D.counts desk_out.old) (D.counts desk_out.new)
-        × NoneFailed (P.counts serial_in.old) (P.counts serial_in.new)
-        × NoneFailed (Q.counts desk_in.old) (Q.counts desk_in.new))) }
+    ensures whole { TellsAllTurns (live_at P.Source Q.Source R.Sink D.Sink) result
+        (gateway.old, serial_in.old, desk_in.old, serial_out.old, desk_out.old)
+        (gateway.new, serial_in.new, desk_in.new, serial_out.new, desk_out.new) turns }
 {
     let is_ready = gateway.is_ready();
     prove!(!is_ready);

@@ -1,7 +1,8 @@
 //! Bytes are taken as they come, by their lines.
-ghost use Rattle.std.specs.Prelude.{◌≡◌, [], ◌∷◌, ◌++◌, ℕ, List, OnOk};
+ghost use Rattle.std.specs.Prelude.{◌≡◌, [], ◌++◌, ℕ, List, OnOk, OnErr};
 ghost use Rattle.std.specs.Str.Lines.{strip_carriage_return};
-ghost use Rattle.engines.specs.Bytes.{Keeps, TakesBytesOrStops, event_by};
+ghost use Rattle.engines.specs.Bytes.{StopsAtLine, TakesBytes};
+ghost use Rattle.engines.specs.Lines.{Keeps, event_by};
 ghost use Rattle.engines.specs.Played.{IsIdle};
 ghost use Rattle.engines.specs.Script.{script};
 ghost use Rattle.engines.specs.Taking.{TakesOrBreaks, TakesOrStops};
@@ -29,10 +30,10 @@ impl<O: Outlet, S: DeviceStore> Player<'_, O, S> {
         ensures gateway { self.new.engine.gateway.ghost_name ≡ self.old.engine.gateway.ghost_name }
         ensures loans { O.loans self.new.engine.outlet ≡ O.loans self.old.engine.outlet }
         ensures idle { OnOk result (IsIdle self.new.engine.gateway.now) }
-        ensures taken { (tail : List ℕ) → Keeps tail self.old.unended →
-            TakesBytesOrStops S.stored result lines self.old.engine.gateway.now self.new.engine.gateway.now tail
-            bytes.now self.new.unended (O.way.puts self.old.engine.outlet self.new.engine.outlet)
-            (O.way.breaks self.old.engine.outlet self.new.engine.outlet) self.old.engine.items self.new.engine.items }
+        ensures taken { OnOk result ((tail : List ℕ) → Keeps tail self.old.unended →
+            TakesBytes S.stored O.way lines self.old self.new (tail ++ bytes.now)) }
+        ensures stopped { OnErr result ((tail : List ℕ) → Keeps tail self.old.unended →
+            StopsAtLine S.stored O.way lines self.old self.new (tail ++ bytes.now)) }
     {
         // It tells the proof that the count is a `u64`.
         let _start = self.engine.items;
@@ -53,10 +54,8 @@ impl<O: Outlet, S: DeviceStore> Player<'_, O, S> {
         ensures idle { OnOk result (IsIdle self.new.engine.gateway.now) }
         ensures emptied { OnOk result (self.new.unended ≡ []) }
         ensures taken { (tail : List ℕ) → Keeps tail self.old.unended →
-            TakesOrBreaks S.stored result self.old.engine.gateway.now self.new.engine.gateway.now
-            (event_by lines (strip_carriage_return (tail ++ bytes.now)))
-            (O.way.puts self.old.engine.outlet self.new.engine.outlet)
-            (O.way.breaks self.old.engine.outlet self.new.engine.outlet) self.old.engine.items self.new.engine.items }
+            TakesOrBreaks S.stored O.way result self.old.engine self.new.engine
+            (event_by lines (strip_carriage_return (tail ++ bytes.now))) }
     {
         if self.unended.as_slice().is_empty() {
             return self.engine.take_line(lines, strip(bytes));
@@ -74,9 +73,7 @@ impl<O: Outlet, S: DeviceStore> Player<'_, O, S> {
         ensures gateway { self.new.engine.gateway.ghost_name ≡ self.old.engine.gateway.ghost_name }
         ensures loans { O.loans self.new.engine.outlet ≡ O.loans self.old.engine.outlet }
         ensures taken { (tail : List ℕ) → Keeps tail self.old.unended →
-            TakesOrStops S.stored result self.old.engine.gateway.now self.new.engine.gateway.now (script tail)
-            (O.way.puts self.old.engine.outlet self.new.engine.outlet)
-            (O.way.breaks self.old.engine.outlet self.new.engine.outlet) self.old.engine.items self.new.engine.items }
+            TakesOrStops S.stored O.way result self.old.engine self.new.engine (script tail) }
     {
         // It tells the proof that the count is a `u64`.
         let _start = self.engine.items;

@@ -2,10 +2,7 @@
 ghost use Rattle.std.specs.Prelude.{[], ◌∷◌, ◌≤◌, Some, length};
 ghost use Rattle.byte_streams.specs.Counts.{Went};
 ghost use Rattle.byte_streams.specs.Writes.{Writes};
-ghost use Rattle.engines.specs.Outlets.{way_by};
-ghost use Rattle.engines.specs.Streams.{sink_value};
-ghost use Rattle.engines.specs.TextWay.{text_way};
-ghost use Rattle.engines.specs.Written.{radio_text, text_of};
+ghost use Rattle.engines.specs.Written.{radio_text, way_of_text};
 
 use crate::outlet::Outlet;
 use byte_streams::{Failed, Sink, write_text};
@@ -18,7 +15,7 @@ pub struct ReplayText<'w, W> {
 }
 
 impl<W: Sink> Outlet for ReplayText<'_, W> {
-    ghost way = { way_by (λ text. sink_value W.Sink text.sink.now) (text_way text_of) };
+    ghost way = { way_of_text W.Sink };
 
     ghost loans = { λ text. text.sink.ghost_name ∷ [] };
 

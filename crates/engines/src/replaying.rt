@@ -1,12 +1,10 @@
 //! A script is replayed.
-ghost use Rattle.std.specs.Prelude.{◌≡◌, ◌↔◌, ◌⊎◌, ◌+◌, ◌-◌, ◌^◌, min, Err, [], ℕ, List, length};
-ghost use Rattle.std.specs.Prelude.{IfOk, OnOk};
-ghost use Rattle.std.specs.Io.KnownBytes.{Consumes, IsAtEnd};
-ghost use Rattle.gateway_core.specs.Events.{items_of};
-ghost use Rattle.byte_streams.specs.Counts.{HasRoom, OneEmpty, OneFailed, WentWell};
+ghost use Rattle.std.specs.Prelude.{◌≡◌, Err, [], IfErr, IfOk, OnOk};
+ghost use Rattle.byte_streams.specs.Counts.{OneEmpty, OneFailed, WentWell};
+ghost use Rattle.engines.specs.Calls.{OneWrong, WellOrEnded};
 ghost use Rattle.engines.specs.Reads.{MakesReads};
-ghost use Rattle.engines.specs.Replayed.{Replays, ReplaysClosed, ReplaysPartAtEnd, ReplaysPartAtLine};
-ghost use Rattle.engines.specs.Script.{script};
+ghost use Rattle.engines.specs.Replayed.{Replays, ReplaysUntil, TellsTooManyTurns, replay_at};
+ghost use Rattle.engines.specs.Streams.{source_value};
 
 use crate::engine::Engine;
 use crate::lines::Lines;
@@ -56,34 +54,21 @@ pub fn replay<R: Source, W: Sink, S: DeviceStore>(
 ) -> Result<Summary, RunFault>
     requires { gateway.old.ready ≡ [] }
     // What is read, handled and written.
-    ensures ok { IfOk result (λ summary. (input : List ℕ) × Consumes (R.left reader.old) (R.left reader.new) input
-        × IsAtEnd (R.left reader.new)
-        × Replays S.stored gateway.old gateway.new (script input) (W.held writer.old) (W.held writer.new)
-        × (summary.items ≡ min (length (items_of gateway.old.rest (script input))) (2 ^ 64 - 1))) }
-    ensures stopped { (result ≡ Err RunFault.Read) ⊎ (result ≡ Err RunFault.TooManyTurns) →
-        (input : List ℕ) × Consumes (R.left reader.old) (R.left reader.new) input
-        × ReplaysClosed S.stored gateway.old gateway.new input (W.held writer.old) (W.held writer.new) }
-    ensures broken { result ≡ Err RunFault.Write →
-        (input : List ℕ) × Consumes (R.left reader.old) (R.left reader.new) input
-        × ((WentWell (R.counts reader.old) (R.counts reader.new)
-        × ReplaysPartAtLine S.stored gateway.old gateway.new input (W.held writer.old) (W.held writer.new))
-        ⊎ (OneEmpty (R.counts reader.old) (R.counts reader.new) × IsAtEnd (R.left reader.new)
-        × ReplaysPartAtEnd S.stored gateway.old gateway.new input (W.held writer.old) (W.held writer.new))) }
+    ensures ok { IfOk result (Replays S.stored (replay_at R.Source W.Sink) (gateway.old, reader.old, writer.old)
+        (gateway.new, reader.new, writer.new)) }
+    ensures err { IfErr result (ReplaysUntil S.stored (replay_at R.Source W.Sink)
+        (gateway.old, reader.old, writer.old) (gateway.new, reader.new, writer.new)) }
 
     // How the reads and the writes went.
-    ensures reads { MakesReads R.left R.counts reader.old reader.new turns }
+    ensures reads { MakesReads (source_value R.Source reader.old) (source_value R.Source reader.new) turns }
     ensures ended { OnOk result (OneEmpty (R.counts reader.old) (R.counts reader.new)
         × WentWell (W.counts writer.old) (W.counts writer.new)) }
     ensures read { result ≡ Err RunFault.Read → OneFailed (R.counts reader.old) (R.counts reader.new)
         × WentWell (W.counts writer.old) (W.counts writer.new) }
-    ensures write { result ≡ Err RunFault.Write →
-        (WentWell (R.counts reader.old) (R.counts reader.new) ⊎ OneEmpty (R.counts reader.old) (R.counts reader.new))
-        × (OneFailed (W.counts writer.old) (W.counts writer.new)
-        ⊎ OneEmpty (W.counts writer.old) (W.counts writer.new)) }
-    ensures too_many { HasRoom (R.counts reader.old) turns → HasRoom (W.counts writer.old) 0 →
-        ((result ≡ Err RunFault.TooManyTurns) ↔ (((R.counts reader.new).calls ≡ (R.counts reader.old).calls + turns)
-        × WentWell (R.counts reader.old) (R.counts reader.new)
-        × WentWell (W.counts writer.old) (W.counts writer.new))) }
+    ensures write { result ≡ Err RunFault.Write → WellOrEnded (R.counts reader.old) (R.counts reader.new)
+        × OneWrong (W.counts writer.old) (W.counts writer.new) }
+    ensures too_many { TellsTooManyTurns (replay_at R.Source W.Sink) result (gateway.old, reader.old, writer.old)
+        (gateway.new, reader.new, writer.new) turns }
 {
     let is_ready = gateway.is_ready();
     prove!(!is_ready);

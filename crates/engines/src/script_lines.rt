@@ -20,9 +20,7 @@ impl<O: Outlet, S: DeviceStore> Engine<'_, O, S> {
         requires { IsIdle self.old.gateway.now }
         ensures gateway { self.new.gateway.ghost_name ≡ self.old.gateway.ghost_name }
         ensures loans { O.loans self.new.outlet ≡ O.loans self.old.outlet }
-        ensures taken { TakesOrBreaks S.stored result self.old.gateway.now self.new.gateway.now (event_of line.now)
-            (O.way.puts self.old.outlet self.new.outlet) (O.way.breaks self.old.outlet self.new.outlet)
-            self.old.items self.new.items }
+        ensures taken { TakesOrBreaks S.stored O.way result self.old self.new (event_of line.now) }
     {
         if line.len() <= LONGEST_LINE && line.starts_with(b"S ".as_slice()) {
             self.take_digits(line)
@@ -38,10 +36,8 @@ impl<O: Outlet, S: DeviceStore> Engine<'_, O, S> {
         requires short { length line.now ≤ longest_line }
         ensures gateway { self.new.gateway.ghost_name ≡ self.old.gateway.ghost_name }
         ensures loans { O.loans self.new.outlet ≡ O.loans self.old.outlet }
-        ensures taken { TakesOrBreaks S.stored result self.old.gateway.now self.new.gateway.now
-            (spelled line.now (decode_of (drop 2 line.now)))
-            (O.way.puts self.old.outlet self.new.outlet) (O.way.breaks self.old.outlet self.new.outlet)
-            self.old.items self.new.items }
+        ensures taken { TakesOrBreaks S.stored O.way result self.old self.new
+            (spelled line.now (decode_of (drop 2 line.now))) }
     {
         let digits = &line[2..];
         let mut bytes = [0u8; LONGEST_PIECE];

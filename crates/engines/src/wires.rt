@@ -1,8 +1,6 @@
 //! Replies are written to two sinks, by radio and to the desk.
 ghost use Rattle.std.specs.Prelude.{[], ◌∷◌};
-ghost use Rattle.engines.specs.Outlets.{way_by};
-ghost use Rattle.engines.specs.Streams.{sink_value};
-ghost use Rattle.engines.specs.Wires.{wires};
+ghost use Rattle.engines.specs.Wires.{way_of_wires};
 
 use crate::outlet::Outlet;
 use byte_streams::{Failed, Sink, write_text};
@@ -17,7 +15,7 @@ pub struct Wires<'r, 'd, R, D> {
 }
 
 impl<R: Sink, D: Sink> Outlet for Wires<'_, '_, R, D> {
-    ghost way = { way_by (λ out. (sink_value R.Sink out.serial.now, sink_value D.Sink out.desk.now)) wires };
+    ghost way = { way_of_wires R.Sink D.Sink };
 
     ghost loans = { λ out. out.serial.ghost_name ∷ out.desk.ghost_name ∷ [] };
 

@@ -1,14 +1,15 @@
-use Rattle.byte_streams.specs.Counts.{one_more}
 use Rattle.std.proofs.Common.{rules, [], ◌∷◌, ◌++◌, ◌+◌, refl, take, ap, arith, None, Some, ◌∙◌, length-append}
+use Rattle.byte_streams.specs.Counts.{one_more}
 use Rattle.engines.specs.Played.{IsIdle}
+use Rattle.engines.specs.Streams.{source_value}
 use Rattle.engines.specs.Turns.{Turn, desks, pieces}
-use Rattle.engines.proofs.CountLemmas.{made_both, made_first, made_more, made_none}
+use Rattle.engines.specs.Wires.{way_of_wires}
+use Rattle.engines.proofs.CountLemmas.{made_both, made_first, made_more, made_none, not_failed}
+use Rattle.engines.proofs.CountLemmas.{well_at}
 use Rattle.engines.proofs.ReadLemmas.{reads_fail, reads_more, reads_none}
-use Rattle.engines.proofs.TurnLemmas.{desks-more, order_stops, piece_stops, piece_taken, pieces-more, turn_taken}
-use Rattle.engines.proofs.TurnLemmas.{turns_none}
-use Rattle.engines.specs.Wires.{wires}
-use Rattle.engines.proofs.WiresLemmas.{at_sinks, breaks_turn_at, not_failed, plays_at, well_at}
-use Rattle.engines.proofs.WiresLemmas.{wrong_at_last}
+use Rattle.engines.proofs.TurnLemmas.{desks-more, first_player, order_stops, piece_stops, piece_taken, pieces-more}
+use Rattle.engines.proofs.TurnLemmas.{turn_taken, turns_none}
+use Rattle.engines.proofs.WiresLemmas.{breaks_at, breaks_at_order, not_all_well, plays_at}
 use Rattle.engines.proofs.living.live.Goals as goal
 
 pub loop-turn-init : goal.loop-turn-init
@@ -22,11 +23,9 @@ loop-turn-init g c =
       progress = (
         [],
         refl,
-        reads_none g.P.Source.left g.P.Source.counts c.args.serial_in.now,
-        reads_none g.Q.Source.left g.Q.Source.counts c.args.desk_in.now,
-        rw c.new.ensures
-            (turns_none g.S.DeviceStore.stored wires
-            c.args.gateway.now (at_sinks g.R.Sink g.D.Sink c.args.serial_out.now c.args.desk_out.now) idle),
+        reads_none (source_value g.P.Source c.args.serial_in.now),
+        reads_none (source_value g.Q.Source c.args.desk_in.now),
+        turns_none g.S.DeviceStore.stored (way_of_wires g.R.Sink g.D.Sink) _ idle (omega arith) c.new.ensures,
       );
       serial_made = made_none (g.P.Source.counts c.args.serial_in.now);
       desk_made = made_none (g.Q.Source.counts c.args.desk_in.now);
@@ -37,22 +36,23 @@ take_piece-requires g c = c.loop-turn.invariant.idle
 
 -- ---- the serial line cannot be read
 
-pub returns-in_default-clause-stopped : goal.returns-in_default-clause-stopped
-returns-in_default-clause-stopped g c =
-    let now = c.loop-turn.player.engine in
+pub returns-in_default-clause-err : goal.returns-in_default-clause-err
+returns-in_default-clause-err g c =
     let (read, count, serial, desk, taken) = c.loop-turn.invariant.progress in
-    λ _. (
-      read,
-      None,
-      (
-        reads_fail g.P.Source.left g.P.Source.counts c.args.serial_in.now c.loop-turn.serial_in c.read.new.self
-            (pieces read) c.in_default.field-0 serial c.in_default.ensures.bytes c.in_default.ensures.told,
+    let stored = g.S.DeviceStore.stored in
+    let way = way_of_wires g.R.Sink g.D.Sink in
+    let entry = first_player stored way taken in
+    record {
+      read = read;
+      piece = None;
+      fails = (
+        reads_fail _ _ _ (pieces read) c.in_default.field-0 serial c.in_default.ensures.bytes c.in_default.ensures.told,
         desk,
-      ),
-      plays_at g.R.Sink g.D.Sink g.S.DeviceStore.stored c.args.gateway.now
-          now.gateway.now _ _ c.args.serial_out.now now.outlet.serial.now _ c.args.desk_out.now now.outlet.desk.now _
-          (search rules) (search rules) (search rules) taken.taken.played,
-    )
+      );
+      played =
+          plays_at stored g.R.Sink g.D.Sink entry.engine c.loop-turn.player.engine _ _ _ (search rules)
+          (search rules) (search rules) _ taken.taken.played;
+    }
 
 pub returns-in_default-clause-reads : goal.returns-in_default-clause-reads
 returns-in_default-clause-reads g c =
@@ -67,36 +67,34 @@ pub returns-in_default-clause-whole : goal.returns-in_default-clause-whole
 returns-in_default-clause-whole g c =
     let counts = g.P.Source.counts in
     let (read, count, serial, desk, taken) = c.loop-turn.invariant.progress in
-    λ room _ _ _. (
+    λ room. (
       λ ok. absurd cc,
-      λ all. absurd (not_failed (counts c.args.serial_in.now) (counts c.read.new.self) c.args.turns room
-          (ap (λ t. t.failed) c.in_default.ensures.told ∙ ap one_more serial.well) all.4),
+      λ all. absurd (not_failed (counts c.args.serial_in.now) (counts c.read.new.self) c.args.turns room.serial_in
+          (ap (λ t. t.failed) c.in_default.ensures.told ∙ ap one_more serial.well) all.serial_well),
     )
 
 -- ---- an answer to a packet does not get out
 
-pub returns-in_default-take_piece-clause-broken : goal.returns-in_default-take_piece-clause-broken
-returns-in_default-take_piece-clause-broken g c =
-    let old = c.loop-turn.player.engine in
-    let new = c.take_piece.new.self in
+pub returns-in_default-take_piece-clause-err : goal.returns-in_default-take_piece-clause-err
+returns-in_default-take_piece-clause-err g c =
     let piece = take c.in-Ok.length c.read.new.buffer in
     let (read, count, serial, desk, taken) = c.loop-turn.invariant.progress in
-    λ _. (
-      read,
-      Some piece,
-      reads_more g.P.Source.left g.P.Source.counts c.args.serial_in.now c.loop-turn.serial_in c.read.new.self
-          (pieces read) c.in-Ok.length c.read.new.buffer serial c.in-Ok.ensures.within (omega arith)
-          c.in-Ok.ensures.bytes c.in-Ok.ensures.told,
-      desk,
-      breaks_turn_at g.R.Sink g.D.Sink g.S.DeviceStore.stored
-          c.args.gateway.now
-          new.gateway.now _ read (Some piece) c.args.serial_out.now new.outlet.serial.now _ c.args.desk_out.now
-          new.outlet.desk.now _ (search rules) (search rules) (search rules)
-          (piece_stops g.S.DeviceStore.stored wires c.args.gateway.now old.gateway.now new.gateway.now read piece
-          c.loop-turn.player.unended (at_sinks g.R.Sink g.D.Sink c.args.serial_out.now c.args.desk_out.now)
-          (at_sinks g.R.Sink g.D.Sink old.outlet.serial.now old.outlet.desk.now) (at_sinks g.R.Sink g.D.Sink new.outlet.serial.now new.outlet.desk.now) old.items taken
-          c.in_default-take_piece.ensures.taken),
-    )
+    let stored = g.S.DeviceStore.stored in
+    let way = way_of_wires g.R.Sink g.D.Sink in
+    let entry = first_player stored way taken in
+    record {
+      read = read;
+      piece = Some piece;
+      serial =
+          reads_more _ _ _ (pieces read) c.in-Ok.length c.read.new.buffer serial c.in-Ok.ensures.within (omega arith)
+          c.in-Ok.ensures.bytes c.in-Ok.ensures.told;
+      desk = desk;
+      broken =
+          breaks_at stored g.R.Sink g.D.Sink entry.engine c.take_piece.new.self _ _ _ (search rules)
+          (search rules) (search rules) _ _
+          (piece_stops stored way entry c.loop-turn.player read piece taken c.take_piece.new.self
+          c.in_default-take_piece.ensures.taken);
+    }
 
 pub returns-in_default-take_piece-clause-reads : goal.returns-in_default-take_piece-clause-reads
 returns-in_default-take_piece-clause-reads g c =
@@ -109,48 +107,46 @@ returns-in_default-take_piece-clause-reads g c =
 
 pub returns-in_default-take_piece-clause-whole : goal.returns-in_default-take_piece-clause-whole
 returns-in_default-take_piece-clause-whole g c =
-    let old = c.loop-turn.player.engine in
     let new = c.take_piece.new.self in
     let piece = take c.in-Ok.length c.read.new.buffer in
     let (read, count, serial, desk, taken) = c.loop-turn.invariant.progress in
+    let stored = g.S.DeviceStore.stored in
+    let way = way_of_wires g.R.Sink g.D.Sink in
+    let entry = first_player stored way taken in
     let part =
-    (piece_stops g.S.DeviceStore.stored wires c.args.gateway.now old.gateway.now new.gateway.now read piece
-    c.loop-turn.player.unended (at_sinks g.R.Sink g.D.Sink c.args.serial_out.now c.args.desk_out.now) (at_sinks g.R.Sink g.D.Sink old.outlet.serial.now old.outlet.desk.now)
-    (at_sinks g.R.Sink g.D.Sink new.outlet.serial.now new.outlet.desk.now) old.items taken c.in_default-take_piece.ensures.taken).answered in
-    λ _ _ room others. (
+    (piece_stops stored way entry c.loop-turn.player read piece taken new
+    c.in_default-take_piece.ensures.taken).answered in
+    λ room. (
       λ ok. absurd cc,
-      λ all. absurd (wrong_at_last g.R.Sink g.D.Sink
-          c.args.serial_out.now new.outlet.serial.now _ c.args.desk_out.now new.outlet.desk.now _ part.answers part.last
-          (search rules) (search rules) part.out room others all.2 all.3),
+      λ all. absurd (not_all_well stored g.R.Sink g.D.Sink entry.engine new new.gateway.now _ _ refl (search rules)
+          (search rules)
+          part.answers part.last part.out room.serial_out room.desk_out all.serial_written all.desk_written),
     )
 
 -- ---- the desk cannot be read
 
-pub returns-in_default-read-clause-stopped : goal.returns-in_default-read-clause-stopped
-returns-in_default-read-clause-stopped g c =
-    let old = c.loop-turn.player.engine in
+pub returns-in_default-read-clause-err : goal.returns-in_default-read-clause-err
+returns-in_default-read-clause-err g c =
     let new = c.take_piece.new.self in
     let piece = take c.in-Ok.length c.read.new.buffer in
     let (read, count, serial, desk, taken) = c.loop-turn.invariant.progress in
-    λ _. (
-      read,
-      Some piece,
-      (
-        reads_more g.P.Source.left g.P.Source.counts c.args.serial_in.now c.loop-turn.serial_in c.read.new.self
-            (pieces read) c.in-Ok.length c.read.new.buffer serial c.in-Ok.ensures.within (omega arith)
+    let stored = g.S.DeviceStore.stored in
+    let way = way_of_wires g.R.Sink g.D.Sink in
+    let entry = first_player stored way taken in
+    record {
+      read = read;
+      piece = Some piece;
+      fails = (
+        reads_more _ _ _ (pieces read) c.in-Ok.length c.read.new.buffer serial c.in-Ok.ensures.within (omega arith)
             c.in-Ok.ensures.bytes c.in-Ok.ensures.told,
-        reads_fail g.Q.Source.left g.Q.Source.counts c.args.desk_in.now c.loop-turn.desk_in
-            c.read-in-loop-turn.new.self (desks read) c.in_default-read.field-0 desk c.in_default-read.ensures.bytes
+        reads_fail _ _ _ (desks read) c.in_default-read.field-0 desk c.in_default-read.ensures.bytes
             c.in_default-read.ensures.told,
-      ),
-      plays_at g.R.Sink g.D.Sink g.S.DeviceStore.stored c.args.gateway.now
-          new.gateway.now _ _ c.args.serial_out.now new.outlet.serial.now _ c.args.desk_out.now new.outlet.desk.now _
-          (search rules) (search rules) (search rules)
-          (piece_taken g.S.DeviceStore.stored wires c.args.gateway.now old.gateway.now new.gateway.now read piece
-          c.loop-turn.player.unended (at_sinks g.R.Sink g.D.Sink c.args.serial_out.now c.args.desk_out.now)
-          (at_sinks g.R.Sink g.D.Sink old.outlet.serial.now old.outlet.desk.now) (at_sinks g.R.Sink g.D.Sink new.outlet.serial.now new.outlet.desk.now) old.items new.items
-          taken c.in-Ok-take_piece.ensures.taken).played,
-    )
+      );
+      played =
+          plays_at stored g.R.Sink g.D.Sink entry.engine new _ _ _ (search rules) (search rules) (search rules) _
+          (piece_taken stored way entry c.loop-turn.player read piece taken new
+          c.in-Ok-take_piece.ensures.taken).played;
+    }
 
 pub returns-in_default-read-clause-reads : goal.returns-in_default-read-clause-reads
 returns-in_default-read-clause-reads g c =
@@ -166,45 +162,40 @@ pub returns-in_default-read-clause-whole : goal.returns-in_default-read-clause-w
 returns-in_default-read-clause-whole g c =
     let counts = g.Q.Source.counts in
     let (read, count, serial, desk, taken) = c.loop-turn.invariant.progress in
-    λ _ room _ _. (
+    λ room. (
       λ ok. absurd cc,
-      λ all. absurd (not_failed (counts c.args.desk_in.now) (counts c.read-in-loop-turn.new.self) c.args.turns room
-          (ap (λ t. t.failed) c.in_default-read.ensures.told ∙ ap one_more desk.well) all.5),
+      λ all. absurd (not_failed (counts c.args.desk_in.now) (counts c.read-in-loop-turn.new.self) c.args.turns
+          room.desk_in (ap (λ t. t.failed) c.in_default-read.ensures.told ∙ ap one_more desk.well) all.desk_well),
     )
 
 -- ---- an answer to an order does not get out
 
-pub returns-in_default-take_bytes-clause-broken : goal.returns-in_default-take_bytes-clause-broken
-returns-in_default-take_bytes-clause-broken g c =
-    let old = c.loop-turn.player.engine in
-    let mid = c.take_piece.new.self in
-    let new = c.take_bytes.new.self.engine in
+pub returns-in_default-take_bytes-clause-err : goal.returns-in_default-take_bytes-clause-err
+returns-in_default-take_bytes-clause-err g c =
+    let mid = record c.loop-turn.player { engine = c.take_piece.new.self } in
+    let new = c.take_bytes.new.self in
     let piece = take c.in-Ok.length c.read.new.buffer in
     let bytes = take c.in-Ok-read.length c.read-in-loop-turn.new.buffer in
     let turn : Turn = record { piece = piece; desk = bytes } in
     let (read, count, serial, desk, taken) = c.loop-turn.invariant.progress in
-    λ _. (
-      read ++ turn ∷ [],
-      None,
-      rw (pieces-more read turn)
-          (reads_more g.P.Source.left g.P.Source.counts c.args.serial_in.now c.loop-turn.serial_in c.read.new.self
-          (pieces read) c.in-Ok.length c.read.new.buffer serial c.in-Ok.ensures.within (omega arith)
-          c.in-Ok.ensures.bytes c.in-Ok.ensures.told),
-      rw (desks-more read turn)
-          (reads_more g.Q.Source.left g.Q.Source.counts c.args.desk_in.now c.loop-turn.desk_in
-          c.read-in-loop-turn.new.self (desks read) c.in-Ok-read.length c.read-in-loop-turn.new.buffer desk
-          c.in-Ok-read.ensures.within (omega arith) c.in-Ok-read.ensures.bytes c.in-Ok-read.ensures.told),
-      breaks_turn_at g.R.Sink g.D.Sink g.S.DeviceStore.stored
-          c.args.gateway.now
-          new.gateway.now _ (read ++ turn ∷ []) None c.args.serial_out.now new.outlet.serial.now _ c.args.desk_out.now
-          new.outlet.desk.now _ (search rules) (search rules) (search rules)
-          (order_stops g.S.DeviceStore.stored wires c.args.gateway.now old.gateway.now mid.gateway.now
-          new.gateway.now read piece
-          bytes c.loop-turn.player.unended (at_sinks g.R.Sink g.D.Sink c.args.serial_out.now c.args.desk_out.now)
-          (at_sinks g.R.Sink g.D.Sink old.outlet.serial.now old.outlet.desk.now) (at_sinks g.R.Sink g.D.Sink mid.outlet.serial.now mid.outlet.desk.now)
-          (at_sinks g.R.Sink g.D.Sink new.outlet.serial.now new.outlet.desk.now) old.items mid.items taken c.in-Ok-take_piece.ensures.taken
-          (c.in_default-take_bytes.ensures.taken taken.rest taken.keeps)),
-    )
+    let stored = g.S.DeviceStore.stored in
+    let way = way_of_wires g.R.Sink g.D.Sink in
+    let entry = first_player stored way taken in
+    record {
+      read = read ++ turn ∷ [];
+      piece = None;
+      serial = rw (pieces-more read turn)
+          (reads_more _ _ _ (pieces read) c.in-Ok.length c.read.new.buffer serial c.in-Ok.ensures.within (omega arith)
+          c.in-Ok.ensures.bytes c.in-Ok.ensures.told);
+      desk = rw (desks-more read turn)
+          (reads_more _ _ _ (desks read) c.in-Ok-read.length c.read-in-loop-turn.new.buffer desk
+          c.in-Ok-read.ensures.within (omega arith) c.in-Ok-read.ensures.bytes c.in-Ok-read.ensures.told);
+      broken =
+          breaks_at_order stored g.R.Sink g.D.Sink entry.engine new.engine _ _ _ (search rules) (search rules)
+          (search rules) _
+          (order_stops stored way entry c.loop-turn.player read piece taken mid new bytes
+          c.in-Ok-take_piece.ensures.taken (c.in_default-take_bytes.ensures.stopped taken.rest taken.keeps));
+    }
 
 pub returns-in_default-take_bytes-clause-reads : goal.returns-in_default-take_bytes-clause-reads
 returns-in_default-take_bytes-clause-reads g c =
@@ -218,24 +209,22 @@ returns-in_default-take_bytes-clause-reads g c =
 
 pub returns-in_default-take_bytes-clause-whole : goal.returns-in_default-take_bytes-clause-whole
 returns-in_default-take_bytes-clause-whole g c =
-    let old = c.loop-turn.player.engine in
-    let mid = c.take_piece.new.self in
-    let new = c.take_bytes.new.self.engine in
+    let mid = record c.loop-turn.player { engine = c.take_piece.new.self } in
+    let new = c.take_bytes.new.self in
     let piece = take c.in-Ok.length c.read.new.buffer in
     let bytes = take c.in-Ok-read.length c.read-in-loop-turn.new.buffer in
     let (read, count, serial, desk, taken) = c.loop-turn.invariant.progress in
+    let stored = g.S.DeviceStore.stored in
+    let way = way_of_wires g.R.Sink g.D.Sink in
+    let entry = first_player stored way taken in
     let part =
-    (order_stops g.S.DeviceStore.stored wires c.args.gateway.now old.gateway.now mid.gateway.now new.gateway.now
-    read piece bytes
-    c.loop-turn.player.unended (at_sinks g.R.Sink g.D.Sink c.args.serial_out.now c.args.desk_out.now) (at_sinks g.R.Sink g.D.Sink old.outlet.serial.now old.outlet.desk.now)
-    (at_sinks g.R.Sink g.D.Sink mid.outlet.serial.now mid.outlet.desk.now) (at_sinks g.R.Sink g.D.Sink new.outlet.serial.now new.outlet.desk.now) old.items mid.items
-    taken c.in-Ok-take_piece.ensures.taken
-    (c.in_default-take_bytes.ensures.taken taken.rest taken.keeps)).broken.answered in
-    λ _ _ room others. (
+    (order_stops stored way entry c.loop-turn.player read piece taken mid new bytes c.in-Ok-take_piece.ensures.taken
+    (c.in_default-take_bytes.ensures.stopped taken.rest taken.keeps)).broken.answered in
+    λ room. (
       λ ok. absurd cc,
-      λ all. absurd (wrong_at_last g.R.Sink g.D.Sink
-          c.args.serial_out.now new.outlet.serial.now _ c.args.desk_out.now new.outlet.desk.now _ part.answers part.last
-          (search rules) (search rules) part.out room others all.2 all.3),
+      λ all. absurd (not_all_well stored g.R.Sink g.D.Sink entry.engine new.engine new.engine.gateway.now _ _ refl
+          (search rules) (search rules) part.answers part.last part.out room.serial_out room.desk_out
+          all.serial_written all.desk_written),
     )
 
 -- ---- a whole turn
@@ -244,37 +233,32 @@ pub loop-turn-preserved : goal.loop-turn-preserved
 loop-turn-preserved g c =
     let serial_counts = g.P.Source.counts in
     let desk_counts = g.Q.Source.counts in
-    let old = c.loop-turn.player.engine in
-    let mid = c.take_piece.new.self in
-    let new = c.take_bytes.new.self.engine in
+    let mid = record c.loop-turn.player { engine = c.take_piece.new.self } in
+    let new = c.take_bytes.new.self in
     let turn = c.loop-turn._turn in
     let piece = take c.in-Ok.length c.read.new.buffer in
     let bytes = take c.in-Ok-read.length c.read-in-loop-turn.new.buffer in
-    let both_read : Turn = record { piece = piece; desk = bytes } in
+    let both : Turn = record { piece = piece; desk = bytes } in
     let before = c.loop-turn.invariant in
     let (read, count, serial, desk, taken) = before.progress in
+    let stored = g.S.DeviceStore.stored in
+    let way = way_of_wires g.R.Sink g.D.Sink in
+    let entry = first_player stored way taken in
     record {
       gateway = search rules;
       serial = search rules;
       desk = search rules;
       idle = c.in-Ok-take_bytes.ensures.idle;
       progress = (
-        read ++ both_read ∷ [],
-        length-append read (both_read ∷ []) ∙ ap (λ n. n + 1) count,
-        rw (pieces-more read both_read)
-            (reads_more g.P.Source.left g.P.Source.counts c.args.serial_in.now c.loop-turn.serial_in c.read.new.self
-            (pieces read) c.in-Ok.length c.read.new.buffer serial c.in-Ok.ensures.within (omega arith)
+        read ++ both ∷ [],
+        length-append read (both ∷ []) ∙ ap (λ n. n + 1) count,
+        rw (pieces-more read both)
+            (reads_more _ _ _ (pieces read) c.in-Ok.length c.read.new.buffer serial c.in-Ok.ensures.within (omega arith)
             c.in-Ok.ensures.bytes c.in-Ok.ensures.told),
-        rw (desks-more read both_read)
-            (reads_more g.Q.Source.left g.Q.Source.counts c.args.desk_in.now c.loop-turn.desk_in
-            c.read-in-loop-turn.new.self (desks read) c.in-Ok-read.length c.read-in-loop-turn.new.buffer desk
+        rw (desks-more read both)
+            (reads_more _ _ _ (desks read) c.in-Ok-read.length c.read-in-loop-turn.new.buffer desk
             c.in-Ok-read.ensures.within (omega arith) c.in-Ok-read.ensures.bytes c.in-Ok-read.ensures.told),
-        turn_taken g.S.DeviceStore.stored wires c.args.gateway.now old.gateway.now mid.gateway.now new.gateway.now
-            read piece
-            bytes c.loop-turn.player.unended c.take_bytes.new.self.unended
-            (at_sinks g.R.Sink g.D.Sink c.args.serial_out.now c.args.desk_out.now) (at_sinks g.R.Sink g.D.Sink old.outlet.serial.now old.outlet.desk.now)
-            (at_sinks g.R.Sink g.D.Sink mid.outlet.serial.now mid.outlet.desk.now) (at_sinks g.R.Sink g.D.Sink new.outlet.serial.now new.outlet.desk.now) old.items
-            mid.items new.items taken c.in-Ok-take_piece.ensures.taken
+        turn_taken stored way entry c.loop-turn.player read piece taken mid new bytes c.in-Ok-take_piece.ensures.taken
             (c.in-Ok-take_bytes.ensures.taken taken.rest taken.keeps),
       );
       serial_made =
@@ -290,20 +274,23 @@ loop-turn-preserved g c =
 
 pub returns-clause-ok : goal.returns-clause-ok
 returns-clause-ok g c =
-    let now = c.loop-turn.player.engine in
     let (read, count, serial, desk, taken) = c.loop-turn.invariant.progress in
+    let stored = g.S.DeviceStore.stored in
+    let way = way_of_wires g.R.Sink g.D.Sink in
+    let entry = first_player stored way taken in
     let done = c.loop-turn-test.false in
     let last = c.loop-turn.auto._turn-end in
-    let counted = taken.taken.counted in (
-      read,
-      count ∙ omega (arith, done, last),
-      serial,
-      desk,
-      plays_at g.R.Sink g.D.Sink g.S.DeviceStore.stored c.args.gateway.now
-          now.gateway.now _ _ c.args.serial_out.now now.outlet.serial.now _ c.args.desk_out.now now.outlet.desk.now _
-          (search rules) (search rules) (search rules) taken.taken.played,
-      omega (arith, counted),
-    )
+    let counted = taken.taken.counted in
+    record {
+      read = read;
+      count = count ∙ omega (arith, done, last);
+      serial = serial;
+      desk = desk;
+      played =
+          plays_at stored g.R.Sink g.D.Sink entry.engine c.loop-turn.player.engine _ _ _ (search rules)
+          (search rules) (search rules) _ taken.taken.played;
+      counted = omega (arith, counted);
+    }
 
 pub returns-clause-reads : goal.returns-clause-reads
 returns-clause-reads g c =
@@ -326,16 +313,20 @@ returns-clause-whole g c =
     let out = taken.taken.played.answered.out in
     let done = c.loop-turn-test.false in
     let last = c.loop-turn.auto._turn-end in
-    λ room others _ _. (
-      λ _. (
-        (let fits = room.calls in let made = before.serial_made (omega (arith, fits)) in
-            omega (arith, fits, made, done, last)),
-        (let fits = others.calls in let made = before.desk_made (omega (arith, fits)) in
-            omega (arith, fits, made, done, last)),
-        well_at g.R.Sink.counts c.args.serial_out.now now.serial.now _ (search rules) out.0.went,
-        well_at g.D.Sink.counts c.args.desk_out.now now.desk.now _ (search rules) out.1.went,
-        serial.well,
-        desk.well,
-      ),
+    λ room. (
+      λ _. record {
+        serial_read =
+            let fits = room.serial_in.calls in
+            let made = before.serial_made (omega (arith, fits)) in
+            omega (arith, fits, made, done, last);
+        desk_read =
+            let fits = room.desk_in.calls in
+            let made = before.desk_made (omega (arith, fits)) in
+            omega (arith, fits, made, done, last);
+        serial_written = well_at g.R.Sink.counts c.args.serial_out.now now.serial.now _ (search rules) out.0.went;
+        desk_written = well_at g.D.Sink.counts c.args.desk_out.now now.desk.now _ (search rules) out.1.went;
+        serial_well = serial.well;
+        desk_well = desk.well;
+      },
       λ _. refl,
     )

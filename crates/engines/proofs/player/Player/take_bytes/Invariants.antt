@@ -1,5 +1,6 @@
 use Rattle.std.proofs.Common.{◌≡◌, ◌++◌, List, ℕ, length}
-use Rattle.engines.specs.Bytes.{Keeps, TakesBytes}
+use Rattle.engines.specs.Bytes.{TakesBytes}
+use Rattle.engines.specs.Lines.{Keeps}
 use Rattle.engines.specs.Played.{IsIdle}
 use Rattle.engines.proofs.player.Player.take_bytes.Given as goal
 
@@ -10,9 +11,7 @@ invariant-loop-end g l = record {
   loans : g.O.Outlet.loans l.self.engine.outlet ≡ g.O.Outlet.loans l.fn.self.engine.outlet;
   idle : IsIdle l.self.engine.gateway.now;
   taken : (done : List ℕ) × (l.bytes ≡ done ++ l.rest) × ((tail : List ℕ) → Keeps tail l.fn.self.unended →
-      TakesBytes g.S.DeviceStore.stored l.lines l.fn.self.engine.gateway.now l.self.engine.gateway.now tail done
-      l.self.unended
-      (g.O.Outlet.way.puts l.fn.self.engine.outlet l.self.engine.outlet) l.fn.self.engine.items l.self.engine.items);
+      TakesBytes g.S.DeviceStore.stored g.O.Outlet.way l.lines l.fn.self l.self (tail ++ done));
 }
 
 abbrev pub decreases-loop-end : goal.decreases-loop-end

@@ -8,27 +8,19 @@ use Rattle.engines.proofs.player.Player.take_last.Goals as goal
 
 pub returns-then-is_empty-clause-taken : goal.returns-then-is_empty-clause-taken
 returns-then-is_empty-clause-taken g c = λ tail keeps.
-    let o = g.O.Outlet in
+    let stored = g.S.DeviceStore.stored in
+    let way = g.O.Outlet.way in
     let old = c.args.self.now.engine in
     let kept = c.args.self.now.unended in
     let tested = rw c.as_slice-line.ensures at c.is_empty.ensures in
     let none = eqb-true (length kept) 0 (sym tested ∙ c.if-is_empty.true) in
-    subst (λ t. Takes g.S.DeviceStore.stored old.gateway.now old.gateway.now (script t) (o.way.puts old.outlet old.outlet)
-    old.items
-    old.items) (sym (none_came tail kept keeps none))
-    (takes_none g.S.DeviceStore.stored o.way old.gateway.now old.outlet old.items
-    c.requires
-    (search rules))
+    subst (λ t. Takes stored way old old (script t)) (sym (none_came tail kept keeps none))
+    (takes_none stored way old c.requires (search rules))
 
 pub returns-clause-taken : goal.returns-clause-taken
 returns-clause-taken g c = λ tail keeps.
-    let o = g.O.Outlet in
-    let old = c.args.self.now.engine in
-    let new = c.take_line.new.self in
     let kept = c.args.self.now.unended in
     let tested = rw c.as_slice-line.ensures at c.is_empty.ensures in
     let there = eqb-false (length kept) 0 (sym tested ∙ c.if-is_empty.false) in
-    last_line g.S.DeviceStore.stored c.take_line.result old.gateway.now new.gateway.now tail kept
-    (o.way.puts old.outlet new.outlet)
-    (o.way.breaks old.outlet new.outlet) old.items new.items keeps there
-    (rw c.as_slice-line.ensures at c.take_line.ensures.taken)
+    last_line g.S.DeviceStore.stored g.O.Outlet.way c.take_line.result c.args.self.now.engine c.take_line.new.self tail
+    kept keeps there (rw c.as_slice-line.ensures at c.take_line.ensures.taken)

@@ -1,6 +1,6 @@
 use Rattle.std.proofs.Common.{◌≡◌, arith, min, length, ◌≤◌, ◌+◌, ◌-◌, sym, ◌∙◌, ap, take, ◌++◌}
 use Rattle.std.proofs.lemmas.List.{length-take}
-use Rattle.engines.specs.Bytes.{longest_kept}
+use Rattle.engines.specs.Lines.{longest_kept}
 use Rattle.engines.proofs.ListLemmas.{take-append}
 use Rattle.engines.proofs.ResultLemmas.{OnOk-where_ok}
 use Rattle.engines.proofs.unended.UnendedLine.extend.Goals as goal

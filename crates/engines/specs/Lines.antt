@@ -1,0 +1,34 @@
+-- Lines as bytes, and the events that they are. Own choice.
+use Rattle.std.specs.Prelude.{◌≡◌, ◌≢◌, ◌+◌, ℕ, List, [], ◌∷◌, ◌++◌, take, map, All}
+use Rattle.std.specs.Str.Lines.{strip_carriage_return}
+use Rattle.gateway_core.specs.Step.{longest_line}
+use Rattle.gateway_core.specs.Events.{Event, Line}
+use Rattle.engines.specs.declared.lines.Lines.{Lines}
+use Rattle.engines.specs.declared.lines.Lines.TheVariants.{OfScript, OfDesk}
+use Rattle.engines.specs.Script.{event_of}
+
+-- how many bytes are kept of a line: with CR they tell each line that is not too long from all that are
+abbrev pub longest_kept : ℕ
+longest_kept = longest_line + 2
+
+-- no LF stands in it
+abbrev pub IsOneLine : List ℕ → Type 0
+IsOneLine bytes = All (λ byte. byte ≢ 10) bytes
+
+-- behind a line stands LF
+abbrev pub with_end : List ℕ → List ℕ
+with_end line = line ++ 10 ∷ []
+
+-- what a line is, without its end: of the desk always an order
+abbrev pub event_by : Lines → List ℕ → Event
+event_by OfScript line = event_of line
+event_by OfDesk line = Line line
+
+-- the events of lines that LF ended
+abbrev pub events_by : Lines → List (List ℕ) → List Event
+events_by lines ended = map (λ line. event_by lines (strip_carriage_return line)) ended
+
+-- of a line came these bytes, and not its end: the first of them are kept
+pub record Keeps (tail kept : List ℕ) : Type 0 where
+  pub one : IsOneLine tail
+  pub is : kept ≡ take longest_kept tail
