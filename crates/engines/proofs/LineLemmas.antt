@@ -1,15 +1,15 @@
 -- The events of lines.
 use Rattle.std.proofs.Common.{◌≡◌, ℕ, ◌<◌, List, [], ◌∷◌, ◌++◌, length, refl, ap, sym, ◌∙◌, append_assoc}
 use Rattle.std.proofs.Common.{append-nil, arith, map, Bool, true, false, inl, inr, zero, suc}
-use Rattle.std.specs.Prelude.{◌==◌, if◌then◌else◌, All}
+use Rattle.std.specs.Prelude.{◌==◌, ◌⊎◌, if◌then◌else◌, All}
 use Rattle.std.specs.List.{flat_map, slice_split}
 use Rattle.std.specs.Str.Lines.{lines, lines_of_parts, strip_carriage_return}
 use Rattle.std.proofs.lemmas.List.Splits.{slice_split_none, slice_split_at, length-slice_split}
 use Rattle.std.proofs.lemmas.Bool.{ne_eqb}
 use Rattle.gateway_core.specs.Events.{Event}
-use Rattle.engines.specs.Script.{event_of, script, IsClosed}
-use Rattle.engines.specs.Lines.{IsOneLine, with_end, events_by}
-use Rattle.engines.specs.declared.lines.Lines.TheVariants.{OfScript}
+use Rattle.engines.specs.Script.{IsOneLine, event_of, script, with_end}
+use Rattle.engines.specs.Lines.{events_by}
+use Rattle.engines.specs.declared.line_loop.Lines.TheVariants.{OfScript}
 
 lines_of_parts-cons : (x : List ℕ) (parts : List (List ℕ)) → 0 < length parts
     → lines_of_parts (x ∷ parts) ≡ strip_carriage_return x ∷ lines_of_parts parts
@@ -54,9 +54,10 @@ script-ended (l ∷ ls) more each =
     ap script shape ∙ script-first l rest first
     ∙ ap (λ (es : List Event). event_of (strip_carriage_return l) ∷ es) (script-ended ls more others)
 
-pub closed_of_lines : (ls : List (List ℕ)) → IsClosed (flat_map with_end ls)
-closed_of_lines [] = inl refl
-closed_of_lines (l ∷ ls) = elim (closed_of_lines ls) [
+pub ended_of_lines : (ls : List (List ℕ))
+    → (flat_map with_end ls ≡ []) ⊎ ((front : List ℕ) × (flat_map with_end ls ≡ with_end front))
+ended_of_lines [] = inl refl
+ended_of_lines (l ∷ ls) = elim (ended_of_lines ls) [
   | inl e ↦ inr (l, ap (λ s. (l ++ 10 ∷ []) ++ s) e ∙ append-nil (l ++ 10 ∷ []))
   | inr q ↦
       inr ((l ++ 10 ∷ []) ++ q.0, ap (λ s. (l ++ 10 ∷ []) ++ s) q.1 ∙ sym (append_assoc (l ++ 10 ∷ []) q.0 (10 ∷ [])))

@@ -20,10 +20,10 @@ use Rattle.engines.specs.Script.{event_of, spelled}
 use Rattle.engines.specs.declared.engine.Engine.{Engine}
 use Rattle.engines.specs.Outlets.{Way}
 use Rattle.engines.specs.Played.{AnswersPart, Breaks, IsBegun}
-use Rattle.engines.specs.Taking.{Takes, TakesOrBreaks}
+use Rattle.engines.specs.EngineSteps.{Takes, TakesOrBreaks}
 use Rattle.engines.specs.Lines.{longest_kept, event_by}
-use Rattle.engines.specs.declared.lines.Lines.{Lines}
-use Rattle.engines.specs.declared.lines.Lines.TheVariants.{OfScript, OfDesk}
+use Rattle.engines.specs.declared.line_loop.Lines.{Lines}
+use Rattle.engines.specs.declared.line_loop.Lines.TheVariants.{OfScript, OfDesk}
 
 -- no packet stands for an order
 no_packets : (line : List ℕ) (packets : List Packet) → (Ordered line ∷ []) ≡ map Received packets → ⊥

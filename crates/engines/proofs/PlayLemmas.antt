@@ -11,7 +11,7 @@ use Rattle.gateway_core.proofs.ForCallers.{count_on, items_behind, rest_behind}
 use Rattle.engines.specs.declared.engine.Engine.{Engine}
 use Rattle.engines.specs.Outlets.{Way}
 use Rattle.engines.specs.Played.{IsIdle}
-use Rattle.engines.specs.Taking.{EngineBreaks, EnginePlays, Takes}
+use Rattle.engines.specs.EngineSteps.{EngineBreaks, EnginePlays, Takes}
 use Rattle.engines.proofs.AnswerLemmas.{answers_nothing, answers-append, answers-part}
 
 module _ {O S : Type 0} (stored : S → Stored) (way : Way O) where

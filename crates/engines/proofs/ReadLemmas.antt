@@ -13,7 +13,7 @@ use Rattle.byte_streams.specs.Counts.{counted, one_more}
 use Rattle.engines.specs.Reads.{AreReads, IsRead, MakesReads, ReadsFail, ReadsWell}
 use Rattle.byte_streams.specs.Reads.{longest_read}
 use Rattle.engines.specs.Streams.{SourceValue}
-use Rattle.engines.proofs.CountLemmas.{made_at, made_more, made_none}
+use Rattle.engines.proofs.CallCountLemmas.{made_at, made_more, made_none}
 
 -- one read more behind others
 reads_and : (left : Option (List ℕ)) (before : List ℕ) (reads : List (List ℕ)) (bytes : List ℕ)

@@ -12,17 +12,18 @@ use Rattle.std.proofs.lemmas.List.Elements.{All-append, All-nil}
 use Rattle.std.proofs.lemmas.List.Splits.{slice_split_none, slice_split_at, length-slice_split}
 use Rattle.sqlite.specs.State.{State as Stored}
 use Rattle.gateway_core.specs.Events.{Event, Piece, Line}
-use Rattle.engines.specs.declared.lines.Lines.TheVariants.{OfDesk}
+use Rattle.engines.specs.Script.{IsOneLine, with_end}
+use Rattle.engines.specs.declared.line_loop.Lines.TheVariants.{OfDesk}
 use Rattle.engines.specs.declared.engine.Engine.{Engine}
-use Rattle.engines.specs.declared.player.Player.{Player}
+use Rattle.engines.specs.declared.line_loop.Player.{Player}
 use Rattle.engines.specs.Outlets.{Way}
 use Rattle.engines.specs.Played.{IsIdle}
-use Rattle.engines.specs.Served.{BreaksAtOrder}
-use Rattle.engines.specs.Taking.{EngineBreaks, Takes}
-use Rattle.engines.specs.Bytes.{TakesBytes, StopsAtLine}
-use Rattle.engines.specs.Lines.{IsOneLine, Keeps, event_by, events_by, with_end}
+use Rattle.engines.specs.LiveGateway.{BreaksAtOrder}
+use Rattle.engines.specs.EngineSteps.{EngineBreaks, Takes}
+use Rattle.engines.specs.LineLoop.{TakesBytes, StopsAtLine}
+use Rattle.engines.specs.Lines.{Keeps, event_by, events_by}
 use Rattle.engines.specs.Turns.{Turn, desks, ended_lines, events_behind, events_of_turns, orders, pieces}
-use Rattle.engines.proofs.BytesLemmas.{keeps_none, whole_behind}
+use Rattle.engines.proofs.LineLoopLemmas.{keeps_none, whole_behind}
 use Rattle.engines.proofs.LineLemmas.{test_of_one_line}
 use Rattle.engines.proofs.PlayLemmas.{takes_none, takes-append, plays-break}
 

@@ -10,12 +10,12 @@ use Rattle.engines.specs.declared.engine.Engine.{Engine}
 use Rattle.engines.specs.declared.wires.Wires.{Wires}
 use Rattle.engines.specs.Outlets.{Way}
 use Rattle.engines.specs.Played.{Breaks, Plays}
-use Rattle.engines.specs.Served.{BreaksAtOrder}
+use Rattle.engines.specs.LiveGateway.{BreaksAtOrder}
 use Rattle.engines.specs.Streams.{SinkValue, sink_value}
-use Rattle.engines.specs.Taking.{EngineBreaks, EnginePlays}
+use Rattle.engines.specs.EngineSteps.{EngineBreaks, EnginePlays}
 use Rattle.engines.specs.Turns.{Turn}
 use Rattle.engines.specs.Wires.{way_of_wires, wires}
-use Rattle.engines.proofs.CountLemmas.{not_well}
+use Rattle.engines.proofs.CallCountLemmas.{not_well}
 
 module _ {R D S : Type 0} (stored : S → Stored) (serials : sinks.Ghosts R) (desks : sinks.Ghosts D)
     (entry now : Engine (Wires R D) S) (gateway : Value S) (serial : R) (desk : D) (e : gateway ≡ now.gateway.now)

@@ -13,8 +13,8 @@ use Rattle.engines.specs.declared.ending.Ending.{Ending}
 use Rattle.engines.specs.declared.ending.Ending.TheVariants.{Failed, NotText, BadBase, Said}
 use Rattle.engines.specs.declared.fault.Fault.{Fault}
 use Rattle.engines.specs.declared.fault.Fault.TheVariants.{Memory}
-use Rattle.engines.specs.declared.replaying.RunFault.{RunFault}
-use Rattle.engines.specs.declared.replaying.Summary.{Summary}
+use Rattle.engines.specs.declared.runs.RunFault.{RunFault}
+use Rattle.engines.specs.declared.runs.Summary.{Summary}
 use Rattle.engines.specs.Faults.{fault_of_run, fault_of_store}
 
 -- where the arguments of the process cannot be had: there is no memory for them, or one is not text

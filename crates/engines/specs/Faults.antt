@@ -7,8 +7,8 @@ use Rattle.sqlite.specs.declared.error.Error.TheVariants.{SqliteFailure}
 use Rattle.sqlite.specs.declared.error.ErrorCode.TheVariants.{OutOfMemory}
 use Rattle.engines.specs.declared.fault.Fault.{Fault}
 use Rattle.engines.specs.declared.fault.Fault.TheVariants as fault
-use Rattle.engines.specs.declared.replaying.RunFault.{RunFault}
-use Rattle.engines.specs.declared.replaying.RunFault.TheVariants.{Read, Write, TooManyTurns}
+use Rattle.engines.specs.declared.runs.RunFault.{RunFault}
+use Rattle.engines.specs.declared.runs.RunFault.TheVariants.{Read, Write, TooManyTurns}
 
 abbrev pub fault_of_store : Error → Fault
 fault_of_store (SqliteFailure OutOfMemory) = fault.Memory

@@ -1,23 +1,15 @@
 -- Lines as bytes, and the events that they are. Own choice.
-use Rattle.std.specs.Prelude.{◌≡◌, ◌≢◌, ◌+◌, ℕ, List, [], ◌∷◌, ◌++◌, take, map, All}
+use Rattle.std.specs.Prelude.{◌≡◌, ◌+◌, ℕ, List, take, map}
 use Rattle.std.specs.Str.Lines.{strip_carriage_return}
 use Rattle.gateway_core.specs.Step.{longest_line}
 use Rattle.gateway_core.specs.Events.{Event, Line}
-use Rattle.engines.specs.declared.lines.Lines.{Lines}
-use Rattle.engines.specs.declared.lines.Lines.TheVariants.{OfScript, OfDesk}
-use Rattle.engines.specs.Script.{event_of}
+use Rattle.engines.specs.declared.line_loop.Lines.{Lines}
+use Rattle.engines.specs.declared.line_loop.Lines.TheVariants.{OfScript, OfDesk}
+use Rattle.engines.specs.Script.{IsOneLine, event_of}
 
 -- how many bytes are kept of a line: with CR they tell each line that is not too long from all that are
 abbrev pub longest_kept : ℕ
 longest_kept = longest_line + 2
-
--- no LF stands in it
-abbrev pub IsOneLine : List ℕ → Type 0
-IsOneLine bytes = All (λ byte. byte ≢ 10) bytes
-
--- behind a line stands LF
-abbrev pub with_end : List ℕ → List ℕ
-with_end line = line ++ 10 ∷ []
 
 -- what a line is, without its end: of the desk always an order
 abbrev pub event_by : Lines → List ℕ → Event

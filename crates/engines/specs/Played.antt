@@ -1,5 +1,5 @@
 -- What an engine handles and puts out, whatever its outlet is.
-use Rattle.std.specs.Prelude.{◌≡◌, ◌<◌, List, [], ◌∷◌, ◌++◌, codes, length, map, ℕ}
+use Rattle.std.specs.Prelude.{◌≡◌, ◌<◌, List, [], ◌∷◌, ◌++◌, length, map, ℕ}
 use Rattle.sqlite.specs.State.{State as Stored}
 use Rattle.esp3_frames.specs.Framing.{MayBecomePacket}
 use Rattle.esp3_frames.specs.Frames.{rest_of}
@@ -7,7 +7,7 @@ use Rattle.gateway_core.specs.Step.{Item, Received, Answer}
 use Rattle.gateway_core.specs.Handling.{HandlerValue, Handles}
 use Rattle.gateway_core.specs.Calls.{Value}
 use Rattle.gateway_core.specs.Events.{Event, Piece, Line, items_of, bytes_in}
-use Rattle.engines.specs.Script.{script, HasClosed}
+use Rattle.engines.specs.Script.{HasEnded, script, with_end}
 
 -- no packet waits, and of the bytes behind the last one more may come
 pub record IsIdle {S : Type 0} (gateway : Value S) : Type 0 where
@@ -57,20 +57,20 @@ module _ {S : Type 0} (stored : S → Stored) where
     pub answered : AnswersPart old.handler new.handler items breaks
 
   -- the lines of the input that LF ends were played
-  pub record PlaysClosed (old new : Value S) (input : List ℕ) (puts : List Answer → Type 0) : Type 0 where
-    pub closed : List ℕ
-    pub is : HasClosed input closed
-    pub played : Plays old new (script closed) puts
+  pub record PlaysEnded (old new : Value S) (input : List ℕ) (puts : List Answer → Type 0) : Type 0 where
+    pub ended : List ℕ
+    pub is : HasEnded input ended
+    pub played : Plays old new (script ended) puts
 
   -- an answer did not get out at the last event of a first part of the input, which LF ends
   pub record PlaysPartAtLine (old new : Value S) (input : List ℕ) (breaks : List Answer → Answer → Type 0)
       : Type 0 where
     pub part : List ℕ
     pub more : List ℕ
-    pub whole : input ≡ part ++ (codes "\n" ++ more)
+    pub whole : input ≡ with_end part ++ more
     pub events : List Event
     pub event : Event
-    pub is : script (part ++ codes "\n") ≡ events ++ event ∷ []
+    pub is : script (with_end part) ≡ events ++ event ∷ []
     pub broken : Breaks old new events event breaks
 
   -- an answer did not get out at the last of these events

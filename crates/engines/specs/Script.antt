@@ -1,5 +1,5 @@
 -- Which events the bytes of a script are. Own choice.
-use Rattle.std.specs.Prelude.{◌≡◌, ◌≢◌, ℕ, ◌⊎◌, ◌&&◌, All, nat_eq, nat_le, if◌then◌else◌, List, [], ◌++◌}
+use Rattle.std.specs.Prelude.{◌≡◌, ◌≢◌, ℕ, ◌⊎◌, ◌&&◌, All, nat_eq, nat_le, if◌then◌else◌, List, [], ◌∷◌, ◌++◌}
 use Rattle.std.specs.Prelude.{length, drop, map, codes, Result, Ok, Err}
 use Rattle.std.specs.List.{starts_with}
 use Rattle.std.specs.Str.Lines.{lines}
@@ -24,13 +24,17 @@ event_of line =
 abbrev pub script : List ℕ → List Event
 script input = map event_of (lines input)
 
--- nothing, or bytes of which LF is the last
-abbrev pub IsClosed : List ℕ → Type 0
-IsClosed bytes = (bytes ≡ []) ⊎ ((front : List ℕ) × (bytes ≡ front ++ codes "\n"))
+-- no LF stands in it
+abbrev pub IsOneLine : List ℕ → Type 0
+IsOneLine bytes = All (λ byte. byte ≢ 10) bytes
 
--- closed is what the input has up to its last LF, and with it
-pub record HasClosed (input closed : List ℕ) : Type 0 where
+-- behind a line stands LF
+abbrev pub with_end : List ℕ → List ℕ
+with_end line = line ++ 10 ∷ []
+
+-- ended is what the input has up to its last LF, and with it
+pub record HasEnded (input ended : List ℕ) : Type 0 where
   pub tail : List ℕ
-  pub whole : input ≡ closed ++ tail
-  pub ends : IsClosed closed
-  pub no_end : All (λ byte. byte ≢ 10) tail
+  pub whole : input ≡ ended ++ tail
+  pub ends : (ended ≡ []) ⊎ ((front : List ℕ) × (ended ≡ with_end front))
+  pub one : IsOneLine tail

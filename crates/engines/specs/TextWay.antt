@@ -8,7 +8,7 @@ use Rattle.std.proofs.lemmas.List.Concat.{flat_map-append}
 use Rattle.gateway_core.specs.Step.{Answer}
 use Rattle.byte_streams.specs.Counts.{WentWell}
 use Rattle.byte_streams.specs.Writes.{AppendsPart}
-use Rattle.engines.specs.Calls.{OneWrong, well_behind, wrong_behind}
+use Rattle.engines.specs.CallCounts.{OneWrong, well_behind, wrong_behind}
 use Rattle.engines.specs.Outlets.{Way}
 use Rattle.engines.specs.Streams.{SinkValue}
 

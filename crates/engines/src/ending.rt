@@ -4,7 +4,7 @@ ghost use Rattle.std.specs.IoError.{error_kind};
 ghost use Rattle.engines.specs.Endings.{done_of, ending_of_arguments, status_of};
 
 use crate::fault::Fault;
-use crate::replaying::{RunFault, Summary};
+use crate::runs::{RunFault, Summary};
 use arguments::Refused;
 use clap::error::ErrorKind;
 use std::io;

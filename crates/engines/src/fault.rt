@@ -1,7 +1,7 @@
 //! What ends the program with status 1.
 ghost use Rattle.std.specs.Prelude.{◌≡◌};
 
-use crate::replaying::RunFault;
+use crate::runs::RunFault;
 use device_registry::OpenFault;
 use sqlite::ErrorCode;
 use std::alloc::AllocError;

@@ -5,18 +5,18 @@
 pub mod ending;
 mod engine;
 pub mod fault;
+mod gateway_start;
 pub mod laws;
-mod lines;
-mod living;
+mod line_loop;
+mod live_gateway;
 mod outlet;
-mod player;
 mod replay_text;
-mod replaying;
-mod script_lines;
-mod starting;
-mod unended;
+mod runs;
+mod script_replay;
+mod unended_line;
 mod wires;
 
-pub use living::live;
-pub use replaying::{LONGEST_READ, RunFault, Summary, replay};
-pub use starting::start;
+pub use gateway_start::start;
+pub use live_gateway::live;
+pub use runs::{LONGEST_READ, RunFault, Summary};
+pub use script_replay::replay;

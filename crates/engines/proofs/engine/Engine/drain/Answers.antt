@@ -5,8 +5,8 @@ use Rattle.gateway_core.specs.Calls.{Value, Moves, Next}
 use Rattle.gateway_core.specs.Replies.{answer_of}
 use Rattle.json_lines.specs.Counts.{count_with}
 use Rattle.engines.specs.declared.engine.Engine.{Engine}
-use Rattle.engines.specs.Taking.{Drains}
-use Rattle.engines.proofs.TakeLemmas.{drains_nothing, drains_one, drains_part}
+use Rattle.engines.specs.EngineSteps.{Drains}
+use Rattle.engines.proofs.EngineStepLemmas.{drains_nothing, drains_one, drains_part}
 use Rattle.engines.proofs.engine.Engine.drain.Given.{Over}
 use Rattle.engines.proofs.engine.Engine.drain.Goals as goal
 

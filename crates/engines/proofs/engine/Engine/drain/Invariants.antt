@@ -1,5 +1,5 @@
 use Rattle.std.proofs.Common.{◌≡◌, length}
-use Rattle.engines.specs.Taking.{Drains}
+use Rattle.engines.specs.EngineSteps.{Drains}
 use Rattle.engines.proofs.engine.Engine.drain.Given as goal
 
 abbrev pub invariant-loop-reply : goal.invariant-loop-reply

@@ -1,6 +1,6 @@
 use Rattle.std.proofs.lemmas.Result.{MatchResult-weaker}
 use Rattle.gateway_core.specs.Replies.{answer_of}
-use Rattle.engines.proofs.TakeLemmas.{takes_order, breaks_at_order}
+use Rattle.engines.proofs.EngineStepLemmas.{takes_order, breaks_at_order}
 use Rattle.engines.proofs.engine.Engine.take_order.Goals as goal
 
 pub returns-clause-taken : goal.returns-clause-taken

@@ -2,7 +2,7 @@ use Rattle.std.proofs.Common.{rules, refl, get_or, take, drop, arith, length, â—
 use Rattle.std.proofs.lemmas.List.{take_more}
 use Rattle.std.proofs.lemmas.Result.{err_from_is_err_and}
 use Rattle.engines.proofs.ListLemmas.{split_at}
-use Rattle.engines.proofs.TakeLemmas.{drains_nothing, takes_nothing, takes_more, takes_part}
+use Rattle.engines.proofs.EngineStepLemmas.{drains_nothing, takes_nothing, takes_more, takes_part}
 use Rattle.engines.proofs.engine.Engine.take_piece.Goals as goal
 use Rattle.engines.proofs.engine.Engine.take_piece.Goals.{then-is_ready+in_ok-drain, else-is_ready}
 

@@ -1,6 +1,6 @@
 use Rattle.std.proofs.Common.{◌≡◌, take, [], ◌∷◌}
 use Rattle.gateway_core.specs.Events.{Piece}
-use Rattle.engines.specs.Taking.{Takes}
+use Rattle.engines.specs.EngineSteps.{Takes}
 use Rattle.engines.proofs.engine.Engine.take_piece.Given as goal
 
 -- the packets of the bytes so far are answered

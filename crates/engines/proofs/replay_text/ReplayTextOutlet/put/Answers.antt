@@ -7,8 +7,8 @@ use Rattle.byte_streams.specs.Counts.{Went}
 use Rattle.byte_streams.specs.Writes.{AppendsPart, Writes}
 use Rattle.engines.specs.Streams.{SinkValue, sink_value}
 use Rattle.engines.specs.Written.{radio_text, text_of}
-use Rattle.engines.proofs.CountLemmas.{went_behind}
-use Rattle.engines.proofs.OutletLemmas.{puts_one}
+use Rattle.engines.proofs.CallCountLemmas.{went_behind}
+use Rattle.engines.proofs.TextWayLemmas.{puts_one}
 use Rattle.engines.proofs.WriteLemmas.{part_of_front, writes_behind, writes_part}
 use Rattle.engines.proofs.replay_text.ReplayTextOutlet.put.Goals as goal
 use Rattle.engines.proofs.replay_text.ReplayTextOutlet.put.Goals.{in-Some+in_ok-write_piece, in_default}

@@ -1,0 +1,18 @@
+-- An answer whose text is written to a sink is put out.
+use Rattle.std.proofs.Common.{ℕ, List, [], ◌∷◌, sym, append-nil, subst, Ok, Err}
+use Rattle.std.specs.Prelude.{Result, MatchResult}
+use Rattle.std.specs.Io.KnownBytes.{Appends}
+use Rattle.gateway_core.specs.Step.{Answer}
+use Rattle.byte_streams.specs.Counts.{Went}
+use Rattle.byte_streams.specs.Writes.{Writes}
+use Rattle.engines.specs.Streams.{SinkValue}
+use Rattle.engines.specs.TextWay.{PutsText, BreaksText}
+
+pub puts_one : {A E : Type 0} (r : Result A E) (says : Answer → List ℕ) (old new : SinkValue) (answer : Answer)
+    → Writes old.held new.held r (says answer) → Went r old.counts new.counts
+    → MatchResult r (λ _. PutsText says old new (answer ∷ [])) (λ _. BreaksText says old new [] answer)
+puts_one (Ok done) says old new answer text went = record {
+  text = subst (Appends old.held new.held) (sym (append-nil (says answer))) text;
+  went = went;
+}
+puts_one (Err failed) says old new answer text went = record { text = text; went = went }

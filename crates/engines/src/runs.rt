@@ -1,0 +1,22 @@
+//! What a replay and a live gateway have in common: how much one read brings, and what they come to.
+
+/// How many bytes one read brings at most. Own choice.
+pub const LONGEST_READ: usize = 256;
+
+/// What a replay or a live gateway did.
+#[derive(Clone, Copy, Debug, PartialEq, Eq)]
+pub struct Summary {
+    /// How many packets were handled and orders taken. The count stays at its greatest value.
+    pub items: u64,
+}
+
+/// Why a replay, or a live gateway, stopped before its end.
+#[derive(Clone, Copy, Debug, PartialEq, Eq)]
+pub enum RunFault {
+    /// A read failed.
+    Read,
+    /// A write failed, or took 0 bytes.
+    Write,
+    /// All reads that were allowed were made, and the input of a replay has not ended.
+    TooManyTurns,
+}
