@@ -1,1 +1,1 @@
-pub mod FuncLemmas
+pub mod TableLemmas

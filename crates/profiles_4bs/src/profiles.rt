@@ -21,17 +21,14 @@ fn readings_by(eep: Eep, bytes: &[u8; 4]) -> Option<Readings>
     ensures { option_map (λ readings. entries readings.items) result
         ≡ option_map (entries_of bytes.now) (rows_of eep) }
 {
-    match eep.func {
-        0x02 => temperature::readings_by(eep, bytes),
-        0x04 => humidity::readings_by(eep, bytes),
-        0x06 => light::readings_by(eep, bytes),
-        0x07 => occupancy::readings_by(eep, bytes),
-        0x08 => light_temperature_occupancy::readings_by(eep, bytes),
-        0x09 => gas::readings_by(eep, bytes),
-        0x10 => room_operating_panel::readings_by(eep, bytes),
-        0x12 => meter::readings_by(eep, bytes),
-        _ => None,
-    }
+    temperature::readings_by(eep, bytes)
+        .or(humidity::readings_by(eep, bytes))
+        .or(light::readings_by(eep, bytes))
+        .or(occupancy::readings_by(eep, bytes))
+        .or(light_temperature_occupancy::readings_by(eep, bytes))
+        .or(gas::readings_by(eep, bytes))
+        .or(room_operating_panel::readings_by(eep, bytes))
+        .or(meter::readings_by(eep, bytes))
 }
 
 /// Whether telegrams of a profile are read: A5-02-01 to A5-02-0B, A5-02-10 to A5-02-1B, A5-02-20, A5-02-30, A5-04-01,
