@@ -25,11 +25,12 @@ pub fn read(p: &PacketRef<'_>) -> Result<Telegram, TelegramFault>
     let [rorg, rest @ ..] = p.body else {
         return Err(TelegramFault::BadLength);
     };
-    if !is_kind(*rorg) {
-        return Err(TelegramFault::OtherKind);
-    }
     let [payload @ .., a, b, c, d, status] = rest else {
-        return Err(TelegramFault::BadLength);
+        return Err(if is_kind(*rorg) {
+            TelegramFault::BadLength
+        } else {
+            TelegramFault::OtherKind
+        });
     };
     let sender = u32::from_be_bytes([*a, *b, *c, *d]);
     let (dest, dbm) = addressee(p.opt);
