@@ -1,5 +1,5 @@
 -- The frames of a text, by what stands at its front.
-use Rattle.std.proofs.Common.{◌≡◌, ◌≢◌, ℕ, zero, suc, ◌+◌, ◌*◌, ◌<◌, ◌≤◌, Bool, false, cond, ◌&&◌}
+use Rattle.std.proofs.Common.{◌≡◌, ◌≢◌, ℕ, zero, suc, ◌+◌, ◌<◌, ◌≤◌, Bool, false, cond, ◌&&◌}
 use Rattle.std.proofs.Common.{◌==◌, eqb, get_or, List, [], ◌∷◌, ◌++◌, length, take, drop, refl, sym, ap, ◌∙◌, subst}
 use Rattle.std.proofs.Common.{arith, length-append, ◌⊎◌, inl, inr}
 use Rattle.std.proofs.Math.Seq.{take-append_seam}
@@ -7,7 +7,7 @@ use Rattle.std.proofs.lemmas.List.{append-nil}
 use Rattle.std.proofs.lemmas.Bool.{ne_eqb}
 use Rattle.esp3_frames.specs.Packet.{longest_packet, Packet, IsPacket}
 use Rattle.esp3_frames.specs.Framing.Framing.{ends, finds}
-use Rattle.esp3_frames.specs.Frames.{Front, front_behind, front_of, Frames, frames_after, frames_of, packets_in}
+use Rattle.esp3_frames.specs.Frames.{Front, front_of, Frames, frames_after, frames_of, packets_in}
 use Rattle.esp3_frames.specs.Frames.{rest_of}
 use Rattle.esp3_frames.specs.Frames.Front.{Never, Partial, Whole}
 use Rattle.esp3_frames.proofs.PacketLemmas.{packet_length}
@@ -42,7 +42,7 @@ front-no_sync b (h ∷ []) n = no_begin b _ Partial n
 front-no_sync b (h ∷ l ∷ []) n = no_begin b _ Partial n
 front-no_sync b (h ∷ l ∷ o ∷ []) n = no_begin b _ Partial n
 front-no_sync b (h ∷ l ∷ o ∷ k ∷ []) n = no_begin b _ Partial n
-front-no_sync b (h ∷ l ∷ o ∷ k ∷ c ∷ w) n = no_begin b _ (front_behind (256 * h + l) o k w) n
+front-no_sync b (h ∷ l ∷ o ∷ k ∷ c ∷ w) n = let e : eqb b 0x55 ≡ false = ne_eqb b 0x55 n in rw e refl
 
 pub frames-skipped : (w : List ℕ) (n : ℕ) → n ≤ length w → ((i : ℕ) → i < n → get_or w i 0 ≢ 0x55)
     → frames_of (drop n w) ≡ frames_of w

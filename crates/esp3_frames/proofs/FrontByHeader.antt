@@ -38,20 +38,20 @@ front-header b f w x hf hb hx =
     let ed : x.data_len ≡ 256 * h + l = (let e = r.is in cc) in
     let eo : x.opt_len ≡ o = (let e = r.is in cc) in
     let ek : x.kind ≡ k = (let e = r.is in cc) in
-    let good : (s == 0x55 && (lengths_fit h l o && c == check (h ∷ l ∷ o ∷ k ∷ []))) ≡ true =
-    and_from _ _ (eq-eqb s 0x55 r.sync) (and_from _ _ r.fits (eq-eqb c _ r.checked)) in
+    let good : (may_begin (s ∷ h ∷ l ∷ o ∷ []) && c == check (h ∷ l ∷ o ∷ k ∷ [])) ≡ true =
+    and_from _ _ (and_from _ _ (eq-eqb s 0x55 r.sync) r.fits) (eq-eqb c _ r.checked) in
     ap front_of (sym eb) ∙ chosen _ (front_behind (256 * h + l) o k w) good
     ∙ sym (ap (λ (n : ℕ). front_behind n x.opt_len x.kind w) ed
     ∙ ap (λ (n : ℕ). front_behind (256 * h + l) n x.kind w) eo ∙ ap (λ (n : ℕ). front_behind (256 * h + l) o n w) ek)
 
-good_header : (s h l o k c : ℕ) → (s == 0x55 && (lengths_fit h l o && c == check (h ∷ l ∷ o ∷ k ∷ []))) ≡ true
+good_header : (s h l o k c : ℕ) → (may_begin (s ∷ h ∷ l ∷ o ∷ []) && c == check (h ∷ l ∷ o ∷ k ∷ [])) ≡ true
     → header_of (s ∷ h ∷ l ∷ o ∷ k ∷ c ∷ []) ≡ Ok (header_in (s ∷ h ∷ l ∷ o ∷ k ∷ c ∷ []))
 good_header s h l o k c e =
     let a = and_parts _ _ e in
-    let b = and_parts _ _ a.1 in
-    let e1 : eqb s 0x55 ≡ true = a.0 in
-    let e2 : eqb c (check (h ∷ l ∷ o ∷ k ∷ [])) ≡ true = b.1 in
-    let e3 : lengths_fit h l o ≡ true = b.0 in
+    let b = and_parts _ _ a.0 in
+    let e1 : eqb s 0x55 ≡ true = b.0 in
+    let e2 : eqb c (check (h ∷ l ∷ o ∷ k ∷ [])) ≡ true = a.1 in
+    let e3 : lengths_fit h l o ≡ true = b.1 in
     rw (e1, e2, e3) refl
 
 apart : (y : Header) (e : HeaderFault) → ◌≡◌ {A = Result Header HeaderFault} (Ok y) (Err e) → ⊥

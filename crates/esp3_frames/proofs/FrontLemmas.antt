@@ -8,7 +8,7 @@ use Rattle.std.proofs.lemmas.Bool.{and_parts, and_from, leb-true, leb-false, eqb
 use Rattle.esp3_frames.specs.Check.{check}
 use Rattle.esp3_frames.specs.Packet.{lengths_fit, Packet, IsPacket}
 use Rattle.esp3_frames.specs.Framing.{MayBecomePacket}
-use Rattle.esp3_frames.specs.Frames.{Front, front_of}
+use Rattle.esp3_frames.specs.Frames.{may_begin, Front, front_of}
 use Rattle.esp3_frames.specs.Frames.Front.{Never, Partial, Whole}
 use Rattle.esp3_frames.proofs.PacketLemmas.{may_become-shorter}
 use Rattle.esp3_frames.proofs.HeaderLemmas.{packet_parts, parts_packet, Fitting, fitting, made, is_made}
@@ -103,7 +103,7 @@ unfolding front_of made
 may_become_six s h l o k c w e =
     let g = good _ _ Partial e (λ x. cc) in
     let a = and_parts _ _ g.0 in
-    let b = and_parts _ _ a.1 in
+    let b = and_parts _ _ a.0 in
     let n : length w ≤ 256 * h + l + o =
     elim (behind (leb (length w) (256 * h + l + o))
     (eqb (get_or w (256 * h + l + o) 0) (check (take (256 * h + l + o) w))) (made k (256 * h + l) o w) Partial g.1) [
@@ -111,10 +111,10 @@ may_become_six s h l o k c w e =
       | inr x ↦
           elim x [ inl y ↦ absurd (let z = y.2 in cc) | inr y ↦ absurd (let z = y.2 in cc) ]
     ] in
-    let ec : c ≡ check (h ∷ l ∷ o ∷ k ∷ []) = eqb-true c _ b.1 in
-    may_become_sync s _ (eqb-true s 0x55 a.0)
+    let ec : c ≡ check (h ∷ l ∷ o ∷ k ∷ []) = eqb-true c _ a.1 in
+    may_become_sync s _ (eqb-true s 0x55 b.0)
     (subst (λ (n : ℕ). MayBecomePacket (0x55 ∷ h ∷ l ∷ o ∷ k ∷ n ∷ w)) (sym ec)
-    (completed h l o k w (fitting h l o b.0) n))
+    (completed h l o k w (fitting h l o b.1) n))
 
 pub front_partial : (w : List ℕ) → front_of w ≡ Partial → MayBecomePacket w
 unfolding front_of
@@ -146,11 +146,11 @@ unfolding front_of made
 hit_six s h l o k c w p e =
     let g = good _ _ (Whole p) e (λ x. cc) in
     let a = and_parts _ _ g.0 in
-    let b = and_parts _ _ a.1 in
-    let f = fitting h l o b.0 in
+    let b = and_parts _ _ a.0 in
+    let f = fitting h l o b.1 in
     let n : ℕ = 256 * h + l + o in
-    let ec : c ≡ check (h ∷ l ∷ o ∷ k ∷ []) = eqb-true c _ b.1 in
-    let es : s ≡ 0x55 = eqb-true s 0x55 a.0 in
+    let ec : c ≡ check (h ∷ l ∷ o ∷ k ∷ []) = eqb-true c _ a.1 in
+    let es : s ≡ 0x55 = eqb-true s 0x55 b.0 in
     let t : (n < length w) × (get_or w n 0 ≡ check (take n w)) × (p ≡ made k (256 * h + l) o w) =
     elim (behind (leb (length w) n) (eqb (get_or w n 0) (check (take n w))) (made k (256 * h + l) o w)
     (Whole p) g.1) [
@@ -181,7 +181,7 @@ front_whole (s ∷ h ∷ l ∷ o ∷ k ∷ c ∷ w) p e = hit_six s h l o k c w 
 
 -- a text that begins a packet passes the tests
 pub fit_parts : (p : Packet) (s h l o k c : ℕ) (w t : List ℕ) → IsPacket p (s ∷ h ∷ l ∷ o ∷ k ∷ c ∷ t)
-    → (s == 0x55 && (lengths_fit h l o && c == check (h ∷ l ∷ o ∷ k ∷ []))) ≡ true
+    → (may_begin (s ∷ h ∷ l ∷ o ∷ []) && c == check (h ∷ l ∷ o ∷ k ∷ [])) ≡ true
 fit_parts p s h l o k c w t hp =
     let r = packet_parts p s h l o k c t hp.bytes in
     let sync = r.sync in
@@ -191,7 +191,6 @@ fit_parts p s h l o k c w t hp =
     let some = hp.some in
     let body = hp.body in
     let opt = hp.opt in
-    and_from _ _ (eq-eqb s 0x55 sync)
-    (and_from _ _ (test_fitting h l o
-    (record { high = omega arith; low = omega arith; opts = omega arith; some = omega arith }))
-    (eq-eqb c _ r.checked))
+    and_from _ _ (and_from _ _ (eq-eqb s 0x55 sync) (test_fitting h l o
+    (record { high = omega arith; low = omega arith; opts = omega arith; some = omega arith })))
+    (eq-eqb c _ r.checked)

@@ -25,8 +25,8 @@ front_behind d o kind w =
 
 unfoldable pub front_of : List ℕ → Front
 front_of (s ∷ h ∷ l ∷ o ∷ k ∷ c ∷ w) =
-    if s == 0x55 && (lengths_fit h l o && c == check (h ∷ l ∷ o ∷ k ∷ [])) then front_behind
-    (256 * h + l) o k w else Never
+    if may_begin (s ∷ h ∷ l ∷ o ∷ []) && c == check (h ∷ l ∷ o ∷ k ∷ []) then front_behind (256 * h + l) o k w
+    else Never
 front_of w = if may_begin w then Partial else Never
 
 -- the packets of a stream, and the rest behind them
