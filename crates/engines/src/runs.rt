@@ -1,4 +1,5 @@
 //! What a replay and a live gateway have in common: how much one read brings, and what they come to.
+use thiserror::Error;
 
 /// How many bytes one read brings at most. Own choice.
 pub const LONGEST_READ: usize = 256;
@@ -11,12 +12,15 @@ pub struct Summary {
 }
 
 /// Why a replay, or a live gateway, stopped before its end.
-#[derive(Clone, Copy, Debug, PartialEq, Eq)]
+#[derive(Clone, Copy, Debug, PartialEq, Eq, Error)]
 pub enum RunFault {
     /// A read failed.
+    #[error("a read failed")]
     Read,
     /// A write failed, or took 0 bytes.
+    #[error("a write failed")]
     Write,
     /// All reads that were allowed were made, and the input of a replay has not ended.
+    #[error("all reads were made")]
     TooManyTurns,
 }

@@ -22,9 +22,9 @@ use Rattle.teach_in.specs.Profiles.{supported}
 use Rattle.teach_in.specs.declared.outcome.Outcome.{Outcome}
 use Rattle.teach_in.specs.declared.outcome.Outcome.TheVariants.{Full}
 use Rattle.teach_in.specs.declared.telegrams.Teach.{Teach}
-use Rattle.teach_in.specs.declared.plans.Plan.TheVariants.{Refuse}
+use Rattle.teach_in.specs.declared.plan.Plan.TheVariants.{Refuse}
 use Rattle.teach_in.specs.Telegrams.{teach_in_of}
-use Rattle.teach_in.specs.Verdicts.{plan_of}
+use Rattle.teach_in.specs.Plans.{plan_of}
 use Rattle.teach_in.proofs.ForCallers.{either, of_plan}
 use Rattle.json_lines.specs.declared.fixed.ErrorName.TheVariants as error
 use Rattle.gateway_core.specs.declared.handler.changes.Committed.{Committed}

@@ -15,8 +15,8 @@ use Rattle.teach_in.specs.declared.mode.Mode.TheVariants.{Closed, Learn, LearnAn
 use Rattle.teach_in.specs.declared.outcome.Outcome.{Outcome}
 use Rattle.teach_in.specs.declared.outcome.Outcome.TheVariants.{Accepted, Deleted}
 use Rattle.teach_in.specs.declared.outcome.Outcome.TheVariants as outcome
-use Rattle.teach_in.specs.declared.plans.Plan.{Plan}
-use Rattle.teach_in.specs.declared.plans.Plan.TheVariants.{Silent, Add, Forget, Refuse}
+use Rattle.teach_in.specs.declared.plan.Plan.{Plan}
+use Rattle.teach_in.specs.declared.plan.Plan.TheVariants.{Silent, Add, Forget, Refuse}
 use Rattle.teach_in.specs.declared.telegrams.Teach.{Teach}
 use Rattle.teach_in.specs.declared.telegrams.Teach.TheVariants as teach
 use Rattle.teach_in.specs.FourByte.{eep_in, maker_in, four_byte_reply}
@@ -24,7 +24,7 @@ use Rattle.teach_in.specs.Ute as ute
 use Rattle.teach_in.specs.Ute.{ute_reply, wants_reply}
 use Rattle.teach_in.specs.Profiles.{supported}
 use Rattle.teach_in.specs.Telegrams.{teach_in_of}
-use Rattle.teach_in.specs.Verdicts.{plan_of}
+use Rattle.teach_in.specs.Plans.{plan_of}
 use Rattle.actuator_commands.specs.declared.orders.Order.{Order}
 use Rattle.actuator_commands.specs.declared.orders.Order.TheVariants.{LearnOn, LearnOnAnswer, LearnOff, Remove}
 use Rattle.actuator_commands.specs.declared.orders.Order.TheVariants.{List as ListAll, Status, Base}

@@ -15,13 +15,16 @@ use erp1_telegrams::is_base;
 use esp3_resync::{Framer, PacketBuf};
 use std::alloc::{AllocError, Global};
 use std::marker::Model;
+use thiserror::Error;
 
 /// Why no gateway is made.
-#[derive(Clone, Copy, Debug, PartialEq, Eq)]
+#[derive(Clone, Copy, Debug, PartialEq, Eq, Error)]
 pub enum StartFault {
     /// The ID is no base ID.
+    #[error("not a base ID")]
     BadBase,
     /// There is no memory for the framer.
+    #[error("out of memory")]
     Memory,
 }
 

@@ -2,8 +2,8 @@
 #![tactic(auto)]
 
 pub mod command_line;
-mod running;
+mod program;
 
 pub use byte_streams::{Failed, OverRead, OverWrite, Sink, Source};
 pub use engines::{LONGEST_READ, RunFault, Summary, ending, fault, laws, live, replay, start};
-pub use running::program;
+pub use program::program;

@@ -1,6 +1,7 @@
 //! The statuses that the program ends with, and what it says of a fault.
 use crate::telling::Telling;
 use anyhow::Result;
+use gateway_core::StartFault;
 use gateway_main::command_line::{Refused, read};
 use gateway_main::ending::{Ending, done, status, without_arguments};
 use gateway_main::fault::Fault;
@@ -10,6 +11,7 @@ use std::io;
 
 pub(crate) fn tell(rt: &HostRuntime, telling: &mut Telling) -> Result<()> {
     tell_faults(rt, telling)?;
+    tell_texts(rt, telling)?;
     tell_statuses(rt, telling)?;
     tell_command_lines(rt, telling)?;
     tell_closes(rt, telling)
@@ -30,6 +32,24 @@ fn tell_faults(rt: &HostRuntime, telling: &mut Telling) -> Result<()> {
             && status(&Err(Ending::from(fault))) == 1;
         let name = format!(in rt.alloc(); "the fault: {text}")?;
         telling.tell(rt, name.as_str(), is_well)?;
+    }
+    Ok(())
+}
+
+// What stops a gateway has a text of its own, for callers of the libraries.
+fn tell_texts(rt: &HostRuntime, telling: &mut Telling) -> Result<()> {
+    for (text, wanted) in [
+        (RunFault::Read.to_string(rt.alloc())?, "a read failed"),
+        (RunFault::Write.to_string(rt.alloc())?, "a write failed"),
+        (
+            RunFault::TooManyTurns.to_string(rt.alloc())?,
+            "all reads were made",
+        ),
+        (StartFault::BadBase.to_string(rt.alloc())?, "not a base ID"),
+        (StartFault::Memory.to_string(rt.alloc())?, "out of memory"),
+    ] {
+        let name = format!(in rt.alloc(); "the text: {wanted}")?;
+        telling.tell(rt, name.as_str(), text.as_str() == wanted)?;
     }
     Ok(())
 }

@@ -9,8 +9,8 @@ use Rattle.teach_in.specs.declared.mode.Mode.{Mode}
 use Rattle.teach_in.specs.declared.mode.Mode.TheVariants.{Closed, Learn, LearnAnswer, LearnAs}
 use Rattle.teach_in.specs.declared.outcome.Outcome.{Outcome}
 use Rattle.teach_in.specs.declared.outcome.Outcome.TheVariants.{Unsupported, General, NoProfile}
-use Rattle.teach_in.specs.declared.plans.Plan.{Plan}
-use Rattle.teach_in.specs.declared.plans.Plan.TheVariants.{Silent, Forget, Refuse}
+use Rattle.teach_in.specs.declared.plan.Plan.{Plan}
+use Rattle.teach_in.specs.declared.plan.Plan.TheVariants.{Silent, Forget, Refuse}
 use Rattle.teach_in.specs.declared.telegrams.Teach.{Teach}
 use Rattle.teach_in.specs.declared.telegrams.Teach.TheVariants.{Plain, Contact, Bare, FourByte, Ute, Answer}
 use Rattle.teach_in.specs.declared.ute.UteQuery.{UteQuery}
@@ -19,7 +19,7 @@ use Rattle.teach_in.specs.Profiles.{supported}
 use Rattle.teach_in.specs.Telegrams.{teach_in_of, one_byte_kind, four_byte_kind, ute_kind}
 use Rattle.teach_in.specs.Ute as ute
 use Rattle.teach_in.specs.Ute.{request_in, deletion, not_used}
-use Rattle.teach_in.specs.Verdicts.{add, plan_asked, is_learned_by, row_of, in_mode, plan_of}
+use Rattle.teach_in.specs.Plans.{add, plan_asked, is_learned_by, row_of, in_mode, plan_of}
 
 -- what holds of both holds of the one that is chosen
 pub either : {A : Type 0} (P : A → Type 0) (b : Bool) (one other : A) → P one → P other

@@ -3,4 +3,4 @@ pub mod Profiles
 pub mod Replies
 pub mod Telegrams
 pub mod Ute
-pub mod Verdicts
+pub mod Plans

@@ -5,20 +5,18 @@
 mod four_byte;
 mod mode;
 mod outcome;
-mod plans;
+mod plan;
 mod profiles;
 mod reply;
 mod telegrams;
 mod ute;
 mod verdict;
-mod verdicts;
 
 pub use four_byte::{FourByteQuery, four_byte_reply};
 pub use mode::Mode;
 pub use outcome::Outcome;
-pub use plans::Plan;
+pub use plan::{Plan, plan};
 pub use profiles::supported;
 pub use telegrams::{Teach, classify};
 pub use ute::{UteQuery, ute_reply};
 pub use verdict::Verdict;
-pub use verdicts::plan;

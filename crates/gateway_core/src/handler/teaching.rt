@@ -3,7 +3,7 @@ ghost use Rattle.std.specs.Prelude.{◌≡◌, ◌≢◌, ℕ, Bool, false, None
 ghost use Rattle.device_registry.specs.Devices.{Devices};
 ghost use Rattle.teach_in.specs.declared.outcome.Outcome as spec;
 ghost use Rattle.teach_in.specs.declared.outcome.Outcome.TheVariants as outcome;
-ghost use Rattle.teach_in.specs.Verdicts.{plan_of};
+ghost use Rattle.teach_in.specs.Plans.{plan_of};
 ghost use Rattle.gateway_core.specs.Replies.{answer_of};
 ghost use Rattle.gateway_core.specs.Step;
 ghost use Rattle.gateway_core.specs.Step.{accepts, addition, deletes, line_with, plan_effect, radio_of, reply_of};
@@ -145,6 +145,7 @@ impl<S: DeviceStore> Handler<S> {
             (plan_of telegram.now state.mode false)) result self.new }
     {
         let teach = classify(telegram);
+        // `false`: data of a learned sender is read, and nothing is planned about it
         match plan(telegram, self.mode, false) {
             Plan::Silent => Ok(ignored()),
             Plan::Add(device) => self.try_accept(&teach, device),
