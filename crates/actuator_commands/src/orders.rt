@@ -4,6 +4,7 @@ ghost use Rattle.actuator_commands.specs.Orders.{is_in_range};
 ghost use Rattle.actuator_commands.specs.Packets.{recipient, sends};
 
 use erp1_telegrams::{BROADCAST, Eep};
+use thiserror::Error;
 
 /// The greatest number of a channel: 30 is all channels of a device (EnOcean Equipment Profiles 2.6, "D2-01", "I/O
 /// channel").
@@ -103,16 +104,20 @@ pub enum Quantity {
 }
 
 /// Why a line is no order, or an order has no telegram.
-#[derive(Clone, Copy, Debug, PartialEq, Eq)]
+#[derive(Clone, Copy, Debug, PartialEq, Eq, Error)]
 pub enum OrderFault {
     /// The line has not the shape of an order.
+    #[error("not an order")]
     Syntax,
     /// The line has the shape of one, but a number is out of its range, or the ID is `FFFFFFFF`, which no device has;
     /// or the base ID and the offset of an order make this ID.
+    #[error("a number out of range")]
     Range,
     /// The order's device is not known.
+    #[error("an unknown device")]
     UnknownDevice,
     /// The profile of the order's device has no such order.
+    #[error("no order for the profile of the device")]
     WrongProfile,
 }
 

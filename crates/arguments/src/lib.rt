@@ -53,11 +53,13 @@ pub struct LiveOptions<'a> {
 }
 
 /// Why a command line was not taken.
-#[derive(Debug, Drop)]
+#[derive(Debug, Drop, thiserror::Error)]
 pub enum Refused {
     /// `clap` refused it, or was asked for help or for the version, or found no memory.
+    #[error(transparent)]
     Words(Error),
     /// What stands for the base ID is not eight hexadecimal digits, or no base ID.
+    #[error("not a base ID")]
     BadBase,
 }
 

@@ -4,6 +4,7 @@ ghost use Rattle.erp1_telegrams.specs.Telegram.{fits, is_kind};
 
 use arrayvec::ArrayVec;
 use std::marker::Model;
+use thiserror::Error;
 
 /// Repeated switch communication.
 const RPS: u8 = 0xF6;
@@ -24,13 +25,16 @@ const UTE: u8 = 0xD4;
 pub const BROADCAST: u32 = 0xFFFF_FFFF;
 
 /// Why there is no telegram.
-#[derive(Clone, Copy, Debug, PartialEq, Eq)]
+#[derive(Clone, Copy, Debug, PartialEq, Eq, Error)]
 pub enum TelegramFault {
     /// The packet is not of the type RADIO_ERP1.
+    #[error("no radio packet")]
     NotRadio,
     /// The telegram's kind, its RORG, is none of RPS, 1BS, 4BS, VLD and UTE.
+    #[error("a telegram of another kind")]
     OtherKind,
     /// The payload has not the length of the telegram's kind, or the data ends before the sender's ID or the status.
+    #[error("a telegram of a wrong length")]
     BadLength,
 }
 

@@ -7,6 +7,7 @@ ghost use Rattle.arrayvec.specs.ArrayVec.{array_vec_len};
 
 use crate::check8;
 use arrayvec::ArrayVec;
+use thiserror::Error;
 
 /// The first byte of each packet.
 pub const SYNC_BYTE: u8 = 0x55;
@@ -32,13 +33,16 @@ pub struct Header {
 }
 
 /// Why six bytes begin no packet. They are looked for in this order.
-#[derive(Clone, Copy, Debug, PartialEq, Eq)]
+#[derive(Clone, Copy, Debug, PartialEq, Eq, Error)]
 pub enum HeaderFault {
     /// The first byte is not the sync byte `55`.
+    #[error("no sync byte")]
     NotSync,
     /// The sixth byte is not the check byte of the four before it.
+    #[error("wrong check byte of the header")]
     HeaderCheck,
     /// Both lengths are 0. Own choice: there is no such packet.
+    #[error("empty packet")]
     EmptyPacket,
 }
 
@@ -108,13 +112,16 @@ pub fn read_packet(b: &[u8]) -> Option<PacketRef<'_>>
 }
 
 /// Why a packet is not written. They are looked for in this order.
-#[derive(Clone, Copy, Debug, PartialEq, Eq)]
+#[derive(Clone, Copy, Debug, PartialEq, Eq, Error)]
 pub enum PacketFault {
     /// There is neither data nor optional data.
+    #[error("empty packet")]
     EmptyPacket,
     /// The data is longer than `LONGEST_DATA`, or the optional data longer than `LONGEST_OPTIONAL_DATA`.
+    #[error("packet too long")]
     TooLong,
     /// The packet does not fit behind what the buffer holds.
+    #[error("no room for the packet")]
     NoRoom,
 }
 

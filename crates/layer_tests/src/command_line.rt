@@ -29,12 +29,12 @@ fn refused(rt: &HostRuntime, line: &str, wanted: ErrorKind) -> Result<(), Fail> 
     }
 }
 
-/// What `clap` prints for the line.
+/// What is told where the line is refused: what `clap` prints for it, if `clap` refuses it.
 fn told(rt: &HostRuntime, line: &str) -> Result<String, Fail> {
     let words = words_of(rt, line)?;
     match read(rt.alloc(), words.as_slice()) {
-        Err(Refused::Words(error)) => Ok(error.to_string(rt.alloc())?),
-        _ => Err(Fail::from(line)),
+        Err(refused) => Ok(refused.to_string(rt.alloc())?),
+        Ok(_) => Err(Fail::from(line)),
     }
 }
 

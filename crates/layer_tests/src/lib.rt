@@ -7,6 +7,8 @@ mod command_line;
 #[cfg(test)]
 mod comparison;
 #[cfg(test)]
+mod fault_texts;
+#[cfg(test)]
 mod fields;
 #[cfg(test)]
 mod four_byte_profiles;

@@ -1,0 +1,87 @@
+//! What each fault says.
+use actuator_commands::OrderFault;
+use arguments::Refused;
+use byte_streams::Failed;
+use erp1_telegrams::TelegramFault;
+use esp3_frames::{HeaderFault, PacketFault};
+use profiles_rps::Unreadable;
+use std::error::Error;
+use std::test::Fail;
+
+/// The faults say these texts.
+fn say<E: Error>(rt: &HostRuntime, cases: &[(E, &str)]) -> Result<(), Fail> {
+    for (fault, wanted) in cases {
+        if fault.to_string(rt.alloc())?.as_str() != *wanted {
+            return Err(Fail::from(*wanted));
+        }
+    }
+    Ok(())
+}
+
+#[test]
+fn of_packets(rt: HostRuntime) -> Result<(), Fail> {
+    say(
+        &rt,
+        &[
+            (HeaderFault::NotSync, "no sync byte"),
+            (HeaderFault::HeaderCheck, "wrong check byte of the header"),
+            (HeaderFault::EmptyPacket, "empty packet"),
+        ],
+    )?;
+    say(
+        &rt,
+        &[
+            (PacketFault::EmptyPacket, "empty packet"),
+            (PacketFault::TooLong, "packet too long"),
+            (PacketFault::NoRoom, "no room for the packet"),
+        ],
+    )
+}
+
+#[test]
+fn of_telegrams(rt: HostRuntime) -> Result<(), Fail> {
+    say(
+        &rt,
+        &[
+            (TelegramFault::NotRadio, "no radio packet"),
+            (TelegramFault::OtherKind, "a telegram of another kind"),
+            (TelegramFault::BadLength, "a telegram of a wrong length"),
+        ],
+    )?;
+    say(
+        &rt,
+        &[
+            (Unreadable::NotSupported, "the profile is not supported"),
+            (
+                Unreadable::WrongKind,
+                "the telegram is of another kind than the profile",
+            ),
+            (
+                Unreadable::WrongLength,
+                "the payload has another length than the profile's messages",
+            ),
+            (
+                Unreadable::OtherMessage,
+                "the message is of another sort than those that are read",
+            ),
+        ],
+    )
+}
+
+#[test]
+fn of_the_desk(rt: HostRuntime) -> Result<(), Fail> {
+    say(
+        &rt,
+        &[
+            (OrderFault::Syntax, "not an order"),
+            (OrderFault::Range, "a number out of range"),
+            (OrderFault::UnknownDevice, "an unknown device"),
+            (
+                OrderFault::WrongProfile,
+                "no order for the profile of the device",
+            ),
+        ],
+    )?;
+    say(&rt, &[(Failed, "a read or a write failed")])?;
+    say(&rt, &[(Refused::BadBase, "not a base ID")])
+}
