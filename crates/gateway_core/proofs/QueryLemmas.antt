@@ -5,8 +5,8 @@ use Rattle.teach_in.specs.declared.mode.Mode.{Mode}
 use Rattle.teach_in.specs.declared.outcome.Outcome.{Outcome}
 use Rattle.teach_in.specs.declared.outcome.Outcome.TheVariants.{Accepted, Deleted, Unsupported, Full, General}
 use Rattle.teach_in.specs.declared.outcome.Outcome.TheVariants.{NoProfile}
-use Rattle.teach_in.specs.declared.plan.Plan.{Plan}
-use Rattle.teach_in.specs.declared.plan.Plan.TheVariants.{Silent, Add, Forget, Refuse}
+use Rattle.teach_in.specs.declared.plans.Plan.{Plan}
+use Rattle.teach_in.specs.declared.plans.Plan.TheVariants.{Silent, Add, Forget, Refuse}
 use Rattle.teach_in.specs.declared.telegrams.Teach.{Teach}
 use Rattle.teach_in.specs.declared.telegrams.Teach.TheVariants.{Plain, Contact, Bare, FourByte, Ute, Answer}
 use Rattle.teach_in.specs.FourByte.{four_byte_code}

@@ -22,7 +22,7 @@ use Rattle.teach_in.specs.Profiles.{supported}
 use Rattle.teach_in.specs.declared.outcome.Outcome.{Outcome}
 use Rattle.teach_in.specs.declared.outcome.Outcome.TheVariants.{Full}
 use Rattle.teach_in.specs.declared.telegrams.Teach.{Teach}
-use Rattle.teach_in.specs.declared.plan.Plan.TheVariants.{Refuse}
+use Rattle.teach_in.specs.declared.plans.Plan.TheVariants.{Refuse}
 use Rattle.teach_in.specs.Telegrams.{teach_in_of}
 use Rattle.teach_in.specs.Plans.{plan_of}
 use Rattle.teach_in.proofs.ForCallers.{either, of_plan}

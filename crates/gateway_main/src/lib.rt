@@ -2,8 +2,8 @@
 #![tactic(auto)]
 
 pub mod command_line;
-mod program;
+mod program_run;
 
 pub use byte_streams::{Failed, OverRead, OverWrite, Sink, Source};
 pub use engines::{LONGEST_READ, RunFault, Summary, ending, fault, laws, live, replay, start};
-pub use program::program;
+pub use program_run::program;

@@ -6,8 +6,8 @@ use Rattle.erp1_telegrams.specs.Telegram.{Telegram}
 use Rattle.teach_in.specs.declared.mode.Mode.{Mode}
 use Rattle.teach_in.specs.declared.mode.Mode.TheVariants.{Closed, Learn, LearnAnswer, LearnAs}
 use Rattle.teach_in.specs.declared.outcome.Outcome.TheVariants.{Unsupported, General, NoProfile}
-use Rattle.teach_in.specs.declared.plan.Plan.{Plan}
-use Rattle.teach_in.specs.declared.plan.Plan.TheVariants.{Silent, Add, Forget, Refuse}
+use Rattle.teach_in.specs.declared.plans.Plan.{Plan}
+use Rattle.teach_in.specs.declared.plans.Plan.TheVariants.{Silent, Add, Forget, Refuse}
 use Rattle.teach_in.specs.declared.telegrams.Teach.{Teach}
 use Rattle.teach_in.specs.declared.telegrams.Teach.TheVariants.{Plain, Contact, Bare, FourByte, Ute, Answer}
 use Rattle.teach_in.specs.declared.ute.UteQuery.{UteQuery}

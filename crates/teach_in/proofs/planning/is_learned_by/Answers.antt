@@ -1,5 +1,5 @@
 use Rattle.std.proofs.Common.{rules}
-use Rattle.teach_in.proofs.plan.is_learned_by.Goals as goal
+use Rattle.teach_in.proofs.planning.is_learned_by.Goals as goal
 
 pub returns-in-246 : goal.returns-in-246
 returns-in-246 c = search rules

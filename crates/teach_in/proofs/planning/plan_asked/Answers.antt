@@ -1,5 +1,5 @@
 use Rattle.std.proofs.Common.{rules}
-use Rattle.teach_in.proofs.plan.plan_asked.Goals as goal
+use Rattle.teach_in.proofs.planning.plan_asked.Goals as goal
 
 pub returns-in-1 : goal.returns-in-1
 returns-in-1 c = search rules

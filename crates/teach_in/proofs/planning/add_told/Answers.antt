@@ -1,5 +1,5 @@
 use Rattle.std.proofs.Common.{rules}
-use Rattle.teach_in.proofs.plan.add_told.Goals as goal
+use Rattle.teach_in.proofs.planning.add_told.Goals as goal
 
 pub returns-then-supported : goal.returns-then-supported
 returns-then-supported c = search rules

@@ -1,5 +1,5 @@
 use Rattle.std.proofs.Common.{rules}
-use Rattle.teach_in.proofs.plan.plan_told.Goals as goal
+use Rattle.teach_in.proofs.planning.plan_told.Goals as goal
 
 pub returns-in-Bare : goal.returns-in-Bare
 returns-in-Bare c = search rules

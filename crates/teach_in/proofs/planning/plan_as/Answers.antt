@@ -1,5 +1,5 @@
 use Rattle.std.proofs.Common.{rules}
-use Rattle.teach_in.proofs.plan.plan_as.Goals as goal
+use Rattle.teach_in.proofs.planning.plan_as.Goals as goal
 
 pub returns-in-FourByte-eq165 : goal.returns-in-FourByte-eq165
 returns-in-FourByte-eq165 c = search rules

@@ -5,6 +5,7 @@ ghost use Rattle.teach_in.specs.Plans.{add, add_told, plan_asked, is_learned_by,
 
 use crate::mode::Mode;
 use crate::outcome::Outcome;
+use crate::plans::Plan;
 use crate::profiles::supported;
 use crate::telegrams::{Teach, bytes_of, classify};
 use crate::ute::{DELETION, NOT_USED, UteQuery};
@@ -18,19 +19,6 @@ const CONTACT: Eep = Eep {
     func: 0x00,
     typ: 0x01,
 };
-
-/// What is planned about the sender of a telegram, before anything is done.
-#[derive(Clone, Copy, Debug, PartialEq, Eq)]
-pub enum Plan {
-    /// Nothing is done, and nothing told.
-    Silent,
-    /// This device is learned, unless as many others are learned as can be.
-    Add(Device),
-    /// The device with this ID is forgotten, if it is learned.
-    Forget(u32),
-    /// Nothing is done, and this is told.
-    Refuse(Outcome),
-}
 
 // The sender of a telegram is learned with this profile and this maker.
 fn add(telegram: &Telegram, eep: Eep, maker: Option<u16>) -> Plan
