@@ -33,7 +33,7 @@ ran_once sql old new (Err e) stop ran = record { stop = stop; kept = λ clean. i
 -- ---- the texts
 
 module _ {S : Type 0} (g : Ghosts S) where
-  pub begun : (s : Held S) → IsTrue (state g s).in_transaction → IsInside g [] s s
+  pub begun : (s : Held S) → (HasCleanDisk (state g s) → IsTrue (state g s).in_transaction) → IsInside g [] s s
   begun s inside = record {
     uncommitted = record {
       stop = record {
@@ -46,16 +46,23 @@ module _ {S : Type 0} (g : Ghosts S) where
       };
       kept = λ clean. record { was_open = λ is_open. is_open; committed = λ is_open. refl };
     };
-    inside = λ clean. inside;
+    inside = inside;
     ran = λ clean. refl;
   }
 
-  ran_then : (texts : List (List ℕ)) (text : List ℕ) (a b c : Held S) (n : ℕ) → Ran g texts a b
-      → ExecutesInside 0 text [] (state g b) (state g c) (Ok n) → Ran g (texts ++ text ∷ []) a c
-  ran_then [] text a b c n same step =
-      (c, n, subst (λ h. ExecutesInside 0 text [] (state g h) (state g c) (Ok n)) (sym same) step, refl)
-  ran_then (t ∷ texts) text a b c n (mid, m, first, more) step =
-      (mid, m, first, ran_then texts text mid b c n more step)
+  ran_on : (first more : List (List ℕ)) (a b c : Held S) → Ran g first a b → Ran g more b c → Ran g (first ++ more) a c
+  ran_on [] more a b c same rest = subst (λ h. Ran g more h c) (sym same) rest
+  ran_on (text ∷ first) more a b c (mid, n, step, on) rest = (mid, n, step, ran_on first more mid b c on rest)
+
+  -- and then others
+  goes_on : (first more : List (List ℕ)) (a b c : Held S) → IsInside g first a b → IsInside g more b c
+      → IsInside g (first ++ more) a c
+  goes_on first more a b c it next = record {
+    uncommitted = uncommitted_then (state g a) (state g b) (state g c) it.uncommitted next.uncommitted;
+    inside = next.inside;
+    ran = λ clean. ran_on first more a b c (it.ran (omega (arith, clean, next.uncommitted.stop.clean)))
+        (next.ran clean);
+  }
 
   -- one text more
   module _ (texts : List (List ℕ)) (text : List ℕ) (a b c : Held S) (r : Result ℕ Error) (it : IsInside g texts a b)
@@ -73,11 +80,12 @@ module _ {S : Type 0} (g : Ghosts S) where
     one_more n is =
         let step = λ (clean : HasCleanDisk (state g c)).
         subst (ExecutesInside 0 text [] (state g b) (state g c)) is (ran clean) in
-        record {
-          uncommitted = uncommitted;
+        goes_on texts (text ∷ []) a b c it
+        (record {
+          uncommitted = ran_once text (state g b) (state g c) r stop ran;
           inside = λ clean. (step clean).1.mode;
-          ran = λ clean. ran_then texts text a b c n (it.ran (omega (arith, clean, stop.clean))) (step clean);
-        }
+          ran = λ clean. (c, n, step clean, refl);
+        })
 
 -- ---- its end
 

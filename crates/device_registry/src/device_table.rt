@@ -7,7 +7,7 @@ ghost use Rattle.device_registry.specs.Ready.{AreReady};
 use crate::fault::{LearnFault, StoreFault};
 use crate::receipt::Receipt;
 use crate::sql_connection::SqlConnection;
-use crate::statements::{delete_or_renew, has_no_room, list, look_up, write};
+use crate::statements::{forget_or_renew, has_no_room, learn, list, look_up};
 use crate::table::rows::{all_listed, found};
 use learned_devices::Device;
 use std::alloc::Global;
@@ -58,7 +58,7 @@ impl<C: SqlConnection> DeviceTable<C> {
         if has_no_room(&mut self.conn, device.id)? {
             return Err(LearnFault::Full);
         }
-        let changed = write(&mut self.conn, device)?;
+        let changed = learn(&mut self.conn, device)?;
         Ok(Receipt::learned(changed, device.id))
     }
 
@@ -69,7 +69,7 @@ impl<C: SqlConnection> DeviceTable<C> {
             (C.state self.new)) }
     {
         let rows = look_up(&mut self.conn, id)?;
-        let changed = delete_or_renew(&mut self.conn, id, &rows)?;
+        let changed = forget_or_renew(&mut self.conn, id, &rows)?;
         Ok(Receipt::forgotten(changed, id))
     }
 

@@ -30,7 +30,7 @@ fn compiled<C: SqlConnection>(conn: &mut C, sql: &str) -> Result<Statement, Erro
 }
 
 /// The rows that a query of one sender shows.
-fn rows_of<C: SqlConnection>(
+fn rows_for<C: SqlConnection>(
     conn: &mut C,
     statement: &Statement,
     id: u32,
@@ -55,7 +55,7 @@ pub(crate) fn look_up<C: SqlConnection>(conn: &mut C, id: u32) -> Result<Vec<Row
         ((devices : Devices) → Shows (C.state conn.old) devices → AreFound (device_of devices id) rows.items)) }
 {
     let find = compiled(conn, FIND)?;
-    rows_of(conn, &find, id)
+    rows_for(conn, &find, id)
 }
 
 /// Whether there is no room for a sender.
@@ -66,7 +66,7 @@ pub(crate) fn has_no_room<C: SqlConnection>(conn: &mut C, id: u32) -> Result<boo
         ((devices : Devices) → Shows (C.state conn.old) devices → full ≡ is_full devices id)) }
 {
     let others = compiled(conn, COUNT_OTHERS)?;
-    let rows = rows_of(conn, &others, id)?;
+    let rows = rows_for(conn, &others, id)?;
     Ok(number(&rows)? >= MOST_DEVICES as u64)
 }
 
@@ -92,7 +92,7 @@ fn run_learn<C: SqlConnection>(conn: &mut C, id: i64, eep: i64, maker: i64) -> R
 }
 
 /// Writes a device, in place of what is known of its sender.
-pub(crate) fn write<C: SqlConnection>(conn: &mut C, device: Device) -> Result<usize, Error>
+pub(crate) fn learn<C: SqlConnection>(conn: &mut C, device: Device) -> Result<usize, Error>
     requires ready { HasCleanDisk (C.state conn.old) → IsReady (C.state conn.old) }
     requires room { HasCleanDisk (C.state conn.old) → (devices : Devices) → Shows
         (C.state conn.old) devices → is_full devices device.id ≡ false }
@@ -107,7 +107,7 @@ pub(crate) fn write<C: SqlConnection>(conn: &mut C, device: Device) -> Result<us
 }
 
 /// Runs the statement that forgets a sender.
-fn run_delete<C: SqlConnection>(conn: &mut C, id: i64) -> Result<usize, Error>
+fn run_forget<C: SqlConnection>(conn: &mut C, id: i64) -> Result<usize, Error>
     ensures runs { HasCleanDisk (C.state conn.new) → Executes forget_text (Int id ∷ [])
         (C.state conn.old) (C.state conn.new) result }
     ensures survives { Survives (C.state conn.old) (C.state conn.new)
@@ -117,11 +117,11 @@ fn run_delete<C: SqlConnection>(conn: &mut C, id: i64) -> Result<usize, Error>
 }
 
 /// Takes out what is known of a sender.
-fn delete<C: SqlConnection>(conn: &mut C, id: u32) -> Result<usize, Error>
+fn forget<C: SqlConnection>(conn: &mut C, id: u32) -> Result<usize, Error>
     requires { HasCleanDisk (C.state conn.old) → IsReady (C.state conn.old) }
     ensures { Turns (C.state conn.old) (C.state conn.new) (forgotten id) result }
 {
-    run_delete(conn, i64::from(id))
+    run_forget(conn, i64::from(id))
 }
 
 /// Writes the version as it stands, so that there is a commit where a change changes nothing.
@@ -145,7 +145,7 @@ pub(crate) fn renew<C: SqlConnection>(conn: &mut C) -> Result<usize, Error>
 }
 
 /// Takes out what is known of a sender, whose rows these are. Where there is none it commits all the same.
-pub(crate) fn delete_or_renew<C: SqlConnection>(
+pub(crate) fn forget_or_renew<C: SqlConnection>(
     conn: &mut C,
     id: u32,
     rows: &[Row],
@@ -158,5 +158,5 @@ pub(crate) fn delete_or_renew<C: SqlConnection>(
     if rows.is_empty() {
         return renew(conn);
     }
-    delete(conn, id)
+    forget(conn, id)
 }

@@ -18,7 +18,7 @@ use crate::table::{FIND_ALL, LIST_OBJECTS, READ_VERSION};
 use sqlite::{Error, Row};
 
 /// The rows that a query with no parameters shows.
-fn rows_of<C: SqlConnection>(conn: &mut C, sql: &str) -> Result<Vec<Row>, Error>
+fn shown_by<C: SqlConnection>(conn: &mut C, sql: &str) -> Result<Vec<Row>, Error>
     requires { HasCleanDisk (C.state conn.old) → IsPlain (understood
         (C.state conn.old).now.schema sql.now) }
     ensures shown { HasCleanDisk (C.state conn.new) → IfOk result (λ rows. Shown sql.now []
@@ -43,7 +43,7 @@ fn lists_ours<C: SqlConnection>(conn: &mut C) -> Result<bool, Error>
     ensures remains { HasCleanDisk (C.state conn.new) → OnErr result (Remains (C.state conn.old)
         (C.state conn.new)) }
 {
-    let rows = rows_of(conn, LIST_OBJECTS)?;
+    let rows = shown_by(conn, LIST_OBJECTS)?;
     Ok(are_ours(&rows))
 }
 
@@ -59,11 +59,11 @@ fn is_whole<C: SqlConnection>(conn: &mut C) -> Result<bool, Error>
     ensures remains { HasCleanDisk (C.state conn.new) → OnErr result (Remains (C.state conn.old)
         (C.state conn.new)) }
 {
-    let versions = rows_of(conn, READ_VERSION)?;
+    let versions = shown_by(conn, READ_VERSION)?;
     if !is_version(&versions) {
         return Ok(false);
     }
-    let devices = rows_of(conn, FIND_ALL)?;
+    let devices = shown_by(conn, FIND_ALL)?;
     if devices.len() > MOST_DEVICES {
         return Ok(false);
     }

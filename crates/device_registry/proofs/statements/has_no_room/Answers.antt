@@ -10,31 +10,31 @@ pub returns-in_err-rows-clause-stays : goal.returns-in_err-rows-clause-stays
 returns-in_err-rows-clause-stays g c =
     others_stay c.args.id c.in_ok-others.others.text (g.C.SqlConnection.state c.args.conn.now)
     (g.C.SqlConnection.state c.compiled.new.conn)
-    (g.C.SqlConnection.state c.rows_of.new.conn) (λ v. v.items) c.rows_of.result c.compiled.ensures.stays
+    (g.C.SqlConnection.state c.rows_for.new.conn) (λ v. v.items) c.rows_for.result c.compiled.ensures.stays
     c.in_ok-others.ensures.text
-    c.in_ok-others.ensures.ready c.rows_of.ensures.survives c.rows_of.ensures.shown c.rows_of.ensures.failed
+    c.in_ok-others.ensures.ready c.rows_for.ensures.survives c.rows_for.ensures.shown c.rows_for.ensures.failed
 
 pub returns-in_err-number-clause-stays : goal.returns-in_err-number-clause-stays
 returns-in_err-number-clause-stays g c =
     others_stay c.args.id c.in_ok-others.others.text (g.C.SqlConnection.state c.args.conn.now)
     (g.C.SqlConnection.state c.compiled.new.conn)
-    (g.C.SqlConnection.state c.rows_of.new.conn) (λ v. v.items) c.rows_of.result c.compiled.ensures.stays
+    (g.C.SqlConnection.state c.rows_for.new.conn) (λ v. v.items) c.rows_for.result c.compiled.ensures.stays
     c.in_ok-others.ensures.text
-    c.in_ok-others.ensures.ready c.rows_of.ensures.survives c.rows_of.ensures.shown c.rows_of.ensures.failed
+    c.in_ok-others.ensures.ready c.rows_for.ensures.survives c.rows_for.ensures.shown c.rows_for.ensures.failed
 
 pub returns-clause-stays : goal.returns-clause-stays
 returns-clause-stays g c =
     others_stay c.args.id c.in_ok-others.others.text (g.C.SqlConnection.state c.args.conn.now)
     (g.C.SqlConnection.state c.compiled.new.conn)
-    (g.C.SqlConnection.state c.rows_of.new.conn) (λ v. v.items) c.rows_of.result c.compiled.ensures.stays
+    (g.C.SqlConnection.state c.rows_for.new.conn) (λ v. v.items) c.rows_for.result c.compiled.ensures.stays
     c.in_ok-others.ensures.text
-    c.in_ok-others.ensures.ready c.rows_of.ensures.survives c.rows_of.ensures.shown c.rows_of.ensures.failed
+    c.in_ok-others.ensures.ready c.rows_for.ensures.survives c.rows_for.ensures.shown c.rows_for.ensures.failed
 
 pub returns-clause-full : goal.returns-clause-full
 returns-clause-full g c clean =
     let mid = g.C.SqlConnection.state c.compiled.new.conn in
-    let new = g.C.SqlConnection.state c.rows_of.new.conn in
-    let early : HasCleanDisk mid = omega (arith, clean, c.rows_of.ensures.survives.clean) in
+    let new = g.C.SqlConnection.state c.rows_for.new.conn in
+    let early : HasCleanDisk mid = omega (arith, clean, c.rows_for.ensures.survives.clean) in
     let ready = c.in_ok-others.ensures.ready early in
     let rows = c.in_ok-rows.rows.items in
     let shown : Shown count_others_text (asked c.args.id) mid new rows =

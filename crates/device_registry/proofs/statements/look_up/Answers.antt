@@ -14,21 +14,21 @@ returns-clause-stays g c =
     let mid = g.C.SqlConnection.state c.compiled.new.conn in
     compiled_query_stays find_text c.in_ok-find.find.text (asked c.args.id) (g.C.SqlConnection.state c.args.conn.now)
     mid
-    (g.C.SqlConnection.state c.rows_of.new.conn) (λ v. v.items) c.rows_of.result c.compiled.ensures.stays
+    (g.C.SqlConnection.state c.rows_for.new.conn) (λ v. v.items) c.rows_for.result c.compiled.ensures.stays
     c.in_ok-find.ensures.text (λ clean. find_plain mid (c.in_ok-find.ensures.ready clean))
-    c.rows_of.ensures.survives c.rows_of.ensures.shown c.rows_of.ensures.failed
+    c.rows_for.ensures.survives c.rows_for.ensures.shown c.rows_for.ensures.failed
 
 pub returns-clause-found : goal.returns-clause-found
 returns-clause-found g c clean =
     let old = g.C.SqlConnection.state c.args.conn.now in
     let mid = g.C.SqlConnection.state c.compiled.new.conn in
-    let new = g.C.SqlConnection.state c.rows_of.new.conn in
+    let new = g.C.SqlConnection.state c.rows_for.new.conn in
     let id = c.args.id in
     let text = c.in_ok-find.find.text in
-    let early : HasCleanDisk mid = omega (arith, clean, c.rows_of.ensures.survives.clean) in
+    let early : HasCleanDisk mid = omega (arith, clean, c.rows_for.ensures.survives.clean) in
     let ready = c.in_ok-find.ensures.ready early in
     ok_then (λ v. Shown text (asked id) mid new v.items)
-    (λ v. IsReady new × ((devices : Devices) → Shows old devices → AreFound (device_of devices id) v.items)) c.rows_of.result
+    (λ v. IsReady new × ((devices : Devices) → Shows old devices → AreFound (device_of devices id) v.items)) c.rows_for.result
     (λ v shown.
     let all = subst (λ t. Shown t (asked id) mid new v.items) (c.in_ok-find.ensures.text early) shown in
     let found = looked_up mid new id v.items ready all in (
@@ -36,4 +36,4 @@ returns-clause-found g c clean =
       λ devices shows.
           found.1 devices ((c.compiled.ensures.stays.goes_on early ready.shows.is_open).1 devices shows),
     ))
-    (c.rows_of.ensures.shown clean)
+    (c.rows_for.ensures.shown clean)

@@ -14,15 +14,15 @@ use Rattle.device_registry.proofs.VersionMeaning.{version_means}
 use Rattle.device_registry.proofs.RowsRecognized.{whole, version_told, devices_told, rise_told}
 use Rattle.device_registry.proofs.taking.is_whole.Goals as goal
 
-pub rows_of-requires : goal.rows_of-requires
-rows_of-requires g c clean =
+pub shown_by-requires : goal.shown_by-requires
+shown_by-requires g c clean =
     let t = c.requires clean in
     (version_means (g.C.SqlConnection.state c.args.conn.now).now.schema t.meta_at t.meta t.meta_stands).plain
 
-pub rows_of-requires-2 : goal.rows_of-requires-2
-rows_of-requires-2 g c clean =
+pub shown_by-requires-2 : goal.shown_by-requires-2
+shown_by-requires-2 g c clean =
     let old = g.C.SqlConnection.state c.args.conn.now in
-    let early : HasCleanDisk old = omega (arith, clean, c.rows_of.ensures.stop.clean) in
+    let early : HasCleanDisk old = omega (arith, clean, c.shown_by.ensures.stop.clean) in
     let t = c.requires early in
     let same = ap (λ (d : Database). d.schema) (c.in_ok-versions.ensures.shown clean).1.0.now_is in
     subst (λ s. IsPlain (understood s find_all_text)) (sym same)
@@ -31,7 +31,7 @@ rows_of-requires-2 g c clean =
 pub returns-then-not-is_version-clause-other : goal.returns-then-not-is_version-clause-other
 returns-then-not-is_version-clause-other g c clean none t it =
     let old = g.C.SqlConnection.state c.args.conn.now in
-    let mid = g.C.SqlConnection.state c.rows_of.new.conn in
+    let mid = g.C.SqlConnection.state c.shown_by.new.conn in
     let told : c.in_ok-versions.versions.items ≡ (Int (pos 1) ∷ Int (pos 1) ∷ []) ∷ [] =
     version_told old mid c.in_ok-versions.versions.items t it (c.in_ok-versions.ensures.shown clean).0 in
     let is_one : IsTrue c.is_version.result = c.is_version.ensures.complete (search (rules, told)) in
@@ -40,9 +40,9 @@ returns-then-not-is_version-clause-other g c clean none t it =
 pub returns-clause-whole : goal.returns-clause-whole
 returns-clause-whole g c clean =
     let old = g.C.SqlConnection.state c.args.conn.now in
-    let mid = g.C.SqlConnection.state c.rows_of.new.conn in
-    let new = g.C.SqlConnection.state c.rows_of-2.new.conn in
-    let between : HasCleanDisk mid = omega (arith, clean, c.rows_of-2.ensures.stop.clean) in
+    let mid = g.C.SqlConnection.state c.shown_by.new.conn in
+    let new = g.C.SqlConnection.state c.shown_by-2.new.conn in
+    let between : HasCleanDisk mid = omega (arith, clean, c.shown_by-2.ensures.stop.clean) in
     let first = c.in_ok-versions.ensures.shown between in
     let second = c.in_ok-devices.ensures.shown clean in (
       unchanged_then old mid new first.1 second.1,
@@ -60,9 +60,9 @@ told_count n m e few many = omega arith
 pub returns-then-len-gt-MOST_DEVICES-clause-other : goal.returns-then-len-gt-MOST_DEVICES-clause-other
 returns-then-len-gt-MOST_DEVICES-clause-other g c clean none t it =
     let old = g.C.SqlConnection.state c.args.conn.now in
-    let mid = g.C.SqlConnection.state c.rows_of.new.conn in
-    let new = g.C.SqlConnection.state c.rows_of-2.new.conn in
-    let between : HasCleanDisk mid = omega (arith, clean, c.rows_of-2.ensures.stop.clean) in
+    let mid = g.C.SqlConnection.state c.shown_by.new.conn in
+    let new = g.C.SqlConnection.state c.shown_by-2.new.conn in
+    let between : HasCleanDisk mid = omega (arith, clean, c.shown_by-2.ensures.stop.clean) in
     let count = devices_told old mid new c.in_ok-devices.devices.items t (c.in_ok-versions.ensures.shown between).1
     (c.in_ok-devices.ensures.shown clean).0 in
     let many : most_devices < length c.in_ok-devices.devices.items = search rules in
@@ -71,9 +71,9 @@ returns-then-len-gt-MOST_DEVICES-clause-other g c clean none t it =
 pub returns-clause-other : goal.returns-clause-other
 returns-clause-other g c clean none t it =
     let old = g.C.SqlConnection.state c.args.conn.now in
-    let mid = g.C.SqlConnection.state c.rows_of.new.conn in
-    let new = g.C.SqlConnection.state c.rows_of-2.new.conn in
-    let between : HasCleanDisk mid = omega (arith, clean, c.rows_of-2.ensures.stop.clean) in
+    let mid = g.C.SqlConnection.state c.shown_by.new.conn in
+    let new = g.C.SqlConnection.state c.shown_by-2.new.conn in
+    let between : HasCleanDisk mid = omega (arith, clean, c.shown_by-2.ensures.stop.clean) in
     let up = rise_told old mid new c.in_ok-devices.devices.items t it (c.in_ok-versions.ensures.shown between).1
     (c.in_ok-devices.ensures.shown clean).0 in
     let not_up : devices_rise 0 c.in_ok-devices.devices.items ≡ false = search (rules, none) in

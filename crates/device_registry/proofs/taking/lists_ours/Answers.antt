@@ -5,28 +5,28 @@ use Rattle.device_registry.proofs.ListObjectsAnswer.{listing_plain}
 use Rattle.device_registry.proofs.TablesRecognized.{ours_told, ours_shown}
 use Rattle.device_registry.proofs.taking.lists_ours.Goals as goal
 
-pub rows_of-requires : goal.rows_of-requires
-rows_of-requires g c clean = listing_plain (g.C.SqlConnection.state c.args.conn.now).now (c.requires clean)
+pub shown_by-requires : goal.shown_by-requires
+shown_by-requires g c clean = listing_plain (g.C.SqlConnection.state c.args.conn.now).now (c.requires clean)
 
 pub returns-clause-ours : goal.returns-clause-ours
 returns-clause-ours g c clean =
     let old = g.C.SqlConnection.state c.args.conn.now in
-    let early : HasCleanDisk old = omega (arith, clean, c.rows_of.ensures.stop.clean) in
+    let early : HasCleanDisk old = omega (arith, clean, c.shown_by.ensures.stop.clean) in
     let show = c.in_ok-rows.ensures.shown clean in (
       show.1,
       λ yes.
           let are : are_ours c.in_ok-rows.rows.items ≡ true = search rules in
-          ours_told old (g.C.SqlConnection.state c.rows_of.new.conn) c.in_ok-rows.rows.items (c.requires early) show.0
+          ours_told old (g.C.SqlConnection.state c.shown_by.new.conn) c.in_ok-rows.rows.items (c.requires early) show.0
           are,
     )
 
 pub returns-clause-other : goal.returns-clause-other
 returns-clause-other g c clean rising none listed =
     let old = g.C.SqlConnection.state c.args.conn.now in
-    let early : HasCleanDisk old = omega (arith, clean, c.rows_of.ensures.stop.clean) in
+    let early : HasCleanDisk old = omega (arith, clean, c.shown_by.ensures.stop.clean) in
     let show = c.in_ok-rows.ensures.shown clean in
     let are : are_ours c.in_ok-rows.rows.items ≡ true =
-    ours_shown old (g.C.SqlConnection.state c.rows_of.new.conn) c.in_ok-rows.rows.items
+    ours_shown old (g.C.SqlConnection.state c.shown_by.new.conn) c.in_ok-rows.rows.items
     (c.requires early) rising show.0 listed in
     let yes : c.are_ours.result ≡ true = search rules in
     absurd (let e = none in cc)

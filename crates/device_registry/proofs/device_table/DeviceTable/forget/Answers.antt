@@ -17,11 +17,11 @@ returns-in_err-rows-clause-forgets g c =
 
 -- ---- the write
 
-pub delete_or_renew-requires-clause-ready : goal.delete_or_renew-requires-clause-ready
-delete_or_renew-requires-clause-ready g c clean = (c.in_ok-rows.ensures.found clean).0
+pub forget_or_renew-requires-clause-ready : goal.forget_or_renew-requires-clause-ready
+forget_or_renew-requires-clause-ready g c clean = (c.in_ok-rows.ensures.found clean).0
 
-pub delete_or_renew-requires-clause-found : goal.delete_or_renew-requires-clause-found
-delete_or_renew-requires-clause-found g c clean devices shows =
+pub forget_or_renew-requires-clause-found : goal.forget_or_renew-requires-clause-found
+forget_or_renew-requires-clause-found g c clean devices shows =
     let old = g.C.SqlConnection.state c.self.inside.conn in
     let mid = g.C.SqlConnection.state c.look_up.new.conn in
     rw c.deref.ensures.value ((c.in_ok-rows.ensures.found clean).1 devices
@@ -30,40 +30,40 @@ delete_or_renew-requires-clause-found g c clean devices shows =
 pub invariant_of-self-in_err-changed : goal.invariant_of-self-in_err-changed
 invariant_of-self-in_err-changed g c =
     refused_well (g.C.SqlConnection.state c.self.inside.conn) (g.C.SqlConnection.state c.look_up.new.conn)
-    (g.C.SqlConnection.state c.delete_or_renew.new.conn) (forgotten c.args.id) c.delete_or_renew.result
-    c.look_up.ensures.stays c.self.invariant c.delete_or_renew.ensures c.in_err-changed.ensures.refused
+    (g.C.SqlConnection.state c.forget_or_renew.new.conn) (forgotten c.args.id) c.forget_or_renew.result
+    c.look_up.ensures.stays c.self.invariant c.forget_or_renew.ensures c.in_err-changed.ensures.refused
 
 pub returns-in_err-changed-clause-forgets : goal.returns-in_err-changed-clause-forgets
 returns-in_err-changed-clause-forgets g c =
     rw (← c.self.view_is) (forget_refused (g.C.SqlConnection.state c.self.inside.conn)
     (g.C.SqlConnection.state c.look_up.new.conn)
-    (g.C.SqlConnection.state c.delete_or_renew.new.conn) c.delete_or_renew.result
+    (g.C.SqlConnection.state c.forget_or_renew.new.conn) c.forget_or_renew.result
     c.look_up.ensures.stays c.self.invariant c.args.id c.from_residual-in_err-changed.result
-    c.from_residual-in_err-changed.ensures.0 c.delete_or_renew.ensures c.in_err-changed.ensures.refused)
+    c.from_residual-in_err-changed.ensures.0 c.forget_or_renew.ensures c.in_err-changed.ensures.refused)
 
 pub invariant_of-self-2 : goal.invariant_of-self-2
 invariant_of-self-2 g c =
     made_well (g.C.SqlConnection.state c.self.inside.conn) (g.C.SqlConnection.state c.look_up.new.conn)
-    (g.C.SqlConnection.state c.delete_or_renew.new.conn) (forgotten c.args.id) c.delete_or_renew.result
-    c.look_up.ensures.stays c.self.invariant c.delete_or_renew.ensures c.in_ok-changed.ensures.made
+    (g.C.SqlConnection.state c.forget_or_renew.new.conn) (forgotten c.args.id) c.forget_or_renew.result
+    c.look_up.ensures.stays c.self.invariant c.forget_or_renew.ensures c.in_ok-changed.ensures.made
     (λ clean. (c.in_ok-rows.ensures.found clean).0)
 
 pub returns-clause-forgets : goal.returns-clause-forgets
 returns-clause-forgets g c =
     let old = g.C.SqlConnection.state c.self.inside.conn in
     let mid = g.C.SqlConnection.state c.look_up.new.conn in
-    let new = g.C.SqlConnection.state c.delete_or_renew.new.conn in
-    let turns = c.delete_or_renew.ensures in
+    let new = g.C.SqlConnection.state c.forget_or_renew.new.conn in
+    let turns = c.forget_or_renew.ensures in
     rw (← c.self.view_is, c.forgotten.ensures)
-    (forget_made old mid new c.delete_or_renew.result c.look_up.ensures.stays c.self.invariant
+    (forget_made old mid new c.forget_or_renew.result c.look_up.ensures.stays c.self.invariant
     c.args.id turns c.in_ok-changed.ensures.made
     (λ clean. (c.in_ok-rows.ensures.found clean).0)
-    (λ trees is_open. g.met.C.SqlConnection.settled c.delete_or_renew.new.conn trees is_open))
+    (λ trees is_open. g.met.C.SqlConnection.settled c.forget_or_renew.new.conn trees is_open))
 
 pub returns-clause-ready : goal.returns-clause-ready
 returns-clause-ready g c clean =
     rw (← c.self.view_is) (ready_made (g.C.SqlConnection.state c.self.inside.conn)
     (g.C.SqlConnection.state c.look_up.new.conn)
-    (g.C.SqlConnection.state c.delete_or_renew.new.conn) (forgotten c.args.id) c.delete_or_renew.result
-    c.look_up.ensures.stays c.self.invariant c.delete_or_renew.ensures (c.in_ok-changed.ensures.made clean)
-    clean (c.in_ok-rows.ensures.found (c.delete_or_renew.ensures.clean clean)).0)
+    (g.C.SqlConnection.state c.forget_or_renew.new.conn) (forgotten c.args.id) c.forget_or_renew.result
+    c.look_up.ensures.stays c.self.invariant c.forget_or_renew.ensures (c.in_ok-changed.ensures.made clean)
+    clean (c.in_ok-rows.ensures.found (c.forget_or_renew.ensures.clean clean)).0)

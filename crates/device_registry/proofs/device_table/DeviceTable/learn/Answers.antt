@@ -44,11 +44,11 @@ returns-then-branch-clause-ready_if_full g c clean =
 
 -- ---- the write
 
-pub write-requires-clause-ready : goal.write-requires-clause-ready
-write-requires-clause-ready g c clean = (c.in_ok-has_no_room.ensures.full clean).0
+pub learn-requires-clause-ready : goal.learn-requires-clause-ready
+learn-requires-clause-ready g c clean = (c.in_ok-has_no_room.ensures.full clean).0
 
-pub write-requires-clause-room : goal.write-requires-clause-room
-write-requires-clause-room g c clean devices shows =
+pub learn-requires-clause-room : goal.learn-requires-clause-room
+learn-requires-clause-room g c clean devices shows =
     let old = g.C.SqlConnection.state c.self.inside.conn in
     let mid = g.C.SqlConnection.state c.has_no_room.new.conn in
     sym ((c.in_ok-has_no_room.ensures.full clean).1 devices
@@ -57,36 +57,36 @@ write-requires-clause-room g c clean devices shows =
 pub invariant_of-self-in_err-changed : goal.invariant_of-self-in_err-changed
 invariant_of-self-in_err-changed g c =
     refused_well (g.C.SqlConnection.state c.self.inside.conn) (g.C.SqlConnection.state c.has_no_room.new.conn)
-    (g.C.SqlConnection.state c.write.new.conn) (learned c.args.device) c.write.result
-    c.has_no_room.ensures.stays c.self.invariant c.write.ensures c.in_err-changed.ensures.refused
+    (g.C.SqlConnection.state c.learn.new.conn) (learned c.args.device) c.learn.result
+    c.has_no_room.ensures.stays c.self.invariant c.learn.ensures c.in_err-changed.ensures.refused
 
 pub returns-in_err-changed-clause-learns : goal.returns-in_err-changed-clause-learns
 returns-in_err-changed-clause-learns g c =
     let old = g.C.SqlConnection.state c.self.inside.conn in
     let mid = g.C.SqlConnection.state c.has_no_room.new.conn in
-    let new = g.C.SqlConnection.state c.write.new.conn in
+    let new = g.C.SqlConnection.state c.learn.new.conn in
     let why = err_from_is_err_and c.from_residual-in_err-changed.result c.from_residual-in_err-changed.ensures.1 in
     rw (← c.self.view_is) (subst (Learns old new c.args.device) (sym (why.1 ∙ ap Err why.2))
-    (learn_refused old mid new c.write.result c.has_no_room.ensures.stays c.self.invariant c.args.device _
-    c.write.ensures c.in_err-changed.ensures.refused))
+    (learn_refused old mid new c.learn.result c.has_no_room.ensures.stays c.self.invariant c.args.device _
+    c.learn.ensures c.in_err-changed.ensures.refused))
 
 pub invariant_of-self-2 : goal.invariant_of-self-2
 invariant_of-self-2 g c =
     made_well (g.C.SqlConnection.state c.self.inside.conn) (g.C.SqlConnection.state c.has_no_room.new.conn)
-    (g.C.SqlConnection.state c.write.new.conn) (learned c.args.device) c.write.result
-    c.has_no_room.ensures.stays c.self.invariant c.write.ensures c.in_ok-changed.ensures.made
+    (g.C.SqlConnection.state c.learn.new.conn) (learned c.args.device) c.learn.result
+    c.has_no_room.ensures.stays c.self.invariant c.learn.ensures c.in_ok-changed.ensures.made
     (λ clean. (c.in_ok-has_no_room.ensures.full clean).0)
 
 pub returns-clause-learns : goal.returns-clause-learns
 returns-clause-learns g c =
     let old = g.C.SqlConnection.state c.self.inside.conn in
     let mid = g.C.SqlConnection.state c.has_no_room.new.conn in
-    let new = g.C.SqlConnection.state c.write.new.conn in
+    let new = g.C.SqlConnection.state c.learn.new.conn in
     rw (← c.self.view_is, c.learned.ensures)
-    (learn_made old mid new c.write.result c.has_no_room.ensures.stays c.self.invariant
-    c.args.device c.write.ensures c.in_ok-changed.ensures.made
+    (learn_made old mid new c.learn.result c.has_no_room.ensures.stays c.self.invariant
+    c.args.device c.learn.ensures c.in_ok-changed.ensures.made
     (λ clean. (c.in_ok-has_no_room.ensures.full clean).0)
-    (λ trees is_open. g.met.C.SqlConnection.settled c.write.new.conn trees is_open)
+    (λ trees is_open. g.met.C.SqlConnection.settled c.learn.new.conn trees is_open)
     (λ clean devices has.
     let told = c.in_ok-has_no_room.ensures.full clean in
     sym (told.1 devices (had old mid c.has_no_room.ensures.stays c.self.invariant clean told.0 devices has))
@@ -96,6 +96,6 @@ pub returns-clause-ready : goal.returns-clause-ready
 returns-clause-ready g c clean =
     rw (← c.self.view_is) (ready_made (g.C.SqlConnection.state c.self.inside.conn)
     (g.C.SqlConnection.state c.has_no_room.new.conn)
-    (g.C.SqlConnection.state c.write.new.conn) (learned c.args.device) c.write.result
-    c.has_no_room.ensures.stays c.self.invariant c.write.ensures (c.in_ok-changed.ensures.made clean) clean
-    (c.in_ok-has_no_room.ensures.full (c.write.ensures.clean clean)).0)
+    (g.C.SqlConnection.state c.learn.new.conn) (learned c.args.device) c.learn.result
+    c.has_no_room.ensures.stays c.self.invariant c.learn.ensures (c.in_ok-changed.ensures.made clean) clean
+    (c.in_ok-has_no_room.ensures.full (c.learn.ensures.clean clean)).0)

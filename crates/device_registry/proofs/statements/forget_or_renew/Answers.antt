@@ -2,7 +2,7 @@ use Rattle.std.proofs.Common.{rules, arith, ◌≡◌, []}
 use Rattle.std.proofs.lemmas.Grind.{common_steps}
 use Rattle.device_registry.proofs.FindAnswer.{unknown_is_removed}
 use Rattle.device_registry.specs.Devices.{forgotten}
-use Rattle.device_registry.proofs.statements.delete_or_renew.Goals as goal
+use Rattle.device_registry.proofs.statements.forget_or_renew.Goals as goal
 
 pub returns-then-is_empty : goal.returns-then-is_empty
 returns-then-is_empty g c =

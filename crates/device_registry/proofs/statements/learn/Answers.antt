@@ -4,7 +4,7 @@ use Rattle.device_registry.specs.Devices.{Learned}
 use Rattle.device_registry.specs.Table.{learn_text}
 use Rattle.device_registry.proofs.LearnEffect.{learn_params}
 use Rattle.device_registry.proofs.WritesTurn.{learn_turns}
-use Rattle.device_registry.proofs.statements.write.Goals as goal
+use Rattle.device_registry.proofs.statements.learn.Goals as goal
 
 pub returns : goal.returns
 returns g c =

@@ -4,7 +4,7 @@ use Rattle.sqlite.proofs.Callers.{never_commits}
 use Rattle.sqlite.proofs.StateLemmas.{survives_weaker}
 use Rattle.device_registry.proofs.RowsRecognized.{shown_if}
 use Rattle.device_registry.proofs.RefusalKeeps.{queried_if}
-use Rattle.device_registry.proofs.taking.rows_of.Goals as goal
+use Rattle.device_registry.proofs.taking.shown_by.Goals as goal
 
 pub returns-clause-shown : goal.returns-clause-shown
 returns-clause-shown g c clean =
