@@ -7,7 +7,8 @@ use std::alloc::{AllocError, AllocFailed};
 
 /// Why the store does not answer: there was no memory, or it refused. It is made by conversion alone, of an error of
 /// the store or of the allocator, or of one of this crate for a row that cannot be, and keeps its cause.
-#[derive(Clone, Copy, Debug, PartialEq, Eq)]
+#[derive(Clone, Copy, Debug, PartialEq, Eq, thiserror::Error)]
+#[error("{}", if *.is_memory {"there is no memory"} else {"the store does not answer"})]
 pub struct StoreFault {
     is_memory: bool,
 }
@@ -57,11 +58,13 @@ impl From<AllocFailed<Device>> for StoreFault {
 }
 
 /// Why a device is not learned.
-#[derive(Clone, Copy, Debug, PartialEq, Eq)]
+#[derive(Clone, Copy, Debug, PartialEq, Eq, thiserror::Error)]
 pub enum LearnFault {
     /// 1,000 other devices are learned.
+    #[error("1,000 other devices are learned")]
     Full,
     /// The store does not answer.
+    #[error(transparent)]
     Refused(StoreFault),
 }
 
@@ -89,11 +92,13 @@ impl From<Error> for LearnFault {
 }
 
 /// Why a database is not prepared, and no registry is opened.
-#[derive(Clone, Copy, Debug, PartialEq, Eq)]
+#[derive(Clone, Copy, Debug, PartialEq, Eq, thiserror::Error)]
 pub enum OpenFault {
     /// The database holds something else, or something that is no version 1 registry under its names.
+    #[error("the database is no registry of version 1")]
     NotARegistry,
     /// The store does not answer.
+    #[error(transparent)]
     Refused(StoreFault),
 }
 

@@ -4,6 +4,7 @@ mod cache;
 mod databases;
 mod devices;
 mod disks;
+mod faults;
 mod given;
 mod remembering;
 mod steps;
