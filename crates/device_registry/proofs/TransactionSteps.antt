@@ -33,23 +33,6 @@ ran_once sql old new (Err e) stop ran = record { stop = stop; kept = λ clean. i
 -- ---- the texts
 
 module _ {S : Type 0} (g : Ghosts S) where
-  pub begun : (s : Held S) → (HasCleanDisk (state g s) → IsTrue (state g s).in_transaction) → IsInside g [] s s
-  begun s inside = record {
-    uncommitted = record {
-      stop = record {
-        clean = omega arith;
-        shield = λ shield. shield;
-        counts = omega arith;
-        limit = refl;
-        closes = λ clean is_open. inl is_open;
-        crash = λ clean trees may. inl may;
-      };
-      kept = λ clean. record { was_open = λ is_open. is_open; committed = λ is_open. refl };
-    };
-    inside = inside;
-    ran = λ clean. refl;
-  }
-
   ran_on : (first more : List (List ℕ)) (a b c : Held S) → Ran g first a b → Ran g more b c → Ran g (first ++ more) a c
   ran_on [] more a b c same rest = subst (λ h. Ran g more h c) (sym same) rest
   ran_on (text ∷ first) more a b c (mid, n, step, on) rest = (mid, n, step, ran_on first more mid b c on rest)
