@@ -2,6 +2,7 @@
 ghost use Rattle.std.specs.Prelude.{◌≡◌, IfOk, Some};
 ghost use Rattle.esp3_frames.specs.Outcome.{packet_of};
 ghost use Rattle.device_registry.specs.Devices.{device_of};
+ghost use Rattle.teach_in.specs.Telegrams.{teach_in_of};
 ghost use Rattle.gateway_core.specs.Profiles.{readings_of};
 ghost use Rattle.gateway_core.specs.Step.{case_effect, data_case, packet_effect, reading_effect, telegram_effect};
 ghost use Rattle.gateway_core.specs.Tries.{Gives, Tries};
@@ -34,12 +35,13 @@ fn reading(alloc: Global, telegram: &Telegram, device: Device) -> Result<Done, A
 
 impl<S: DeviceStore> Handler<S> {
     // Tells what a data telegram of a learned sender says. Another sender is learned by it, where that is planned.
-    fn try_data(&mut self, telegram: &Telegram) -> Result<Done, Refusal>
+    fn try_data(&mut self, telegram: &Telegram, teach: &Teach) -> Result<Done, Refusal>
+        requires { teach.now ≡ teach_in_of telegram.now }
         ensures { Tries S.stored self.old (λ state. case_effect state telegram.now
             (data_case (device_of state.devices telegram.now.sender))) result self.new }
     {
         let Some(device) = self.registry.find(telegram.sender())? else {
-            return self.try_plan(telegram);
+            return self.try_plan(telegram, teach);
         };
         let done = reading(self.alloc, telegram, device)?;
         Ok(done)
@@ -53,12 +55,13 @@ impl<S: DeviceStore> Handler<S> {
         if is_passed_over(self.base, telegram) {
             return Ok(ignored());
         }
-        match classify(telegram) {
+        let teach = classify(telegram);
+        match teach {
             Teach::Answer => Ok(ignored()),
             Teach::Contact | Teach::Bare | Teach::FourByte(_) | Teach::Ute(_) => {
-                self.try_plan(telegram)
+                self.try_plan(telegram, &teach)
             }
-            Teach::Plain => self.try_data(telegram),
+            Teach::Plain => self.try_data(telegram, &teach),
         }
     }
 

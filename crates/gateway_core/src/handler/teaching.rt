@@ -4,6 +4,7 @@ ghost use Rattle.device_registry.specs.Devices.{Devices};
 ghost use Rattle.teach_in.specs.declared.outcome.Outcome as spec;
 ghost use Rattle.teach_in.specs.declared.outcome.Outcome.TheVariants as outcome;
 ghost use Rattle.teach_in.specs.Plans.{plan_of};
+ghost use Rattle.teach_in.specs.Telegrams.{teach_in_of};
 ghost use Rattle.gateway_core.specs.Replies.{answer_of};
 ghost use Rattle.gateway_core.specs.Step;
 ghost use Rattle.gateway_core.specs.Step.{accepts, addition, deletes, line_with, plan_effect, radio_of, reply_of};
@@ -22,7 +23,7 @@ use device_registry::Device;
 use erp1_telegrams::{Eep, Telegram};
 use json_lines::{Count, Line, teach_line};
 use std::alloc::AllocError;
-use teach_in::{Mode, Outcome, Plan, Teach, Verdict, classify, four_byte_reply, plan, ute_reply};
+use teach_in::{Mode, Outcome, Plan, Teach, Verdict, four_byte_reply, plan, ute_reply};
 
 // The profile and the maker that a telegram of teach-in tells, if it does.
 fn told_by(teach: &Teach) -> (Option<Eep>, Option<u16>)
@@ -140,19 +141,19 @@ impl<S: DeviceStore> Handler<S> {
     }
 
     // Does what is planned about the sender of a telegram of teach-in, or of data whose sender is not learned.
-    pub(crate) fn try_plan(&mut self, telegram: &Telegram) -> Result<Done, Refusal>
+    pub(crate) fn try_plan(&mut self, telegram: &Telegram, teach: &Teach) -> Result<Done, Refusal>
+        requires { teach.now ≡ teach_in_of telegram.now }
         ensures { (asked : Bool) → Tries S.stored self.old (λ state. plan_effect state telegram.now asked
             (plan_of telegram.now state.mode false)) result self.new }
     {
-        let teach = classify(telegram);
         // `false`: data of a learned sender is read, and nothing is planned about it
         match plan(telegram, self.mode, false) {
             Plan::Silent => Ok(ignored()),
-            Plan::Add(device) => self.try_accept(&teach, device),
-            Plan::Forget(id) => self.try_delete(&teach, id),
+            Plan::Add(device) => self.try_accept(teach, device),
+            Plan::Forget(id) => self.try_delete(teach, id),
             Plan::Refuse(outcome) => {
-                let (eep, maker) = told_by(&teach);
-                let refused = self.refuse(&teach, telegram.sender(), eep, maker, outcome)?;
+                let (eep, maker) = told_by(teach);
+                let refused = self.refuse(teach, telegram.sender(), eep, maker, outcome)?;
                 Ok(refused)
             }
         }

@@ -9,23 +9,23 @@ use Rattle.gateway_core.proofs.handler.Handler.try_plan.Goals as goal
 
 pub try_accept-requires-clause-accepted : goal.try_accept-requires-clause-accepted
 try_accept-requires-clause-accepted g c =
-    (can_reply c.args.telegram.now _ c.classify-teach.result (Add c.in-Add.device) c.classify-teach.ensures
+    (can_reply c.args.telegram.now _ c.args.teach.now (Add c.in-Add.device) c.requires
     (sym c.plan.ensures ∙ c.in-Add.is)).0
 
 pub try_accept-requires-clause-full : goal.try_accept-requires-clause-full
 try_accept-requires-clause-full g c =
-    (can_reply c.args.telegram.now _ c.classify-teach.result (Add c.in-Add.device) c.classify-teach.ensures
+    (can_reply c.args.telegram.now _ c.args.teach.now (Add c.in-Add.device) c.requires
     (sym c.plan.ensures ∙ c.in-Add.is)).1
 
 pub try_delete-requires : goal.try_delete-requires
 try_delete-requires g c =
-    can_reply c.args.telegram.now _ c.classify-teach.result (Forget c.in-Forget.id) c.classify-teach.ensures
+    can_reply c.args.telegram.now _ c.args.teach.now (Forget c.in-Forget.id) c.requires
     (sym c.plan.ensures ∙ c.in-Forget.is)
 
 pub refuse-requires-clause-reply : goal.refuse-requires-clause-reply
 refuse-requires-clause-reply g c =
-    subst (λ id. MayReply c.classify-teach.result id c.in-Refuse.outcome) (sym c.sender.ensures)
-    (can_reply c.args.telegram.now _ c.classify-teach.result (Refuse c.in-Refuse.outcome) c.classify-teach.ensures
+    subst (λ id. MayReply c.args.teach.now id c.in-Refuse.outcome) (sym c.sender.ensures)
+    (can_reply c.args.telegram.now _ c.args.teach.now (Refuse c.in-Refuse.outcome) c.requires
     (sym c.plan.ensures ∙ c.in-Refuse.is))
 
 pub returns-in_err-refused-in-Refuse : goal.returns-in_err-refused-in-Refuse
@@ -49,7 +49,7 @@ returns-in-Add g c =
     let plan : plan_of c.args.telegram.now c.args.self.now.mode false ≡ Add c.in-Add.device =
     rw (← c.self.view_is) (sym c.plan.ensures ∙ c.in-Add.is) in
     λ asked.
-    tries-same g.S.DeviceStore.stored _ _ _ _ _ (λ devices. rw (plan, ← c.classify-teach.ensures) refl)
+    tries-same g.S.DeviceStore.stored _ _ _ _ _ (λ devices. rw (plan, ← c.requires) refl)
     c.try_accept.ensures
 
 pub returns-in-Forget : goal.returns-in-Forget
@@ -57,7 +57,7 @@ returns-in-Forget g c =
     let plan : plan_of c.args.telegram.now c.args.self.now.mode false ≡ Forget c.in-Forget.id =
     rw (← c.self.view_is) (sym c.plan.ensures ∙ c.in-Forget.is) in
     λ asked.
-    tries-same g.S.DeviceStore.stored _ _ _ _ _ (λ devices. rw (plan, ← c.classify-teach.ensures) refl)
+    tries-same g.S.DeviceStore.stored _ _ _ _ _ (λ devices. rw (plan, ← c.requires) refl)
     c.try_delete.ensures
 
 pub returns-in_ok-refused-in-Refuse : goal.returns-in_ok-refused-in-Refuse
@@ -69,7 +69,7 @@ returns-in_ok-refused-in-Refuse g c =
     (λ devices keeps.
     rw plan (
       refused-gives c.in_ok-refused-in-Refuse.refused (state_of c.args.self.now devices) c.args.telegram.now
-          c.classify-teach.result c.sender.result _ c.in-Refuse.outcome c.classify-teach.ensures c.sender.ensures
+          c.args.teach.now c.sender.result _ c.in-Refuse.outcome c.requires c.sender.ensures
           (c.told_by-eep.ensures c.sender.result c.in-Refuse.outcome) (c.in_ok-refused-in-Refuse.ensures devices),
       keeps,
     ))

@@ -17,7 +17,7 @@ returns-then-is_passed_over g c =
 pub returns-in-Answer : goal.returns-in-Answer
 returns-in-Answer g c =
     let over = sym c.is_passed_over.ensures ∙ c.if-is_passed_over.false in
-    let kind = sym c.classify.ensures ∙ c.in-Answer.is in
+    let kind = sym c.classify-teach.ensures ∙ c.in-Answer.is in
     rw (← c.self.view_is)
     (tries-alone g.S.DeviceStore.stored _ _ _
     (λ devices keeps. rw (over, kind) (c.ignored-in-Answer.ensures, keeps)))
@@ -29,17 +29,17 @@ returns-in-Contact g c =
     tries-same g.S.DeviceStore.stored _ _ _ _ _
     (λ devices.
     let known = device_of devices c.args.telegram.now.sender in
-    let case = ap (λ kind. kind_case kind known) (sym c.classify.ensures)
-    ∙ teaches c.classify.result known c.in-Contact.is in
+    let case = ap (λ kind. kind_case kind known) (sym c.classify-teach.ensures)
+    ∙ teaches c.classify-teach.result known c.in-Contact.is in
     rw (over, case)
     (ap (plan_effect (state_of c.args.self.now devices) c.args.telegram.now false)
-    (plan-unasked c.args.telegram.now c.args.self.now.mode _ c.classify.result (sym c.classify.ensures)
-    (not-data c.classify.result c.in-Contact.is))))
+    (plan-unasked c.args.telegram.now c.args.self.now.mode _ c.classify-teach.result (sym c.classify-teach.ensures)
+    (not-data c.classify-teach.result c.in-Contact.is))))
     (c.try_plan.ensures false)
 
 pub returns-in-Plain : goal.returns-in-Plain
 returns-in-Plain g c =
     let over : is_passed_over c.args.self.now.base c.args.telegram.now ≡ false =
     rw (← c.self.view_is) (sym c.is_passed_over.ensures ∙ c.if-is_passed_over.false) in
-    let kind = sym c.classify.ensures ∙ c.in-Plain.is in
+    let kind = sym c.classify-teach.ensures ∙ c.in-Plain.is in
     tries-same g.S.DeviceStore.stored _ _ _ _ _ (λ devices. rw (over, kind) refl) c.try_data.ensures
