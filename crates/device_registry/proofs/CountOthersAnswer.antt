@@ -163,8 +163,8 @@ full_told others n is few =
     let same : min others 9223372036854775807 ≡ n = same_number _ n is in ap (nat_le 1000) (omega (arith, same, few))
 
 pub told_full : (old new : State) (id : ℕ) (rows : List Row) (n : ℕ) (row : Row) (more : List Row) (devices : Devices)
-    → Shows old devices → Shown count_others_text (asked id) old new rows → rows ≡ row ∷ more → column row 0 ≡ Int (pos n)
-    → nat_le 1000 n ≡ is_full devices id
+    → Shows old devices → Shown count_others_text (asked id) old new rows → rows ≡ row ∷ more
+    → column row 0 ≡ Int (pos n) → nat_le 1000 n ≡ is_full devices id
 told_full old new id rows n row more devices shows h are number =
     full_told (len (remove devices id)) n (shown_number (count (len (remove devices id))) n row more
     (sym (counts old new id rows devices shows.registers h) ∙ are) number)

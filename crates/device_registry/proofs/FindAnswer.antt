@@ -30,7 +30,8 @@ use Rattle.device_registry.proofs.StatementSteps.{query_ready}
 answered : (id : ℕ) (devices : Devices) (table rows : List Row) (o : Option Learned) → devices_in table ≡ devices
     → seen id table ≡ o → AreFound (option_map (device id) o) rows → AreFound (device_of devices id) rows
 answered id devices table rows o is seen_is h = subst (λ m. AreFound (device_of m id) rows) is
-    (subst (λ o. AreFound (option_map (device id) o) rows) (sym (get-from_entries nat_cmp_total (map entry_of table) id ∙ seen_is)) h)
+    (subst (λ o. AreFound (option_map (device id) o) rows)
+    (sym (get-from_entries nat_cmp_total (map entry_of table) id ∙ seen_is)) h)
 
 pub finds : (old new : State) (id : ℕ) (rows : List Row) (devices : Devices) → Registers old.now devices
     → Shown find_text (asked id) old new rows → AreFound (device_of devices id) rows
@@ -81,8 +82,8 @@ none_known id None rows h none = refl
 none_known id (Some it) rows h none = absurd (let e = sym h.1 ∙ none in cc)
 
 -- what is not there is not taken out
-pub unknown_is_removed : (devices : Devices) (id : ℕ) (rows : List Row) → AreFound (device_of devices id) rows → rows ≡ []
-    → remove devices id ≡ devices
+pub unknown_is_removed : (devices : Devices) (id : ℕ) (rows : List Row) → AreFound (device_of devices id) rows
+    → rows ≡ [] → remove devices id ≡ devices
 unknown_is_removed devices id rows h none = same_map nat_cmp_total nat_cmp-IsAntisymmetric _ _
     (λ q. get-remove nat_cmp_total devices id q ∙ unseen devices id q (none_known id _ rows h none))
   where

@@ -1,6 +1,6 @@
 -- From the statements that make the two tables to a registry of no devices.
-use Rattle.std.proofs.Common.{◌≡◌, ℕ, List, [], ◌∷◌, length, ◌≤◌, ◌<◌, false, None, Option, Ok}
-use Rattle.std.proofs.Common.{Err, OnOk, IfErr, OnErr, true, Result, arith, IsTrue, MatchBool, refl, sym, ap, subst, ◌∙◌}
+use Rattle.std.proofs.Common.{◌≡◌, ℕ, List, [], ◌∷◌, length, ◌≤◌, ◌<◌, false, None, Option, Ok, Err}
+use Rattle.std.proofs.Common.{OnOk, IfErr, OnErr, true, Result, arith, IsTrue, MatchBool, refl, sym, ap, subst, ◌∙◌}
 use Rattle.std.specs.List.{AllByRecursion}
 use Rattle.std.specs.FinMap.{empty}
 use Rattle.sqlite.specs.Schema.{Schema}
@@ -185,7 +185,8 @@ shows_made d e (Err x) db ends = tt
 
 module _ {S : Type 0} (g : Ghosts S) (old start last : Held S) (is : start ≡ record old { in_transaction = true })
     (it : IsInside g (meta_text ∷ device_text ∷ write_version_text ∷ []) start last)
-    (free : HasCleanDisk (state g old) → IsTrue (is_clear (state g old).now.schema) × IsDatabase (state g old).now) where
+    (free : HasCleanDisk (state g old) → IsTrue (is_clear (state g old).now.schema)
+    × IsDatabase (state g old).now) where
   -- what it shows behind the three texts
   shows : HasCleanDisk (state g last) → Registers (state g last).now empty × IsDatabase (state g last).now
   shows clean =
@@ -217,5 +218,5 @@ module _ {S : Type 0} (g : Ghosts S) (old start last : Held S) (is : start ≡ r
     pub made_not : (HasCleanDisk e → IfErr r (FailsToCommit (state g last) e)) → HasCleanDisk e
         → OnErr r (Remains (state g old) e)
     made_not failed =
-        uncommitted_remains (state g old) (state g last) e (since g old start (state g last) is it.uncommitted) commits r
-        it.inside failed
+        uncommitted_remains (state g old) (state g last) e (since g old start (state g last) is it.uncommitted) commits
+        r it.inside failed

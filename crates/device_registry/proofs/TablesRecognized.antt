@@ -103,8 +103,8 @@ here trees name text h =
     ]
 
 -- what the listing shows is listed
-told : (old new : State) (rows : List Row) → IsDatabase old.now → Shown list_objects_text [] old new rows → (name text : List ℕ)
-    → list_any (is_line name text) rows ≡ true → IsListedAs old.now.trees name text
+told : (old new : State) (rows : List Row) → IsDatabase old.now → Shown list_objects_text [] old new rows
+    → (name text : List ℕ) → list_any (is_line name text) rows ≡ true → IsListedAs old.now.trees name text
 told old new rows sound shows name text h =
     let show = listing_shows old new rows sound shows in
     let same = answered (is_line name text) show.0.trees rows (show.2.answer Null)

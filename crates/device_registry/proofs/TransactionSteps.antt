@@ -73,8 +73,8 @@ module _ {S : Type 0} (g : Ghosts S) where
 -- ---- its end
 
 -- it was begun at this state
-pub since : {S : Type 0} (g : Ghosts S) (old start : Held S) (new : State) → start ≡ record old { in_transaction = true }
-    → IsUncommitted (state g start) new → IsUncommitted (state g old) new
+pub since : {S : Type 0} (g : Ghosts S) (old start : Held S) (new : State)
+    → start ≡ record old { in_transaction = true } → IsUncommitted (state g start) new → IsUncommitted (state g old) new
 since g old start new is it =
     let at = subst (λ h. IsUncommitted (state g h) new) is it in
     record {
@@ -93,7 +93,8 @@ module _ (old last new : State) (it : IsUncommitted old last) where
   -- a commit leaves what the transaction shows
   module _ (commits : Survives last new (λ trees. trees ≡ last.now.trees)) where
     pub leaves : (P : Trees → Type 0) → (HasCleanDisk last → P last.now.trees) → Survives old new P
-    leaves P shows = survives_then old last new (λ _. ⊥) (λ trees. trees ≡ last.now.trees) P (λ clean trees no. absurd no)
+    leaves P shows = survives_then old last new (λ _. ⊥) (λ trees. trees ≡ last.now.trees) P
+        (λ clean trees no. absurd no)
         (λ clean trees is. subst P (sym is) (shows (omega (arith, clean, commits.clean)))) it.stop commits
 
     pub uncommitted_remains : {V : Type 0} (r : Result V Error) → (HasCleanDisk last → IsTrue last.in_transaction)

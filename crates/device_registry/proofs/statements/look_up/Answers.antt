@@ -28,7 +28,8 @@ returns-clause-found g c clean =
     let early : HasCleanDisk mid = omega (arith, clean, c.rows_for.ensures.survives.clean) in
     let ready = c.in_ok-find.ensures.ready early in
     ok_then (λ v. Shown text (asked id) mid new v.items)
-    (λ v. IsReady new × ((devices : Devices) → Shows old devices → AreFound (device_of devices id) v.items)) c.rows_for.result
+    (λ v. IsReady new × ((devices : Devices) → Shows old devices → AreFound (device_of devices id) v.items))
+    c.rows_for.result
     (λ v shown.
     let all = subst (λ t. Shown t (asked id) mid new v.items) (c.in_ok-find.ensures.text early) shown in
     let found = looked_up mid new id v.items ready all in (
