@@ -20,20 +20,20 @@ fn one_word(name: &[u8]) -> Option<Order>
     }
 }
 
-fn two_words(name: &[u8], word: &[u8]) -> Option<Order>
-    ensures { result ≡ two_words name.now word.now }
+fn two_words(name: &[u8], second: &[u8]) -> Option<Order>
+    ensures { result ≡ two_words name.now second.now }
 {
-    if name == b"learn".as_slice() && word == b"on".as_slice() {
+    if name == b"learn".as_slice() && second == b"on".as_slice() {
         Some(Order::LearnOn)
-    } else if name == b"learn".as_slice() && word == b"off".as_slice() {
+    } else if name == b"learn".as_slice() && second == b"off".as_slice() {
         Some(Order::LearnOff)
     } else if name == b"remove".as_slice() {
-        Some(Order::Remove(id_of(word)?))
+        Some(Order::Remove(id_of(second)?))
     } else if name == b"stop".as_slice() {
-        Some(Order::Stop { id: id_of(word)? })
+        Some(Order::Stop { id: id_of(second)? })
     } else if name == b"teach".as_slice() {
         Some(Order::Teach {
-            offset: number_of(word)?,
+            offset: number_of(second)?,
         })
     } else {
         None

@@ -7,7 +7,7 @@ ghost use Rattle.esp3_frames.specs.Frames.{frames_of};
 ghost use Rattle.esp3_frames.specs.Outcome.{packet_of};
 ghost use Rattle.esp3_frames.specs.Packet.{Packet};
 
-use crate::front::{body_len, is_refused, is_whole, settle, settle_behind};
+use crate::front::{announced_len, is_refused, is_whole, settle, settle_behind};
 use crate::window::Window;
 use esp3_frames::{Header, LONGEST_PACKET, PacketRef, SYNC_BYTE};
 use std::alloc::{AllocError, Global};
@@ -137,7 +137,7 @@ impl Framer {
             return false;
         }
         self.window.skip(6);
-        self.window.move_into(body_len(header), &mut out.bytes);
+        self.window.move_into(announced_len(header), &mut out.bytes);
         self.window.skip(1);
         out.header = Some(header);
         self.header = settle(&mut self.window);

@@ -21,7 +21,7 @@ pub enum Found {
 }
 
 /// The length of the data and the optional data that a header announces.
-pub fn body_len(header: Header) -> usize
+pub fn announced_len(header: Header) -> usize
     ensures { result ≡ header.data_len + header.opt_len }
 {
     header.data_len as usize + header.opt_len as usize
@@ -33,7 +33,7 @@ pub fn is_whole(window: &Window, header: Header) -> bool
     ensures whole { OnTrue result (front_of window.now ≡ Whole (packet_at header window.now)) }
     ensures partial { OnFalse result (front_of window.now ≡ Partial) }
 {
-    body_len(header) + 6 < window.len()
+    announced_len(header) + 6 < window.len()
 }
 
 /// Whether the packet whose header stands at the front has come whole, with a wrong check byte.
@@ -41,7 +41,7 @@ pub fn is_refused(window: &Window, header: Header) -> bool
     requires { HasHeader window.now (Some header) }
     ensures { IsTrue result ↔ (front_of window.now ≡ Never) }
 {
-    let len = body_len(header);
+    let len = announced_len(header);
     len + 6 < window.len() && window.byte_or(len + 6, 0) != window.check_of(6, len)
 }
 

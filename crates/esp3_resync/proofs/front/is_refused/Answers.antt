@@ -16,11 +16,11 @@ returns-then-len c =
     let h = c.args.header in
     let w = c.args.window.now in
     let long : h.data_len + h.opt_len + 6 < length w =
-    omega (arith, c.body_len-len.ensures, c.len.ensures.len, c.if-len.true) in
+    omega (arith, c.announced_len-len.ensures, c.len.ensures.len, c.if-len.true) in
     let last : c.byte_or.result ≡ get_or w (h.data_len + h.opt_len + 6) 0 =
-    c.byte_or.ensures ∙ ap (λ n. get_or w (n + 6) 0) c.body_len-len.ensures in
+    c.byte_or.ensures ∙ ap (λ n. get_or w (n + 6) 0) c.announced_len-len.ensures in
     let of : c.check_of.result ≡ check (take (h.data_len + h.opt_len) (drop 6 w)) =
-    c.check_of.ensures ∙ ap (λ n. check (take n (drop 6 w))) c.body_len-len.ensures in (
+    c.check_of.ensures ∙ ap (λ n. check (take n (drop 6 w))) c.announced_len-len.ensures in (
       λ t. refused w h c.requires long (λ e. differ c.byte_or.result c.check_of.result t (last ∙ e ∙ sym of)),
       λ never. unlike c.byte_or.result c.check_of.result
           (λ e. let z = sym (stands w h c.requires long (sym last ∙ e ∙ of)) ∙ never in cc),
@@ -31,7 +31,7 @@ returns-else-len c =
     let h = c.args.header in
     let w = c.args.window.now in
     let short : length w ≤ h.data_len + h.opt_len + 6 =
-    omega (arith, c.body_len-len.ensures, c.len.ensures.len, c.if-len.false) in (
+    omega (arith, c.announced_len-len.ensures, c.len.ensures.len, c.if-len.false) in (
       λ t. absurd (omega (arith, ltb-true _ _ t, c.if-len.false)),
       λ never. absurd (let z = sym (waits w h c.requires short) ∙ never in cc),
     )

@@ -40,8 +40,8 @@ pub move_into-requires : goal.move_into-requires
 move_into-requires c =
     let s = c.self.inside.window in
     let n = whole_parts s c.in-Some.header c.if-not-is_whole.ensures.whole in (
-      omega (arith, n.0, c.body_len.ensures, ap length c.skip.ensures, length-drop 6 s),
-      omega (arith, n.1, c.body_len.ensures, c.out.invariant.room),
+      omega (arith, n.0, c.announced_len.ensures, ap length c.skip.ensures, length-drop 6 s),
+      omega (arith, n.1, c.announced_len.ensures, c.out.invariant.room),
     )
 
 pub skip-requires-2 : goal.skip-requires-2
@@ -50,7 +50,8 @@ skip-requires-2 c =
     let n = whole_parts s c.in-Some.header c.if-not-is_whole.ensures.whole in
     let left = ap length c.move_into.ensures.rest in
     let behind = ap length c.skip.ensures in
-    omega (arith, n.0, c.body_len.ensures, left, length-drop c.body_len.result c.skip.new.self, behind, length-drop 6 s)
+    let dropped = length-drop c.announced_len.result c.skip.new.self in
+    omega (arith, n.0, c.announced_len.ensures, left, dropped, behind, length-drop 6 s)
 
 pub invariant_of-out : goal.invariant_of-out
 invariant_of-out c =
@@ -58,8 +59,8 @@ invariant_of-out c =
     let h = c.in-Some.header in
     let n = whole_parts s h c.if-not-is_whole.ensures.whole in
     let items =
-    moved s h c.skip.new.self c.move_into.new.to.items c.body_len.result c.skip.ensures c.move_into.ensures.items
-    c.body_len.ensures in
+    moved s h c.skip.new.self c.move_into.new.to.items c.announced_len.result c.skip.ensures c.move_into.ensures.items
+    c.announced_len.ensures in
     record {
       room = omega (arith, c.out.invariant.room, c.move_into.ensures.capacity);
       lengths = omega (arith, n.0, ap length items, length-take (h.data_len + h.opt_len) (drop 6 s), length-drop 6 s);
@@ -79,11 +80,11 @@ returns-clause-taken c =
     let p : Packet = packet_at h s in
     let whole = c.if-not-is_whole.ensures.whole in
     let items =
-    moved s h c.skip.new.self c.move_into.new.to.items c.body_len.result c.skip.ensures c.move_into.ensures.items
-    c.body_len.ensures in
-    let k : ℕ = c.body_len.result in
+    moved s h c.skip.new.self c.move_into.new.to.items c.announced_len.result c.skip.ensures c.move_into.ensures.items
+    c.announced_len.ensures in
+    let k : ℕ = c.announced_len.result in
     let n : ℕ = length p.body + length p.opt + 7 in
-    let count : 6 + (k + 1) ≡ n = omega (arith, c.body_len.ensures, whole_sum s h whole) in
+    let count : 6 + (k + 1) ≡ n = omega (arith, c.announced_len.ensures, whole_sum s h whole) in
     let left : c.skip-2.new.self ≡ drop n s =
     c.skip-2.ensures ∙ ap (drop 1) (c.move_into.ensures.rest ∙ ap (drop k) c.skip.ensures)
     ∙ drop-drop 1 k (drop 6 s) ∙ drop-drop (k + 1) 6 s ∙ ap (λ i. drop i s) count
