@@ -1,4 +1,4 @@
-"""What the built program has to write for a script, and what it may leave, by the table of scripts/rows/verdict-rows."""
+"""What the built program has to write for a script, and what it may leave, by the table of verdict-rows."""
 import copy
 import re
 import runpy

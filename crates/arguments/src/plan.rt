@@ -8,7 +8,7 @@ use super::{Options, Task};
 const MOST_READS: u64 = 4_000_000_000;
 
 /// How many looked-up senders the registry remembers: room for every device that can be learned, and some others.
-const MOST_REMEMBERED: usize = 1024;
+const REMEMBERED: usize = 1024;
 
 /// What a run is: the gateway that it makes, and what that is for.
 #[derive(Clone, Copy, Debug, PartialEq, Eq)]
@@ -68,7 +68,7 @@ impl<'a> Options<'a> {
     {
         Plan {
             db: self.db,
-            remembered: MOST_REMEMBERED,
+            remembered: REMEMBERED,
             base: self.base,
             service: service_of(self.task),
         }

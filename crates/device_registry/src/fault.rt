@@ -5,8 +5,8 @@ use learned_devices::Device;
 use sqlite::{Error, ErrorCode};
 use std::alloc::{AllocError, AllocFailed};
 
-/// Why the store does not answer: there was no memory, or it refused. It is made by conversion alone, of an error of
-/// the store or of the allocator, or of one of this crate for a row that cannot be, and keeps its cause.
+/// What was wanting: memory, or an answer of the store. It is made by conversion alone, of an error of the store or of
+/// the allocator, or of one of this crate for a row that cannot be or a count without a row, and keeps its cause.
 #[derive(Clone, Copy, Debug, PartialEq, Eq, thiserror::Error)]
 #[error("{}", if *.is_memory {"there is no memory"} else {"the store does not answer"})]
 pub struct StoreFault {

@@ -21,7 +21,7 @@ use sqlite::Error;
 use std::alloc::Global;
 
 /// How many senders `open` remembers. Own choice.
-const REMEMBERED: usize = 64;
+const REMEMBERED_BY_OPEN: usize = 64;
 
 /// Whether the connection is open: a text is compiled, which writes nothing.
 fn check_open<C: SqlConnection>(conn: &mut C) -> Result<(), Error>
@@ -113,7 +113,7 @@ impl<C: SqlConnection + Drop> RegistryOver<C> {
         ensures refused { IfErr result (λ fault. fault ≡ OpenFault.NotARegistry → (last : C) ×
             RefusesToOpen (C.state conn) (C.state last) fault) }
     {
-        RegistryOver::open_with(alloc, conn, REMEMBERED)
+        RegistryOver::open_with(alloc, conn, REMEMBERED_BY_OPEN)
     }
 
     /// Prepares the database, as `prepare` does, and holds the connection from then on. So many senders that were

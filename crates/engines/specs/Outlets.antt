@@ -30,7 +30,8 @@ module _ {A B : Type 0} (one : Way A) (other : Way B) where
   abbrev pub PutsBoth : A × B → A × B → List Answer → Type 0
   PutsBoth old new answers = one.puts old.0 new.0 answers × other.puts old.1 new.1 answers
 
-  -- the last answer breaks off by the first way, and nothing of it goes out by the second; or by the second
+  -- the last answer breaks off by the first way, and nothing of it goes out by the second; or it is out by the first,
+  -- and breaks off by the second
   abbrev pub BreaksBoth : A × B → A × B → List Answer → Answer → Type 0
   BreaksBoth old new answers last =
       (one.breaks old.0 new.0 answers last × other.puts old.1 new.1 answers)

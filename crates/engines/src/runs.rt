@@ -18,9 +18,9 @@ pub enum RunFault {
     #[error("a read failed")]
     Read,
     /// A write failed, or took 0 bytes.
-    #[error("a write failed")]
+    #[error("a write failed, or took 0 bytes")]
     Write,
     /// All reads that were allowed were made, and the input of a replay has not ended.
-    #[error("all reads were made")]
+    #[error("the input has not ended after all reads that were allowed")]
     TooManyTurns,
 }

@@ -98,8 +98,8 @@ WasForgotten line result = Unit {0}
 module _ (old new : Stored) (devices : Devices) where
   -- what is refused leaves what was known, and perhaps the change, if its write was tried
   abbrev pub IsRefused : Change → Refusal → Type 0
-  IsRefused change (Before cause) = Keeps old new devices
-  IsRefused change (AtWrite cause) = Pends old new change devices
+  IsRefused change (Before fault) = Keeps old new devices
+  IsRefused change (AtWrite fault) = Pends old new change devices
 
   -- a device is committed, or there is no room, or it is refused
   abbrev pub IsLearning : Device → Result (Option Committed) Refusal → Type 0

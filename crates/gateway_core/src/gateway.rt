@@ -24,7 +24,7 @@ pub enum StartFault {
     #[error("not a base ID")]
     BadBase,
     /// There is no memory for the framer.
-    #[error("out of memory")]
+    #[error("there is no memory")]
     Memory,
 }
 

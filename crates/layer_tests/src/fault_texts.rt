@@ -1,4 +1,4 @@
-//! What each fault says.
+//! What the faults below the registry say.
 use actuator_commands::OrderFault;
 use arguments::Refused;
 use byte_streams::Failed;

@@ -40,13 +40,19 @@ fn tell_faults(rt: &HostRuntime, telling: &mut Telling) -> Result<()> {
 fn tell_texts(rt: &HostRuntime, telling: &mut Telling) -> Result<()> {
     for (text, wanted) in [
         (RunFault::Read.to_string(rt.alloc())?, "a read failed"),
-        (RunFault::Write.to_string(rt.alloc())?, "a write failed"),
+        (
+            RunFault::Write.to_string(rt.alloc())?,
+            "a write failed, or took 0 bytes",
+        ),
         (
             RunFault::TooManyTurns.to_string(rt.alloc())?,
-            "all reads were made",
+            "the input has not ended after all reads that were allowed",
         ),
         (StartFault::BadBase.to_string(rt.alloc())?, "not a base ID"),
-        (StartFault::Memory.to_string(rt.alloc())?, "out of memory"),
+        (
+            StartFault::Memory.to_string(rt.alloc())?,
+            "there is no memory",
+        ),
     ] {
         let name = format!(in rt.alloc(); "the text: {wanted}")?;
         telling.tell(rt, name.as_str(), text.as_str() == wanted)?;

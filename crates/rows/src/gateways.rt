@@ -12,14 +12,14 @@ use std::alloc::Global;
 pub const BASE: u32 = 0xFF80_0000;
 
 /// How many looked-up senders a registry remembers, as in the program.
-pub const MOST_REMEMBERED: usize = 1024;
+pub const REMEMBERED: usize = 1024;
 
 /// A new gateway, over a new database.
 pub(crate) fn fresh(
     alloc: Global,
 ) -> Result<GatewayOver<RegistryOver<Connection<MemStore>>>, Fault> {
     let conn = Connection::open_in_memory(alloc)?;
-    start(alloc, conn, BASE, MOST_REMEMBERED)
+    start(alloc, conn, BASE, REMEMBERED)
 }
 
 /// Replays a script by a new gateway.
@@ -30,7 +30,7 @@ pub(crate) fn replay_new<R: Source, W: Sink>(
     turns: u64,
 ) -> Result<Result<Summary, RunFault>, Fault> {
     let conn = Connection::open_in_memory(alloc)?;
-    let mut gateway = start(alloc, conn, BASE, MOST_REMEMBERED)?;
+    let mut gateway = start(alloc, conn, BASE, REMEMBERED)?;
     Ok(replay(reader, writer, &mut gateway, turns))
 }
 
@@ -63,7 +63,7 @@ pub(crate) fn serve_new<P: Source, Q: Source, R: Sink, D: Sink>(
     turns: u64,
 ) -> Result<Result<Summary, RunFault>, Fault> {
     let conn = Connection::open_in_memory(alloc)?;
-    let mut gateway = start(alloc, conn, BASE, MOST_REMEMBERED)?;
+    let mut gateway = start(alloc, conn, BASE, REMEMBERED)?;
     let (serial_in, serial_out) = serial;
     let (desk_in, desk_out) = desk;
     Ok(live(

@@ -5,6 +5,7 @@ ghost use Rattle.sqlite.specs.declared.types.Value.TheVariants.{Int};
 ghost use Rattle.sqlite.specs.Order.{Row as SqlRow, column};
 ghost use Rattle.learned_devices.specs.declared.Device.{Device};
 ghost use Rattle.device_registry.specs.Faults.{IsMemoryWhere};
+ghost use Rattle.device_registry.specs.Table.{table_version};
 ghost use Rattle.device_registry.specs.Table.Rows.{AreFound, ShowsVersion, listed, is_number, is_maker, shows_device};
 ghost use Rattle.device_registry.specs.Table.Rows.{devices_rise, eep_number, eep_of, maker_number, maker_in};
 
@@ -28,7 +29,7 @@ fn number_in(row: &Row, at: usize, last: u32) -> Option<u32>
 }
 
 /// The maker at a place of the row, where there is a maker's number or that of none.
-fn maker_in(row: &Row, at: usize) -> Option<Option<u16>>
+fn read_maker(row: &Row, at: usize) -> Option<Option<u16>>
     ensures { MatchOption result (is_maker (column row.now at) ≡ false)
         (λ maker. (maker ≡ maker_in (column row.now at)) × IsTrue (is_maker (column row.now at))) }
 {
@@ -56,7 +57,7 @@ fn device_in(row: &Row) -> Option<Device>
 {
     let id = number_in(row, 0, LAST_SENDER)?;
     let eep = eep_of_number(number_in(row, 1, LAST_PROFILE)?);
-    let maker = maker_in(row, 2)?;
+    let maker = read_maker(row, 2)?;
     Some(Device { id, eep, maker })
 }
 
@@ -87,7 +88,7 @@ fn has_number(row: &Row, at: usize, number: i64) -> bool
 /// Whether there is one row, the version's.
 pub fn is_version(rows: &[Row]) -> bool
     ensures version { IsTrue result → ShowsVersion rows.now }
-    ensures complete { rows.now ≡ (Int (pos 1) ∷ Int (pos 1) ∷ []) ∷ [] → IsTrue result }
+    ensures complete { rows.now ≡ (Int (pos 1) ∷ Int (pos table_version) ∷ []) ∷ [] → IsTrue result }
 {
     rows.len() == 1 && has_number(&rows[0], 0, KEY) && has_number(&rows[0], 1, VERSION)
 }

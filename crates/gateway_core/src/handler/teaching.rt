@@ -131,7 +131,7 @@ impl<S: DeviceStore> Handler<S> {
     }
 
     // Forgets the sender of a telegram, learned or not.
-    fn try_delete(&mut self, teach: &Teach, id: u32) -> Result<Done, Refusal>
+    fn try_forget(&mut self, teach: &Teach, id: u32) -> Result<Done, Refusal>
         requires { MayReply teach.now id outcome.Deleted }
         ensures { Tries S.stored self.old (λ state. deletes state teach.now id) result self.new }
     {
@@ -146,11 +146,11 @@ impl<S: DeviceStore> Handler<S> {
         ensures { (asked : Bool) → Tries S.stored self.old (λ state. plan_effect state telegram.now asked
             (plan_of telegram.now state.mode false)) result self.new }
     {
-        // `false`: data of a learned sender is read, and nothing is planned about it
+        // whether the sender is known is asked for data alone, and data of a known sender does not come here
         match plan(telegram, self.mode, false) {
             Plan::Silent => Ok(ignored()),
             Plan::Add(device) => self.try_accept(teach, device),
-            Plan::Forget(id) => self.try_delete(teach, id),
+            Plan::Forget(id) => self.try_forget(teach, id),
             Plan::Refuse(outcome) => {
                 let (eep, maker) = told_by(teach);
                 let refused = self.refuse(teach, telegram.sender(), eep, maker, outcome)?;

@@ -5,7 +5,7 @@ use super::disks::{
     left_by,
 };
 use super::script::{ITEMS, Item, Known, OK, STORE, State};
-use crate::gateways::{BASE, MOST_REMEMBERED, written_by};
+use crate::gateways::{BASE, REMEMBERED, written_by};
 use crate::telling::Telling;
 use anyhow::{Result, bail};
 use device_registry::{OpenFault, RegistryOver, SqlConnection, prepare};
@@ -171,7 +171,7 @@ fn started<C: SqlConnection + Drop>(
     if !conn.is_autocommit() {
         bail!("a transaction is open");
     }
-    match start(alloc, conn, BASE, MOST_REMEMBERED) {
+    match start(alloc, conn, BASE, REMEMBERED) {
         Ok(gateway) => Ok(Some(gateway)),
         Err(Fault::Store) => Ok(None),
         Err(_) => bail!("not refused by the store"),

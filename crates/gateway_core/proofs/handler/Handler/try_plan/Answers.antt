@@ -17,8 +17,8 @@ try_accept-requires-clause-full g c =
     (can_reply c.args.telegram.now _ c.args.teach.now (Add c.in-Add.device) c.requires
     (sym c.plan.ensures ∙ c.in-Add.is)).1
 
-pub try_delete-requires : goal.try_delete-requires
-try_delete-requires g c =
+pub try_forget-requires : goal.try_forget-requires
+try_forget-requires g c =
     can_reply c.args.telegram.now _ c.args.teach.now (Forget c.in-Forget.id) c.requires
     (sym c.plan.ensures ∙ c.in-Forget.is)
 
@@ -58,7 +58,7 @@ returns-in-Forget g c =
     rw (← c.self.view_is) (sym c.plan.ensures ∙ c.in-Forget.is) in
     λ asked.
     tries-same g.S.DeviceStore.stored _ _ _ _ _ (λ devices. rw (plan, ← c.requires) refl)
-    c.try_delete.ensures
+    c.try_forget.ensures
 
 pub returns-in_ok-refused-in-Refuse : goal.returns-in_ok-refused-in-Refuse
 returns-in_ok-refused-in-Refuse g c =

@@ -5,7 +5,7 @@ use Rattle.json_lines.specs.Lines.{Teach, TeachLine, text}
 use Rattle.gateway_core.specs.Step.{deletes, line_with}
 use Rattle.gateway_core.specs.Tries.{state_of}
 use Rattle.gateway_core.proofs.TryLemmas.{taught-answer, tries-forgotten, tries-unforgotten}
-use Rattle.gateway_core.proofs.handler.Handler.try_delete.Goals as goal
+use Rattle.gateway_core.proofs.handler.Handler.try_forget.Goals as goal
 
 pub returns-in_err-verdict : goal.returns-in_err-verdict
 returns-in_err-verdict g c =
