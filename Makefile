@@ -16,7 +16,7 @@ PROGRAM = crates/enogate/out/enogate
 BIN = $(DESTDIR)$(PREFIX)/bin
 MAN = $(DESTDIR)$(PREFIX)/share/man/man1
 WORDS = $(DESTDIR)$(PREFIX)/share/bash-completion/completions
-SOURCES = crates.txt $(wildcard crates/*/src/*.rt crates/*/src/*/*.rt crates/*/specs/*.antt crates/*/proofs/*.antt)
+SOURCES = crates.txt $(shell find crates -name out -prune -o -name '*.rt' -print -o -name '*.antt' -print)
 
 .PHONY: demo build test install uninstall clean
 
@@ -52,4 +52,4 @@ uninstall:
 	rm -f "$(BIN)/enogate" "$(BIN)/enogate-backup" "$(MAN)/enogate.1" "$(WORDS)/enogate"
 
 clean:
-	rm -rf crates/*/out target scripts/rows/__pycache__ tests/program/__pycache__
+	rm -rf crates/*/out target scripts/rows/__pycache__ tests/program/__pycache__ bench/__pycache__

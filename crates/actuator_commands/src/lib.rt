@@ -2,13 +2,13 @@
 //! devices. Nothing here takes memory.
 #![tactic(auto)]
 
+mod grammar;
 pub mod laws;
-mod lines;
 mod orders;
 mod packets;
 mod words;
 
-pub use lines::parse;
+pub use grammar::parse;
 pub use orders::{Order, OrderFault, Quantity};
 pub use packets::packet_of;
 pub use words::id_of;

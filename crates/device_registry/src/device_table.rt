@@ -7,7 +7,7 @@ ghost use Rattle.device_registry.specs.Ready.{AreReady};
 use crate::fault::{LearnFault, StoreFault};
 use crate::receipt::Receipt;
 use crate::sql_connection::SqlConnection;
-use crate::statements::{forget_or_renew, has_no_room, learn, list, look_up};
+use crate::store_calls::{forget_or_renew, has_no_room, learn, list, look_up};
 use crate::table::rows::{all_listed, found};
 use learned_devices::Device;
 use std::alloc::Global;

@@ -17,7 +17,7 @@ mod places;
 mod receipt;
 mod registry;
 mod sql_connection;
-mod statements;
+mod store_calls;
 mod table;
 mod taking;
 #[cfg(test)]

@@ -4,7 +4,8 @@ ghost use Rattle.std.specs.List.{list_any};
 ghost use Rattle.sqlite.specs.Order.{column};
 ghost use Rattle.device_registry.specs.Listing.{has_text, is_line, are_ours};
 
-use crate::table::{CREATE_DEVICE, CREATE_META, DEVICE, META};
+use crate::table::statements::{CREATE_DEVICE, CREATE_META};
+use crate::table::{DEVICE, META};
 use sqlite::Row;
 use sqlite::types::ValueRef;
 

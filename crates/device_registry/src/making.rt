@@ -9,7 +9,7 @@ ghost use Rattle.device_registry.specs.Ready.{Shows};
 ghost use Rattle.device_registry.specs.Opening.{Remains};
 ghost use Rattle.device_registry.specs.Places.{is_clear};
 
-use crate::table::{CREATE_DEVICE, CREATE_META, WRITE_VERSION};
+use crate::table::statements::{CREATE_DEVICE, CREATE_META, WRITE_VERSION};
 use crate::transaction::run_all;
 use sqlite::{Alter, Connection, Error};
 

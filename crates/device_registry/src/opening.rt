@@ -15,7 +15,7 @@ use crate::fault::OpenFault;
 use crate::places::is_clear;
 use crate::registry::RegistryOver;
 use crate::sql_connection::SqlConnection;
-use crate::statements::renew;
+use crate::store_calls::renew;
 use crate::taking::is_registry;
 use sqlite::Error;
 use std::alloc::Global;

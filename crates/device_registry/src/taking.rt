@@ -14,7 +14,7 @@ use crate::listing::are_ours;
 use crate::places::trees_in;
 use crate::sql_connection::SqlConnection;
 use crate::table::rows::{devices_rise, is_version};
-use crate::table::{FIND_ALL, LIST_OBJECTS, READ_VERSION};
+use crate::table::statements::{FIND_ALL, LIST_OBJECTS, READ_VERSION};
 use sqlite::{Error, Row};
 
 /// The rows that a query with no parameters shows.

@@ -1,0 +1,139 @@
+//! The grammar of orders, as a reader: which order a line spells.
+ghost use Rattle.std.specs.Prelude.{◌≡◌};
+ghost use Rattle.actuator_commands.specs.Orders.{one_word, two_words, three_words, four_words, order_in, order_of};
+ghost use Rattle.actuator_commands.specs.Words.{words};
+
+use crate::orders::{Order, OrderFault, is_in_range};
+use crate::words::{eep_of, id_of, next_word, number_of, quantity_of, state_of};
+
+fn one_word(name: &[u8]) -> Option<Order>
+    ensures { result ≡ one_word name.now }
+{
+    if name == b"list".as_slice() {
+        Some(Order::List)
+    } else if name == b"status".as_slice() {
+        Some(Order::Status)
+    } else if name == b"base".as_slice() {
+        Some(Order::Base)
+    } else {
+        None
+    }
+}
+
+fn two_words(name: &[u8], second: &[u8]) -> Option<Order>
+    ensures { result ≡ two_words name.now second.now }
+{
+    if name == b"learn".as_slice() && second == b"on".as_slice() {
+        Some(Order::LearnOn)
+    } else if name == b"learn".as_slice() && second == b"off".as_slice() {
+        Some(Order::LearnOff)
+    } else if name == b"remove".as_slice() {
+        Some(Order::Remove(id_of(second)?))
+    } else if name == b"stop".as_slice() {
+        Some(Order::Stop { id: id_of(second)? })
+    } else if name == b"teach".as_slice() {
+        Some(Order::Teach {
+            offset: number_of(second)?,
+        })
+    } else {
+        None
+    }
+}
+
+fn three_words(name: &[u8], second: &[u8], third: &[u8]) -> Option<Order>
+    ensures { result ≡ three_words name.now second.now third.now }
+{
+    if name == b"learn".as_slice() && second == b"on".as_slice() && third == b"answer".as_slice() {
+        Some(Order::LearnOnAnswer)
+    } else if name == b"learn".as_slice() && second == b"as".as_slice() {
+        Some(Order::LearnAs(eep_of(third)?))
+    } else if name == b"add".as_slice() {
+        Some(Order::Add(id_of(second)?, eep_of(third)?))
+    } else if name == b"query".as_slice() {
+        Some(Order::Query {
+            id: id_of(second)?,
+            channel: number_of(third)?,
+        })
+    } else if name == b"blind".as_slice() {
+        Some(Order::Blind {
+            id: id_of(second)?,
+            value: number_of(third)?,
+        })
+    } else if name == b"central".as_slice() {
+        Some(Order::Central {
+            offset: number_of(second)?,
+            on: state_of(third)?,
+        })
+    } else {
+        None
+    }
+}
+
+fn four_words(name: &[u8], second: &[u8], third: &[u8], fourth: &[u8]) -> Option<Order>
+    ensures { result ≡ four_words name.now second.now third.now fourth.now }
+{
+    if name == b"switch".as_slice() {
+        Some(Order::Switch {
+            id: id_of(second)?,
+            channel: number_of(third)?,
+            on: state_of(fourth)?,
+        })
+    } else if name == b"dim".as_slice() {
+        Some(Order::Dim {
+            id: id_of(second)?,
+            channel: number_of(third)?,
+            value: number_of(fourth)?,
+        })
+    } else if name == b"meter".as_slice() {
+        Some(Order::Meter {
+            id: id_of(second)?,
+            channel: number_of(third)?,
+            quantity: quantity_of(fourth)?,
+        })
+    } else if name == b"level".as_slice() {
+        Some(Order::Level {
+            offset: number_of(second)?,
+            value: number_of(third)?,
+            ramp: number_of(fourth)?,
+        })
+    } else {
+        None
+    }
+}
+
+// The order whose shape a line has, whatever its numbers.
+fn order_in(line: &[u8]) -> Option<Order>
+    ensures { result ≡ order_in (words line.now) }
+{
+    let mut left = Some(line);
+    let name = next_word(&mut left)?;
+    let words = (
+        next_word(&mut left),
+        next_word(&mut left),
+        next_word(&mut left),
+        next_word(&mut left),
+    );
+    match words {
+        (None, ..) => one_word(name),
+        (Some(second), None, ..) => two_words(name, second),
+        (Some(second), Some(third), None, _) => three_words(name, second, third),
+        (Some(second), Some(third), Some(fourth), None) => four_words(name, second, third, fourth),
+        _ => None,
+    }
+}
+
+/// Reads the order that a line of the desk spells: the words that `Order` shows, as they stand and with exactly one
+/// space between two of them, and nothing before or behind. `line` comes without its line end. An ID is what `id_of`
+/// reads, from `00000000` to `FFFFFFFE`, a profile three pairs of hexadecimal digits of either case with `-` between
+/// them, and a number `0` or up to five decimal digits that do not begin with 0.
+///
+/// A line that is no order is refused as `Range` where it has the shape of one, and else as `Syntax`.
+pub fn parse(line: &[u8]) -> Result<Order, OrderFault>
+    ensures { result ≡ order_of line.now }
+{
+    let order = order_in(line).ok_or(OrderFault::Syntax)?;
+    if !is_in_range(&order) {
+        return Err(OrderFault::Range);
+    }
+    Ok(order)
+}

@@ -1,0 +1,162 @@
+//! The calls of the store that the registry makes, each by one statement. A call begins with a text that is compiled,
+//! which tells whether the connection is open: nothing is known of what a shut one writes.
+ghost use Rattle.std.specs.Prelude.{◌≡◌, [], ◌∷◌, map, pos, false, OnOk, OnErr, IfOk, IfErr};
+ghost use Rattle.sqlite.specs.declared.types.Value.TheVariants.{Int};
+ghost use Rattle.sqlite.specs.State.{HasCleanDisk, Survives, Executes, CommitsBy, Shown, FailsToQuery, CommitsShowing};
+ghost use Rattle.device_registry.specs.Devices.{Devices, Change, changed, learned, forgotten, is_full, all_of};
+ghost use Rattle.device_registry.specs.Devices.{device_of};
+ghost use Rattle.device_registry.specs.Table.{learn_text, forget_text, renew_text};
+ghost use Rattle.device_registry.specs.Stored.{Holds};
+ghost use Rattle.device_registry.specs.Opening.{Remains};
+ghost use Rattle.device_registry.specs.Ready.{Shows, IsReady, StaysReady, Stays, Turns, KeepsRows};
+ghost use Rattle.device_registry.specs.Table.Rows.{AreFound, listed};
+
+use crate::fault::StoreFault;
+use crate::limits::MOST_DEVICES;
+use crate::sql_connection::SqlConnection;
+use crate::table::rows::{number, number_of, number_of_maker};
+use crate::table::statements::{COUNT_OTHERS, FIND, FIND_ALL, FORGET, LEARN, RENEW};
+use learned_devices::Device;
+use sqlite::{Error, Row, Statement, params};
+
+/// A text, compiled, which writes nothing. It is refused on a connection that a failure has shut.
+fn compiled<C: SqlConnection>(conn: &mut C, sql: &str) -> Result<Statement, Error>
+    requires { StaysReady (C.state conn.old) }
+    ensures text { HasCleanDisk (C.state conn.new) → IfOk result (λ statement. statement.text ≡ sql.now) }
+    ensures stays { Stays (C.state conn.old) (C.state conn.new) }
+    ensures ready { HasCleanDisk (C.state conn.new) → OnOk result (IsReady (C.state conn.new)) }
+{
+    conn.prepare(sql)
+}
+
+/// The rows that a query of one sender shows.
+fn rows_for<C: SqlConnection>(
+    conn: &mut C,
+    statement: &Statement,
+    id: u32,
+) -> Result<Vec<Row>, Error>
+    ensures shown { HasCleanDisk (C.state conn.new) → IfOk result
+        (λ rows. Shown statement.now.text (Int (pos id) ∷ []) (C.state conn.old)
+        (C.state conn.new) rows.items) }
+    ensures failed { HasCleanDisk (C.state conn.new) →
+        IfErr result (FailsToQuery statement.now.text (Int (pos id) ∷ []) (C.state conn.old)
+        (C.state conn.new)) }
+    ensures survives { Survives (C.state conn.old) (C.state conn.new)
+        (CommitsShowing statement.now.text (Int (pos id) ∷ []) (C.state conn.old)) }
+{
+    conn.query_all_prepared(statement, params![i64::from(id)])
+}
+
+/// The rows of a sender.
+pub(crate) fn look_up<C: SqlConnection>(conn: &mut C, id: u32) -> Result<Vec<Row>, Error>
+    requires { StaysReady (C.state conn.old) }
+    ensures stays { Stays (C.state conn.old) (C.state conn.new) }
+    ensures found { HasCleanDisk (C.state conn.new) → IfOk result (λ rows. IsReady (C.state conn.new) ×
+        ((devices : Devices) → Shows (C.state conn.old) devices → AreFound (device_of devices id) rows.items)) }
+{
+    let find = compiled(conn, FIND)?;
+    rows_for(conn, &find, id)
+}
+
+/// Whether there is no room for a sender.
+pub(crate) fn has_no_room<C: SqlConnection>(conn: &mut C, id: u32) -> Result<bool, StoreFault>
+    requires { StaysReady (C.state conn.old) }
+    ensures stays { Stays (C.state conn.old) (C.state conn.new) }
+    ensures full { HasCleanDisk (C.state conn.new) → IfOk result (λ full. IsReady (C.state conn.new) ×
+        ((devices : Devices) → Shows (C.state conn.old) devices → full ≡ is_full devices id)) }
+{
+    let others = compiled(conn, COUNT_OTHERS)?;
+    let rows = rows_for(conn, &others, id)?;
+    Ok(number(&rows)? >= MOST_DEVICES as u64)
+}
+
+/// All devices, by rising ID.
+pub(crate) fn list<C: SqlConnection>(conn: &mut C) -> Result<Vec<Row>, Error>
+    requires { StaysReady (C.state conn.old) }
+    ensures stays { Stays (C.state conn.old) (C.state conn.new) }
+    ensures all { HasCleanDisk (C.state conn.new) → IfOk result (λ rows. IsReady (C.state conn.new) ×
+        ((devices : Devices) → Shows (C.state conn.old) devices → map listed rows.items ≡ all_of devices)) }
+{
+    let all = compiled(conn, FIND_ALL)?;
+    conn.query_all_prepared(&all, &[])
+}
+
+/// Runs the statement that learns a device.
+fn run_learn<C: SqlConnection>(conn: &mut C, id: i64, eep: i64, maker: i64) -> Result<usize, Error>
+    ensures runs { HasCleanDisk (C.state conn.new) → Executes learn_text (Int id ∷ Int eep ∷ Int maker ∷ [])
+        (C.state conn.old) (C.state conn.new) result }
+    ensures survives { Survives (C.state conn.old) (C.state conn.new)
+        (CommitsBy learn_text (Int id ∷ Int eep ∷ Int maker ∷ []) (C.state conn.old)) }
+{
+    conn.execute(LEARN, params![id, eep, maker])
+}
+
+/// Writes a device, in place of what is known of its sender.
+pub(crate) fn learn<C: SqlConnection>(conn: &mut C, device: Device) -> Result<usize, Error>
+    requires ready { HasCleanDisk (C.state conn.old) → IsReady (C.state conn.old) }
+    requires room { HasCleanDisk (C.state conn.old) → (devices : Devices) → Shows
+        (C.state conn.old) devices → is_full devices device.id ≡ false }
+    ensures { Turns (C.state conn.old) (C.state conn.new) (learned device) result }
+{
+    run_learn(
+        conn,
+        i64::from(device.id),
+        number_of(device.eep),
+        number_of_maker(device.maker),
+    )
+}
+
+/// Runs the statement that forgets a sender.
+fn run_forget<C: SqlConnection>(conn: &mut C, id: i64) -> Result<usize, Error>
+    ensures runs { HasCleanDisk (C.state conn.new) → Executes forget_text (Int id ∷ [])
+        (C.state conn.old) (C.state conn.new) result }
+    ensures survives { Survives (C.state conn.old) (C.state conn.new)
+        (CommitsBy forget_text (Int id ∷ []) (C.state conn.old)) }
+{
+    conn.execute(FORGET, params![id])
+}
+
+/// Takes out what is known of a sender.
+fn forget<C: SqlConnection>(conn: &mut C, id: u32) -> Result<usize, Error>
+    requires { HasCleanDisk (C.state conn.old) → IsReady (C.state conn.old) }
+    ensures { Turns (C.state conn.old) (C.state conn.new) (forgotten id) result }
+{
+    run_forget(conn, i64::from(id))
+}
+
+/// Writes the version as it stands, so that there is a commit where a change changes nothing.
+pub(crate) fn renew<C: SqlConnection>(conn: &mut C) -> Result<usize, Error>
+    requires { HasCleanDisk (C.state conn.old) → IsReady (C.state conn.old) }
+    ensures runs { HasCleanDisk (C.state conn.new) → Executes renew_text [] (C.state conn.old)
+        (C.state conn.new) result }
+    ensures renewed { HasCleanDisk (C.state conn.new) → OnOk result ((devices : Devices) → Shows
+        (C.state conn.old) devices → Shows (C.state conn.new) devices) }
+    ensures stop { Survives (C.state conn.old) (C.state conn.new) (λ trees. (devices : Devices) →
+        Shows (C.state conn.old) devices → Holds trees devices) }
+    ensures rows { HasCleanDisk (C.state conn.new) → OnOk result (IsReady (C.state conn.old) →
+        KeepsRows (C.state conn.old) (C.state conn.new)) }
+    ensures remains { HasCleanDisk (C.state conn.new) → OnErr result (Remains (C.state conn.old)
+        (C.state conn.new)) }
+    ensures turns { (change : Change) → (HasCleanDisk (C.state conn.old) → (devices : Devices) → Shows
+        (C.state conn.old) devices → changed devices change ≡ devices)
+        → Turns (C.state conn.old) (C.state conn.new) change result }
+{
+    conn.execute(RENEW, &[])
+}
+
+/// Takes out what is known of a sender, whose rows these are. Where there is none it commits all the same.
+pub(crate) fn forget_or_renew<C: SqlConnection>(
+    conn: &mut C,
+    id: u32,
+    rows: &[Row],
+) -> Result<usize, Error>
+    requires ready { HasCleanDisk (C.state conn.old) → IsReady (C.state conn.old) }
+    requires found { HasCleanDisk (C.state conn.old) → (devices : Devices) → Shows
+        (C.state conn.old) devices → AreFound (device_of devices id) rows.now }
+    ensures { Turns (C.state conn.old) (C.state conn.new) (forgotten id) result }
+{
+    if rows.is_empty() {
+        return renew(conn);
+    }
+    forget(conn, id)
+}
