@@ -1,5 +1,6 @@
 -- What the transaction that makes the two tables leaves, whatever other tables there are.
-use Rattle.std.proofs.Common.{◌≡◌, ◌≢◌, ◌<◌, inl, inr, ℕ, ◌+◌, ◌^◌, ◌==◌, nat_le, List, [], ◌∷◌, ◌++◌, length, Bool}
+use Rattle.std.proofs.Common.{◌≡◌, ◌≢◌, ◌<◌, inl, inr, ℕ, ◌+◌, ◌^◌, ◌==◌, nat_le, Bool}
+use Rattle.std.proofs.Common.{List, [], ◌∷◌, ◌++◌, length}
 use Rattle.std.proofs.Common.{true, false, not, ◌&&◌, ◌||◌, Some, None, Option, arith, refl, sym, ap, subst, ◌∙◌}
 use Rattle.std.proofs.Common.{append_assoc, append-nil, is_some, codes, slice_get, zero, suc, option_and_then}
 use Rattle.std.proofs.lemmas.Bool.Decides.{nat_tests}

@@ -1,5 +1,6 @@
 -- Which events the bytes of a script are. Own choice.
-use Rattle.std.specs.Prelude.{◌≡◌, ◌≢◌, ℕ, ◌⊎◌, ◌&&◌, All, nat_eq, nat_le, if◌then◌else◌, List, [], ◌∷◌, ◌++◌}
+use Rattle.std.specs.Prelude.{◌≡◌, ◌≢◌, ◌⊎◌, ◌&&◌, if◌then◌else◌, ℕ, nat_eq, nat_le}
+use Rattle.std.specs.Prelude.{List, [], ◌∷◌, ◌++◌, All}
 use Rattle.std.specs.Prelude.{length, drop, map, codes, Result, Ok, Err}
 use Rattle.std.specs.List.{starts_with}
 use Rattle.std.specs.Str.Lines.{lines}
