@@ -22,13 +22,13 @@ fn readings_by(eep: Eep, bytes: &[u8; 4]) -> Option<Readings>
         ≡ option_map (entries_of bytes.now) (rows_of eep) }
 {
     temperature::readings_by(eep, bytes)
-        .or(humidity::readings_by(eep, bytes))
-        .or(light::readings_by(eep, bytes))
-        .or(occupancy::readings_by(eep, bytes))
-        .or(light_temperature_occupancy::readings_by(eep, bytes))
-        .or(gas::readings_by(eep, bytes))
-        .or(room_operating_panel::readings_by(eep, bytes))
-        .or(meter::readings_by(eep, bytes))
+        .or_else(|| humidity::readings_by(eep, bytes))
+        .or_else(|| light::readings_by(eep, bytes))
+        .or_else(|| occupancy::readings_by(eep, bytes))
+        .or_else(|| light_temperature_occupancy::readings_by(eep, bytes))
+        .or_else(|| gas::readings_by(eep, bytes))
+        .or_else(|| room_operating_panel::readings_by(eep, bytes))
+        .or_else(|| meter::readings_by(eep, bytes))
 }
 
 /// Whether telegrams of a profile are read: A5-02-01 to A5-02-0B, A5-02-10 to A5-02-1B, A5-02-20, A5-02-30, A5-04-01,

@@ -17,8 +17,8 @@ pub(crate) fn readings_by(eep: Eep, bytes: &[u8; 4]) -> Option<Readings>
         ≡ option_map (entries_of bytes.now) (rows_in temperature eep) }
 {
     over_40_degrees(eep, bytes)
-        .or(over_80_degrees(eep, bytes))
-        .or(by_10_bits(eep, bytes))
+        .or_else(|| over_80_degrees(eep, bytes))
+        .or_else(|| by_10_bits(eep, bytes))
 }
 
 /// A5-02-01 to A5-02-0B.
