@@ -1,5 +1,5 @@
 -- The learned devices, and how they change.
-use Rattle.std.specs.Prelude.{ℕ, Bool, nat_le, List, map, Option, Some, None}
+use Rattle.std.specs.Prelude.{ℕ, Bool, nat_le, List, [], map, Option, Some, None}
 use Rattle.std.specs.Option.{option_map}
 use Rattle.std.specs.Ordering.{nat_cmp}
 use Rattle.std.specs.FinMap.{FinMap, get, insert, remove, len, entries}
@@ -16,7 +16,7 @@ abbrev pub Devices : Type 0
 Devices = FinMap nat_cmp Learned
 
 abbrev pub device : ℕ → Learned → Device
-device id learned = record { id = id; eep = learned.eep; maker = learned.maker }
+device id learned = record { id = id; eep = learned.eep; maker = learned.maker; label = [] }
 
 -- the device of a sender, if it is learned
 abbrev pub device_of : Devices → ℕ → Option Device

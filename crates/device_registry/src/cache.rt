@@ -19,6 +19,13 @@ pub fn new_cache(alloc: Global, most: usize) -> Result<Cache, AllocError>
     LruCache::new(alloc, most)
 }
 
+/// The same device, if there is one.
+pub fn copied(known: &Option<Device>) -> Option<Device>
+    ensures { result ≡ known.now }
+{
+    known.as_ref().map(Device::copied)
+}
+
 /// What is remembered of a sender, which is the last to go from then on.
 pub fn cached(cache: &mut Cache, id: u32) -> Option<Option<Device>>
     ensures known { IfSome result (λ known. Contains cache.old.entries (id, known)) }
@@ -27,7 +34,7 @@ pub fn cached(cache: &mut Cache, id: u32) -> Option<Option<Device>>
     ensures unknown { IfNone result (lookup (nat_eq id) cache.old.entries ≡ None) }
     ensures unchanged { IfNone result (cache.new.entries ≡ cache.old.entries) }
 {
-    let known = *cache.peek(&id)?;
+    let known = copied(cache.peek(&id)?);
     cache.promote(&id);
     Some(known)
 }

@@ -55,11 +55,12 @@ impl<C: SqlConnection> DeviceTable<C> {
         ensures ready_if_full { HasCleanDisk (C.state self.new) → result ≡ Err LearnFault.Full →
             AreReady (C.state self.old) (C.state self.new) }
     {
-        if has_no_room(&mut self.conn, device.id)? {
+        let id = device.id;
+        if has_no_room(&mut self.conn, id)? {
             return Err(LearnFault::Full);
         }
         let changed = learn(&mut self.conn, device)?;
-        Ok(Receipt::learned(changed, device.id))
+        Ok(Receipt::learned(changed, id))
     }
 
     /// Forgets a sender. It commits also where nothing is known of it.

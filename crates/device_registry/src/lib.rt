@@ -25,7 +25,7 @@ mod tests;
 mod transaction;
 
 pub use fault::{LearnFault, OpenFault, StoreFault};
-pub use learned_devices::Device;
+pub use learned_devices::{Device, LONGEST_LABEL, Label};
 pub use limits::MOST_DEVICES;
 pub use opening::prepare;
 pub use receipt::Receipt;

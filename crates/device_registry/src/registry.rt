@@ -1,8 +1,8 @@
 //! The registry.
-ghost use Rattle.std.specs.Prelude.{◌≡◌};
+ghost use Rattle.std.specs.Prelude.{◌≡◌, []};
 ghost use Rattle.device_registry.specs.Holding.{LooksUp, Learns, Forgets, ListsAll, HandsOn};
 
-use crate::cache::{Cache, cached, forget_entry, remember};
+use crate::cache::{Cache, cached, copied, forget_entry, remember};
 use crate::device_table::DeviceTable;
 use crate::fault::{LearnFault, StoreFault};
 use crate::receipt::Receipt;
@@ -49,7 +49,8 @@ impl<C: SqlConnection> RegistryOver<C> {
         }
         match self.table.find(id) {
             Ok(known) => {
-                remember(&mut self.cache, id, known);
+                let copy = copied(&known);
+                remember(&mut self.cache, id, copy);
                 Ok(known)
             }
             Err(fault) => {
@@ -59,14 +60,18 @@ impl<C: SqlConnection> RegistryOver<C> {
         }
     }
 
-    /// Learns a device, in place of what was known of its sender. `Full` says that 1,000 others are learned.
+    /// Learns a device, in place of what was known of its sender. Its label is the empty one. `Full` says that 1,000
+    /// others are learned.
     pub fn learn(&mut self, device: Device) -> Result<Receipt, LearnFault>
+        requires { device.label ≡ [] }
         ensures { Learns (C.state self.old) (C.state self.new) device result }
     {
-        forget_entry(&mut self.cache, device.id);
+        let id = device.id;
+        let copy = device.copied();
+        forget_entry(&mut self.cache, id);
         match self.table.learn(device) {
             Ok(receipt) => {
-                remember(&mut self.cache, device.id, Some(device));
+                remember(&mut self.cache, id, Some(copy));
                 Ok(receipt)
             }
             Err(LearnFault::Full) => Err(LearnFault::Full),

@@ -99,7 +99,7 @@ teach-told state packet =
         looks = λ e. absurd cc;
         reads = λ read e. absurd cc;
         admits = λ hears eep maker e.
-            (told_of (record { id = t.sender; eep = eep; maker = maker }) Accepted, append-nil _);
+            (told_of (record { id = t.sender; eep = eep; maker = maker; label = [] }) Accepted, append-nil _);
         deletes = λ learning asks e. (line_with t.sender (teach_in_of t) Deleted, append-nil _);
         refuses = λ hears need line is e. (line, append-nil _);
       };

@@ -91,7 +91,7 @@ pub record OfTelegram (P : Effect → Type 0) (state : State) (t : Telegram) : T
   pub looks : P unread
   pub reads : (line : ReadingLine) → P (counted_line NeedsStore count.Reading (Reading line))
   pub admits : Hears state.mode (teach_in_of t) → (eep : Eep) (maker : Option ℕ)
-      → P (accepts state (teach_in_of t) (record { id = t.sender; eep = eep; maker = maker }))
+      → P (accepts state (teach_in_of t) (record { id = t.sender; eep = eep; maker = maker; label = [] }))
   pub deletes : LearnsByTold state.mode → AsksDeletion (teach_in_of t) → P (deletes state (teach_in_of t) t.sender)
   pub refuses : Hears state.mode (teach_in_of t) → (need : Need) (line : TeachLine) → IsRefusal line.outcome
       → P (record (tells_sender state (teach_in_of t) line) { need = need })
@@ -199,7 +199,8 @@ module _ (P : Effect → Type 0) (state : State) where
   of-order each (Ok (LearnAs eep)) = of-supported each eep _ (each.opens _)
   of-order each (Ok LearnOff) = each.opens _
   of-order each (Ok (Add id eep)) =
-      of-supported each eep _ (either P (is_full state.devices id) _ _ (each.finds error.Full) (each.adds _))
+      let known : Device = record { id = id; eep = eep; maker = None; label = [] } in
+      of-supported each eep _ (either P (is_full state.devices id) _ _ (each.finds error.Full) (each.adds known))
   of-order each (Ok (Remove id)) = of-removal each id (device_of state.devices id) refl
   of-order each (Ok ListAll) = each.lists
   of-order each (Ok Status) = each.reports

@@ -1,5 +1,5 @@
 -- What is sent by radio is told.
-use Rattle.std.proofs.Common.{◌≡◌, inl, inr, ℕ, Bool, true, false, List, Option, Some, None, Result, Ok, Err, refl, sym}
+use Rattle.std.proofs.Common.{◌≡◌, inl, inr, ℕ, Bool, true, false, List, [], Option, Some, None, Result, Ok, Err, refl, sym}
 use Rattle.std.proofs.Common.{ap, subst, append-nil}
 use Rattle.std.specs.Prelude.{unwrap_or, is_some, nat_lt, length, if◌then◌else◌}
 use Rattle.esp3_frames.specs.Packet.{Packet, spelling}
@@ -80,7 +80,7 @@ packet-replies state packet bytes =
             looks = λ e. absurd cc;
             reads = λ line e. absurd cc;
             admits = λ hears eep maker e.
-                let known : Device = record { id = t.sender; eep = eep; maker = maker } in
+                let known : Device = record { id = t.sender; eep = eep; maker = maker; label = [] } in
                 (t, carried, told_of known Accepted, append-nil _, replies Accepted hears e);
             deletes = λ learning (query, asked, wants) e.
                 let hears = subst (Hears state.mode) (sym asked) learning in

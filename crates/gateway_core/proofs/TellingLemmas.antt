@@ -84,7 +84,7 @@ told Gone line e known outcome is asks =
 
 -- the device as the query of a telegram tells it
 abbrev asked_of : ℕ → UteQuery → Device
-asked_of id query = record { id = id; eep = eep_in query; maker = Some (maker_in query) }
+asked_of id query = record { id = id; eep = eep_in query; maker = Some (maker_in query); label = [] }
 
 -- its line is the one of what came of the query
 line-asked : (id : ℕ) (kind : Kind) (query : UteQuery) (outcome : Outcome) → kind ≡ Ute query
@@ -112,7 +112,7 @@ packet-tells state line packet =
         looks = λ e. absurd (no_line line e);
         reads = λ read e. absurd (other-line (Reading read) line (λ never. never) e);
         admits = λ hears eep maker e.
-            let known : Device = record { id = t.sender; eep = eep; maker = maker } in
+            let known : Device = record { id = t.sender; eep = eep; maker = maker; label = [] } in
             told Gone line (accepts state (teach_in_of t) known) known Accepted e (λ is. (known, is, refl));
         deletes = λ learning asks e. deleted-tells state packet t line carried asks e;
         refuses = λ hears need other is e.
@@ -170,7 +170,7 @@ packet-answers state packet =
         looks = λ change e. absurd cc;
         reads = λ line change e. absurd cc;
         admits = λ hears eep maker change e.
-            let known : Device = record { id = t.sender; eep = eep; maker = maker } in
+            let known : Device = record { id = t.sender; eep = eep; maker = maker; label = [] } in
             (told_of known Accepted, append-nil _, (known, refl, refl));
         deletes = λ learning asks. deleted-answers state packet t carried asks;
         refuses = λ hears need line is change e. absurd cc;

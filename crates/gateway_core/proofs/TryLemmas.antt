@@ -140,7 +140,7 @@ plan-need state t =
     of_plan (λ plan. (plan_effect state t true plan).need ≡ NeedsStore) t state.mode false (record {
       silent = refl;
       adds = λ hears eep maker.
-          addition-need state.devices (record { id = t.sender; eep = eep; maker = maker }) _ _ refl refl;
+          addition-need state.devices (record { id = t.sender; eep = eep; maker = maker; label = [] }) _ _ refl refl;
       forgets = λ told asks. refl;
       refuses = λ hears outcome is. refl;
     })

@@ -1,5 +1,5 @@
 -- Packets change what is learned in an open window alone.
-use Rattle.std.proofs.Common.{◌≡◌, ◌≢◌, ◌⊎◌, inl, inr, Some, None, Ok, refl, sym, ap, subst, ◌∙◌}
+use Rattle.std.proofs.Common.{◌≡◌, ◌≢◌, ◌⊎◌, inl, inr, [], Some, None, Ok, refl, sym, ap, subst, ◌∙◌}
 use Rattle.erp1_telegrams.specs.declared.eep.Eep.{Eep}
 use Rattle.erp1_telegrams.specs.Telegram.{Telegram, telegram_of}
 use Rattle.esp3_frames.specs.Packet.{Packet}
@@ -53,7 +53,7 @@ packet-changes state packet =
         looks = inr (inr (refl, refl));
         reads = λ line. inr (inr (refl, refl));
         admits = λ hears eep maker.
-            let known : Device = record { id = t.sender; eep = eep; maker = maker } in
+            let known : Device = record { id = t.sender; eep = eep; maker = maker; label = [] } in
             let learning = hears-open state.mode (teach_in_of t) hears in
             inl (t, carried, known, refl, refl, not-closed state.mode learning, hears, refl);
         deletes = λ learning asks. inr (inl (t, carried, asks, refl, learning, refl));

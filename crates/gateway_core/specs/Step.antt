@@ -302,7 +302,7 @@ order_effect state (Ok LearnOnAnswer) = sets LearnAnswer
 order_effect state (Ok (order.LearnAs eep)) = if_supported eep (sets (LearnAs eep))
 order_effect state (Ok LearnOff) = sets Closed
 order_effect state (Ok (order.Add id eep)) =
-    let known : Device = record { id = id; eep = eep; maker = None } in
+    let known : Device = record { id = id; eep = eep; maker = None; label = [] } in
     if_supported eep (addition state.devices known (tells NeedsStore (Error error.Full ∷ [])) (learns known))
 order_effect state (Ok (Remove id)) = removal (device_of state.devices id)
 order_effect state (Ok ListAll) = tells NeedsStore (listing (all_of state.devices))

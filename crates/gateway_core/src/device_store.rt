@@ -1,5 +1,5 @@
 //! What keeps the learned devices.
-ghost use Rattle.std.specs.Prelude.{◌≡◌};
+ghost use Rattle.std.specs.Prelude.{◌≡◌, []};
 ghost use Rattle.sqlite.specs.State.{State};
 ghost use Rattle.device_registry.specs.Holding.{LooksUp, Learns, Forgets, ListsAll};
 
@@ -14,8 +14,9 @@ pub trait DeviceStore {
     fn find(&mut self, id: u32) -> Result<Option<Device>, StoreFault>
         ensures { LooksUp (stored self.old) (stored self.new) id result };
 
-    /// Learns a device, in place of what was known of its sender.
+    /// Learns a device, in place of what was known of its sender. Its label is the empty one.
     fn learn(&mut self, device: Device) -> Result<Receipt, LearnFault>
+        requires { device.label ≡ [] }
         ensures { Learns (stored self.old) (stored self.new) device result };
 
     /// Forgets a sender, also one of which nothing is known.

@@ -4,7 +4,7 @@ use exact_values::{over, scale};
 use json_lines::{
     Count, Counts, ErrorName, device_lines, done_line, reading_line, response_line, status_line,
 };
-use learned_devices::Device;
+use learned_devices::{Device, Label};
 use profiles_rps::{Reading, Readings, What};
 use std::process::Abort;
 use std::test::Fail;
@@ -143,16 +143,19 @@ fn listings(rt: HostRuntime) -> Result<(), Fail> {
         id: 0x0000_0001,
         eep: CONTACT,
         maker: None,
+        label: Label::empty(),
     };
     let actuator = Device {
         id: 0x0180_0ABC,
         eep: ACTUATOR,
         maker: Some(70),
+        label: Label::empty(),
     };
     let last = Device {
         id: 0xFFFF_FFFE,
         eep: ACTUATOR,
         maker: Some(2047),
+        label: Label::empty(),
     };
     let lines = device_lines(rt.alloc(), &[contact, actuator, last])?;
     check(

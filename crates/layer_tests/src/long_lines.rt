@@ -2,7 +2,7 @@
 use erp1_telegrams::{BROADCAST, Eep, Telegram};
 use exact_values::over;
 use json_lines::{device_lines, reading_line, response_line};
-use learned_devices::Device;
+use learned_devices::{Device, Label};
 use profiles_rps::{Reading, Readings, What};
 use std::alloc::{AllocError, Global};
 use std::test::Fail;
@@ -79,6 +79,7 @@ fn a_thousand_devices(rt: HostRuntime) -> Result<(), Fail> {
             id: 0xFFFF_FFFE,
             eep: PANEL,
             maker: Some(2047),
+            label: Label::empty(),
         })?;
     }
     let wanted = text(

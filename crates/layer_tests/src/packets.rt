@@ -6,7 +6,7 @@ use actuator_commands::{Order, OrderFault, Quantity, id_of, packet_of, parse};
 use arrayvec::ArrayVec;
 use erp1_telegrams::{BROADCAST, Eep, Telegram, read, write};
 use esp3_frames::read_packet;
-use learned_devices::Device;
+use learned_devices::{Device, Label};
 use std::alloc::Global;
 use std::process::Abort;
 use std::test::Fail;
@@ -37,6 +37,7 @@ fn telegram(
         id: DEVICE,
         eep: Eep { rorg, func, typ },
         maker: None,
+        label: Label::empty(),
     });
     Ok(packet_of(&order, device.as_ref(), base))
 }

@@ -2,10 +2,17 @@
 //! the store.
 #![tactic(auto)]
 
-use erp1_telegrams::Eep;
+ghost use Rattle.std.specs.Prelude.{◌≡◌};
 
-/// What is known of a sender. It copies plain numbers.
-#[derive(Clone, Copy, Debug, PartialEq, Eq)]
+mod label;
+#[cfg(test)]
+mod tests;
+
+use erp1_telegrams::Eep;
+pub use label::{LONGEST_LABEL, Label};
+
+/// What is known of a sender: plain numbers and a label, none of which takes memory.
+#[derive(Clone, Debug, Drop, PartialEq, Eq)]
 pub struct Device {
     /// The sender's ID, 0 to FFFFFFFE.
     pub id: u32,
@@ -13,4 +20,20 @@ pub struct Device {
     pub eep: Eep,
     /// The number of its maker, 0 to 2047, where it told one.
     pub maker: Option<u16>,
+    /// The text that people know it by, or the empty one.
+    pub label: Label,
+}
+
+impl Device {
+    /// The same device. Unlike `clone`, which may be refused memory by its type, it has no error.
+    pub fn copied(&self) -> Device
+        ensures { result ≡ self.now }
+    {
+        Device {
+            id: self.id,
+            eep: self.eep,
+            maker: self.maker,
+            label: self.label.copied(),
+        }
+    }
 }

@@ -24,8 +24,8 @@ pub or_else : {R E : Type 0} (told : R → E) (read : List Row → E) (eep : Eep
     → (Second → option_map told r ≡ option_map read (rows_in ys eep))
     → option_map told r ≡ option_map read (rows_in (xs ++ ys) eep)
 or_else told read eep xs ys Second None r by_first is by_second = by_second is ∙ sym both
-    where
-        both : option_map read (rows_in (xs ++ ys) eep) ≡ option_map read (rows_in ys eep)
-        both = rw (rows_in-append, option_map-or, ← by_first) refl
+  where
+    both : option_map read (rows_in (xs ++ ys) eep) ≡ option_map read (rows_in ys eep)
+    both = rw (rows_in-append, option_map-or, ← by_first) refl
 or_else told read eep xs ys Second (Some x) r by_first is by_second =
     rw (is, rows_in-append, option_map-or, ← by_first) refl

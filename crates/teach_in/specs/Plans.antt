@@ -1,5 +1,5 @@
 -- The table of verdicts: what is planned about the sender of a telegram. Own choice: the modes and the verdicts.
-use Rattle.std.specs.Prelude.{ℕ, Bool, ◌==◌, ◌&&◌, ◌||◌, not, Option, Some, None, if◌then◌else◌}
+use Rattle.std.specs.Prelude.{ℕ, Bool, ◌==◌, ◌&&◌, ◌||◌, not, [], Option, Some, None, if◌then◌else◌}
 use Rattle.bit_fields.specs.Bits.{field}
 use Rattle.erp1_telegrams.specs.declared.eep.Eep.{Eep}
 use Rattle.erp1_telegrams.specs.Telegram.{Telegram}
@@ -19,7 +19,7 @@ use Rattle.teach_in.specs.Ute.{request_in, deletion, not_used}
 
 -- the sender is learned with this profile and this maker
 abbrev pub add : Telegram → Eep → Option ℕ → Plan
-add t eep maker = Add (record { id = t.sender; eep = eep; maker = maker })
+add t eep maker = Add (record { id = t.sender; eep = eep; maker = maker; label = [] })
 
 -- the same where the profile has this RORG, and nothing where it has another
 abbrev pub add_kind : ℕ → Telegram → Eep → Option ℕ → Plan

@@ -11,7 +11,7 @@ use crate::telegrams::{Teach, bytes_of, classify};
 use crate::ute::{DELETION, NOT_USED, UteQuery};
 use bit_fields::get;
 use erp1_telegrams::{Eep, Telegram};
-use learned_devices::Device;
+use learned_devices::{Device, Label};
 
 /// The profile of a contact, which its teach-in does not tell (EnOcean Equipment Profiles 2.6, "1BS Telegram").
 const CONTACT: Eep = Eep {
@@ -28,6 +28,7 @@ fn add(telegram: &Telegram, eep: Eep, maker: Option<u16>) -> Plan
         id: telegram.sender(),
         eep,
         maker,
+        label: Label::empty(),
     })
 }
 

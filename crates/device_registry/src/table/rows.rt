@@ -12,7 +12,7 @@ ghost use Rattle.device_registry.specs.Table.Rows.{devices_rise, eep_number, eep
 use super::{KEY, LAST_MAKER, LAST_PROFILE, LAST_SENDER, NO_MAKER, VERSION};
 use crate::fault::StoreFault;
 use erp1_telegrams::Eep;
-use learned_devices::Device;
+use learned_devices::{Device, Label};
 use sqlite::types::ValueRef;
 use sqlite::{Error, ErrorCode, Row};
 use std::alloc::Global;
@@ -58,7 +58,12 @@ fn device_in(row: &Row) -> Option<Device>
     let id = number_in(row, 0, LAST_SENDER)?;
     let eep = eep_of_number(number_in(row, 1, LAST_PROFILE)?);
     let maker = read_maker(row, 2)?;
-    Some(Device { id, eep, maker })
+    Some(Device {
+        id,
+        eep,
+        maker,
+        label: Label::empty(),
+    })
 }
 
 /// Whether the rows are those of devices, by rising ID.

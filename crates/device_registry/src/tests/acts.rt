@@ -1,9 +1,8 @@
 //! Calls of a registry as data, each with the answer that is wanted of it.
 ghost use Rattle.std.specs.Prelude.{◌≤◌};
 
-use super::given::{Fresh, contact, either, fresh_registry, is_full, open_idle};
+use super::given::{Fresh, Unlabelled, contact, either, fresh_registry, is_full, open_idle};
 use super::remembering::Remembering;
-use crate::Device;
 use std::alloc::Global;
 use std::process::Abort;
 use std::test::Fail;
@@ -12,19 +11,19 @@ use std::test::Fail;
 #[derive(Clone, Copy)]
 pub enum Act {
     /// A sender is this device, or is not learned.
-    Finds(u32, Option<Device>),
+    Finds(u32, Option<Unlabelled>),
     /// The device is learned.
-    Learns(Device),
+    Learns(Unlabelled),
     /// The device is one too many.
-    IsFullFor(Device),
+    IsFullFor(Unlabelled),
     /// The sender is not learned from then on.
     Forgets(u32),
     /// So many devices are listed.
     Counts(usize),
     /// At this place of the list, from 0 on, stands this device.
-    Lists(usize, Device),
+    Lists(usize, Unlabelled),
     /// What is remembered of a sender, if it is.
-    Remembers(u32, Option<Option<Device>>),
+    Remembers(u32, Option<Option<Unlabelled>>),
     /// So many senders are remembered.
     RemembersSoMany(usize),
     /// An act with so many senders, with the IDs from 0 on.
@@ -78,8 +77,8 @@ pub fn take_all<R: Remembering>(
 fn take<R: Remembering>(rt: &impl Abort, registry: &mut R, act: Act) -> Result<(), Fail> {
     match act {
         Act::Finds(id, wanted) => find(rt, registry, id, wanted),
-        Act::Learns(device) => learn(rt, registry, device),
-        Act::IsFullFor(device) => be_full_for(rt, registry, device),
+        Act::Learns(known) => learn(rt, registry, known),
+        Act::IsFullFor(known) => be_full_for(rt, registry, known),
         Act::Forgets(id) => forget(rt, registry, id),
         Act::Counts(wanted) => count(rt, registry, wanted),
         Act::Lists(at, wanted) => list(rt, registry, at, wanted),
@@ -108,9 +107,9 @@ fn find<R: Remembering>(
     rt: &impl Abort,
     registry: &mut R,
     id: u32,
-    wanted: Option<Device>,
+    wanted: Option<Unlabelled>,
 ) -> Result<(), Fail> {
-    assert_eq!(rt; registry.find(id)?, wanted, "{id}");
+    assert_eq!(rt; registry.find(id)?, wanted.map(Unlabelled::device), "{id}");
     Ok(())
 }
 
@@ -121,9 +120,9 @@ fn find_none<R: Remembering>(rt: &impl Abort, registry: &mut R, count: u32) -> R
     Ok(())
 }
 
-fn learn<R: Remembering>(rt: &impl Abort, registry: &mut R, device: Device) -> Result<(), Fail> {
-    let receipt = registry.learn(device)?;
-    assert_eq!(rt; receipt.spend(), (device.id, true));
+fn learn<R: Remembering>(rt: &impl Abort, registry: &mut R, known: Unlabelled) -> Result<(), Fail> {
+    let receipt = registry.learn(known.device())?;
+    assert_eq!(rt; receipt.spend(), (known.id, true));
     Ok(())
 }
 
@@ -161,9 +160,9 @@ fn find_in_turn<R: Remembering>(rt: &impl Abort, registry: &mut R, count: u32) -
 fn be_full_for<R: Remembering>(
     rt: &impl Abort,
     registry: &mut R,
-    device: Device,
+    known: Unlabelled,
 ) -> Result<(), Fail> {
-    match registry.learn(device) {
+    match registry.learn(known.device()) {
         Ok(receipt) => {
             let (_id, _is_learned) = receipt.spend();
             Err(Fail::from("one too many"))
@@ -190,9 +189,9 @@ fn list<R: Remembering>(
     rt: &impl Abort,
     registry: &mut R,
     at: usize,
-    wanted: Device,
+    wanted: Unlabelled,
 ) -> Result<(), Fail> {
-    assert_eq!(rt; registry.all()?.get(at).copied(), Some(wanted), "{at}");
+    assert_eq!(rt; registry.all()?.get(at), Some(&wanted.device()), "{at}");
     Ok(())
 }
 
@@ -200,9 +199,13 @@ fn remember<R: Remembering>(
     rt: &impl Abort,
     registry: &R,
     id: u32,
-    wanted: Option<Option<Device>>,
+    wanted: Option<Option<Unlabelled>>,
 ) -> Result<(), Fail> {
-    assert_eq!(rt; registry.remembered(id), wanted, "{id}");
+    assert_eq!(rt;
+        registry.remembered(id),
+        wanted.map(|known| known.map(Unlabelled::device)),
+        "{id}"
+    );
     Ok(())
 }
 

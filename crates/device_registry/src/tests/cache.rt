@@ -2,15 +2,14 @@
 ghost use Rattle.std.specs.Prelude.{◌≤◌};
 
 use super::acts::{Act, Many, play};
-use super::given::{contact, sensor};
-use crate::Device;
+use super::given::{Unlabelled, contact, sensor};
 use sqlite::MemStore;
 use std::alloc::Global;
 use std::process::Abort;
 use std::test::Fail;
 
 /// A sender that is remembered as not learned.
-const NOT_LEARNED: Option<Option<Device>> = Some(None);
+const NOT_LEARNED: Option<Option<Unlabelled>> = Some(None);
 
 #[test]
 fn a_look_up_is_remembered(rt: HostRuntime) -> Result<(), Fail> {

@@ -1,7 +1,6 @@
 //! What is learned is found, listed and forgotten, also by the next open.
 use super::acts::{Act, Many, play, take_all};
-use super::given::{Fresh, contact, fresh_registry, open_idle, run, sensor};
-use crate::Device;
+use super::given::{Fresh, Unlabelled, contact, fresh_registry, open_idle, run, sensor};
 use erp1_telegrams::Eep;
 use sqlite::{Alter, Connection, MemStore};
 use std::alloc::Global;
@@ -26,7 +25,7 @@ fn learns_finds_and_forgets(rt: HostRuntime) -> Result<(), Fail> {
 
 #[test]
 fn numbers_at_their_ends(rt: HostRuntime) -> Result<(), Fail> {
-    let least = Device {
+    let least = Unlabelled {
         id: 0,
         eep: Eep {
             rorg: 0,
@@ -35,7 +34,7 @@ fn numbers_at_their_ends(rt: HostRuntime) -> Result<(), Fail> {
         },
         maker: Some(0),
     };
-    let greatest = Device {
+    let greatest = Unlabelled {
         id: 0xFFFF_FFFE,
         eep: Eep {
             rorg: 0xFF,

@@ -1,8 +1,8 @@
 //! Devices, faults and statements that the tests share.
-ghost use Rattle.std.specs.Prelude.{◌≤◌};
+ghost use Rattle.std.specs.Prelude.{◌≡◌, ◌≤◌, []};
 
 use super::remembering::Remembering;
-use crate::{Device, LearnFault, OpenFault, Registry, StoreFault, prepare};
+use crate::{Device, Label, LearnFault, OpenFault, Registry, StoreFault, prepare};
 use erp1_telegrams::Eep;
 use sqlite::{Alter, Connection, MemStore};
 use std::alloc::Global;
@@ -30,16 +30,37 @@ pub const DEVICE_TABLE: &str = "CREATE TABLE enogate_device (\
 
 pub const VERSION_ROW: &str = "INSERT INTO enogate_meta VALUES (1, 1);";
 
-pub fn contact(id: u32) -> Device {
-    Device {
+/// What is known of a sender that has the empty label.
+#[derive(Clone, Copy)]
+pub struct Unlabelled {
+    pub id: u32,
+    pub eep: Eep,
+    pub maker: Option<u16>,
+}
+
+impl Unlabelled {
+    pub fn device(self) -> Device
+        ensures { result.label ≡ [] }
+    {
+        Device {
+            id: self.id,
+            eep: self.eep,
+            maker: self.maker,
+            label: Label::empty(),
+        }
+    }
+}
+
+pub fn contact(id: u32) -> Unlabelled {
+    Unlabelled {
         id,
         eep: CONTACT,
         maker: None,
     }
 }
 
-pub fn sensor(id: u32) -> Device {
-    Device {
+pub fn sensor(id: u32) -> Unlabelled {
+    Unlabelled {
         id,
         eep: SENSOR,
         maker: Some(70),
@@ -47,7 +68,7 @@ pub fn sensor(id: u32) -> Device {
 }
 
 /// A contact or a sensor, in turn.
-pub fn either(id: u32) -> Device {
+pub fn either(id: u32) -> Unlabelled {
     if id % 2 == 0 { contact(id) } else { sensor(id) }
 }
 
@@ -73,8 +94,8 @@ pub fn is_full(fault: &LearnFault) -> bool {
     matches!(fault, LearnFault::Full)
 }
 
-pub fn learn<R: Remembering>(registry: &mut R, device: Device) -> Result<(), LearnFault> {
-    let (_id, _is_learned) = registry.learn(device)?.spend();
+pub fn learn<R: Remembering>(registry: &mut R, known: Unlabelled) -> Result<(), LearnFault> {
+    let (_id, _is_learned) = registry.learn(known.device())?.spend();
     Ok(())
 }
 

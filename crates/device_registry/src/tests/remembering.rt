@@ -1,11 +1,15 @@
 //! What tests ask of a registry, whatever its store is.
+ghost use Rattle.std.specs.Prelude.{◌≡◌, []};
+
+use crate::cache::copied;
 use crate::{Device, LearnFault, Receipt, RegistryOver, SqlConnection, StoreFault};
 
 /// The calls of a registry, and looks at what it remembers: so what takes one names no types of the store.
 pub trait Remembering {
     fn find(&mut self, id: u32) -> Result<Option<Device>, StoreFault>;
 
-    fn learn(&mut self, device: Device) -> Result<Receipt, LearnFault>;
+    fn learn(&mut self, device: Device) -> Result<Receipt, LearnFault>
+        requires { device.label ≡ [] };
 
     fn forget(&mut self, id: u32) -> Result<Receipt, StoreFault>;
 
@@ -36,7 +40,7 @@ impl<C: SqlConnection> Remembering for RegistryOver<C> {
     }
 
     fn remembered(&self, id: u32) -> Option<Option<Device>> {
-        self.cache.peek(&id).copied()
+        self.cache.peek(&id).map(copied)
     }
 
     fn count_remembered(&self) -> usize {

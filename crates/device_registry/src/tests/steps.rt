@@ -68,7 +68,7 @@ fn is_find_refused<R: Remembering>(
 ) -> Result<bool, Fail> {
     match registry.find(id) {
         Ok(found) => {
-            assert_eq!(rt; found, Some(contact(id)));
+            assert_eq!(rt; found, Some(contact(id).device()));
             Ok(false)
         }
         Err(fault) => {
@@ -108,7 +108,7 @@ fn is_forget_refused<R: Remembering>(
 fn is_all_refused<R: Remembering>(rt: &impl Abort, registry: &mut R) -> Result<bool, Fail> {
     match registry.all() {
         Ok(all) => {
-            assert!(rt; all.contains(&sensor(3)) && !all.contains(&contact(5)));
+            assert!(rt; all.contains(&sensor(3).device()) && !all.contains(&contact(5).device()));
             Ok(false)
         }
         Err(fault) => {
@@ -209,7 +209,7 @@ fn found<R: Remembering>(rt: &impl Abort, registry: &mut R) -> Result<End, Fail>
     take_all(rt, registry, &[Act::Finds(7, Some(contact(7)))])?;
     match registry.find(600)? {
         Some(found) => {
-            assert_eq!(rt; found, sensor(600));
+            assert_eq!(rt; found, sensor(600).device());
             Ok(End::Found)
         }
         None => Ok(End::NotFound),

@@ -24,8 +24,9 @@ pub(crate) struct Committed {
 }
 
 impl<S: DeviceStore> Handler<S> {
-    // Learns a device. It is `None` where the registry is full, which tells so before it writes.
+    // Learns a device, whose label is the empty one. It is `None` where the registry is full, which tells so before it writes.
     pub(crate) fn learn(&mut self, device: Device) -> Result<Option<Committed>, Refusal>
+        requires { device.label ≡ [] }
         ensures { Learns S.stored self.old device result self.new }
     {
         let draft = teach_line(
@@ -67,6 +68,7 @@ impl<S: DeviceStore> Handler<S> {
 
     // Learns a device that the desk names.
     pub(crate) fn learn_named(&mut self, device: Device) -> Result<Done, Refusal>
+        requires { device.label ≡ [] }
         ensures { Tries S.stored self.old (λ state. addition state.devices device
             (tells NeedsStore (Error ErrorName.Full ∷ [])) (learns device)) result self.new }
     {

@@ -12,7 +12,7 @@ use crate::handler::sending::{ask_base, error_of};
 use crate::refusal::Refusal;
 use crate::reply::Desk;
 use actuator_commands::{Order, parse};
-use device_registry::Device;
+use device_registry::{Device, Label};
 use erp1_telegrams::Eep;
 use json_lines::{ErrorName, device_lines, status_line};
 use teach_in::{Mode, supported};
@@ -43,6 +43,7 @@ impl<S: DeviceStore> Handler<S> {
             id,
             eep,
             maker: None,
+            label: Label::empty(),
         })
     }
 

@@ -1,5 +1,5 @@
 //! How the sender of a telegram is learned or forgotten, or told why it is not, and what it is replied.
-ghost use Rattle.std.specs.Prelude.{◌≡◌, ◌≢◌, ℕ, Bool, false, None, Some, IfOk, option_map};
+ghost use Rattle.std.specs.Prelude.{◌≡◌, ◌≢◌, [], ℕ, Bool, false, None, Some, IfOk, option_map};
 ghost use Rattle.device_registry.specs.Devices.{Devices};
 ghost use Rattle.teach_in.specs.declared.outcome.Outcome as spec;
 ghost use Rattle.teach_in.specs.declared.outcome.Outcome.TheVariants as outcome;
@@ -109,20 +109,16 @@ impl<S: DeviceStore> Handler<S> {
 
     // Learns the sender of a telegram.
     fn try_accept(&mut self, teach: &Teach, device: Device) -> Result<Done, Refusal>
+        requires label { device.label ≡ [] }
         requires accepted { MayReply teach.now device.id outcome.Accepted }
         requires full { MayReply teach.now device.id outcome.Full }
         ensures { Tries S.stored self.old (λ state. addition state.devices device
             (Step.tells_sender state teach.now (told_of device outcome.Full)) (accepts state teach.now device))
             result self.new }
     {
+        let (id, eep, maker) = (device.id, device.eep, device.maker);
         let Some(Committed { verdict, line }) = self.learn(device)? else {
-            let full = self.refuse(
-                teach,
-                device.id,
-                Some(device.eep),
-                device.maker,
-                Outcome::Full,
-            )?;
+            let full = self.refuse(teach, id, Some(eep), maker, Outcome::Full)?;
             return Ok(full);
         };
         let mut done = self.tell_sender(teach, &verdict, line);

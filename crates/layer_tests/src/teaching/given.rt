@@ -1,6 +1,6 @@
 //! A sender, its telegrams and what is planned about it, which the tests share.
 use erp1_telegrams::{BROADCAST, Eep, Telegram};
-use learned_devices::Device;
+use learned_devices::{Device, Label};
 use std::test::Fail;
 use teach_in::{Mode, Plan, Teach, classify, plan};
 
@@ -29,5 +29,6 @@ pub(crate) fn add(eep: Eep, maker: Option<u16>) -> Plan {
         id: SENDER,
         eep,
         maker,
+        label: Label::empty(),
     })
 }

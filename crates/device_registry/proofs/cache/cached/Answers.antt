@@ -6,8 +6,8 @@ use Rattle.device_registry.proofs.cache.cached.Goals as goal
 
 pub returns-clause-known : goal.returns-clause-known
 returns-clause-known c =
-    let found : lookup (eqb c.args.id) c.args.cache.now.entries ≡ Some c.in_ok-known.field-0.now = search rules in
-    looked_up c.args.id c.args.cache.now.entries c.in_ok-known.field-0.now found
+    let found : lookup (eqb c.args.id) c.args.cache.now.entries ≡ Some c.in_ok-peek.field-0.now = search rules in
+    rw c.copied-known.ensures (looked_up c.args.id c.args.cache.now.entries c.in_ok-peek.field-0.now found)
 
 pub returns-clause-kept : goal.returns-clause-kept
 returns-clause-kept c entry has =

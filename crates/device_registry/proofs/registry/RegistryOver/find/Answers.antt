@@ -34,7 +34,7 @@ invariant_of-self-in-Ok g c =
           c.remember.new.cache.entries c.find.ensures.looks_up.clean c.in-Ok.ensures.ready
           c.in-Ok.ensures.looks_up.devices
           (fewer_recalled old c.self.inside.cache.entries c.cached.new.cache.entries c.self.invariant.1
-          c.cached.ensures.kept) c.remember.ensures.kept,
+          c.cached.ensures.kept) (rw c.copied-copy.ensures at c.remember.ensures.kept),
     )
 
 pub returns-in-Ok : goal.returns-in-Ok

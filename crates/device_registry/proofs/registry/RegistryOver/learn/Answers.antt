@@ -1,18 +1,24 @@
-use Rattle.std.proofs.Common.{◌≡◌, ◌∙◌, Some, Err, refl, ap, subst}
+use Rattle.std.proofs.Common.{◌≡◌, ◌∙◌, ℕ, List, Some, Err, ap, subst}
+use Rattle.learned_devices.specs.declared.Device.{Device}
 use Rattle.device_registry.specs.Devices.{learned}
 use Rattle.device_registry.specs.Holding.{Learns}
 use Rattle.device_registry.specs.declared.fault.LearnFault.TheVariants.{Full}
 use Rattle.device_registry.proofs.CacheAgreement.{changed_recalled, full_recalled}
 use Rattle.device_registry.proofs.registry.RegistryOver.learn.Goals as goal
 
+-- the device with another label
+abbrev labelled : Device → List ℕ → Device
+labelled it label = record { id = it.id; eep = it.eep; maker = it.maker; label = label }
+
 pub invariant_of-self : goal.invariant_of-self
 invariant_of-self g c = (
   c.learn.ensures.learns.registries,
   changed_recalled (g.C.SqlConnection.state c.self.inside.table) (g.C.SqlConnection.state c.learn.new.self)
       (learned c.args.device)
-      (Some c.args.device) c.self.inside.cache.entries c.forget_entry.new.cache.entries c.remember.new.cache.entries
+      (Some c.copied-copy.result) c.self.inside.cache.entries c.forget_entry.new.cache.entries c.remember.new.cache.entries
       c.learn.ensures.learns.clean c.in-Ok.ensures.ready
-      (λ clean devices has. (c.in-Ok.ensures.learns.devices clean devices has).1) refl c.self.invariant.1
+      (λ clean devices has. (c.in-Ok.ensures.learns.devices clean devices has).1)
+      (ap (λ it. Some it) (c.copied-copy.ensures ∙ ap (labelled c.args.device) c.requires)) c.self.invariant.1
       c.forget_entry.ensures.kept c.remember.ensures.kept,
 )
 

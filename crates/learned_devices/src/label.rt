@@ -1,0 +1,121 @@
+//! The label of a device.
+
+ghost use Rattle.std.specs.Prelude.{◌≡◌, ◌↔◌, [], true, IsSome, IfSome, nat_eq};
+ghost use Rattle.std.specs.Cmp.{on_equiv, on_per, partial_equiv_from_equiv};
+ghost use Rattle.std.specs.Cmp.Lexicographic.{nat_list_eq_equiv, pointwise};
+ghost use Rattle.std.specs.List.{list_all};
+ghost use Rattle.learned_devices.specs.Labels.{is_label, is_name, is_shown};
+
+use arrayvec::ArrayString;
+use std::alloc::AllocError;
+use std::fmt;
+use std::marker::Model;
+
+/// The longest label, in bytes. Own choice.
+pub const LONGEST_LABEL: usize = 32;
+
+/// A text that people know a device by, or the empty one: at most `LONGEST_LABEL` bytes from space to `~` of ASCII, of
+/// which neither the first nor the last is a space. It lies in a fixed array. Own choice.
+#[derive(Drop)]
+pub struct Label {
+    text: ArrayString<LONGEST_LABEL>,
+}
+
+impl Model for Label {
+    ghost use Rattle.std.specs.Prelude.{◌≡◌, ℕ, List, true};
+    ghost use Rattle.learned_devices.specs.Labels.{is_label};
+
+    ghost Value = { List ℕ };
+
+    ghost view = { λ label. label.text.bytes };
+
+    ghost invariant = { λ label. is_label label.text.bytes ≡ true };
+}
+
+fn is_shown(byte: &u8) -> bool
+    ensures { result ≡ is_shown byte.now }
+{
+    (b' '..=b'~').contains(byte)
+}
+
+fn are_shown(text: &[u8]) -> bool
+    ensures { result ≡ list_all is_shown text.now }
+{
+    text.iter().all(is_shown)
+}
+
+/// Whether a text would be a label, were it not too long.
+fn is_name(text: &[u8]) -> bool
+    ensures { result ≡ is_name text.now }
+{
+    are_shown(text) && !text.starts_with(b" ") && !text.ends_with(b" ")
+}
+
+impl Label {
+    /// The label of a device that was given none.
+    pub fn empty() -> Label
+        ensures { result ≡ [] }
+    {
+        Label {
+            text: ArrayString::new(),
+        }
+    }
+
+    /// The label with this text, where it is one.
+    pub fn new(text: &str) -> Option<Label>
+        ensures some { IfSome result (λ label. label ≡ text.now) }
+        ensures variant { IsSome result ↔ (is_label text.now ≡ true) }
+    {
+        if !is_name(text.as_bytes()) {
+            return None;
+        }
+        let text = ArrayString::from(text).ok()?;
+        Some(Label { text })
+    }
+
+    /// The text of the label.
+    pub fn as_str(&self) -> &str
+        ensures { result.now ≡ self.now }
+    {
+        self.text.as_str()
+    }
+
+    /// The same label. Unlike `clone`, which may be refused memory by its type, it has no error.
+    pub fn copied(&self) -> Label
+        ensures { result ≡ self.now }
+    {
+        Label { text: self.text }
+    }
+}
+
+impl Clone for Label {
+    ghost use Rattle.std.specs.Prelude.{◌≡◌};
+
+    ghost is_clone = { λ label copy. copy ≡ label };
+
+    ghost is_infallible = { λ _. Unit {0} };
+
+    fn clone(&self) -> Result<Label, AllocError> {
+        Ok(self.copied())
+    }
+}
+
+impl PartialEq for Label {
+    ghost eq = { λ a b. pointwise nat_eq a b };
+
+    ghost laws = { on_per (λ label. label) (partial_equiv_from_equiv nat_list_eq_equiv) };
+
+    fn eq(&self, other: &Label) -> bool {
+        self.as_str() == other.as_str()
+    }
+}
+
+impl Eq for Label {
+    ghost laws = { on_equiv (λ label. label) nat_list_eq_equiv };
+}
+
+impl fmt::Debug for Label {
+    fn fmt<W: fmt::Write>(&self, f: &mut fmt::Formatter<W>) -> fmt::Result {
+        fmt::Debug::fmt(&self.as_str(), f)
+    }
+}

@@ -1,0 +1,64 @@
+//! Which texts are labels.
+use crate::{Device, LONGEST_LABEL, Label};
+use erp1_telegrams::Eep;
+use std::test::Fail;
+
+/// The text of the label that is made of a text.
+fn told(label: &Option<Label>) -> Option<&str> {
+    label.as_ref().map(Label::as_str)
+}
+
+#[test]
+fn labels(rt: HostRuntime) -> Result<(), Fail> {
+    for text in [
+        "",
+        "~",
+        "Door \"A\"",
+        "a  b\\c",
+        "12345678901234567890123456789012",
+    ] {
+        assert_eq!(rt; told(&Label::new(text)), Some(text));
+    }
+    assert_eq!(rt; LONGEST_LABEL, 32);
+    assert_eq!(rt; Label::empty().as_str(), "");
+    Ok(())
+}
+
+#[test]
+fn no_labels(rt: HostRuntime) -> Result<(), Fail> {
+    for text in [
+        " ",
+        " x",
+        "x ",
+        "a\x1Fb",
+        "a\x7Fb",
+        "a\tb",
+        "\n",
+        "T\u{FC}r",
+        "123456789012345678901234567890123",
+    ] {
+        assert!(rt; Label::new(text).is_none());
+    }
+    Ok(())
+}
+
+#[test]
+fn copies_are_equal(rt: HostRuntime) -> Result<(), Fail> {
+    let label = Label::new("Door").unwrap_or(Label::empty());
+    let door = Device {
+        id: 0x0180_0ABC,
+        eep: Eep {
+            rorg: 0xD5,
+            func: 0x00,
+            typ: 0x01,
+        },
+        maker: None,
+        label: label.copied(),
+    };
+    let copy = door.copied();
+    assert_eq!(rt; copy.label, label);
+    assert_eq!(rt; copy.label.as_str(), "Door");
+    assert_eq!(rt; copy, door);
+    assert!(rt; copy.label != Label::empty());
+    Ok(())
+}
