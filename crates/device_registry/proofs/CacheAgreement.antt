@@ -1,6 +1,6 @@
 -- What is remembered stays right.
 use Rattle.std.proofs.Common.{◌≡◌, ◌≢◌, ◌⊎◌, inl, inr, ℕ, List, [], Option, Some, None, Contains}
-use Rattle.std.proofs.Common.{IsTrue, refl, sym, ap, subst, ◌∙◌, nat_cmp}
+use Rattle.std.proofs.Common.{arith, true, false, refl, sym, ap, subst, ◌∙◌, nat_cmp}
 use Rattle.std.specs.Option.{option_map}
 use Rattle.std.specs.Ordering.{eq_by_cmp}
 use Rattle.std.specs.FinMap.{get, get-insert, get-remove}
@@ -9,11 +9,12 @@ use Rattle.std.proofs.lemmas.Bool.Decides.{nat_tests}
 use Rattle.lru.proofs.Splits.{Contains-nil}
 use Rattle.sqlite.specs.State.{State, HasCleanDisk}
 use Rattle.learned_devices.specs.declared.Device.{Device}
-use Rattle.device_registry.specs.Devices.{Devices, Learned, Change, changed, entered, device, device_of}
+use Rattle.device_registry.specs.Devices.{Devices, Learned, Change, changed, after, entered, device, device_of}
 use Rattle.device_registry.specs.Holding.{HasDevices, Keeps, Commits}
 use Rattle.device_registry.specs.Ready.{IsReady}
 use Rattle.device_registry.specs.Cached.{EntryAgrees, CacheAgrees}
 use Rattle.device_registry.proofs.DevicesHeld.{registers_once}
+use Rattle.device_registry.proofs.RegistryCalls.{shows_them}
 
 abbrev Entry : Type 0
 Entry = ℕ × Option Device
@@ -29,7 +30,7 @@ fewer_recalled s old new recalls kept entry has clean = recalls entry (kept entr
 pub recalled : (s : State) (id : ℕ) (known : Option Device) → HasCleanDisk s → EntryAgrees s (id, known)
     → (devices : Devices) → HasDevices s devices → known ≡ device_of devices id
 recalled s id known clean right devices has = right.is ∙ ap (λ (m : Devices). device_of m id)
-    (registers_once s.now right.devices devices right.registers (has clean right.is_open))
+    (registers_once s.now right.devices devices right.shows.registers (has clean right.shows.is_open))
 
 pub unmoved : (s : State) (devices : Devices) → HasDevices s devices → Keeps s s devices
 unmoved s devices has = record { now = has; stop = λ left may. may }
@@ -37,14 +38,18 @@ unmoved s devices has = record { now = has; stop = λ left may. may }
 held : {s : State} (ready : IsReady s) → HasDevices s ready.devices
 held ready = λ _ _. ready.shows.registers
 
+-- and it tells that the registry is ready
+pub told_ready : (s : State) (entry : Entry) → EntryAgrees s entry → IsReady s × IsReady s
+told_ready s entry right =
+    let it : IsReady s = record { devices = right.devices; shows = right.shows } in (it, it)
+
 -- an entry that was right is right after a call that keeps each list of devices
-still : (old new : State) → (HasCleanDisk new → HasCleanDisk old) → HasCleanDisk new → IsTrue new.is_open
+still : (old new : State) → HasCleanDisk new → IsReady new
     → ((devices : Devices) → HasDevices old devices → HasDevices new devices) → (entry : Entry) → EntryAgrees old entry
     → EntryAgrees new entry
-still old new early clean is_open keeps entry right = record {
-  is_open = is_open;
+still old new clean ready keeps entry right = record {
   devices = right.devices;
-  registers = keeps right.devices (λ _ _. right.registers) clean is_open;
+  shows = shows_them new right.devices clean ready (keeps right.devices (λ _ _. right.shows.registers));
   is = right.is;
 }
 
@@ -60,15 +65,14 @@ found_recalled old new id known before after early sure found recalls kept entry
     let was_devices = it.0.devices in
     let had = held it.0 in
     elim (kept entry has) [
-      | inl was ↦ still old new early clean it.1.shows.is_open (λ devices had. (found clean devices had).1.now) entry
+      | inl was ↦ still old new clean it.1 (λ devices had. (found clean devices had).1.now) entry
           (recalls entry was (early clean))
       | inr same ↦
           let told = found clean was_devices had in
           subst (EntryAgrees new) (sym same)
           (record {
-            is_open = it.1.shows.is_open;
             devices = was_devices;
-            registers = told.1.now clean it.1.shows.is_open;
+            shows = shows_them new was_devices clean it.1 told.1.now;
             is = told.0;
           })
     ]
@@ -78,57 +82,59 @@ pub listed_recalled : (old new : State) (entries : List Entry) → (HasCleanDisk
     → (HasCleanDisk new → (devices : Devices) → HasDevices old devices → Keeps old new devices)
     → CacheAgrees old entries → CacheAgrees new entries
 listed_recalled old new entries early sure keeps recalls entry has clean =
-    still old new early clean (sure clean).1.shows.is_open (λ devices had. (keeps clean devices had).now) entry
+    still old new clean (sure clean).1 (λ devices had. (keeps clean devices had).now) entry
     (recalls entry has (early clean))
 
 -- a change is at its sender alone
+apart : (a b : ℕ) → a ≢ b → eq_by_cmp nat_cmp a b ≡ false
+apart a b h = grind (arith, nat_tests)
+
+tied : (a : ℕ) → eq_by_cmp nat_cmp a a ≡ true
+tied a = grind (arith, nat_tests)
+
 elsewhere : (devices : Devices) (id : ℕ) (entry : Option Learned) (other : ℕ) → other ≢ id
     → get (entered devices id entry) other ≡ get devices other
-elsewhere devices id (Some it) other apart =
-    get-insert nat_cmp_total devices id it other ∙ rw (not_tied other id apart) refl
-  where
-    not_tied : (a b : ℕ) → a ≢ b → eq_by_cmp nat_cmp a b ≡ Rattle.std.proofs.Common.false
-    not_tied a b h = grind (Rattle.std.proofs.Common.arith, nat_tests)
-elsewhere devices id None other apart = get-remove nat_cmp_total devices id other ∙ rw (not_tied other id apart) refl
-  where
-    not_tied : (a b : ℕ) → a ≢ b → eq_by_cmp nat_cmp a b ≡ Rattle.std.proofs.Common.false
-    not_tied a b h = grind (Rattle.std.proofs.Common.arith, nat_tests)
-
-tied : (a : ℕ) → eq_by_cmp nat_cmp a a ≡ Rattle.std.proofs.Common.true
-tied a = grind (Rattle.std.proofs.Common.arith, nat_tests)
+elsewhere devices id (Some it) other far =
+    get-insert nat_cmp_total devices id it other ∙ rw (apart other id far) refl
+elsewhere devices id None other far = get-remove nat_cmp_total devices id other ∙ rw (apart other id far) refl
 
 there : (devices : Devices) (id : ℕ) (entry : Option Learned) → get (entered devices id entry) id ≡ entry
 there devices id (Some it) = get-insert nat_cmp_total devices id it id ∙ rw (tied id) refl
 there devices id None = get-remove nat_cmp_total devices id id ∙ rw (tied id) refl
 
+-- what is known of a sender after the change
+abbrev known_after : Devices → Change → Option Learned
+known_after devices change = after (get devices change.sender) change.deed
+
 -- a change is committed, and its sender is remembered
 pub changed_recalled : (old new : State) (change : Change) (known : Option Device) (before between after : List Entry)
     → (HasCleanDisk new → HasCleanDisk old) → (HasCleanDisk new → IsReady old × IsReady new)
     → (HasCleanDisk new → (devices : Devices) → HasDevices old devices → Commits new change devices)
-    → known ≡ option_map (device change.sender) change.entry
+    → (HasCleanDisk old → (devices : Devices) → HasDevices old devices
+    → known ≡ option_map (device change.sender) (known_after devices change))
     → CacheAgrees old before → ((e : Entry) → Contains between e → Contains before e × (e.0 ≢ change.sender))
     → ((e : Entry) → Contains after e → Contains between e ⊎ (e ≡ (change.sender, known))) → CacheAgrees new after
 changed_recalled old new change known before between after early sure commits is recalls taken kept entry has clean =
     let it = sure clean in
     let id = change.sender in
-    let is_open = it.1.shows.is_open in
     elim (kept entry has) [
       | inl was ↦
           let left = taken entry was in
           let right = recalls entry left.0 (early clean) in
           record {
-            is_open = is_open;
             devices = changed right.devices change;
-            registers = (commits clean right.devices (λ _ _. right.registers)).now clean is_open;
+            shows = shows_them new (changed right.devices change) clean it.1
+                (commits clean right.devices (λ _ _. right.shows.registers)).now;
             is = right.is ∙ ap (option_map (device entry.0))
-                (sym (elsewhere right.devices id change.entry entry.0 left.1));
+                (sym (elsewhere right.devices id (known_after right.devices change) entry.0 left.1));
           }
       | inr same ↦
           subst (EntryAgrees new) (sym same) (record {
-            is_open = is_open;
             devices = changed it.0.devices change;
-            registers = (commits clean it.0.devices (held it.0)).now clean is_open;
-            is = is ∙ ap (option_map (device id)) (sym (there it.0.devices id change.entry));
+            shows = shows_them new (changed it.0.devices change) clean it.1
+                (commits clean it.0.devices (held it.0)).now;
+            is = is (early clean) it.0.devices (held it.0) ∙ ap (option_map (device id))
+                (sym (there it.0.devices id (known_after it.0.devices change)));
           })
     ]
 

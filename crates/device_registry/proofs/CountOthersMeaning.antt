@@ -16,11 +16,12 @@ use Rattle.sqlite_tied.specs.Compute.{everything}
 use Rattle.device_registry.proofs.StatementTexts.{id_test, program_of, others_query}
 use Rattle.device_registry.proofs.TextMeaning.{Means, draft_of}
 use Rattle.device_registry.proofs.SelectMeaning.{IsPlainSelect, plain_select, select_means}
+use Rattle.device_registry.specs.declared.table.Version.TheVariants.{Second}
 use Rattle.device_registry.specs.Table.{count_others_text, device_name, device_table}
 use Rattle.device_registry.specs.Stored.{Stands}
 
 count_is : IsPlainSelect count_others_text
-    (plain_select device_name (One (CallStar (codes "count")) None (codes "count(*)") ∷ []) (id_test Ne) [])
+    (plain_select (device_name Second) (One (CallStar (codes "count")) None (codes "count(*)") ∷ []) (id_test Ne) [])
 unfolding everything
 count_is = record { read = record { parsed = _; read = refl; is = refl; timeless = refl } }
 
@@ -29,9 +30,9 @@ abbrev count_draft : ℕ → Draft
 count_draft d =
     let count : Aggregate = record { op = CountRows; distinct = false; collation = Binary; argument = lit Null } in
     let groups : Grouping = record { keys = []; collations = []; aggregates = count ∷ []; having = [] } in
-    record (draft_of (device_table d) (others_query d)) { group = Some groups }
+    record (draft_of (device_table Second d) (others_query d)) { group = Some groups }
 
-pub count_means : (schema : Schema) (at d : ℕ) → Stands schema (codes "enogate_device") (device_table d) at
+pub count_means : (schema : Schema) (at d : ℕ) → Stands schema (device_name Second) (device_table Second d) at
     → Means schema count_others_text (Select (program_of (others_query d)) (codes "count(*)" ∷ []))
 unfolding everything
 count_means schema at d it =

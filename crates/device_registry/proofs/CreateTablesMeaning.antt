@@ -15,6 +15,7 @@ use Rattle.sqlite_resolve.specs.Compile.{timed, returning, command, create_table
 use Rattle.sqlite_tied.specs.Compute.{everything}
 use Rattle.sqlite.proofs.Callers.{statement_of}
 use Rattle.device_registry.proofs.TextMeaning.{IsRead, Means, means, understood_as}
+use Rattle.device_registry.specs.declared.table.Version.TheVariants.{Second}
 use Rattle.device_registry.specs.Table.{meta_name, device_name, meta_text, device_text, device_table, meta_table}
 
 -- nothing in the schema has the name
@@ -59,10 +60,11 @@ pub meta_makes : (schema : Schema) → is_used schema meta_name ≡ false → Ma
 unfolding everything meta_read
 meta_makes = makes (meta_table 0) meta_read.1 refl refl refl refl refl
 
-unfoldable device_read : (def : Defined) × IsRead device_text (written.CreateTable def)
+unfoldable second_read : (def : Defined) × IsRead (device_text Second) (written.CreateTable def)
 unfolding everything
-device_read = (_, record { parsed = _; read = refl; is = refl; timeless = refl })
+second_read = (_, record { parsed = _; read = refl; is = refl; timeless = refl })
 
-pub device_makes : (schema : Schema) → is_used schema device_name ≡ false → Makes schema device_text
-unfolding everything device_read
-device_makes = makes (device_table 0) device_read.1 refl refl refl refl refl
+pub device_makes : (schema : Schema) → is_used schema (device_name Second) ≡ false
+    → Makes schema (device_text Second)
+unfolding everything second_read
+device_makes = makes (device_table Second 0) second_read.1 refl refl refl refl refl

@@ -11,6 +11,8 @@ use Rattle.sqlite_schema.specs.Rules.{passes_checks}
 use Rattle.sqlite_sql.specs.Ops.{binary, is_false, from_truth, truth, and3}
 use Rattle.sqlite_sql.specs.declared.ops.BinaryOp.TheVariants.{Compare, And}
 use Rattle.sqlite_sql.specs.declared.ops.CompareOp.TheVariants.{Le, Ge}
+use Rattle.learned_devices.specs.Labels.{is_label}
+use Rattle.device_registry.specs.declared.table.Version.TheVariants.{Second}
 use Rattle.device_registry.specs.Table.{device_table, last_sender, last_profile, last_maker}
 use Rattle.device_registry.specs.Devices.{Learned}
 use Rattle.device_registry.specs.Table.Rows.{IsDevice, stored, eep_number, maker_number}
@@ -42,10 +44,11 @@ lies_between low high n h =
     both _ _ (sym (truths (is_ge (value_cmp (Int n) (Int low))) (is_le (value_cmp (Int n) (Int high)))) ∙ h) in
     (at_least n low two.0, at_most n high two.1)
 
--- a row that is put in passes them, so it is that of a device
-pub checked : (d id : ℕ) (it : Learned) → passes_checks (device_table d) (stored id it) ≡ true → IsDevice (stored id it)
+-- a row that is put in passes them, so it is that of a device, if its label is one
+pub checked : (d id : ℕ) (it : Learned) → is_label it.label ≡ true
+    → passes_checks (device_table Second d) (stored id it) ≡ true → IsDevice (stored id it)
 unfolding between
-checked d id it h =
+checked d id it label h =
     let sender = both (between (pos 0) (pos last_sender) (pos id)) _ h in
     let profile = both (between (pos 0) (pos last_profile) (pos (eep_number it.eep))) _ sender.1 in
     let maker = both (between (negsuc 0) (pos last_maker) (maker_number it.maker)) true profile.1 in
@@ -61,4 +64,7 @@ checked d id it h =
       maker = maker_number it.maker;
       maker_is = refl;
       is_maker = lies_between (negsuc 0) (pos last_maker) (maker_number it.maker) maker.0;
+      label = it.label;
+      label_is = refl;
+      is_label = label;
     }

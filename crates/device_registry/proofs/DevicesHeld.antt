@@ -1,10 +1,11 @@
 -- What a database holds is one thing, and how it changes where rows are written.
-use Rattle.std.proofs.Common.{ℤ, ◌≡◌, ℕ, ◌≤◌, ◌+◌, ◌-◌, Bool, true, false, cond, nat_le, refl, List, [], ◌∷◌}
+use Rattle.std.proofs.Common.{is_some, ◌<◌, ℤ}
+use Rattle.std.proofs.Common.{◌≡◌, ℕ, ◌≤◌, ◌+◌, ◌-◌, Bool, true, false, cond, nat_le, refl, List, [], ◌∷◌}
 use Rattle.std.proofs.Common.{length, Some, Option, slice_get, sym, ap, subst, ◌∙◌, arith}
 use Rattle.std.proofs.lemmas.Bool.Decides.{nat_tests}
 use Rattle.std.proofs.lemmas.Cmp.{nat_cmp_total}
 use Rattle.std.specs.List.{AllByRecursion}
-use Rattle.std.specs.FinMap.{insert, remove, len, contains_key, len-insert, len-remove}
+use Rattle.std.specs.FinMap.{get, insert, remove, len, contains_key, len-insert, len-remove}
 use Rattle.sqlite.specs.Order.{Row}
 use Rattle.sqlite.specs.Schema.{Schema}
 use Rattle.sqlite.specs.Table.{Table}
@@ -13,14 +14,16 @@ use Rattle.sqlite_trees.specs.Tree.{Trees, without_rowid}
 use Rattle.sqlite_trees.specs.Objects.{catalog_tree}
 use Rattle.sqlite_rules.specs.Edit.{without_all}
 use Rattle.sqlite_catalog.proofs.ReadLemmas.{lists_once}
+use Rattle.device_registry.specs.declared.table.Version.{Version}
+use Rattle.device_registry.specs.declared.table.Version.TheVariants.{Second}
 use Rattle.device_registry.specs.Table.{device_name, device_table, meta_table}
 use Rattle.device_registry.specs.Devices.{Devices, Learned, is_full, most_devices}
-use Rattle.device_registry.specs.Stored.{IsRegistry, Registers, Holds, Stands}
-use Rattle.device_registry.specs.Table.Rows.{RowidsDiffer, IsDevice, IsVersion, devices_in, stored}
+use Rattle.device_registry.specs.Stored.{IsRegistry, RegistersAs, HoldsAs, Registers, Holds, Stands}
+use Rattle.device_registry.specs.Table.Rows.{RowidsDiffer, IsDevice, IsVersion, devices_in, rows_of, stored}
 use Rattle.device_registry.specs.Opening.{FewAreHeld}
 use Rattle.device_registry.proofs.RowsAsMap.{IsShort, devices_replaced, put_are_devices, all_without_are_devices}
 use Rattle.device_registry.proofs.DistinctRows.{len_is, apart_put}
-use Rattle.device_registry.proofs.LearnEffect.{IsPut}
+use Rattle.device_registry.proofs.PutEffect.{IsPut}
 use Rattle.device_registry.proofs.RowWrites.{SparesOthers, without_once}
 use Rattle.device_registry.proofs.ForgetEffect.{IsForgotten}
 use Rattle.device_registry.proofs.RenewEffect.{version_row}
@@ -33,37 +36,46 @@ same_place e = cc
 same_table : {a b : Table} → ◌≡◌ {A = Option Table} (Some a) (Some b) → a ≡ b
 same_table e = cc
 
-tree_once : (schema : Schema) (d e at to : ℕ) → Stands schema device_name (device_table d) at
-    → Stands schema device_name (device_table e) to → d ≡ e
-tree_once schema d e at to one other =
+tree_once : (version : Version) (schema : Schema) (d e at to : ℕ)
+    → Stands schema (device_name version) (device_table version d) at
+    → Stands schema (device_name version) (device_table version e) to → d ≡ e
+tree_once version schema d e at to one other =
     let place : at ≡ to = same_place (sym one.named ∙ other.named) in
     ap (λ (t : Table). t.tree) (same_table (sym one.there ∙ ap (slice_get schema.tables) place ∙ other.there))
 
-pub registers_once : (db : Database) (a b : Devices) → Registers db a → Registers db b → a ≡ b
-registers_once db a b one other =
+pub registers_by : (version : Version) (db : Database) (a b : Devices) → RegistersAs version db a
+    → RegistersAs version db b → a ≡ b
+registers_by version db a b one other =
+    let x = one.registry.tables in
+    let y = other.registry.tables in
     let tree =
-    tree_once db.schema one.registry.tables.devices other.registry.tables.devices
-    one.registry.tables.devices_at other.registry.tables.devices_at one.registry.tables.devices_stand
-    other.registry.tables.devices_stand in
-    sym one.is ∙ ap (λ t. devices_in (db.trees t)) tree ∙ other.is
+    tree_once version db.schema x.devices y.devices x.devices_at y.devices_at x.devices_stand y.devices_stand in
+    sym one.is ∙ ap (λ t. devices_in (rows_of version (db.trees t))) tree ∙ other.is
+
+pub registers_once : (db : Database) (a b : Devices) → Registers db a → Registers db b → a ≡ b
+registers_once = registers_by Second
 
 -- the trees of a sound database tell its schema, and so its devices
-pub held_once : (trees : Trees) (a b : Devices) → Holds trees a → Holds trees b → a ≡ b
-held_once trees a b one other =
+pub held_by : (version : Version) (trees : Trees) (a b : Devices) → HoldsAs version trees a → HoldsAs version trees b
+    → a ≡ b
+held_by version trees a b one other =
     let trees_are : one.db.trees ≡ other.db.trees = one.same ∙ sym other.same in
     let schema : one.db.schema ≡ other.db.schema =
     lists_once (other.db.trees catalog_tree) one.db.schema other.db.schema
     (subst (λ (t : Trees). Rattle.sqlite_catalog.specs.Listing.Lists (t catalog_tree) one.db.schema) trees_are
     one.sound.lists) other.sound.lists in
     let db : one.db ≡ other.db = λ i. record { schema = schema i; trees = trees_are i } in
-    registers_once other.db a b (subst (λ db. Registers db a) db one.registers) other.registers
+    registers_by version other.db a b (subst (λ db. RegistersAs version db a) db one.registers) other.registers
+
+pub held_once : (trees : Trees) (a b : Devices) → Holds trees a → Holds trees b → a ≡ b
+held_once = held_by Second
 
 -- ---- after a write
 
-module _ (before : Database) (registry : IsRegistry before) where
+module _ (before : Database) (registry : IsRegistry Second before) where
   -- the tables stand as they did
   pub registers_after : (after : Database) (devices : Devices) → after.schema ≡ before.schema → (row : Row)
-      → after.trees registry.tables.meta ≡ row ∷ [] → IsVersion row
+      → after.trees registry.tables.meta ≡ row ∷ [] → IsVersion Second row
       → AllByRecursion IsDevice (after.trees registry.tables.devices)
       → RowidsDiffer (after.trees registry.tables.devices) → length (after.trees registry.tables.devices) ≤ most_devices
       → devices_in (after.trees registry.tables.devices) ≡ devices
@@ -74,7 +86,7 @@ module _ (before : Database) (registry : IsRegistry before) where
       subst (λ db. Registers db devices) same (record {
         registry = record {
           tables = registry.tables;
-          whole = record { row = row; one = one; version = version; rows = rows; once = once; few = few };
+          whole = record { row = row; one = one; numbered = version; rows = rows; once = once; few = few };
         };
         is = is;
       })
@@ -103,6 +115,16 @@ few_are_held trees devices holds = few_devices holds.db devices holds.registers
 pub fewer : (devices : Devices) (id : ℕ) → len (remove devices id) ≤ len devices
 fewer devices id = not_more (contains_key devices id) (len devices) _ (len-remove nat_cmp_total devices id)
 
+one_less : (n without : ℕ) → without ≡ n - 1 → n ≤ 1000 → nat_le 1000 without ≡ false
+one_less n without less few = let low : without < 1000 = omega (arith, less, few) in grind (arith, nat_tests)
+
+-- there is room for a known sender
+pub room_for_known : (db : Database) (devices : Devices) (id : ℕ) (it : Learned) → Registers db devices
+    → get devices id ≡ Some it → is_full devices id ≡ false
+room_for_known db devices id it had known =
+    one_less (len devices) (len (remove devices id)) (len-remove nat_cmp_total devices id
+    ∙ ap (λ (o : Option Learned). cond (is_some o) (len devices - 1) (len devices)) known) (few_devices db devices had)
+
 module _ (before after : Database) (devices : Devices) (had : Registers before devices) where
   pub put_registers : (id : ℕ) (it : Learned) → IsShort it.eep → is_full devices id ≡ false
       → after.schema ≡ before.schema → IsPut before.schema had.registry.tables.devices id it before.trees after.trees
@@ -125,7 +147,7 @@ module _ (before after : Database) (devices : Devices) (had : Registers before d
       (len-remove nat_cmp_total devices id) room (few_devices before devices had) in
       registers_after before r after (insert devices id it) schema r.whole.row
       (put.others r.tables.meta_at (meta_table r.tables.meta) r.tables.meta_stands.there r.tables.apart ∙ r.whole.one)
-      r.whole.version all once (subst (λ n. n ≤ 1000) (sym size) few) is
+      r.whole.numbered all once (subst (λ n. n ≤ 1000) (sym size) few) is
 
   pub forgotten_registers : (id : ℕ) → after.schema ≡ before.schema
       → IsForgotten id (before.trees had.registry.tables.devices) (after.trees had.registry.tables.devices)
@@ -140,14 +162,14 @@ module _ (before after : Database) (devices : Devices) (had : Registers before d
       let few : len (remove devices id) ≤ 1000 = omega (arith, fewer devices id, few_devices before devices had) in
       registers_after before r after (remove devices id) schema r.whole.row
       (others r.tables.meta_at (meta_table r.tables.meta) r.tables.meta_stands.there r.tables.apart ∙ r.whole.one)
-      r.whole.version gone.rows gone.once (subst (λ n. n ≤ 1000) (sym size) few) is
+      r.whole.numbered gone.rows gone.once (subst (λ n. n ≤ 1000) (sym size) few) is
 
   pub renewed_registers : after.schema ≡ before.schema → after.trees had.registry.tables.meta ≡ version_row ∷ []
       → SparesOthers before.schema had.registry.tables.meta before.trees after.trees → Registers after devices
   renewed_registers schema version others =
       let r = had.registry in
       let same : after.trees r.tables.devices ≡ before.trees r.tables.devices = others r.tables.devices_at
-      (device_table r.tables.devices) r.tables.devices_stand.there (λ e. r.tables.apart (sym e)) in
-      registers_after before r after devices schema version_row version (record { key = refl; version = refl })
+      (device_table Second r.tables.devices) r.tables.devices_stand.there (λ e. r.tables.apart (sym e)) in
+      registers_after before r after devices schema version_row version (record { key = refl; number = refl })
       (subst (AllByRecursion IsDevice) (sym same) r.whole.rows) (subst RowidsDiffer (sym same) r.whole.once)
       (subst (λ rows. length rows ≤ most_devices) (sym same) r.whole.few) (ap devices_in same ∙ had.is)

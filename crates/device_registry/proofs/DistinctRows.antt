@@ -54,7 +54,7 @@ int_tied : (a b : ℕ) → value_cmp (Int (pos a)) (Int (pos b)) ≡ Equal → a
 int_tied a b h = let e = sym (value_cmp-Int (pos a) (pos b)) ∙ h in grind (arith, ints, nat_tests)
 
 -- a row that is put beside the others is one more
-put_permutes : (new : Row) (it : IsDevice new) (rows : List Row) → AllByRecursion IsDevice rows → IsFree new rows
+pub put_permutes : (new : Row) (it : IsDevice new) (rows : List Row) → AllByRecursion IsDevice rows → IsFree new rows
     → IsPermutation (new ∷ rows) (put_row new rows)
 put_permutes new it [] all free = IsPermutation-refl (new ∷ [])
 put_permutes new it (r ∷ rows) all free =

@@ -1,6 +1,6 @@
 -- What the query that looks a sender up shows.
 use Rattle.std.proofs.Common.{arith, cond, nat_cmp, ◌≡◌, inl, inr, ℕ, List, [], ◌∷◌, map, Some, None}
-use Rattle.std.proofs.Common.{Option, option_map, refl, sym, ap, subst, ◌∙◌, codes}
+use Rattle.std.proofs.Common.{Option, option_map, refl, sym, ap, subst, ◌∙◌}
 use Rattle.std.specs.FinMap.{get, remove, get-from_entries, get-remove, same_map, nat_cmp-IsAntisymmetric}
 use Rattle.std.specs.Ordering.{eq_by_cmp}
 use Rattle.std.proofs.lemmas.Bool.{cases_Bool}
@@ -21,7 +21,7 @@ use Rattle.device_registry.specs.Table.Rows.{devices_in, entry_of, natural, AreF
 use Rattle.sqlite.specs.Listing.{understood}
 use Rattle.device_registry.specs.Ready.{IsReady, Shows}
 use Rattle.device_registry.proofs.StatementTexts.{find_query, program_of}
-use Rattle.device_registry.proofs.FindMeaning.{find_means}
+use Rattle.device_registry.proofs.FindMeaning.{find_means, shown_columns}
 use Rattle.device_registry.proofs.ListDevicesAnswer.{shown}
 use Rattle.device_registry.proofs.RowsAsMap.{seen}
 use Rattle.device_registry.proofs.SenderTests.{asked, hits, found, no_rows, overlay_is}
@@ -41,7 +41,7 @@ finds old new id rows devices had h =
     let table = old.now.trees r.tables.devices in
     let it = find_means old.now.schema r.tables.devices_at r.tables.devices r.tables.devices_stand in
     let read = reads_as find_text (asked id) old new old.now.schema refl
-    (Select (program_of q) (codes "id" ∷ codes "eep" ∷ codes "maker" ∷ [])) it.is it.plain it.unlisted rows h in
+    (Select (program_of q) shown_columns) it.is it.plain it.unlisted rows h in
     let a : IsAnswer q (overlay old.now.trees []) (asked id) rows = read.answer Null in
     let kept : a.kept ≡ map (output q) (hits id table) =
     a.distinct ∙ ap (map (output q)) (a.grouped ∙ ap (hits id) (overlay_is old.now.trees r.tables.devices)) in

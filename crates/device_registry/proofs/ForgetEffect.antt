@@ -24,6 +24,7 @@ use Rattle.sqlite.specs.Rows.{Written, Task}
 use Rattle.sqlite.proofs.Callers.{one_step, one_permutation}
 use Rattle.sqlite.specs.Schema.{Schema}
 use Rattle.sqlite.specs.Table.{Table}
+use Rattle.device_registry.specs.declared.table.Version.TheVariants.{Second}
 use Rattle.device_registry.specs.Table.{device_table}
 use Rattle.device_registry.specs.Table.Rows.{RowidsDiffer, IsDevice, devices_in}
 use Rattle.device_registry.proofs.StatementTexts.{program_of, forget_query}
@@ -88,7 +89,7 @@ left id table rows all once (inr some) = rw some (record {
 
 pub forgets : (schema : Schema) (at d : ℕ) (limit : Option ℕ) (mode : Mode) (id : ℕ) (db : Trees) (text : List ℕ)
     (tally : Tally) (after : Database)
-    → slice_get schema.tables at ≡ Some (device_table d) → StandsAlone schema d → AllByRecursion IsDevice (db d)
+    → slice_get schema.tables at ≡ Some (device_table Second d) → StandsAlone schema d → AllByRecursion IsDevice (db d)
     → RowidsDiffer (db d)
     → Does limit mode (asked id) (record { schema = schema; trees = db }) text None
     (Delete at (program_of (forget_query d))) (Ok (tally, after))
@@ -97,7 +98,7 @@ forgets schema at d limit mode id db text tally after there stands all once does
     let command = Delete at (program_of (forget_query d)) in
     let here = λ (table : Table).
     let t : Task = record { limit = limit; keys = mode.keys; schema = schema; table = table; params = asked id } in t in
-    let h : OnRows (here (device_table d)) mode None command db (Ok (tally, after)) =
+    let h : OnRows (here (device_table Second d)) mode None command db (Ok (tally, after)) =
     subst (λ o. AtPlace (λ table. OnRows (here table) mode None command db) o (Ok (tally, after))) there does in
     let done = went h in
     let queried = went done.1 in
@@ -108,7 +109,7 @@ forgets schema at d limit mode id db text tally after there stands all once does
     ap (λ (p : Tally × Database). p.1) (same_value shown.2) in
     let trees : after.trees ≡ edited.0 =
     ap (λ (db : Database). db.trees) now ∙ ap (λ (w : Written). w.trees) (same_value edited.2) in
-    let edit = edit_of db (device_table d) (ids_of queried.0) Given 0 [] in
+    let edit = edit_of db (device_table Second d) (ids_of queried.0) Given 0 [] in
     let step = one_step schema mode.keys db edited.0 edit (stands.free mode.keys (taken_by db edit) []) edited.1 in
     let rows : after.trees d ≡ without_all (db d) (ids_of queried.0) = ap (λ (s : Trees). s d) trees ∙ step.rows in (
       ap (λ (db : Database). db.schema) now,

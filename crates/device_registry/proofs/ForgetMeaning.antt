@@ -1,5 +1,5 @@
 -- What the text that forgets a device means.
-use Rattle.std.proofs.Common.{ℕ, [], codes, refl}
+use Rattle.std.proofs.Common.{ℕ, [], refl}
 use Rattle.sqlite.specs.Schema.{Schema}
 use Rattle.sqlite.specs.Command.TheVariants.{Delete}
 use Rattle.sqlite_ast.specs.declared.Binary.TheVariants.{Eq}
@@ -8,16 +8,17 @@ use Rattle.sqlite_tied.specs.Compute.{everything}
 use Rattle.device_registry.proofs.StatementTexts.{id_test, program_of, forget_query}
 use Rattle.device_registry.proofs.TextMeaning.{IsRead, Means, draft_of}
 use Rattle.device_registry.proofs.WriteMeaning.{delete_means}
-use Rattle.device_registry.specs.Table.{forget_text, device_table}
+use Rattle.device_registry.specs.declared.table.Version.TheVariants.{Second}
+use Rattle.device_registry.specs.Table.{forget_text, device_name, device_table}
 use Rattle.device_registry.specs.Stored.{Stands}
 
-forget_read : IsRead forget_text (written.Delete (codes "enogate_device") (id_test Eq) [])
+forget_read : IsRead forget_text (written.Delete (device_name Second) (id_test Eq) [])
 unfolding everything
 forget_read = record { parsed = _; read = refl; is = refl; timeless = refl }
 
-pub forget_means : (schema : Schema) (at d : ℕ) → Stands schema (codes "enogate_device") (device_table d) at
+pub forget_means : (schema : Schema) (at d : ℕ) → Stands schema (device_name Second) (device_table Second d) at
     → Means schema forget_text (Delete at (program_of (forget_query d)))
 unfolding everything
 forget_means schema at d it =
-    delete_means it (draft_of (device_table d) (forget_query d)) forget_read
+    delete_means it (draft_of (device_table Second d) (forget_query d)) forget_read
     (rw (it.there, it.there)) (record { from = refl; accepted = refl })

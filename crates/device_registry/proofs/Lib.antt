@@ -12,8 +12,9 @@ pub mod FindMeaning
 pub mod ForCallers
 pub mod ForgetEffect
 pub mod ForgetMeaning
-pub mod LearnEffect
-pub mod LearnMeaning
+pub mod PutEffect
+pub mod MigrationMeaning
+pub mod PutMeaning
 pub mod ListDevicesAnswer
 pub mod ListDevicesMeaning
 pub mod ListObjectsAnswer
@@ -44,3 +45,11 @@ pub mod VersionMeaning
 pub mod VersionWrites
 pub mod WriteMeaning
 pub mod WritesTurn
+pub mod RowsCopied
+pub mod DropEffect
+pub mod CopyEffect
+pub mod TablesMigrated
+pub mod MigrateEffect
+pub mod MigrateCommit
+pub mod LabelTexts
+pub mod ListedInside

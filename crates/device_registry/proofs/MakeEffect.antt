@@ -21,12 +21,13 @@ use Rattle.sqlite.specs.Steps.{FailsToCommit}
 use Rattle.sqlite.specs.Held.{Held, state}
 use Rattle.sqlite_trees.specs.declared.store.Store.{Ghosts}
 use Rattle.sqlite.proofs.Callers.{runs_as, statement_of}
+use Rattle.device_registry.specs.declared.table.Version.TheVariants.{Second}
 use Rattle.device_registry.specs.Table.{meta_text, device_text, write_version_text}
 use Rattle.device_registry.specs.Table.{device_name, meta_table, device_table}
 use Rattle.device_registry.specs.Stored.{HasTables, Registers, Holds}
 use Rattle.device_registry.specs.Table.Rows.{RowidsDiffer, IsDevice, devices_in}
 use Rattle.device_registry.specs.Ready.{Shows}
-use Rattle.device_registry.specs.Devices.{most_devices}
+use Rattle.device_registry.specs.Devices.{Devices, most_devices}
 use Rattle.device_registry.specs.Opening.{IsClear, Remains}
 use Rattle.device_registry.specs.Places.{is_clear}
 use Rattle.device_registry.specs.Transaction.{IsInside}
@@ -43,7 +44,7 @@ use Rattle.device_registry.proofs.TransactionSteps.{since, leaves, uncommitted_r
 use Rattle.device_registry.proofs.VersionWrites.{numbers}
 
 -- a table is made, empty, and the tables that were there keep their rows
-creates : (limit : Option ℕ) (mode : Mode) (old after : Database) (text : List ℕ) (tally : Tally) (table : Table)
+pub creates : (limit : Option ℕ) (mode : Mode) (old after : Database) (text : List ℕ) (tally : Tally) (table : Table)
     → table_defined_by text ≡ Ok table → lacks_sequence (created old.schema table) ≡ false
     → Does limit mode [] old text None CreateTable (Ok (tally, after))
     → (after.schema ≡ created old.schema table) × (after.trees (next_tree old.schema) ≡ [])
@@ -64,12 +65,13 @@ creates limit mode old after text tally table defined none h =
 
 -- the tables, in the trees of these numbers
 record StandIn (schema : Schema) (meta devices : ℕ) : Type 0 where
-  tables : HasTables schema
+  tables : HasTables Second schema
   meta_is : tables.meta ≡ meta
   devices_is : tables.devices ≡ devices
 
 -- the two tables hold the version row and nothing else
-registers : (db : Database) (t : HasTables db.schema) → db.trees t.meta ≡ version_row ∷ [] → db.trees t.devices ≡ []
+registers : (db : Database) (t : HasTables Second db.schema) → db.trees t.meta ≡ version_row ∷ []
+    → db.trees t.devices ≡ []
     → Registers db empty
 registers db t one none = record {
   registry = record {
@@ -77,7 +79,7 @@ registers db t one none = record {
     whole = record {
       row = version_row;
       one = one;
-      version = record { key = refl; version = refl };
+      numbered = record { key = refl; number = refl };
       rows = subst (AllByRecursion IsDevice) (sym none) tt;
       once = subst RowidsDiffer (sym none) tt;
       few = subst (λ rows. length rows ≤ most_devices) (sym none) (omega arith);
@@ -88,7 +90,8 @@ registers db t one none = record {
 
 -- the tables are made
 module _ (a b c : State) (i j : ℕ) (clear : IsClear a.now.schema) (sound : IsDatabase a.now)
-    (first : ExecutesInside 0 meta_text [] a b (Ok i)) (second : ExecutesInside 0 device_text [] b c (Ok j)) where
+    (first : ExecutesInside 0 meta_text [] a b (Ok i))
+    (second : ExecutesInside 0 (device_text Second) [] b c (Ok j)) where
   half_counted : lacks_sequence (with_meta a.now.schema) ≡ false
   half_counted = still_counted a.now.schema (meta_table 0) refl clear.counted
 
@@ -107,17 +110,20 @@ module _ (a b c : State) (i j : ℕ) (clear : IsClear a.now.schema) (sound : IsD
       let before = half in
       let makes =
       device_makes b.now.schema
-      (subst (λ s. is_used s device_name ≡ false) (sym before.0) (half_free a.now.schema clear)) in
-      let two = runs_as device_text [] b c b.now.schema refl CreateTable makes.means.is makes.means.plain j second.0 in
-      let made = creates b.step_limit (mode_of b) b.now c.now device_text two.tally (device_table 0) device_is
-      (still_counted b.now.schema (device_table 0) refl
+      (subst (λ s. is_used s (device_name Second) ≡ false) (sym before.0) (half_free a.now.schema clear Second)) in
+      let two =
+      runs_as (device_text Second) [] b c b.now.schema refl CreateTable makes.means.is makes.means.plain j second.0 in
+      let made =
+      creates b.step_limit (mode_of b) b.now c.now (device_text Second) two.tally (device_table Second 0)
+      (device_is Second)
+      (still_counted b.now.schema (device_table Second 0) refl
       (subst (λ s. lacks_sequence s ≡ false) (sym before.0) half_counted))
       (subst (λ t. Does b.step_limit (mode_of b) [] b.now t None CreateTable (Ok (two.tally, c.now))) makes.alone
       two.changed) in
       let kept =
       all_last (λ t. c.now.trees t.tree ≡ b.now.trees t.tree) a.now.schema.tables (meta_table (next_tree a.now.schema))
       (subst (λ (s : Schema). KeepsRows s.tables b.now.trees c.now.trees) before.0 made.2) in (
-        made.0 ∙ ap (λ s. created s (device_table 0)) before.0,
+        made.0 ∙ ap (λ s. created s (device_table Second 0)) before.0,
         subst (λ s. c.now.trees (next_tree s) ≡ []) before.0 made.1,
         kept ∙ before.1,
         two.sound,
@@ -132,7 +138,7 @@ module _ (a b c : State) (i j : ℕ) (clear : IsClear a.now.schema) (sound : IsD
       (subst (λ (s : Schema). AllByRecursion (λ t. t.tree < 65536) s.tables) before.0
       (lows b.now.schema b.now.trees before.2)) in
       let lower = all_last (λ t. t.tree < 65536) (with_meta a.now.schema).tables
-      (device_table (next_tree (with_meta a.now.schema)))
+      (device_table Second (next_tree (with_meta a.now.schema)))
       (subst (λ (s : Schema). AllByRecursion (λ t. t.tree < 65536) s.tables) after.0
       (lows c.now.schema c.now.trees after.3)) in
       let t = made_tables a.now.schema clear low lower (owners_below a.now.schema a.now.trees sound) in
@@ -141,7 +147,7 @@ module _ (a b c : State) (i j : ℕ) (clear : IsClear a.now.schema) (sound : IsD
 
 -- and the version row is written
 makes : (a b c d : State) (i j k : ℕ) → IsClear a.now.schema → IsDatabase a.now
-    → ExecutesInside 0 meta_text [] a b (Ok i) → ExecutesInside 0 device_text [] b c (Ok j)
+    → ExecutesInside 0 meta_text [] a b (Ok i) → ExecutesInside 0 (device_text Second) [] b c (Ok j)
     → ExecutesInside 0 write_version_text [] c d (Ok k)
     → Registers d.now empty × IsDatabase d.now
 makes a b c d i j k clear sound first second third =
@@ -156,7 +162,7 @@ makes a b c d i j k clear sound first second third =
     numbers c.now.schema t.meta_at t.meta c.step_limit (mode_of c) c.now.trees
     (statement_of write_version_text (understood c.now.schema write_version_text)) three.tally d.now t.meta_stands.there
     (meta_alone c.now.schema t) none three.changed in
-    let kept : d.now.trees t.devices ≡ [] = put.2 t.devices_at (device_table t.devices) t.devices_stand.there
+    let kept : d.now.trees t.devices ≡ [] = put.2 t.devices_at (device_table Second t.devices) t.devices_stand.there
     (λ e. t.apart (sym e)) ∙ ap c.now.trees it.devices_is ∙ after.1 in
     let now = subst (λ s. StandIn s t.meta t.devices) (sym put.0)
     (record { tables = t; meta_is = refl; devices_is = refl }) in (
@@ -167,30 +173,34 @@ makes a b c d i j k clear sound first second third =
 -- ---- the transaction
 
 -- it is committed as it stands
-abbrev Commits : State → State → Type 0
+abbrev pub Commits : State → State → Type 0
 Commits d e = IsTrue d.in_transaction × IsShowing d e d.now d.now false × KeepsCounts d e × (e.marks ≡ [])
 
-shows_made : {V : Type 0} (d e : State) (r : Result V Error) → Registers d.now empty × IsDatabase d.now
-    → OnOk r (Commits d e) → OnOk r (Shows e empty)
-shows_made d e (Ok v) db ends =
+pub shows_committed : (d e : State) (devices : Devices) → Registers d.now devices → IsDatabase d.now → Commits d e
+    → Shows e devices
+shows_committed d e devices registers sound ends =
     let shown = ends.1 in
     record {
       is_open = shown.is_open;
       idle = shown.mode;
       settled = shown.now_is ∙ sym shown.committed_is;
-      sound = subst IsDatabase (sym shown.now_is) db.1;
-      registers = subst (λ db. Registers db empty) (sym shown.now_is) db.0;
+      sound = subst IsDatabase (sym shown.now_is) sound;
+      registers = subst (λ db. Registers db devices) (sym shown.now_is) registers;
     }
-shows_made d e (Err x) db ends = tt
+
+pub ok_committed : {V : Type 0} (d e : State) (r : Result V Error) (P : Type 0) → (Commits d e → P)
+    → OnOk r (Commits d e) → OnOk r P
+ok_committed d e (Ok v) P so ends = so ends
+ok_committed d e (Err x) P so ends = tt
 
 module _ {S : Type 0} (g : Ghosts S) (old start last : Held S) (is : start ≡ record old { in_transaction = true })
-    (it : IsInside g (meta_text ∷ device_text ∷ write_version_text ∷ []) start last)
+    (it : IsInside g (meta_text ∷ device_text Second ∷ write_version_text ∷ []) start last)
     (free : HasCleanDisk (state g old) → IsTrue (is_clear (state g old).now.schema)
     × IsDatabase (state g old).now) where
   -- what it shows behind the three texts
   shows : HasCleanDisk (state g last) → Registers (state g last).now empty × IsDatabase (state g last).now
   shows clean =
-      let at = subst (λ h. IsInside g (meta_text ∷ device_text ∷ write_version_text ∷ []) h last) is it in
+      let at = subst (λ h. IsInside g (meta_text ∷ device_text Second ∷ write_version_text ∷ []) h last) is it in
       let was = free (omega (arith, clean, (since g old start (state g last) is it.uncommitted).stop.clean)) in
       let first = at.ran clean in
       let second = first.3 in
@@ -202,7 +212,9 @@ module _ {S : Type 0} (g : Ghosts S) (old start last : Held S) (is : start ≡ r
   module _ {V : Type 0} (r : Result V Error) (e : State)
       (commits : Survives (state g last) e (λ trees. trees ≡ (state g last).now.trees)) where
     pub made : (HasCleanDisk e → OnOk r (Commits (state g last) e)) → HasCleanDisk e → OnOk r (Shows e empty)
-    made ends clean = shows_made (state g last) e r (shows (omega (arith, clean, commits.clean))) (ends clean)
+    made ends clean =
+        let db = shows (omega (arith, clean, commits.clean)) in
+        ok_committed (state g last) e r (Shows e empty) (shows_committed (state g last) e empty db.0 db.1) (ends clean)
 
     pub made_stop : Survives (state g old) e (λ trees. Holds trees empty)
     made_stop =

@@ -1,6 +1,6 @@
 -- From the clauses of the calls of an open to the registry.
 use Rattle.std.proofs.Common.{◌≡◌, ◌≢◌, ◌⊎◌, inl, inr, ℕ, Bool, Some, None, Option, Ok, Err, Result, IfOk}
-use Rattle.std.proofs.Common.{IfErr, OnOk, refl, sym, ap, subst, ◌∙◌, arith, IsTrue}
+use Rattle.std.proofs.Common.{MatchOption, IfErr, OnOk, refl, sym, ap, subst, ◌∙◌, arith, IsTrue}
 use Rattle.sqlite.specs.declared.error.Error.{Error}
 use Rattle.sqlite.specs.Effect.{Database, IsDatabase}
 use Rattle.sqlite.specs.State.{State, IsUnchanged, HasCleanDisk, Survives}
@@ -13,43 +13,89 @@ use Rattle.std.specs.FinMap.{empty}
 use Rattle.device_registry.specs.declared.fault.OpenFault.{OpenFault}
 use Rattle.device_registry.specs.declared.fault.OpenFault.TheVariants.{NotARegistry, Refused}
 use Rattle.device_registry.specs.declared.fault.StoreFault.{StoreFault}
+use Rattle.device_registry.specs.declared.table.Version.{Version}
+use Rattle.device_registry.specs.declared.table.Version.TheVariants.{First, Second}
 use Rattle.device_registry.specs.Devices.{Devices}
 use Rattle.device_registry.specs.Table.{meta_name, device_name}
-use Rattle.device_registry.specs.Stored.{HasTables, IsWhole, IsRegistry, Holds, IsHeld, IsBare}
-use Rattle.device_registry.specs.Table.Rows.{devices_in}
+use Rattle.device_registry.specs.Stored.{HasTables, IsWhole, IsRegistry, RegistersAs, HoldsAs, Holds, IsHeld, IsBare}
+use Rattle.device_registry.specs.Table.Rows.{devices_in, rows_of}
 use Rattle.sqlite_rules.specs.Lists.{Has}
 use Rattle.device_registry.specs.Holding.{AreRegistries, Finds, Opens}
 use Rattle.device_registry.specs.Ready.{Shows, IsReady, KeepsRows}
-use Rattle.device_registry.specs.Opening.{IsAtRest, IsPrepared, KeepsFound, IsOther}
+use Rattle.device_registry.specs.Opening.{IsAtRest, IsPrepared, IsOwn, KeepsFound, IsOther}
 use Rattle.device_registry.specs.Opening.{RefusesToOpen, FoundAgain, HandedOn, RefusedOpensKeep, ClosedFilesAreFound}
 use Rattle.device_registry.specs.Places.{is_clear}
 use Rattle.sqlite_catalog.specs.Listing.{IsSound}
+use Rattle.sqlite.specs.Schema.{Schema}
 use Rattle.sqlite_schema.specs.Names.{table_named}
-use Rattle.device_registry.proofs.TablesRecognized.{same_schema}
+use Rattle.device_registry.proofs.TablesRecognized.{same_schema, free_found}
 use Rattle.device_registry.proofs.CreateTablesMeaning.{unused}
 use Rattle.device_registry.proofs.SchemaTests.{cleared}
 use Rattle.device_registry.proofs.StatementSteps.{unchanged}
-use Rattle.device_registry.proofs.DevicesHeld.{held_once}
+use Rattle.device_registry.proofs.DevicesHeld.{held_by, held_once}
+
+-- the disk was honest before
+before : {old new : State} {P : Trees → Type 0} → Survives old new P → HasCleanDisk new → HasCleanDisk old
+before survives clean = omega (arith, clean, survives.clean)
 
 -- what was asked of the state between, which is as it was
-pub taken_if : (r : Result Bool Error) (old mid new : State) → IsUnchanged old mid → HasTables old.now.schema
-    → IfOk r (λ yes. IsUnchanged mid new × (IsTrue yes → (t : HasTables mid.now.schema)
-    → IsWhole mid.now.trees t.meta t.devices)) → IfOk r (λ yes. IsUnchanged old new × (IsTrue yes → IsRegistry old.now))
-taken_if (Ok is_so) old mid new same tables h = (
+pub taken_if : (version : Version) (r : Result Bool Error) (old mid new : State) → IsUnchanged old mid
+    → HasTables version old.now.schema
+    → IfOk r (λ yes. IsUnchanged mid new × (IsTrue yes → (t : HasTables version mid.now.schema)
+    → IsWhole version mid.now.trees t.meta t.devices))
+    → IfOk r (λ yes. IsUnchanged old new × (IsTrue yes → IsRegistry version old.now))
+taken_if version (Ok is_so) old mid new same tables h = (
   unchanged_then old mid new same h.0,
-  λ is.
-      subst IsRegistry same.0.now_is (let t : HasTables mid.now.schema = subst (λ (db : Database). HasTables db.schema)
+  λ is. subst (IsRegistry version) same.0.now_is
+      (let t : HasTables version mid.now.schema = subst (λ (db : Database). HasTables version db.schema)
       (sym same.0.now_is) tables in record { tables = t; whole = h.1 is t }),
 )
-taken_if (Err e) old mid new same tables h = tt
+taken_if version (Err e) old mid new same tables h = tt
 
-pub not_whole : (old mid : State) → IsUnchanged old mid
-    → ((t : HasTables mid.now.schema) → ¬ IsWhole mid.now.trees t.meta t.devices) → (t : HasTables old.now.schema)
-    → ¬ IsWhole old.now.trees t.meta t.devices
-not_whole old mid same none =
-    subst (λ (db : Database). (t : HasTables db.schema) → ¬ IsWhole db.trees t.meta t.devices) same.0.now_is none
+pub not_whole : (version : Version) (old mid : State) → IsUnchanged old mid
+    → ((t : HasTables version mid.now.schema) → ¬ IsWhole version mid.now.trees t.meta t.devices)
+    → (t : HasTables version old.now.schema) → ¬ IsWhole version old.now.trees t.meta t.devices
+not_whole version old mid same none = subst
+    (λ (db : Database). (t : HasTables version db.schema) → ¬ IsWhole version db.trees t.meta t.devices)
+    same.0.now_is none
 
--- ---- a database in which the two tables can be made
+-- ---- one database, one version
+
+no_place : (o : Option ℕ) (at : ℕ) → o ≡ Some at → o ≡ None → ⊥
+no_place o at some none = let e = sym some ∙ none in cc
+
+-- the name of one version's table is free in a registry of the other
+other_version : (schema : Schema) → HasTables First schema → HasTables Second schema → ⊥
+other_version schema one two = no_place (table_named schema (device_name First)) one.devices_at
+    one.devices_stand.named (unused schema (device_name First) two.free).0
+
+one_version : (v w : Version) (schema : Schema) → HasTables v schema → HasTables w schema → v ≡ w
+one_version First First schema one two = refl
+one_version First Second schema one two = absurd (other_version schema one two)
+one_version Second First schema one two = absurd (other_version schema two one)
+one_version Second Second schema one two = refl
+
+-- the trees of two sound databases tell one schema
+one_schema : (trees : Trees) (a b : Database) → a.trees ≡ trees → b.trees ≡ trees → IsDatabase a → IsDatabase b
+    → a.schema ≡ b.schema
+one_schema trees a b p q one two = same_schema trees a.schema b.schema (subst (IsSound a.schema) p one)
+    (subst (IsSound b.schema) q two)
+
+-- what is own of the first version is no registry of the second
+not_second : (trees : Trees) (db : Database) → db.trees ≡ trees → IsDatabase db → IsRegistry Second db
+    → IsOwn First trees → ⊥
+not_second trees db same sound registry own = other_version db.schema
+    (subst (HasTables First) (one_schema trees own.db db own.same same own.sound sound) own.registry.tables)
+    registry.tables
+
+-- ---- a database in which the tables can be made
+
+-- a database that is a registry has tables
+not_bare : (version : Version) (trees : Trees) (db : Database) → db.trees ≡ trees → IsDatabase db
+    → IsRegistry version db → IsBare trees → ⊥
+not_bare version trees db same sound registry bare =
+    no_place (table_named db.schema meta_name) registry.tables.meta_at registry.tables.meta_stands.named
+    (ap (λ s. table_named s meta_name) (one_schema trees db bare.db same bare.same sound bare.sound) ∙ bare.no_meta)
 
 bare : (s : State) → IsAtRest s → IsTrue (is_clear s.now.schema) → IsBare s.now.trees
 bare s rest clear =
@@ -59,27 +105,61 @@ bare s rest clear =
       same = refl;
       sound = rest.sound;
       no_meta = (unused s.now.schema meta_name it.free_meta).0;
-      no_devices = (unused s.now.schema device_name it.free_devices).0;
+      no_devices = λ version. (unused s.now.schema (device_name version) (it.free_devices version)).0;
     }
 
-pub begun : (old new : State) → IsAtRest old → IsTrue (is_clear old.now.schema) → Shows new empty
-    → (devices : Devices) × IsPrepared old new devices
-begun old new rest clear shows = (empty, record { found = inr (bare old rest clear, refl); shows = shows })
+module _ {old new : State} {P : Trees → Type 0} (rest : HasCleanDisk old → IsAtRest old)
+    (clear : IsTrue (is_clear old.now.schema)) (survives : Survives old new P) where
+  it_was_bare : HasCleanDisk new → IsBare old.now.trees
+  it_was_bare clean = bare old (rest (before survives clean)) clear
 
-pub begun_stop : (old new : State) → (HasCleanDisk old → IsAtRest old) → IsTrue (is_clear old.now.schema)
+  pub begun : (HasCleanDisk new → Shows new empty) → HasCleanDisk new → (devices : Devices) × IsPrepared old new devices
+  begun shows clean = (empty, record { found = inr (it_was_bare clean, refl); shows = shows clean })
+
+  -- and it was no registry, of either version
+  pub begun_own : HasCleanDisk new → IsOwn First old.now.trees → IsOwn Second new.now.trees
+  begun_own clean own =
+      absurd (not_bare First old.now.trees own.db own.same own.sound own.registry (it_was_bare clean))
+
+  pub begun_bare : {A : Type 0} → HasCleanDisk new → IsHeld old.now.trees → A
+  begun_bare clean is_held = let it = is_held.holds in absurd (
+      not_bare Second old.now.trees it.db it.same it.sound it.registers.registry (it_was_bare clean))
+
+pub begun_stop : {old new : State} → (HasCleanDisk old → IsAtRest old) → IsTrue (is_clear old.now.schema)
     → Survives old new (λ trees. Holds trees empty) → Survives old new (KeepsFound old.now.trees)
-begun_stop old new rest clear h = survives_weaker old new (λ trees. Holds trees empty) (KeepsFound old.now.trees)
-    (λ clean trees holds. record {
+begun_stop {old} {new} rest clear h = survives_weaker old new (λ trees. Holds trees empty) (KeepsFound old.now.trees)
+    (λ clean trees holds.
+    let none = bare old (rest (before h clean)) clear in
+    record {
       devices = empty;
-      finds =
-          inr (bare old (rest (omega (arith, clean, h.clean))) clear, refl);
+      finds = inr (none, refl);
       holds = holds;
+      own = λ own. absurd (not_bare First old.now.trees own.db own.same own.sound own.registry none);
     }) h
 
--- ---- a registry
+-- ---- what the database was asked for
+
+-- the state between is as it was, and a registry of this version
+abbrev pub Took : Version → State → State → Type 0
+Took version old mid = HasCleanDisk mid → IsAtRest old × IsUnchanged old mid × IsRegistry version old.now
+
+-- the version that was found
+pub took : (version : Version) {old mid : State} {o : Option Version} {found : Version} → o ≡ Some found
+    → found ≡ version → (HasCleanDisk old → IsAtRest old) → Survives old mid (λ _. ⊥)
+    → (HasCleanDisk mid → IsUnchanged old mid × MatchOption o ((version : Version) → ¬ IsOwn version old.now.trees)
+    (λ version. IsRegistry version old.now)) → Took version old mid
+took version {old} {mid} {o} some is rest survives asked clean =
+    let it = asked clean in (
+      rest (before survives clean),
+      it.0,
+      subst (λ o. MatchOption o ((version : Version) → ¬ IsOwn version old.now.trees)
+          (λ version. IsRegistry version old.now)) (some ∙ ap (λ v. Some v) is) it.1,
+    )
+
+-- ---- a registry of the second version
 
 -- a database that may be taken is a registry
-shown : (s : State) → IsAtRest s → IsRegistry s.now → (devices : Devices) × Shows s devices
+shown : (s : State) → IsAtRest s → IsRegistry Second s.now → (devices : Devices) × Shows s devices
 shown s rest it = (
   devices_in (s.now.trees it.tables.devices),
   record {
@@ -94,40 +174,135 @@ shown s rest it = (
 held : (s : State) (devices : Devices) → Shows s devices → Holds s.now.trees devices
 held s devices shows = record { db = s.now; same = refl; sound = shows.sound; registers = shows.registers }
 
-pub ready : (old mid : State) → IsAtRest old → IsUnchanged old mid → IsRegistry old.now → IsReady mid
+pub ready : (old mid : State) → IsAtRest old → IsUnchanged old mid → IsRegistry Second old.now → IsReady mid
 ready old mid rest same it =
     let was = shown old rest it in
     record { devices = was.0; shows = (unchanged old mid same same.0.is_open).1 was.0 was.1 }
 
-pub taken : (old mid new : State) → IsAtRest old → IsUnchanged old mid → IsRegistry old.now
-    → ((devices : Devices) → Shows mid devices → Shows new devices) → (devices : Devices) × IsPrepared old new devices
-taken old mid new rest same it renewed =
-    let was = shown old rest it in (
-      was.0,
-      record {
-        found = inl (held old was.0 was.1);
-        shows =
-            renewed was.0 ((unchanged old mid same same.0.is_open).1 was.0 was.1);
-      },
-    )
+-- what was asked between changed nothing
+pub same_rows : (old mid new : State) → IsUnchanged old mid → KeepsRows mid new → KeepsRows old new
+same_rows old mid new same kept =
+    let db : mid.now ≡ old.now = same.0.now_is in
+    record {
+      schema = kept.schema ∙ ap (λ (d : Database). d.schema) db;
+      rows = λ t has. kept.rows t (subst (λ (d : Database). Has d.schema.tables t) (sym db) has)
+          ∙ ap (λ (d : Database). d.trees t.tree) db;
+    }
 
-pub taken_stop : (old mid new : State) → (HasCleanDisk old → IsAtRest old)
-    → (HasCleanDisk mid → IsUnchanged old mid × IsRegistry old.now) → Survives old mid (λ _. ⊥)
+pub taken_ready : {old mid : State} → Took Second old mid → HasCleanDisk mid → IsReady mid
+taken_ready {old} {mid} asked clean = let it = asked clean in ready old mid it.0 it.1 it.2
+
+module _ {old mid new : State} {P : Trees → Type 0} (asked : Took Second old mid) (survives : Survives mid new P) where
+  pub taken : (HasCleanDisk new → (devices : Devices) → Shows mid devices → Shows new devices) → HasCleanDisk new
+      → (devices : Devices) × IsPrepared old new devices
+  taken renewed clean =
+      let it = asked (before survives clean) in
+      let was = shown old it.0 it.2 in (
+        was.0,
+        record {
+          found = inl (Second, held old was.0 was.1);
+          shows = renewed clean was.0 ((unchanged old mid it.1 it.1.0.is_open).1 was.0 was.1);
+        },
+      )
+
+  pub taken_own : HasCleanDisk new → IsOwn First old.now.trees → IsOwn Second new.now.trees
+  taken_own clean own =
+      let it = asked (before survives clean) in
+      absurd (not_second old.now.trees old.now refl it.0.sound it.2 own)
+
+  pub taken_rows : (HasCleanDisk new → IsReady mid → KeepsRows mid new) → HasCleanDisk new → IsHeld old.now.trees
+      → KeepsRows old new
+  taken_rows kept clean is_held =
+      let early = before survives clean in
+      same_rows old mid new (asked early).1 (kept clean (taken_ready asked early))
+
+pub taken_stop : {old mid new : State} → Took Second old mid → Survives old mid (λ _. ⊥)
     → Survives mid new (λ trees. (devices : Devices) → Shows mid devices → Holds trees devices)
     → Survives old new (KeepsFound old.now.trees)
-taken_stop old mid new rest took first second =
+taken_stop {old} {mid} {new} asked first second =
     survives_then old mid new (λ _. ⊥) (λ trees. (devices : Devices) → Shows mid devices → Holds trees devices)
     (KeepsFound old.now.trees) (λ clean trees no. absurd no)
     (λ clean trees leaves.
-    let between : HasCleanDisk mid = omega (arith, clean, second.clean) in
-    let it = took between in
-    let was = shown old (rest (omega (arith, between, first.clean))) it.1 in
+    let it = asked (before second clean) in
+    let was = shown old it.0 it.2 in
     record {
       devices = was.0;
-      finds = inl (held old was.0 was.1);
-      holds = leaves was.0 ((unchanged old mid it.0 it.0.0.is_open).1 was.0 was.1);
+      finds = inl (Second, held old was.0 was.1);
+      holds = leaves was.0 ((unchanged old mid it.1 it.1.0.is_open).1 was.0 was.1);
+      own = λ own. absurd (not_second old.now.trees old.now refl it.0.sound it.2 own);
     })
     first second
+
+-- ---- a registry of the first version
+
+-- the devices of a registry of the first version
+first_shown : (s : State) → IsAtRest s → IsRegistry First s.now
+    → (devices : Devices) × RegistersAs First s.now devices × HoldsAs First s.now.trees devices
+first_shown s rest it =
+    let devices = devices_in (rows_of First (s.now.trees it.tables.devices)) in
+    let registers : RegistersAs First s.now devices = record { registry = it; is = refl } in (
+      devices,
+      registers,
+      record { db = s.now; same = refl; sound = rest.sound; registers = registers },
+    )
+
+-- the state between is as it was
+first_between : (old mid : State) → IsUnchanged old mid → (devices : Devices) → RegistersAs First old.now devices
+    → RegistersAs First mid.now devices
+first_between old mid same devices = subst (λ db. RegistersAs First db devices) (sym same.0.now_is)
+
+pub first_asked : {old mid : State} → Took First old mid → HasCleanDisk mid
+    → IsRegistry First mid.now × IsDatabase mid.now
+first_asked {old} {mid} asked clean =
+    let it = asked clean in
+    (subst (IsRegistry First) (sym it.1.0.now_is) it.2, subst IsDatabase (sym it.1.0.now_is) it.0.sound)
+
+module _ {old mid new : State} {P : Trees → Type 0} (asked : Took First old mid) (survives : Survives mid new P) where
+  pub migrated : (HasCleanDisk new → IsOwn Second new.now.trees
+      × ((devices : Devices) → RegistersAs First mid.now devices → Shows new devices)) → HasCleanDisk new
+      → (devices : Devices) × IsPrepared old new devices
+  migrated made clean =
+      let it = asked (before survives clean) in
+      let was = first_shown old it.0 it.2 in (
+        was.0,
+        record {
+          found = inl (First, was.2);
+          shows = (made clean).1 was.0 (first_between old mid it.1 was.0 was.1);
+        },
+      )
+
+  -- it was no registry that was opened before
+  pub migrated_other : {A : Type 0} → HasCleanDisk new → IsHeld old.now.trees → A
+  migrated_other clean is_held =
+      let it = asked (before survives clean) in
+      let holds = is_held.holds in
+      absurd (other_version old.now.schema it.2.tables (subst (HasTables Second)
+      (one_schema old.now.trees holds.db old.now holds.same refl holds.sound it.0.sound)
+      holds.registers.registry.tables))
+
+pub migrated_stop : {old mid new : State} → Took First old mid → Survives old mid (λ _. ⊥)
+    → Survives mid new (λ trees. IsOwn Second trees
+    × ((devices : Devices) → RegistersAs First mid.now devices → Holds trees devices))
+    → Survives old new (KeepsFound old.now.trees)
+migrated_stop {old} {mid} {new} asked first second =
+    survives_then old mid new (λ _. ⊥) (λ trees. IsOwn Second trees
+    × ((devices : Devices) → RegistersAs First mid.now devices → Holds trees devices))
+    (KeepsFound old.now.trees) (λ clean trees no. absurd no)
+    (λ clean trees left.
+    let it = asked (before second clean) in
+    let was = first_shown old it.0 it.2 in
+    record {
+      devices = was.0;
+      finds = inl (First, was.2);
+      holds = left.1 was.0 (first_between old mid it.1 was.0 was.1);
+      own = λ _. left.0;
+    })
+    first second
+
+-- no version of it is a registry as this program leaves it, and its tables cannot be made
+pub is_other : (s : State) → IsAtRest s → ((version : Version) → ¬ IsOwn version s.now.trees)
+    → (IsTrue (is_clear s.now.schema) → ⊥) → IsOther s.now.trees
+is_other s rest none unclear = (none, λ free. unclear (free_found s rest free))
 
 -- ---- what is opened
 
@@ -178,6 +353,16 @@ module _ {T : Type 0} (old mid new : State) (law : Settles new) where
       → OnOk r ((devices : Devices) × IsPrepared mid new devices) → OnOk r ((devices : Devices) × Opens old new devices)
   opens_if (Ok v) was it = (it.0, opened old mid new it.0 was.0 was.1 it.1 (λ trees. law trees it.1.shows.is_open))
   opens_if (Err e) was it = tt
+
+  -- what was a first version as this program left it is a second
+  pub migrated_if : (r : Result T OpenFault) → IsUnchanged old mid × IsAtRest old
+      → OnOk r ((devices : Devices) × IsPrepared mid new devices)
+      → OnOk r (IsOwn First mid.now.trees → IsOwn Second new.now.trees)
+      → OnOk r (IsOwn First old.committed.trees → (trees : Trees) → new.may_leave trees → IsOwn Second trees)
+  migrated_if (Ok v) was it own = λ first trees may.
+      subst (IsOwn Second) (ap (λ (db : Database). db.trees) it.1.shows.settled
+      ∙ sym (law trees it.1.shows.is_open may)) (own (subst (IsOwn First) (sym (last old mid was.0 was.1)) first))
+  migrated_if (Err e) was it own = tt
 
   pub registries_if : (r : Result T OpenFault) → OnOk r ((devices : Devices) × IsPrepared mid new devices)
       → OnOk r (AreRegistries new.may_leave)
@@ -248,55 +433,40 @@ refused_then (Err fault) old mid new was first second other same = record {
 
 -- ---- what a stop left, found again
 
-no_place : (o : Option ℕ) (at : ℕ) → o ≡ Some at → o ≡ None → ⊥
-no_place o at some none = let e = sym some ∙ none in cc
-
--- a database that is a registry has the two tables
-pub not_bare : (trees : Trees) (devices : Devices) → Holds trees devices → IsBare trees → ⊥
-not_bare trees devices holds bare =
-    let same : holds.db.schema ≡ bare.db.schema =
-    same_schema trees holds.db.schema bare.db.schema (subst (IsSound holds.db.schema) holds.same holds.sound)
-    (subst (IsSound bare.db.schema) bare.same bare.sound) in
-    let registry = holds.registers.registry in
-    no_place (table_named holds.db.schema meta_name) registry.tables.meta_at registry.tables.meta_stands.named
-    (ap (λ s. table_named s meta_name) same ∙ bare.no_meta)
-
--- and so its tables cannot be made
-pub not_clear : (s : State) → IsAtRest s → IsTrue (is_clear s.now.schema) → IsHeld s.now.trees → ⊥
-not_clear s rest clear held = not_bare s.now.trees held.devices held.holds (bare s rest clear)
-
--- what was asked between changed nothing
-pub same_rows : (old mid new : State) → IsUnchanged old mid → KeepsRows mid new → KeepsRows old new
-same_rows old mid new same kept =
-    let db : mid.now ≡ old.now = same.0.now_is in
-    record {
-      schema = kept.schema ∙ ap (λ (d : Database). d.schema) db;
-      rows = λ t has. kept.rows t (subst (λ (d : Database). Has d.schema.tables t) (sym db) has)
-          ∙ ap (λ (d : Database). d.trees t.tree) db;
-    }
-
 pub rows_on : {T : Type 0} (r : Result T OpenFault) (old mid new : State) → IsUnchanged old mid → IsAtRest old
     → OnOk r (IsHeld mid.now.trees → KeepsRows mid new) → OnOk r (IsHeld old.committed.trees → KeepsRows old new)
 rows_on (Ok v) old mid new same rest kept =
     λ held. same_rows old mid new same (kept (subst IsHeld (sym (last old mid same rest)) held))
 rows_on (Err e) old mid new same rest kept = tt
 
+holds_same : (trees : Trees) (v w : Version) (left found : Devices) → HoldsAs v trees left → HoldsAs w trees found
+    → left ≡ found
+holds_same trees v w left found one two =
+    let schema = one_schema trees one.db two.db one.same two.same one.sound two.sound in
+    let same = one_version v w two.db.schema (subst (HasTables v) schema one.registers.registry.tables)
+    two.registers.registry.tables in
+    held_by w trees left found (subst (λ u. HoldsAs u trees left) same one) two
+
+holds_none : (trees : Trees) (version : Version) (devices : Devices) → HoldsAs version trees devices → IsBare trees → ⊥
+holds_none trees version devices holds =
+    not_bare version trees holds.db holds.same holds.sound holds.registers.registry
+
 pub found_again : FoundAgain
-found_again trees left found (inl holds) (inl other) = held_once trees left found holds other
-found_again trees left found (inl holds) (inr none) = absurd (not_bare trees left holds none.0)
-found_again trees left found (inr none) (inl holds) = absurd (not_bare trees found holds none.0)
-found_again trees left found (inr none) (inr other) = none.1 ∙ sym other.1
+found_again trees left found (inl one) (inl two) = holds_same trees one.0 two.0 left found one.1 two.1
+found_again trees left found (inl one) (inr none) = absurd (holds_none trees one.0 left one.1 none.0)
+found_again trees left found (inr none) (inl two) = absurd (holds_none trees two.0 found two.1 none.0)
+found_again trees left found (inr none) (inr again) = none.1 ∙ sym again.1
 
 pub refused_opens_keep : {C : Type 0} (state : C → State) → RefusedOpensKeep state
 refused_opens_keep state old new fault clean refused = (
   λ before trees may. elim (refused.stop clean trees may) [
     | inl early ↦ before trees early
-    | inr kept ↦ (kept.1.devices, inl kept.1.holds)
+    | inr kept ↦ (kept.1.devices, inl (Second, kept.1.holds))
   ],
   λ devices next. elim (refused.stop clean next.0 next.1) [
     | inl early ↦ inl (next.0, early, next.2)
     | inr kept ↦
-        let same = found_again next.0 kept.1.devices devices (inl kept.1.holds) next.2 in
+        let same = found_again next.0 kept.1.devices devices (inl (Second, kept.1.holds)) next.2 in
         inr (kept.0, subst (Finds (state old).committed.trees) same kept.1.finds)
   ],
 )
@@ -305,7 +475,7 @@ pub handed_on : {C : Type 0} (state : C → State) → HandedOn state
 handed_on state closed opened devices found clean committed has opens =
     let last = state closed in
     let holds = committed clean opens.was_open devices has in
-    sym (found_again last.committed.trees devices found (inl holds) opens.found)
+    sym (found_again last.committed.trees devices found (inl (Second, holds)) opens.found)
 
 pub closed_files_are_found : {D : Type 0} (g : Ghosts D) → ClosedFilesAreFound g
 closed_files_are_found g closed opened files devices copied finds committed has =
@@ -313,6 +483,6 @@ closed_files_are_found g closed opened files devices copied finds committed has 
     let same : trees ≡ (file_state closed).committed.trees = finds_again closed opened files (λ _. copied) finds in
     let last = committed copied.was_clean copied.was_open devices has in
     let holds : Holds trees devices = subst (λ t. Holds t devices) (sym same) last in (
-      inl holds,
-      λ found other. sym (found_again trees devices found (inl holds) other),
+      inl (Second, holds),
+      λ found other. sym (found_again trees devices found (inl (Second, holds)) other),
     )

@@ -1,6 +1,6 @@
 -- An open does to a registry what the text does that writes its version row as it stands, and nothing else.
 use Rattle.std.proofs.Common.{◌≡◌, Bool, ℕ, List, [], inl, inr, Ok, Err, Result, OnOk, Option, sym, ap, subst, subst₂}
-use Rattle.std.proofs.Common.{◌∙◌, if◌then◌else◌, unwrap_or, false}
+use Rattle.std.proofs.Common.{◌∙◌, if◌then◌else◌, unwrap_or, false, arith}
 use Rattle.std.proofs.lemmas.Bool.{cases_Bool}
 use Rattle.sqlite.specs.Order.{Row}
 use Rattle.sqlite.specs.Command.{Command}
@@ -12,14 +12,16 @@ use Rattle.sqlite.specs.Effect.{Database, IsDatabase, SparesFrozen}
 use Rattle.sqlite.specs.Does.{Does}
 use Rattle.sqlite.specs.Listing.{understood}
 use Rattle.sqlite.specs.State.{State, IsUnchanged, Survives, Writes, Runs, Executes, ExecutesIn, IsStatement, mode_of}
-use Rattle.sqlite.specs.State.{shows_rows, text_of}
+use Rattle.sqlite.specs.State.{HasCleanDisk, shows_rows, text_of}
 use Rattle.sqlite.proofs.Callers.{command_of}
+use Rattle.sqlite_trees.specs.Tree.{Trees}
 use Rattle.sqlite_catalog.specs.Listing.{IsSound}
 use Rattle.device_registry.specs.declared.fault.OpenFault.{OpenFault}
+use Rattle.device_registry.specs.declared.table.Version.TheVariants.{Second}
 use Rattle.device_registry.specs.Table.{renew_text}
-use Rattle.device_registry.specs.Stored.{HasTables, IsRegistry, IsHeld}
+use Rattle.device_registry.specs.Stored.{HasTables, IsHeld}
 use Rattle.device_registry.specs.Opening.{IsAtRest, IsRenewed}
-use Rattle.device_registry.proofs.OpenCalls.{last, ready}
+use Rattle.device_registry.proofs.OpenCalls.{Took, last, taken_ready}
 use Rattle.device_registry.proofs.StatementTexts.{program_of, renew_query}
 use Rattle.device_registry.proofs.TablesRecognized.{same_schema}
 use Rattle.device_registry.proofs.VersionMeaning.{renew_means}
@@ -82,26 +84,32 @@ module _ (old mid new : State) (same : IsUnchanged old mid) (limit : mid.step_li
       )
 
 -- what was asked before the text changed nothing
-renewed_between : (old mid new : State) → HasTables old.now.schema → IsUnchanged old mid → Survives old mid (λ _. ⊥)
+renewed_between : (old mid new : State) → HasTables Second old.now.schema → IsUnchanged old mid
+    → Survives old mid (λ _. ⊥)
     → IsRenewed mid new → IsRenewed old new
 renewed_between old mid new tables same survives renewed =
     let it = renew_means old.now.schema tables.meta_at tables.meta tables.meta_stands in
     updates_from old mid new same survives.limit renew_text [] tables.meta_at
     (program_of (renew_query tables.meta)) 1 it.is renewed
 
-pub renewed_by : (old mid new : State) (count : ℕ) → IsAtRest old → IsRegistry old.now → IsUnchanged old mid
-    → Survives old mid (λ _. ⊥) → Executes renew_text [] mid new (Ok count) → IsRenewed old new
-renewed_by old mid new count rest registry same survives h =
-    let one = changes_one mid new count (ready old mid rest same registry) h in
-    renewed_between old mid new registry.tables same survives (subst (λ n. Executes renew_text [] mid new (Ok n)) one h)
+pub renewed_by : {old mid new : State} {P : Trees → Type 0} (count : ℕ) → Took Second old mid
+    → Survives old mid (λ _. ⊥) → Survives mid new P
+    → (HasCleanDisk new → Executes renew_text [] mid new (Ok count)) → HasCleanDisk new → IsHeld old.now.trees
+    → IsRenewed old new
+renewed_by {old} {mid} {new} count asked first second runs clean is_held =
+    let early : HasCleanDisk mid = omega (arith, clean, second.clean) in
+    let it = asked early in
+    let one = changes_one mid new count (taken_ready asked early) (runs clean) in
+    renewed_between old mid new it.2.tables it.1 first
+    (subst (λ n. Executes renew_text [] mid new (Ok n)) one (runs clean))
 
 -- a sound database with the trees of a registry has its tables
-has_tables : (db : Database) → IsDatabase db → IsHeld db.trees → HasTables db.schema
+has_tables : (db : Database) → IsDatabase db → IsHeld db.trees → HasTables Second db.schema
 has_tables db sound held =
     let its = held.holds.db in
     let same : its.schema ≡ db.schema = same_schema db.trees its.schema db.schema
     (subst (IsSound its.schema) held.holds.same held.holds.sound) sound in
-    subst HasTables same held.holds.registers.registry.tables
+    subst (HasTables Second) same held.holds.registers.registry.tables
 
 pub renewed_if : {T : Type 0} (r : Result T OpenFault) (old mid new : State) → IsUnchanged old mid → IsAtRest old
     → Survives old mid (λ _. ⊥) → OnOk r (IsHeld mid.now.trees → IsRenewed mid new)

@@ -75,7 +75,7 @@ queried_if sql params old new (Err e) plain h = spared_remains old new (not_show
 
 -- ---- inside a transaction
 
-spared_commit : (old new : State) → IsSpared old new → KeepsCommit old new
+pub spared_commit : (old new : State) → IsSpared old new → KeepsCommit old new
 spared_commit old new (inl same) = record { was_open = λ _. same.0.was_open; committed = λ _. same.0.committed_is }
 spared_commit old new (inr back) = record { was_open = back.was_open; committed = λ is_open. (back.undone is_open).1 }
 

@@ -2,30 +2,35 @@
 use Rattle.std.specs.Result.{IsErr}
 use Rattle.std.specs.Prelude.{Vec}
 use Rattle.std.specs.declared.alloc.Global.{Global}
-use Rattle.std.specs.FinMap.{empty}
+use Rattle.std.specs.FinMap.{empty, get, insert}
 use Rattle.sqlite.specs.Order.{Row}
 use Rattle.std.proofs.Common.{◌≡◌, true, false, inl, inr, ℕ, Bool, Option, Result, Ok, Err, IsTrue, IfOk, OnOk}
-use Rattle.std.proofs.Common.{MatchResult, List, map, refl, sym, ap, subst, ◌∙◌}
+use Rattle.std.proofs.Common.{Some, None, is_some, option_map, MatchBool, MatchResult}
+use Rattle.std.proofs.Common.{List, map, refl, sym, ap, subst, ◌∙◌}
 use Rattle.sqlite_trees.specs.Tree.{Trees}
 use Rattle.sqlite.specs.Effect.{Database}
 use Rattle.sqlite.specs.State.{State, HasCleanDisk}
+use Rattle.erp1_telegrams.specs.declared.eep.Eep.{Eep}
 use Rattle.learned_devices.specs.declared.Device.{Device}
 use Rattle.device_registry.specs.declared.fault.LearnFault.TheVariants.{Full, Refused}
 use Rattle.device_registry.specs.declared.fault.StoreFault.{StoreFault}
 use Rattle.device_registry.specs.declared.receipt.Receipt.{Receipt}
-use Rattle.device_registry.specs.Devices.{Devices, Change, changed, learned, forgotten, device_of, all_of, is_full}
+use Rattle.device_registry.specs.declared.fault.LearnFault.{LearnFault}
+use Rattle.device_registry.specs.Devices.{Devices, Learned, Learn, Relabel, Change}
+use Rattle.device_registry.specs.Devices.{entered, changed, after, learned, forgotten}
+use Rattle.device_registry.specs.Devices.{relabelled, kept_label, known_of, device, device_of, all_of, is_full}
 use Rattle.device_registry.specs.Holding.{HasDevices, HoldsSome, AreRegistries, Keeps, Commits, Pends}
-use Rattle.device_registry.specs.Holding.{LooksUp, Learns, Forgets, ListsAll, HandsOn}
+use Rattle.device_registry.specs.Holding.{RefusesToLearn, LooksUp, Learns, Forgets, Relabels, ListsAll, HandsOn}
 use Rattle.device_registry.specs.Ready.{Shows, IsReady, StaysReady, GoesOn, Stays, Turns}
 use Rattle.device_registry.specs.Table.Rows.{listed}
-use Rattle.device_registry.proofs.DevicesHeld.{held_once, registers_once}
+use Rattle.device_registry.proofs.DevicesHeld.{held_once, registers_once, room_for_known}
 use Rattle.device_registry.proofs.StatementSteps.{ready_on}
 
 -- what a registry knows of its connection between two calls: its invariant
 abbrev pub IsWell : State → Type 0
 IsWell s = (HasCleanDisk s → AreRegistries s.may_leave) × StaysReady s
 
-shows_them : (s : State) (devices : Devices) → HasCleanDisk s → IsReady s → HasDevices s devices → Shows s devices
+pub shows_them : (s : State) (devices : Devices) → HasCleanDisk s → IsReady s → HasDevices s devices → Shows s devices
 shows_them s devices clean ready has =
     let it = ready.shows in
     record {
@@ -278,6 +283,254 @@ module _ {T E : Type 0} (old mid new : State) (result : Result T E) (stays : Sta
     devices = λ clean devices has. commits old mid new (forgotten id) result stays well turns (made clean) clean
         (was (turns.clean clean)) last devices has;
   }
+
+-- ---- what is put in place of what was known
+
+-- a change that makes this of its sender puts it in
+pub becomes : (devices : Devices) (change : Change) (it : Learned)
+    → after (get devices change.sender) change.deed ≡ Some it → changed devices change ≡ insert devices change.sender it
+becomes devices change it makes = ap (entered devices change.sender) makes
+
+-- so it does where the registry shows the devices that it was asked of
+pub puts_it : (old mid : State) → Stays old mid → IsWell old → (change : Change) (it : Learned)
+    → (HasCleanDisk old → (devices : Devices) → HasDevices old devices
+    → after (get devices change.sender) change.deed ≡ Some it)
+    → HasCleanDisk mid → (devices : Devices) → Shows mid devices
+    → changed devices change ≡ insert devices change.sender it
+puts_it old mid stays well change it makes clean devices shows =
+    let was = shown_before old mid stays well clean devices shows in
+    becomes devices change it (makes (stays.clean clean) devices (λ _ _. was.registers))
+
+-- ---- a label
+
+-- there is room for a known sender
+pub room_if_known : (s : State) (id : ℕ) (label : List ℕ) (it : Learned)
+    → (HasCleanDisk s → (devices : Devices) → HasDevices s devices → after (get devices id) (Relabel label) ≡ Some it)
+    → HasCleanDisk s → (devices : Devices) → Shows s devices → is_full devices id ≡ false
+room_if_known s id label it known clean devices shows =
+    go (get devices id) refl (known clean devices (λ _ _. shows.registers))
+  where
+    go : (o : Option Learned) → get devices id ≡ o → after o (Relabel label) ≡ Some it → is_full devices id ≡ false
+    go None is none = absurd (let e = none in cc)
+    go (Some was) is some = room_for_known s.now devices id was shows.registers is
+
+is_known : (known : Option Learned) (label : List ℕ) (it : Learned) → after known (Relabel label) ≡ Some it
+    → true ≡ is_some known
+is_known None label it e = absurd (let none = e in cc)
+is_known (Some learned) label it e = refl
+
+pub stays_itself : (s : State) → Stays s s
+stays_itself s = record {
+  clean = λ clean. clean;
+  stop = λ clean trees may. may;
+  goes_on = λ clean is_open. (is_open, λ devices shows. shows);
+}
+
+module _ {T E : Type 0} (old new : State) (result : Result T E) (well : IsWell old) (id : ℕ) (label : List ℕ)
+    (turns : Turns old new (relabelled id label) result) where
+  pub relabel_refused : (r : Result Bool StoreFault) → IsErr r → (HasCleanDisk new → GoesOn old new)
+      → Relabels old new id label r
+  relabel_refused (Ok done) is goes_on = absurd (cc)
+  relabel_refused (Err fault) is goes_on = record {
+    clean = turns.clean;
+    registries = (refused_well old old new (relabelled id label) result (stays_itself old) well turns goes_on).0;
+    devices = λ clean.
+        pends old old new (relabelled id label) result (stays_itself old) well turns (goes_on clean) clean;
+  }
+
+  pub relabel_made : (it : Learned)
+      → (HasCleanDisk new → (devices : Devices) → Shows old devices → Shows new (changed devices (relabelled id label)))
+      → (HasCleanDisk old → IsReady old)
+      → ((trees : Trees) → IsTrue new.is_open → new.may_leave trees → trees ≡ new.committed.trees)
+      → (HasCleanDisk old → (devices : Devices) → HasDevices old devices
+      → after (get devices id) (Relabel label) ≡ Some it) → Relabels old new id label (Ok true)
+  relabel_made it made was last known = record {
+    clean = turns.clean;
+    registries = (made_well old old new (relabelled id label) result (stays_itself old) well turns made was).0;
+    devices = λ clean devices has. (
+      is_known (get devices id) label it (known (turns.clean clean) devices has),
+      commits old old new (relabelled id label) result (stays_itself old) well turns (made clean) clean
+          (was (turns.clean clean)) last devices has,
+    );
+  }
+
+-- a label of a known sender is committed
+pub committed_label : (old new : State) (id : ℕ) (label : List ℕ) (it : Learned) (done : Bool)
+    (devices : Devices) → after (get devices id) (Relabel label) ≡ Some it
+    → (done ≡ is_some (get devices id))
+    × MatchBool done (Commits new (relabelled id label) devices) (Keeps old new devices)
+    → Commits new (relabelled id label) devices
+committed_label old new id label it done devices known told =
+    subst (λ b. MatchBool b (Commits new (relabelled id label) devices) (Keeps old new devices))
+    (told.0 ∙ sym (is_known (get devices id) label it known)) told.1
+
+-- ---- a look-up first
+
+-- it has the profile and the maker that it had
+labels_apart : (was it : Device) (label : List ℕ)
+    → known_of it ≡ record { eep = was.eep; maker = was.maker; label = label }
+    → known_of was ≡ record { eep = it.eep; maker = it.maker; label = was.label }
+labels_apart was it label is =
+    λ i. record { eep = (sym is i).eep; maker = (sym is i).maker; label = was.label }
+
+-- a sender that is known as this device
+pub known_as : (id : ℕ) (known : Option Learned) (was : Device) → Some was ≡ option_map (device id) known
+    → known ≡ Some (known_of was)
+known_as id None was e = absurd (let none = e in cc)
+known_as id (Some it) was e = let same : was ≡ device id it = cc in ap (λ d. Some (known_of d)) (sym same)
+
+keeps_then : (a b c : State) (devices : Devices) → Keeps a b devices → Keeps b c devices → Keeps a c devices
+keeps_then a b c devices first second =
+    record { now = second.now; stop = λ left may. first.stop left (second.stop left may) }
+
+pends_then : (a b c : State) (change : Change) (devices : Devices) → Keeps a b devices → Pends b c change devices
+    → Pends a c change devices
+pends_then a b c change devices first second = record {
+  now = second.now;
+  stop =
+      λ left may. elim (second.stop left may) [ inl before ↦ inl (first.stop left before) | inr made ↦ inr made ];
+}
+
+module _ (old mid : State) (id : ℕ) where
+  -- which was not answered
+  pub learns_unlooked : (it : Device) (fault : StoreFault) → LooksUp old mid id (Err fault)
+      → Learns old mid it (Err (Refused fault))
+  learns_unlooked it fault looks = record {
+    clean = looks.clean;
+    registries = looks.registries;
+    receipt = tt;
+    devices = λ clean devices has. kept_pends old mid (learned it) devices (looks.devices clean devices has);
+  }
+
+  pub relabels_unlooked : (label : List ℕ) (fault : StoreFault) → LooksUp old mid id (Err fault)
+      → Relabels old mid id label (Err fault)
+  relabels_unlooked label fault looks = record {
+    clean = looks.clean;
+    registries = looks.registries;
+    devices = λ clean devices has. kept_pends old mid (relabelled id label) devices (looks.devices clean devices has);
+  }
+
+  unknown : (known : Option Learned) → None ≡ option_map (device id) known → false ≡ is_some known
+  unknown None e = refl
+  unknown (Some it) e = absurd (let none = e in cc)
+
+  -- nothing is known of the sender
+  pub relabels_unknown : (label : List ℕ) → LooksUp old mid id (Ok None) → Relabels old mid id label (Ok false)
+  relabels_unknown label looks = record {
+    clean = looks.clean;
+    registries = looks.registries;
+    devices = λ clean devices has. let it = looks.devices clean devices has in
+        (unknown (get devices id) it.0, it.1);
+  }
+
+  -- the label of a device is that of what is known
+  label_in_device : (id : ℕ) (known : Option Learned)
+      → kept_label (option_map known_of (option_map (device id) known)) ≡ kept_label known
+  label_in_device id None = refl
+  label_in_device id (Some it) = refl
+
+  module _ (known : Option Device) (looks : LooksUp old mid id (Ok known)) (new : State) where
+    kept : HasCleanDisk mid → (devices : Devices) → HasDevices old devices → Keeps old mid devices
+    kept clean devices has = (looks.devices clean devices has).1
+
+    learned_after : (it : Device) (r : Result Receipt LearnFault) (devices : Devices) → Keeps old mid devices
+        → MatchResult r (λ _. (is_full devices it.id ≡ false) × Commits new (learned it) devices)
+        (RefusesToLearn mid new it devices)
+        → MatchResult r (λ _. (is_full devices it.id ≡ false) × Commits new (learned it) devices)
+        (RefusesToLearn old new it devices)
+    learned_after it (Ok receipt) devices keeps done = done
+    learned_after it (Err Full) devices keeps (full, then) = (full, keeps_then old mid new devices keeps then)
+    learned_after it (Err (Refused fault)) devices keeps then =
+        pends_then old mid new (learned it) devices keeps then
+
+    -- what was told of the sender is so of whatever the registry holds now
+    module _ (ready : HasCleanDisk mid → IsReady old × IsReady mid) where
+      told_now : HasCleanDisk mid → (devices : Devices) → HasDevices mid devices → known ≡ device_of devices id
+      told_now clean devices has =
+          let was = (ready clean).0 in
+          let is_open = (ready clean).1.shows.is_open in
+          let it = looks.devices clean was.devices (λ _ _. was.shows.registers) in
+          it.0 ∙ ap (λ (d : Devices). device_of d id)
+          (registers_once mid.now was.devices devices (it.1.now clean is_open) (has clean is_open))
+
+      -- a device with the label that its sender keeps
+      pub keeps_label : (it : Device) (eep : Eep) (maker : Option ℕ) → it.id ≡ id
+          → known_of it ≡ record { eep = eep; maker = maker; label = kept_label (option_map known_of known) }
+          → HasCleanDisk mid → (devices : Devices) → HasDevices mid devices
+          → after (get devices it.id) (Learn it.eep it.maker) ≡ Some (known_of it)
+      keeps_label it eep maker at is clean devices has =
+          let label : it.label ≡ kept_label (get devices it.id) =
+          ap (λ (l : Learned). l.label) is
+          ∙ ap (λ o. kept_label (option_map known_of o)) (told_now clean devices has)
+          ∙ label_in_device id (get devices id) ∙ ap (λ n. kept_label (get devices n)) (sym at) in
+          ap (λ l. Some (record { eep = it.eep; maker = it.maker; label = l })) (sym label)
+
+      -- a known device with another label
+      pub gets_label : (was it : Device) (label : List ℕ) → known ≡ Some was → it.id ≡ id
+          → known_of it ≡ record { eep = was.eep; maker = was.maker; label = label }
+          → HasCleanDisk mid → (devices : Devices) → HasDevices mid devices
+          → after (get devices it.id) (Relabel it.label) ≡ Some (known_of it)
+      gets_label was it label some at is clean devices has =
+          ap (λ n. after (get devices n) (Relabel it.label)) at
+          ∙ ap (λ o. after o (Relabel it.label))
+          (known_as id (get devices id) was (sym some ∙ told_now clean devices has))
+          ∙ ap (λ (l : Learned). Some (record { eep = l.eep; maker = l.maker; label = it.label }))
+          (labels_apart was it label is)
+
+    pub learns_after : (it : Device) (r : Result Receipt LearnFault) → Learns mid new it r → Learns old new it r
+    learns_after it r learns = record {
+      clean = λ clean. looks.clean (learns.clean clean);
+      registries = learns.registries;
+      receipt = learns.receipt;
+      devices = λ clean devices has.
+          let keeps = kept (learns.clean clean) devices has in
+          learned_after it r devices keeps (learns.devices clean devices keeps.now);
+    }
+
+    relabelled_after : (label : List ℕ) (r : Result Bool StoreFault) (devices : Devices) → Keeps old mid devices
+        → MatchResult r (λ known. (known ≡ is_some (get devices id))
+        × MatchBool known (Commits new (relabelled id label) devices) (Keeps mid new devices))
+        (λ _. Pends mid new (relabelled id label) devices)
+        → MatchResult r (λ known. (known ≡ is_some (get devices id))
+        × MatchBool known (Commits new (relabelled id label) devices) (Keeps old new devices))
+        (λ _. Pends old new (relabelled id label) devices)
+    relabelled_after label (Ok true) devices keeps done = done
+    relabelled_after label (Ok false) devices keeps (is, then) = (is, keeps_then old mid new devices keeps then)
+    relabelled_after label (Err fault) devices keeps then =
+        pends_then old mid new (relabelled id label) devices keeps then
+
+    pub relabels_after : (label : List ℕ) (r : Result Bool StoreFault) → Relabels mid new id label r
+        → Relabels old new id label r
+    relabels_after label r relabels = record {
+      clean = λ clean. looks.clean (relabels.clean clean);
+      registries = relabels.registries;
+      devices = λ clean devices has.
+          let keeps = kept (relabels.clean clean) devices has in
+          relabelled_after label r devices keeps (relabels.devices clean devices keeps.now);
+    }
+
+-- the label of a device says nothing of how it is learned
+pub learns_alike : (old new : State) (it other : Device) (r : Result Receipt LearnFault) → other.id ≡ it.id
+    → other.eep ≡ it.eep → other.maker ≡ it.maker → Learns old new other r → Learns old new it r
+learns_alike old new it other r id eep maker learns =
+    let same : other ≡ record { id = it.id; eep = it.eep; maker = it.maker; label = other.label } =
+    λ i. record { id = id i; eep = eep i; maker = maker i; label = other.label } in
+    let as_it = subst (λ d. Learns old new d r) same learns in
+    record {
+      clean = as_it.clean;
+      registries = as_it.registries;
+      receipt = as_it.receipt;
+      devices = λ clean devices has. unlabelled r devices (as_it.devices clean devices has);
+    }
+  where
+    unlabelled : (r : Result Receipt LearnFault) (devices : Devices)
+        → MatchResult r (λ _. (is_full devices it.id ≡ false) × Commits new (learned it) devices)
+        (RefusesToLearn old new (record { id = it.id; eep = it.eep; maker = it.maker; label = other.label }) devices)
+        → MatchResult r (λ _. (is_full devices it.id ≡ false) × Commits new (learned it) devices)
+        (RefusesToLearn old new it devices)
+    unlabelled (Ok receipt) devices done = done
+    unlabelled (Err Full) devices done = done
+    unlabelled (Err (Refused fault)) devices done = done
 
 -- the connection is handed on
 pub hands_on : (s : State) → IsWell s → HandsOn s

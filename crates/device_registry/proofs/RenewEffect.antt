@@ -1,4 +1,4 @@
--- What the statement that writes the version row as it stands makes of the database.
+-- What the statement that writes the second version makes of the database.
 use Rattle.std.proofs.Common.{true, false, drop, ◌≡◌, ℕ, pos, not, List, [], ◌∷◌, map, Some, None, Option}
 use Rattle.std.proofs.Common.{Ok, refl, ap, subst, ◌∙◌, slice_get, is_eq, cond, length}
 use Rattle.std.specs.List.{flat_map}
@@ -24,6 +24,7 @@ use Rattle.sqlite.specs.Effect.{Database}
 use Rattle.sqlite.specs.Does.{Tally, Does, AtPlace, OnRows}
 use Rattle.sqlite.specs.Rows.{Written, Task}
 use Rattle.sqlite.proofs.Callers.{one_step, one_permutation}
+use Rattle.device_registry.specs.declared.table.Version.TheVariants.{Second}
 use Rattle.device_registry.specs.Table.{meta_table}
 use Rattle.device_registry.specs.Table.Rows.{IsVersion}
 use Rattle.device_registry.proofs.StatementTexts.{program_of, renew_query}
@@ -34,10 +35,10 @@ use Rattle.device_registry.proofs.TestSteps.{both}
 
 -- the row as the statement writes it
 abbrev pub version_row : Row
-version_row = Int (pos 1) ∷ Null ∷ Int (pos 1) ∷ []
+version_row = Int (pos 1) ∷ Null ∷ Int (pos 2) ∷ []
 
 abbrev written : Row → Row
-written row = column row 0 ∷ column row 0 ∷ Null ∷ Int (pos 1) ∷ []
+written row = column row 0 ∷ column row 0 ∷ Null ∷ Int (pos 2) ∷ []
 
 asks : (m : ℕ) (db : Trees) (row : Row) (rows : List Row) → db m ≡ row ∷ []
     → IsAnswer (renew_query m) (overlay db []) [] rows → rows ≡ written row ∷ []
@@ -52,14 +53,14 @@ asks m db row rows one a =
 pub cast_version : (m : ℕ) → cast_row (meta_table m) version_row ≡ version_row
 cast_version m = simp (cast_int, cast_none)
 
-taken_out : (row : Row) → IsVersion row → without_rowid (pos 1) (row ∷ []) ≡ []
-taken_out row it = ap (λ v. cond (not (is_eq (value_cmp v (Int (pos 1))))) (row ∷ []) []) it.key
+taken_out : (row : Row) → column row 0 ≡ Int (pos 1) → without_rowid (pos 1) (row ∷ []) ≡ []
+taken_out row key = ap (λ v. cond (not (is_eq (value_cmp v (Int (pos 1))))) (row ∷ []) []) key
     ∙ ap (λ o. cond (not (is_eq o)) (row ∷ []) []) (value_cmp-Int (pos 1) (pos 1))
 
--- the one row is replaced by itself
-pub replaced : (m : ℕ) (db : Trees) (row : Row) (it : IsVersion row) → db m ≡ row ∷ []
+-- the one row is replaced by that of the second version
+pub replaced : (m : ℕ) (db : Trees) (row : Row) (key : column row 0 ≡ Int (pos 1)) → db m ≡ row ∷ []
     → edited db (edit_of db (meta_table m) (ids_of (written row ∷ [])) Given 1 (written row ∷ [])) ≡ version_row ∷ []
-replaced m db row it one = rw (it.key, cast_version m, one, taken_out row it) refl
+replaced m db row key one = rw (key, cast_version m, one, taken_out row key) refl
 
 untrue : false ≡ true → ⊥
 untrue e = cc
@@ -71,23 +72,24 @@ null_is (Real x) h = absurd cc
 null_is (Text t) h = absurd cc
 null_is (Blob b) h = absurd cc
 
--- a version row is what the statement writes
-pub version_is : (m : ℕ) (row : Row) (it : IsVersion row) → are_typed (meta_table m).key 0 (meta_table m).columns
+-- the row of the second version is what the statement writes
+pub version_is : (m : ℕ) (row : Row) (it : IsVersion Second row) → are_typed (meta_table m).key 0 (meta_table m).columns
     (drop 1 row) ≡ true → row ≡ version_row
 version_is m [] it h = absurd (let e : ◌≡◌ {A = Value} Null (Int (pos 1)) = it.key in cc)
-version_is m (a ∷ []) it h = absurd (let e : ◌≡◌ {A = Value} Null (Int (pos 1)) = it.version in cc)
-version_is m (a ∷ b ∷ []) it h = absurd (let e : ◌≡◌ {A = Value} Null (Int (pos 1)) = it.version in cc)
-version_is m (a ∷ b ∷ c ∷ []) it h = let null = null_is b (both _ _ h).0 in λ i. it.key i ∷ null i ∷ it.version i ∷ []
+version_is m (a ∷ []) it h = absurd (let e : ◌≡◌ {A = Value} Null (Int (pos 2)) = it.number in cc)
+version_is m (a ∷ b ∷ []) it h = absurd (let e : ◌≡◌ {A = Value} Null (Int (pos 2)) = it.number in cc)
+version_is m (a ∷ b ∷ c ∷ []) it h = let null = null_is b (both _ _ h).0 in λ i. it.key i ∷ null i ∷ it.number i ∷ []
 version_is m (a ∷ b ∷ c ∷ d ∷ more) it h = absurd (untrue (both _ _ (both _ _ h).1).1)
 
 pub renews : (schema : Schema) (at m : ℕ) (limit : Option ℕ) (mode : Mode) (db : Trees) (text : List ℕ) (tally : Tally)
     (after : Database) (row : Row)
-    → slice_get schema.tables at ≡ Some (meta_table m) → StandsAlone schema m → db m ≡ row ∷ [] → (it : IsVersion row)
+    → slice_get schema.tables at ≡ Some (meta_table m) → StandsAlone schema m → db m ≡ row ∷ []
+    → column row 0 ≡ Int (pos 1)
     → Does limit mode [] (record { schema = schema; trees = db }) text None (Update at (program_of (renew_query m)))
     (Ok (tally, after))
     → (after.schema ≡ schema) × (after.trees m ≡ version_row ∷ []) × SparesOthers schema m db after.trees
     × (tally.rows ≡ Some 1)
-renews schema at m limit mode db text tally after row there stands one it does =
+renews schema at m limit mode db text tally after row there stands one key does =
     let command = Update at (program_of (renew_query m)) in
     let here = λ (table : Table).
     let t : Task = record { limit = limit; keys = mode.keys; schema = schema; table = table; params = [] } in t in
@@ -107,7 +109,7 @@ renews schema at m limit mode db text tally after row there stands one it does =
     let are : queried.0 ≡ written row ∷ [] = asks m db row queried.0 one (queried.1.answer Null) in
     let rows : after.trees m ≡ version_row ∷ [] =
     ap (λ (s : Trees). s m) trees ∙ step.rows ∙ ap (λ rs. edited db (edit_of db (meta_table m) (ids_of rs) Given 1 rs))
-    are ∙ replaced m db row it one in (
+    are ∙ replaced m db row key one in (
       ap (λ (db : Database). db.schema) now,
       rows,
       λ i t is other. ap (λ (s : Trees). s t.tree) trees ∙ spares schema mode.keys db edits.0 edit step i t is other,

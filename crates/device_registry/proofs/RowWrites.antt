@@ -2,11 +2,11 @@
 use Rattle.std.proofs.Common.{◌≡◌, ◌≢◌, ◌⊎◌, inl, inr, ℕ, ℤ, Bool, true, false, not, cond, List}
 use Rattle.std.proofs.Common.{Some, Ok, Err, Result, refl, slice_get}
 use Rattle.sqlite.specs.declared.types.Value.{Value}
-use Rattle.sqlite.specs.declared.types.Value.TheVariants.{Null, Int}
+use Rattle.sqlite.specs.declared.types.Value.TheVariants.{Null, Int, Text}
 use Rattle.sqlite.specs.Order.{Row}
 use Rattle.sqlite_sql.specs.Ops.{unary}
 use Rattle.sqlite.specs.Cast.{cast}
-use Rattle.sqlite.specs.Kind.TheVariants.{Integer}
+use Rattle.sqlite.specs.Kind.TheVariants.{Integer, Text as LabelText}
 use Rattle.sqlite.specs.Schema.{Schema}
 use Rattle.sqlite.specs.Table.{Table}
 use Rattle.sqlite_schema.specs.declared.schema.Keys.{Keys}
@@ -44,6 +44,9 @@ same_value e = cc
 pub cast_none : cast Integer Null ≡ Null
 unfolding unary
 cast_none = either _ Null
+
+pub cast_label : (label : List ℕ) → cast LabelText (Text label) ≡ Text label
+cast_label label = refl
 
 pub without_once : (id : ℤ) (rows : List Row) → RowidsDiffer rows → RowidsDiffer (without_rowid id rows)
 without_once id rows once = ascending_filter (λ a b. rowid a ≢ rowid b) (λ r. not (has_rowid id r)) rows once

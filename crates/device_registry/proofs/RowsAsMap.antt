@@ -42,7 +42,8 @@ eep_back eep short =
 
 entry_stored : (id : ℕ) (it : Learned) → IsShort it.eep → entry_of (stored id it) ≡ (id, it)
 entry_stored id it short =
-    ap₂ (λ (e : Eep) (o : Option ℕ). let entry : ℕ × Learned = (id, record { eep = e; maker = o }) in entry)
+    ap₂ (λ (e : Eep) (o : Option ℕ).
+    let entry : ℕ × Learned = (id, record { eep = e; maker = o; label = it.label }) in entry)
     (eep_back it.eep short) (maker_back it.maker)
 
 ids_below : (a b : ℕ) → a < b → value_cmp (Int (pos a)) (Int (pos b)) ≡ Less

@@ -1,7 +1,7 @@
 -- What the two queries show that read a whole table.
 use Rattle.sqlite.specs.declared.error.Error.{Error}
 use Rattle.std.proofs.Common.{◌≡◌, ◌≢◌, ◌+◌, nat_le, ℕ, ℤ, true, ◌≤ℤ◌, negsuc, Less, Result, Ok, Err, IfOk}
-use Rattle.std.proofs.Common.{◌≤◌, suc, pos, List, [], ◌∷◌, map, length, refl, sym, ap, subst, ◌∙◌, arith, codes}
+use Rattle.std.proofs.Common.{◌≤◌, pos, List, [], ◌∷◌, map, length, refl, sym, ap, subst, ◌∙◌, arith, codes}
 use Rattle.std.specs.List.Sorted.{IsPermutation}
 use Rattle.std.proofs.lemmas.List.Sorted.{length_permutation, IsPermutation-sym}
 use Rattle.sqlite.specs.declared.types.Value.TheVariants.{Null, Int, Real, Text, Blob}
@@ -14,11 +14,15 @@ use Rattle.sqlite.specs.Listing.{understood}
 use Rattle.sqlite.specs.Effect.{Database}
 use Rattle.sqlite.specs.State.{State, Shown, IsUnchanged}
 use Rattle.sqlite.proofs.Callers.{IsPlain, reads_as, one_permutation}
-use Rattle.device_registry.specs.Table.{find_all_text, read_version_text, last_sender, last_profile, last_maker}
+use Rattle.learned_devices.specs.Labels.{is_label}
+use Rattle.device_registry.specs.declared.table.Version.{Version}
+use Rattle.device_registry.specs.Table.{number_of, find_all_text, read_version_text}
+use Rattle.device_registry.specs.Table.{last_sender, last_profile, last_maker}
 use Rattle.device_registry.specs.Stored.{HasTables, IsWhole}
-use Rattle.device_registry.specs.Table.Rows.{RowidsDiffer, IsDevice}
+use Rattle.device_registry.specs.Table.Rows.{RowidsDiffer, IsDevice, rows_of}
 use Rattle.device_registry.specs.Devices.{most_devices}
-use Rattle.device_registry.specs.Table.Rows.{ShowsVersion, natural, is_number, is_maker, shows_device, devices_rise}
+use Rattle.device_registry.specs.Table.Rows.{ShowsVersion, natural, is_number, is_maker, is_label_text}
+use Rattle.device_registry.specs.Table.Rows.{shows_device, devices_rise}
 use Rattle.device_registry.proofs.DistinctRows.{ranked, ranked_all, ranked_rises, apart_turned}
 use Rattle.device_registry.proofs.ListDevicesAnswer.{shown, out, outs_are, shown_are, shows_ranked, envs}
 use Rattle.std.specs.List.{AllByRecursion}
@@ -30,22 +34,18 @@ use Rattle.sqlite_trees.proofs.ListLemmas.{all_weaker, all-permutation, pull_bac
 use Rattle.device_registry.proofs.StatementSteps.{shown_same}
 use Rattle.device_registry.proofs.SenderTests.{overlay_is, above}
 use Rattle.device_registry.proofs.StatementTexts.{program_of, all_query}
-use Rattle.device_registry.proofs.ListDevicesMeaning.{all_means}
+use Rattle.device_registry.proofs.ListDevicesMeaning.{all_means, shown_columns}
 use Rattle.device_registry.proofs.VersionMeaning.{version_query, version_means}
 use Rattle.device_registry.proofs.TestSteps.{both}
 
-envs_length : (rows : List Row) → length (envs rows) ≡ length rows
-envs_length [] = refl
-envs_length (r ∷ rows) = ap suc (envs_length rows)
-
-all_counted : (d : ℕ) (db : Trees) (rows : List Row) → IsAnswer (all_query d) (overlay db []) [] rows
-    → length rows ≡ length (db d)
-all_counted d db rows a =
-    let kept : a.kept ≡ map (output (all_query d)) (envs (db d)) =
-    a.distinct ∙ ap (map (output (all_query d))) (subst (λ rs. a.staged ≡ envs rs) (overlay_is db d) a.grouped) in
+all_counted : (version : Version) (d : ℕ) (db : Trees) (rows : List Row)
+    → IsAnswer (all_query version d) (overlay db []) [] rows → length rows ≡ length (rows_of version (db d))
+all_counted version d db rows a =
+    let q = all_query version d in
+    let kept : a.kept ≡ map out (rows_of version (db d)) =
+    a.distinct ∙ ap (map (output q)) (a.grouped ∙ ap envs (overlay_is db d)) ∙ outs_are version d (db d) in
     ap length a.shown ∙ length-map a.ordered (λ (o : Output). o.1) ∙ length_permutation a.kept a.ordered a.same
-    ∙ ap length kept
-    ∙ length-map (envs (db d)) (output (all_query d)) ∙ envs_length (db d)
+    ∙ ap length kept ∙ length-map (rows_of version (db d)) out
 
 -- the table has one row, which has the number that is shown
 record IsOne (table : List Row) (shown : Row) : Type 0 where
@@ -73,7 +73,7 @@ versioned d (r ∷ s ∷ more) shown ordered is same =
     absurd (let n = length_permutation _ ordered same in
     let m = ap length is ∙ length-map ordered (λ (o : Output). o.1) in omega (arith, n, m))
 
-version_shown : (d : ℕ) (db : Trees) (rows : List Row) (it : ShowsVersion rows)
+version_shown : {version : Version} (d : ℕ) (db : Trees) (rows : List Row) (it : ShowsVersion version rows)
     → IsAnswer (version_query d) (overlay db []) [] rows → IsOne (db d) it.row
 version_shown d db rows it a =
     let kept : a.kept ≡ map (output (version_query d)) (envs (db d)) = a.distinct
@@ -81,7 +81,7 @@ version_shown d db rows it a =
     versioned d (db d) it.row a.ordered (sym it.are ∙ a.shown) (subst (λ k. IsPermutation k a.ordered) kept a.same)
 
 -- what the query of the version shows
-version_reads : (old new : State) (rows : List Row) (t : HasTables old.now.schema)
+version_reads : {version : Version} (old new : State) (rows : List Row) (t : HasTables version old.now.schema)
     → Shown read_version_text [] old new rows → IsAnswer (version_query t.meta) (overlay old.now.trees []) [] rows
 version_reads old new rows t h =
     let means = version_means old.now.schema t.meta_at t.meta t.meta_stands in
@@ -124,14 +124,23 @@ maker_passes : (n : ℤ) → IsMaker n → is_maker (Int n) ≡ true
 maker_passes (pos n) it = passes n last_maker (omega (arith, ints, it.1))
 maker_passes (negsuc n) it = let none : n ≡ 0 = omega (arith, ints, it.0) in rw none refl
 
+labelled : (v : Value) → is_label_text v ≡ true → (label : List ℕ) × (v ≡ Text label) × (is_label label ≡ true)
+labelled (Text label) h = (label, refl, h)
+labelled (Int n) h = absurd cc
+labelled Null h = absurd cc
+labelled (Real x) h = absurd cc
+labelled (Blob b) h = absurd cc
+
 -- what is shown as a device is one
 device_is : (row : Row) → shows_device (shown row) ≡ true → IsDevice row
 device_is row h =
     let all = both _ _ h in
-    let two = both _ _ all.0 in
+    let three = both _ _ all.0 in
+    let two = both _ _ three.0 in
     let id = numbered last_sender (column row 0) two.0 in
     let eep = numbered last_profile (column row 2) two.1 in
-    let maker = maker_numbered (column row 3) all.1 in
+    let maker = maker_numbered (column row 3) three.1 in
+    let label = labelled (column row 4) all.1 in
     record {
       id = id.0;
       id_is = id.1;
@@ -142,6 +151,9 @@ device_is row h =
       maker = maker.0;
       maker_is = maker.1;
       is_maker = maker.2;
+      label = label.0;
+      label_is = label.1;
+      is_label = label.2;
     }
 
 -- and a device is shown as one
@@ -150,7 +162,8 @@ device_shows row it =
     let id = ap (is_number last_sender) it.id_is ∙ passes it.id last_sender it.is_sender in
     let eep = ap (is_number last_profile) it.eep_is ∙ passes it.eep last_profile it.is_profile in
     let maker = ap is_maker it.maker_is ∙ maker_passes it.maker it.is_maker in
-    rw (id, eep, maker) refl
+    let label = ap is_label_text it.label_is ∙ it.is_label in
+    rw (id, eep, maker, label) refl
 
 -- the sender of the row is this one or one above
 abbrev AtLeast : ℕ → Row → Type 0
@@ -175,13 +188,14 @@ rising least (row ∷ rows) h =
     )
 
 -- the table's rows are devices, none twice, where those that are shown rise
-rows_are : (d : ℕ) (db : Trees) (rows : List Row) → IsAnswer (all_query d) (overlay db []) [] rows
-    → devices_rise 0 rows ≡ true → AllByRecursion IsDevice (db d) × RowidsDiffer (db d)
-rows_are d db rows a h =
-    let q = all_query d in
-    let table = db d in
+rows_are : (version : Version) (d : ℕ) (db : Trees) (rows : List Row)
+    → IsAnswer (all_query version d) (overlay db []) [] rows → devices_rise 0 rows ≡ true
+    → AllByRecursion IsDevice (rows_of version (db d)) × RowidsDiffer (rows_of version (db d))
+rows_are version d db rows a h =
+    let q = all_query version d in
+    let table = rows_of version (db d) in
     let kept : a.kept ≡ map out table =
-    a.distinct ∙ ap (map (output q)) (a.grouped ∙ ap envs (overlay_is db d)) ∙ outs_are d table in
+    a.distinct ∙ ap (map (output q)) (a.grouped ∙ ap envs (overlay_is db d)) ∙ outs_are version d (db d) in
     let to = pull_back out a.kept a.ordered a.same table kept in
     let are : rows ≡ map shown to.0 = a.shown ∙ ap (map (λ (o : Output). o.1)) to.2 ∙ shown_are to.0 in
     let it = rising 0 to.0 (subst (λ rs. devices_rise 0 rs ≡ true) are h) in
@@ -208,67 +222,72 @@ from_zero : (rows : List Row) → AllByRecursion (AtLeast 0) rows
 from_zero [] = tt
 from_zero (row ∷ rows) = (omega arith, from_zero rows)
 
--- what the query of all devices shows
-devices_read : (old mid new : State) (devices : List Row) (t : HasTables old.now.schema) → IsUnchanged old mid
-    → Shown find_all_text [] mid new devices → IsAnswer (all_query t.devices) (overlay old.now.trees []) [] devices
-devices_read old mid new devices t same h =
-    let means = all_means old.now.schema t.devices_at t.devices t.devices_stand in
-    let schema = ap (λ (d : Database). d.schema) same.0.now_is in
-    let read =
-    reads_as find_all_text [] mid new old.now.schema schema (Select (program_of (all_query t.devices))
-    (codes "id" ∷ codes "eep" ∷ codes "maker" ∷ [])) means.is means.plain means.unlisted devices h in
-    subst (λ (d : Database). IsAnswer (all_query t.devices) (overlay d.trees []) [] devices) same.0.now_is
-    (read.answer Null)
+module _ (version : Version) where
+  -- what the query of all devices shows
+  devices_read : (old mid new : State) (devices : List Row) (t : HasTables version old.now.schema) → IsUnchanged old mid
+      → Shown (find_all_text version) [] mid new devices
+      → IsAnswer (all_query version t.devices) (overlay old.now.trees []) [] devices
+  devices_read old mid new devices t same h =
+      let means = all_means version old.now.schema t.devices_at t.devices t.devices_stand in
+      let schema = ap (λ (d : Database). d.schema) same.0.now_is in
+      let read = reads_as (find_all_text version) [] mid new old.now.schema schema
+      (Select (program_of (all_query version t.devices)) (shown_columns version)) means.is means.plain means.unlisted
+      devices h in
+      subst (λ (d : Database). IsAnswer (all_query version t.devices) (overlay d.trees []) [] devices) same.0.now_is
+      (read.answer Null)
 
--- the query of all devices shows as many rows as there are
-pub devices_told : (old mid new : State) (devices : List Row) (t : HasTables old.now.schema) → IsUnchanged old mid
-    → Shown find_all_text [] mid new devices → length devices ≡ length (old.now.trees t.devices)
-devices_told old mid new devices t same h =
-    all_counted t.devices old.now.trees devices (devices_read old mid new devices t same h)
+  -- the query of all devices shows as many rows as there are
+  pub devices_told : (old mid new : State) (devices : List Row) (t : HasTables version old.now.schema)
+      → IsUnchanged old mid → Shown (find_all_text version) [] mid new devices
+      → length devices ≡ length (rows_of version (old.now.trees t.devices))
+  devices_told old mid new devices t same h =
+      all_counted version t.devices old.now.trees devices (devices_read old mid new devices t same h)
 
-pub whole : (old mid new : State) (versions devices : List Row) (t : HasTables old.now.schema) → ShowsVersion versions
-    → Shown read_version_text [] old mid versions → IsUnchanged old mid → Shown find_all_text [] mid new devices
-    → length devices ≤ most_devices → devices_rise 0 devices ≡ true → IsWhole old.now.trees t.meta t.devices
-whole old mid new versions devices t version first same second few rise =
-    let it = version_shown t.meta old.now.trees versions version (version_reads old mid versions t first) in
-    let count = devices_told old mid new devices t same second in
-    let are = rows_are t.devices old.now.trees devices (devices_read old mid new devices t same second) rise in
-    record {
-      row = it.row;
-      one = it.are;
-      version =
-          record {
-            key = sym (ap (λ r. column r 0) it.same) ∙ version.key;
-            version = sym (ap (λ r. column r 1) it.same) ∙ version.version;
-          };
-      rows = are.0;
-      once = are.1;
-      few = omega (arith, few, count);
-    }
+  pub whole : (old mid new : State) (versions devices : List Row) (t : HasTables version old.now.schema)
+      → ShowsVersion version versions → Shown read_version_text [] old mid versions → IsUnchanged old mid
+      → Shown (find_all_text version) [] mid new devices → length devices ≤ most_devices
+      → devices_rise 0 devices ≡ true → IsWhole version old.now.trees t.meta t.devices
+  whole old mid new versions devices t shows first same second few rise =
+      let it = version_shown t.meta old.now.trees versions shows (version_reads old mid versions t first) in
+      let count = devices_told old mid new devices t same second in
+      let are =
+      rows_are version t.devices old.now.trees devices (devices_read old mid new devices t same second) rise in
+      record {
+        row = it.row;
+        one = it.are;
+        numbered =
+            record {
+              key = sym (ap (λ r. column r 0) it.same) ∙ shows.key;
+              number = sym (ap (λ r. column r 1) it.same) ∙ shows.number;
+            };
+        rows = are.0;
+        once = are.1;
+        few = omega (arith, few, count);
+      }
 
--- a registry's devices are shown to rise
-pub rise_told : (old mid new : State) (devices : List Row) (t : HasTables old.now.schema)
-    → IsWhole old.now.trees t.meta t.devices → IsUnchanged old mid → Shown find_all_text [] mid new devices
-    → devices_rise 0 devices ≡ true
-rise_told old mid new devices t it same h =
-    let table = old.now.trees t.devices in
-    let all = ranked_all IsDevice table it.rows in
-    ap (devices_rise 0)
-    (shows_ranked t.devices old.now.trees devices it.rows it.once (devices_read old mid new devices t same h))
-    ∙ shown_rise 0 (ranked table) all (ranked_rises table) (from_zero (ranked table))
+  -- a registry's devices are shown to rise
+  pub rise_told : (old mid new : State) (devices : List Row) (t : HasTables version old.now.schema)
+      → IsWhole version old.now.trees t.meta t.devices → IsUnchanged old mid
+      → Shown (find_all_text version) [] mid new devices → devices_rise 0 devices ≡ true
+  rise_told old mid new devices t it same h =
+      let table = rows_of version (old.now.trees t.devices) in
+      let all = ranked_all IsDevice table it.rows in
+      ap (devices_rise 0) (shows_ranked version t.devices old.now.trees devices it.rows it.once
+      (devices_read old mid new devices t same h))
+      ∙ shown_rise 0 (ranked table) all (ranked_rises table) (from_zero (ranked table))
 
-pub version_told : (old new : State) (rows : List Row) (t : HasTables old.now.schema)
-    (it : IsWhole old.now.trees t.meta t.devices) → Shown read_version_text [] old new rows
-    → rows ≡ (Int (pos 1) ∷ Int (pos 1) ∷ []) ∷ []
-version_told old new rows t it h =
-    let a = version_reads old new rows t h in
-    let o : Output = ([], column it.row 0 ∷ column it.row 2 ∷ []) in
-    let kept : a.kept ≡ o ∷ [] = a.distinct ∙ ap (map (output (version_query t.meta)))
-    (subst (λ rs. a.staged ≡ envs rs) (overlay_is old.now.trees t.meta ∙ it.one) a.grouped) in
-    a.shown ∙ ap (map (λ (o : Output). o.1))
-    (one_permutation o a.ordered (subst (λ k. IsPermutation k a.ordered) kept a.same))
-    ∙ ap (λ v. (v ∷ column it.row 2 ∷ []) ∷ []) it.version.key
-    ∙ ap (λ v. (Int (pos 1) ∷ v ∷ []) ∷ []) it.version.version
+  pub version_told : (old new : State) (rows : List Row) (t : HasTables version old.now.schema)
+      (it : IsWhole version old.now.trees t.meta t.devices) → Shown read_version_text [] old new rows
+      → rows ≡ (Int (pos 1) ∷ Int (pos (number_of version)) ∷ []) ∷ []
+  version_told old new rows t it h =
+      let a = version_reads old new rows t h in
+      let o : Output = ([], column it.row 0 ∷ column it.row 2 ∷ []) in
+      let kept : a.kept ≡ o ∷ [] = a.distinct ∙ ap (map (output (version_query t.meta)))
+      (subst (λ rs. a.staged ≡ envs rs) (overlay_is old.now.trees t.meta ∙ it.one) a.grouped) in
+      a.shown ∙ ap (map (λ (o : Output). o.1))
+      (one_permutation o a.ordered (subst (λ k. IsPermutation k a.ordered) kept a.same))
+      ∙ ap (λ v. (v ∷ column it.row 2 ∷ []) ∷ []) it.numbered.key
+      ∙ ap (λ v. (Int (pos 1) ∷ v ∷ []) ∷ []) it.numbered.number
 
 pub shown_if : {V : Type 0} (items : V → List Row) (r : Result V Error) (sql : List ℕ) (old new : State)
     → IsPlain (understood old.now.schema sql) → IfOk r (λ v. Shown sql [] old new (items v))

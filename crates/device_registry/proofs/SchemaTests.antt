@@ -3,17 +3,21 @@ use Rattle.std.proofs.Common.{inl, inr, suc, ◌≡◌, ◌≢◌, ℕ, ◌+◌,
 use Rattle.std.proofs.Common.{◌&&◌, ◌||◌, Some, None, Option, if◌then◌else◌, subst, refl, sym, ap, ◌∙◌, arith, IsTrue}
 use Rattle.std.proofs.Common.{is_some, is_none, slice_get, option_map, option_and_then, codes}
 use Rattle.std.proofs.lemmas.Bool.Decides.{nat_tests}
-use Rattle.std.proofs.lemmas.Bool.{cases_Bool, not-true}
+use Rattle.std.proofs.lemmas.Bool.{cases_Bool, not-true, or_parts}
 use Rattle.std.specs.List.{AllByRecursion, list_any, list_all, position_from}
 use Rattle.sqlite.specs.Schema.{Schema}
 use Rattle.sqlite.specs.Table.{Table}
 use Rattle.sqlite.specs.Does.{lacks_sequence}
 use Rattle.sqlite_schema.specs.Names.{same_name, table_named}
 use Rattle.sqlite_trees.proofs.ListLemmas.{all_weaker, all_both}
+use Rattle.sqlite_catalog.specs.Change.{is_used}
+use Rattle.device_registry.specs.declared.table.Version.{Version}
+use Rattle.device_registry.specs.declared.table.Version.TheVariants.{First, Second}
 use Rattle.device_registry.specs.Table.{meta_name, device_name}
-use Rattle.device_registry.specs.Stored.{AreSpared, SparesName, KeepsTree, HasTables}
+use Rattle.device_registry.specs.Stored.{AreSpared, SparesName, SparesOurs, KeepsTree, HasTables, AreCounted, other}
 use Rattle.device_registry.specs.Opening.{IsClear}
-use Rattle.device_registry.specs.Places.{refers, is_referred, is_indexed, lacks_counts, is_clear, is_lone}
+use Rattle.device_registry.specs.Places.{refers, is_referred, are_referred, is_indexed, lacks_counts, is_clear, is_lone}
+use Rattle.device_registry.specs.Places.{are_counted}
 use Rattle.device_registry.specs.Places.{is_left_alone, if_left_alone, tree_named, trees_in}
 use Rattle.device_registry.proofs.TestSteps.{both}
 
@@ -43,12 +47,32 @@ unreferred schema name all =
     any_none (refers name) schema.tables (all_weaker (SparesName name) (λ t. refers name t ≡ false)
     (λ t none. any_none (λ reference. same_name reference.parent name) t.references none) schema.tables all)
 
-spared : (schema : Schema) → is_referred schema meta_name ≡ false → is_referred schema device_name ≡ false
-    → AreSpared schema
-spared schema meta devices =
-    all_both (SparesName meta_name) (SparesName device_name)
-    (λ table. SparesName meta_name table × SparesName device_name table) (λ t a b. (a, b)) schema.tables
-    (spares schema meta_name meta) (spares schema device_name devices)
+-- what is so of either version is so of whichever
+pub by_version : (P : Version → Type 0) → P First → P Second → (version : Version) → P version
+by_version P first second First = first
+by_version P first second Second = second
+
+spared : (schema : Schema) → are_referred schema ≡ false → AreSpared schema
+spared schema h =
+    let a = or_parts _ _ h in
+    let b = or_parts _ _ a.0 in
+    all_both (λ t. SparesName meta_name t × SparesName (device_name First) t) (SparesName (device_name Second))
+    SparesOurs (λ t both second. record {
+      meta = both.0;
+      devices = by_version (λ version. SparesName (device_name version) t) both.1 second;
+    }) schema.tables
+    (all_both (SparesName meta_name) (SparesName (device_name First))
+    (λ t. SparesName meta_name t × SparesName (device_name First) t) (λ t p q. (p, q)) schema.tables
+    (spares schema meta_name b.0) (spares schema (device_name First) b.1))
+    (spares schema (device_name Second) a.1)
+
+unspared : (schema : Schema) → AreSpared schema → are_referred schema ≡ false
+unspared schema all =
+    let meta =
+    unreferred schema meta_name (all_weaker SparesOurs (SparesName meta_name) (λ t h. h.meta) schema.tables all) in
+    let devices = λ (version : Version). unreferred schema (device_name version)
+    (all_weaker SparesOurs (SparesName (device_name version)) (λ t h. h.devices version) schema.tables all) in
+    rw (meta, devices First, devices Second) refl
 
 unindexed : (schema : Schema) (tree : ℕ) → is_indexed schema tree ≡ false
     → AllByRecursion (λ index. index.table ≢ tree) schema.indexes
@@ -118,23 +142,29 @@ cleared schema h =
     let d = both _ _ c.0 in
     record {
       free_meta = not-true _ d.0;
-      free_devices = not-true _ d.1;
-      spared = spared schema (not-true _ c.1) (not-true _ b.1);
+      free_devices =
+          by_version (λ version. is_used schema (device_name version) ≡ false) (not-true _ d.1) (not-true _ c.1);
+      spared = spared schema (not-true _ b.1);
       counted = counted schema ∙ not-true _ a.1;
     }
 
 pub is_cleared : (schema : Schema) → IsClear schema → IsTrue (is_clear schema)
 is_cleared schema it =
-    let meta = unreferred schema meta_name (all_weaker _ (SparesName meta_name) (λ x h. h.0) schema.tables it.spared) in
-    let devices =
-    unreferred schema device_name (all_weaker _ (SparesName device_name) (λ x h. h.1) schema.tables it.spared) in
-    rw (it.free_meta, it.free_devices, meta, devices, sym (counted schema) ∙ it.counted) refl
+    rw (
+      it.free_meta,
+      it.free_devices First,
+      it.free_devices Second,
+      unspared schema it.spared,
+      sym (counted schema) ∙ it.counted,
+    ) refl
 
-pub record IsLeftAlone (schema : Schema) (meta devices : ℕ) : Type 0 where
+pub record IsLeftAlone (version : Version) (schema : Schema) (meta devices : ℕ) : Type 0 where
   pub spared : AreSpared schema
   pub unindexed : AllByRecursion (λ index. (index.table ≢ meta) × (index.table ≢ devices)) schema.indexes
-  pub alone : AllByRecursion (λ table. KeepsTree meta_name meta table × KeepsTree device_name devices table)
+  pub alone : AllByRecursion (λ table. KeepsTree meta_name meta table × KeepsTree (device_name version) devices table)
       schema.tables
+  pub free : is_used schema (device_name (other version)) ≡ false
+  pub counted : AreCounted version schema
 
 all_true : {X : Type 0} (test : X → Bool) (xs : List X) → list_all test xs ≡ true
     → AllByRecursion (λ x. test x ≡ true) xs
@@ -168,24 +198,35 @@ is_alone schema name tree all = true_all (λ t. not (t.tree == tree) || same_nam
       | inr apart ↦ rw apart refl
     ]) schema.tables all)
 
-left_alone : (schema : Schema) (meta devices : ℕ) → is_left_alone schema meta devices ≡ true
-    → IsLeftAlone schema meta devices
-left_alone schema meta devices h =
-    let z = both _ _ h in
+are_so : (version : Version) (schema : Schema) → are_counted version schema ≡ true → AreCounted version schema
+are_so First schema h = counted schema ∙ not-true _ h
+are_so Second schema h = tt
+
+so_tested : (version : Version) (schema : Schema) → AreCounted version schema → are_counted version schema ≡ true
+so_tested First schema h = ap not (sym (counted schema) ∙ h)
+so_tested Second schema h = refl
+
+left_alone : (version : Version) (schema : Schema) (meta devices : ℕ)
+    → is_left_alone version schema meta devices ≡ true → IsLeftAlone version schema meta devices
+left_alone version schema meta devices h =
+    let count = both _ _ h in
+    let free = both _ _ count.0 in
+    let z = both _ _ free.0 in
     let y = both _ _ z.0 in
     let a = both _ _ y.0 in
     let b = both _ _ a.0 in
-    let c = both _ _ b.0 in
+    let name = device_name version in
     record {
       alone =
-          all_both (KeepsTree meta_name meta) (KeepsTree device_name devices)
-          (λ table. KeepsTree meta_name meta table × KeepsTree device_name devices table)
-          (λ t p q. (p, q)) schema.tables
-          (lone schema meta_name meta y.1) (lone schema device_name devices z.1);
-      spared = spared schema (not-true _ c.0) (not-true _ c.1);
+          all_both (KeepsTree meta_name meta) (KeepsTree name devices)
+          (λ table. KeepsTree meta_name meta table × KeepsTree name devices table) (λ t p q. (p, q)) schema.tables
+          (lone schema meta_name meta y.1) (lone schema name devices z.1);
+      spared = spared schema (not-true _ b.0);
       unindexed = all_both (λ index. index.table ≢ meta) (λ index. index.table ≢ devices)
           (λ index. (index.table ≢ meta) × (index.table ≢ devices)) (λ index p q. (p, q)) schema.indexes
           (unindexed schema meta (not-true _ b.1)) (unindexed schema devices (not-true _ a.1));
+      free = not-true _ free.1;
+      counted = are_so version schema count.1;
     }
 
 -- the table of this name
@@ -207,61 +248,65 @@ named_at schema name tree (Some at) named h = got (slice_get schema.tables at) r
     got None is h = absurd (let e = h in cc)
     got (Some table) is h = record { at = at; table = table; named = named; there = is; is = (let e = h in cc) }
 
--- where the two tables are found
-pub record IsPlaced (schema : Schema) (meta devices : ℕ) : Type 0 where
+-- where the two tables of a version are found
+pub record IsPlaced (version : Version) (schema : Schema) (meta devices : ℕ) : Type 0 where
   pub meta_is : IsNamed schema meta_name meta
-  pub devices_are : IsNamed schema device_name devices
-  pub alone : IsLeftAlone schema meta devices
+  pub devices_are : IsNamed schema (device_name version) devices
+  pub alone : IsLeftAlone version schema meta devices
 
-pub found : (schema : Schema) (meta devices : ℕ) → trees_in schema ≡ Some (meta, devices) → IsPlaced schema meta devices
-found schema meta devices h = first (tree_named schema meta_name) refl h
-  where
-    third : (m d : ℕ) → tree_named schema meta_name ≡ Some m → tree_named schema device_name ≡ Some d
-        → if_left_alone schema m d ≡ Some (meta, devices) → IsPlaced schema meta devices
-    third m d p q h = elim (cases_Bool (is_left_alone schema m d)) [
+module _ (version : Version) (schema : Schema) where
+  abbrev name : List ℕ
+  name = device_name version
+
+  module _ (meta devices : ℕ) where
+    third : (m d : ℕ) → tree_named schema meta_name ≡ Some m → tree_named schema name ≡ Some d
+        → if_left_alone version schema m d ≡ Some (meta, devices) → IsPlaced version schema meta devices
+    third m d p q h = elim (cases_Bool (is_left_alone version schema m d)) [
       | inl alone ↦
           let pair : ◌≡◌ {A = ℕ × ℕ} (m, d) (meta, devices) = (let e = rw alone at h in cc) in
           let x : m ≡ meta = ap (λ (o : ℕ × ℕ). o.0) pair in
           let y : d ≡ devices = ap (λ (o : ℕ × ℕ). o.1) pair in
           record {
             meta_is = named_at schema meta_name meta (table_named schema meta_name) refl (p ∙ ap Some x);
-            devices_are = named_at schema device_name devices (table_named schema device_name) refl (q ∙ ap Some y);
+            devices_are = named_at schema name devices (table_named schema name) refl (q ∙ ap Some y);
             alone =
-                left_alone schema meta devices (subst (λ n. is_left_alone schema n devices ≡ true) x
-                (subst (λ n. is_left_alone schema m n ≡ true) y alone));
+                left_alone version schema meta devices (subst (λ n. is_left_alone version schema n devices ≡ true) x
+                (subst (λ n. is_left_alone version schema m n ≡ true) y alone));
           }
-      | inr other ↦ absurd (let e = rw other at h in cc)
+      | inr apart ↦ absurd (let e = rw apart at h in cc)
     ]
 
-    second : (m : ℕ) (o : Option ℕ) → tree_named schema meta_name ≡ Some m → tree_named schema device_name ≡ o
-        → option_and_then (if_left_alone schema m) o ≡ Some (meta, devices) → IsPlaced schema meta devices
+    second : (m : ℕ) (o : Option ℕ) → tree_named schema meta_name ≡ Some m → tree_named schema name ≡ o
+        → option_and_then (if_left_alone version schema m) o ≡ Some (meta, devices)
+        → IsPlaced version schema meta devices
     second m None p q h = absurd (let e = h in cc)
     second m (Some d) p q h = third m d p q h
 
     first : (o : Option ℕ) → tree_named schema meta_name ≡ o
-        → option_and_then (λ m. option_and_then (if_left_alone schema m) (tree_named schema device_name)) o
-        ≡ Some (meta, devices) → IsPlaced schema meta devices
+        → option_and_then (λ m. option_and_then (if_left_alone version schema m) (tree_named schema name)) o
+        ≡ Some (meta, devices) → IsPlaced version schema meta devices
     first None p h = absurd (let e = h in cc)
-    first (Some m) p h = second m (tree_named schema device_name) p refl h
+    first (Some m) p h = second m (tree_named schema name) p refl h
 
--- and where a registry has them
-pub placed_tables : (schema : Schema) (t : HasTables schema) → trees_in schema ≡ Some (t.meta, t.devices)
-placed_tables schema t =
-    let meta : tree_named schema meta_name ≡ Some t.meta = rw (t.meta_stands.named, t.meta_stands.there) in
-    let devices : tree_named schema device_name ≡ Some t.devices = rw (t.devices_stand.named, t.devices_stand.there) in
-    let a = unreferred schema meta_name (all_weaker _ (SparesName meta_name) (λ x h. h.0) schema.tables t.spared) in
-    let b = unreferred schema device_name (all_weaker _ (SparesName device_name) (λ x h. h.1) schema.tables t.spared) in
-    let c =
-    not_indexed schema t.meta (all_weaker _ (λ index. index.table ≢ t.meta) (λ x h. h.0) schema.indexes t.unindexed) in
-    let d =
-    not_indexed schema t.devices
-    (all_weaker _ (λ index. index.table ≢ t.devices) (λ x h. h.1) schema.indexes t.unindexed) in
-    let m =
-    is_alone schema meta_name t.meta (all_weaker _ (KeepsTree meta_name t.meta) (λ x h. h.0) schema.tables t.alone) in
-    let n =
-    is_alone schema device_name t.devices
-    (all_weaker _ (KeepsTree device_name t.devices) (λ x h. h.1) schema.tables t.alone) in
-    let alone : is_left_alone schema t.meta t.devices ≡ true = rw (a, b, c, d, m, n) refl in
-    let pair : Bool → Option (ℕ × ℕ) = λ b. if b then Some (t.meta, t.devices) else None in
-    ap (option_and_then (λ m. option_and_then (if_left_alone schema m) (tree_named schema device_name))) meta
-    ∙ ap (option_and_then (if_left_alone schema t.meta)) devices ∙ ap pair alone
+    pub found : trees_in version schema ≡ Some (meta, devices) → IsPlaced version schema meta devices
+    found h = first (tree_named schema meta_name) refl h
+
+  -- and where a registry has them
+  pub placed_tables : (t : HasTables version schema) → trees_in version schema ≡ Some (t.meta, t.devices)
+  placed_tables t =
+      let meta : tree_named schema meta_name ≡ Some t.meta = rw (t.meta_stands.named, t.meta_stands.there) in
+      let devices : tree_named schema name ≡ Some t.devices = rw (t.devices_stand.named, t.devices_stand.there) in
+      let a = unspared schema t.spared in
+      let c = not_indexed schema t.meta
+      (all_weaker _ (λ index. index.table ≢ t.meta) (λ x h. h.0) schema.indexes t.unindexed) in
+      let d = not_indexed schema t.devices
+      (all_weaker _ (λ index. index.table ≢ t.devices) (λ x h. h.1) schema.indexes t.unindexed) in
+      let m = is_alone schema meta_name t.meta
+      (all_weaker _ (KeepsTree meta_name t.meta) (λ x h. h.0) schema.tables t.alone) in
+      let n =
+      is_alone schema name t.devices (all_weaker _ (KeepsTree name t.devices) (λ x h. h.1) schema.tables t.alone) in
+      let counted = so_tested version schema t.counted in
+      let alone : is_left_alone version schema t.meta t.devices ≡ true = rw (a, c, d, m, n, t.free, counted) refl in
+      let pair : Bool → Option (ℕ × ℕ) = λ b. if b then Some (t.meta, t.devices) else None in
+      ap (option_and_then (λ m. option_and_then (if_left_alone version schema m) (tree_named schema name))) meta
+      ∙ ap (option_and_then (if_left_alone version schema t.meta)) devices ∙ ap pair alone

@@ -113,18 +113,23 @@ module _ (schema : Schema) (at : ℕ) (table : Table) (it : PlainSelect) where
       and_then (lowered (fresh 2 max_budget)) (λ r. and_then (assembled false no_page.0 no_page.1 r.0 r.1)
       (λ d. Ok (d, map (λ o. o.name) r.0.body.level.shown, map (λ o. o.carried.collation) r.0.body.level.shown)))
 
-module _ {text : List ℕ} {it : PlainSelect} (is : IsPlainSelect text it) {schema : Schema} {at : ℕ} {table : Table}
-    (stands : Stands schema it.name table at) where
+module _ (it : PlainSelect) {schema : Schema} {at : ℕ} {table : Table} (stands : Stands schema it.name table at) where
   -- its part is what its clauses become
   named_is : named schema (core_of it) it.order no_page ≡ asked schema at table it
   unfolding named parts body bounds bound table_in take_slot result matching joins join shared inner_join tests keys
       having
   named_is = rw (out-roll-Core, out-roll-Source, stands.named, out-roll-Source, stands.there)
 
+  -- and so it is read
+  pub query_is : (part : Shown) → asked schema at table it ≡ Ok part → query schema (select_of it) ≡ Ok (part, [])
+  query_is part asks = query_as schema it part (named_is ∙ asks)
+
+module _ {text : List ℕ} {it : PlainSelect} (is : IsPlainSelect text it) {schema : Schema} {at : ℕ} {table : Table}
+    (stands : Stands schema it.name table at) where
   -- the text means the query that it asks
   pub select_means : (d : Draft) {names : List (List ℕ)} (collations : List (Option Collation))
       → asked schema at table it ≡ Ok (d, names, collations) → IsTyped table (query_of d)
       → Means schema text (Reads (program_of (query_of d)) names)
   unfolding timed returning command read
   select_means d collations asks typed = means schema _ is.read refl (λ base. refl)
-      (λ base. rw (query_as schema it _ (named_is ∙ asks), program_is stands d typed))
+      (λ base. rw (query_is it stands _ asks, program_is stands d typed))

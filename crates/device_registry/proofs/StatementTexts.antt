@@ -1,6 +1,6 @@
 -- What the registry's statements are.
 use Rattle.std.proofs.Common.{ℕ, pos, negsuc, List, [], ◌∷◌, codes, false, Option, None, Some}
-use Rattle.sqlite.specs.declared.types.Value.TheVariants.{Null, Int}
+use Rattle.sqlite.specs.declared.types.Value.TheVariants.{Null, Int, Text}
 use Rattle.sqlite.specs.Term.{Term, lit, col, op2}
 use Rattle.sqlite.specs.Query.{Query, inner, end}
 use Rattle.sqlite.specs.Collation.TheVariants.{Binary}
@@ -14,9 +14,11 @@ use Rattle.sqlite_schema.specs.declared.program.Program.{Program}
 use Rattle.sqlite_sql.specs.declared.ops.BinaryOp.TheVariants.{Compare}
 use Rattle.sqlite_sql.specs.declared.ops.CompareOp.TheVariants.{Eq, Ne}
 use Rattle.sqlite_sql.specs.declared.aggregate.AggregateOp.TheVariants.{CountRows}
+use Rattle.device_registry.specs.declared.table.Version.{Version}
+use Rattle.device_registry.specs.declared.table.Version.TheVariants.{First, Second}
 
-abbrev pub learn_terms : List Term
-learn_terms = col 0 0 ∷ lit Null ∷ col 0 1 ∷ col 0 2 ∷ []
+abbrev pub put_terms : List Term
+put_terms = col 0 0 ∷ lit Null ∷ col 0 1 ∷ col 0 2 ∷ col 0 3 ∷ []
 
 abbrev pub plain_query : ℕ → List Term → List Term → Query
 plain_query tree tests shown = record {
@@ -53,7 +55,7 @@ abbrev pub is_other : Term
 is_other = op2 (Compare Ne Binary) (col 1 0) (col 0 0)
 
 abbrev pub find_query : ℕ → Query
-find_query d = plain_query d (is_sender ∷ []) (col 1 0 ∷ col 1 2 ∷ col 1 3 ∷ [])
+find_query d = plain_query d (is_sender ∷ []) (col 1 0 ∷ col 1 2 ∷ col 1 3 ∷ col 1 4 ∷ [])
 
 abbrev pub others_query : ℕ → Query
 others_query d = record (plain_query d (is_other ∷ []) (col 1 0 ∷ [])) {
@@ -71,8 +73,18 @@ abbrev pub forget_query : ℕ → Query
 forget_query d = plain_query d (is_sender ∷ []) (col 1 0 ∷ [])
 
 abbrev pub renew_query : ℕ → Query
-renew_query d = plain_query d [] (col 1 0 ∷ col 1 0 ∷ lit Null ∷ lit (Int (pos 1)) ∷ [])
+renew_query d = plain_query d [] (col 1 0 ∷ col 1 0 ∷ lit Null ∷ lit (Int (pos 2)) ∷ [])
 
-abbrev pub all_query : ℕ → Query
-all_query d = record (plain_query d [] (col 1 0 ∷ col 1 2 ∷ col 1 3 ∷ []))
+-- the label of a device: that of the first version is the empty one
+abbrev pub label_term : Version → Term
+label_term First = lit (Text [])
+label_term Second = col 1 4
+
+abbrev pub all_query : Version → ℕ → Query
+all_query version d = record (plain_query d [] (col 1 0 ∷ col 1 2 ∷ col 1 3 ∷ label_term version ∷ []))
     { order = (col 1 0, record { collation = Binary; descending = false }) ∷ [] }
+
+-- the rows of the first version, each with its rowid, as rows of the second
+abbrev pub copy_query : ℕ → Query
+copy_query d = record (plain_query d [] (col 1 0 ∷ lit Null ∷ col 1 2 ∷ col 1 3 ∷ lit (Text []) ∷ []))
+    { collations = Binary ∷ Binary ∷ Binary ∷ Binary ∷ Binary ∷ [] }

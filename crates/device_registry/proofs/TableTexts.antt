@@ -2,12 +2,15 @@
 use Rattle.std.proofs.Common.{◌≡◌, Ok, refl}
 use Rattle.sqlite.specs.Compile.{table_defined_by}
 use Rattle.sqlite_tied.specs.Compute.{everything}
+use Rattle.device_registry.specs.declared.table.Version.{Version}
+use Rattle.device_registry.specs.declared.table.Version.TheVariants.{First, Second}
 use Rattle.device_registry.specs.Table.{meta_text, device_text, meta_table, device_table}
 
 pub meta_is : table_defined_by meta_text ≡ Ok (meta_table 0)
 unfolding everything
 meta_is = refl
 
-pub device_is : table_defined_by device_text ≡ Ok (device_table 0)
+pub device_is : (version : Version) → table_defined_by (device_text version) ≡ Ok (device_table version 0)
 unfolding everything
-device_is = refl
+device_is First = refl
+device_is Second = refl

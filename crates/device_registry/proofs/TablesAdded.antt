@@ -21,8 +21,12 @@ use Rattle.sqlite_catalog.proofs.StepLemmas.{table_below}
 use Rattle.sqlite_trees.specs.Tree.{Trees}
 use Rattle.sqlite_trees.proofs.ListLemmas.{all-append, all_weaker}
 use Rattle.sqlite_rules.proofs.ListLemmas.{all_has, all_from}
-use Rattle.device_registry.specs.Table.{meta_name, device_name, meta_table, device_table}
-use Rattle.device_registry.specs.Stored.{HasTables}
+use Rattle.sqlite.specs.Term.{Term}
+use Rattle.sqlite_schema.specs.declared.schema.Column.{Column}
+use Rattle.device_registry.specs.declared.table.Version.{Version}
+use Rattle.device_registry.specs.declared.table.Version.TheVariants.{First, Second}
+use Rattle.device_registry.specs.Table.{meta_name, device_name, meta_table, device_table, keyed_table}
+use Rattle.device_registry.specs.Stored.{HasTables, SparesOurs}
 use Rattle.device_registry.specs.Opening.{IsClear}
 use Rattle.device_registry.proofs.CreateTablesMeaning.{unused}
 use Rattle.device_registry.proofs.TablePlaces.{stands}
@@ -32,7 +36,7 @@ abbrev pub with_meta : Schema → Schema
 with_meta schema = created schema (meta_table 0)
 
 abbrev pub with_both : Schema → Schema
-with_both schema = created (with_meta schema) (device_table 0)
+with_both schema = created (with_meta schema) (device_table Second 0)
 
 names_free : (schema : Schema) (name : List ℕ) → is_used schema name ≡ false
     → AllByRecursion (λ t. same_name t.name name ≡ false) schema.tables
@@ -65,7 +69,7 @@ itself a = grind (arith, nat_tests)
 stored : (a : ℕ) → a < 65536 → nat_le (2 ^ 31) a ≡ false
 stored a h = grind (arith, nat_tests)
 
-none_at : {X : Type 0} (test : X → Bool) (i : ℕ) (xs : List X) → AllByRecursion (λ x. test x ≡ false) xs
+pub none_at : {X : Type 0} (test : X → Bool) (i : ℕ) (xs : List X) → AllByRecursion (λ x. test x ≡ false) xs
     → position_from test i xs ≡ None
 none_at test i [] none = refl
 none_at test i (x ∷ xs) none = rw none.0 (none_at test (i + 1) xs none.1)
@@ -84,22 +88,38 @@ got_before [] ys at x h = absurd (let e = h in cc)
 got_before (y ∷ xs) ys zero x h = h
 got_before (y ∷ xs) ys (suc at) x h = got_before xs ys at x h
 
--- the name of the second table is free once the first is made
-pub half_free : (schema : Schema) → IsClear schema → is_used (with_meta schema) device_name ≡ false
-unfolding same_name
-half_free schema clear =
-    let none = unused schema device_name clear.free_devices in
-    let table : table_named (with_meta schema) device_name ≡ None =
-    none_at _ 0 (schema.tables ++ meta_table (next_tree schema) ∷ [])
-    (all-append _ schema.tables (meta_table (next_tree schema) ∷ []) (names_free schema device_name clear.free_devices)
-    (refl, tt)) in
-    let index : index_named (with_meta schema) device_name ≡ None =
-    subst (λ (xs : List Index). position_from (λ i. same_name i.name device_name) 0 xs ≡ None)
+-- nothing has the name, by its lists
+pub unnamed : (schema : Schema) (name : List ℕ) → table_named schema name ≡ None → index_named schema name ≡ None
+    → view_named schema name ≡ None → is_used schema name ≡ false
+unnamed schema name table index view =
+    ap (λ (o : Option ℕ). (is_some o || is_some (index_named schema name)) || is_some (view_named schema name)) table
+    ∙ ap (λ (o : Option ℕ). is_some o || is_some (view_named schema name)) index
+    ∙ ap (λ (o : Option ℕ). is_some o) view
+
+-- a name that is free stays so when a table of ours with another is made
+pub still_free : (schema : Schema) (own name : List ℕ) (columns : List Column) (checks : List Term)
+    → same_name own name ≡ false → is_used schema name ≡ false
+    → is_used (created schema (keyed_table own 0 columns checks)) name ≡ false
+still_free schema own name columns checks apart free =
+    let none = unused schema name free in
+    let after = created schema (keyed_table own 0 columns checks) in
+    let table : table_named after name ≡ None =
+    none_at _ 0 (schema.tables ++ keyed_table own (next_tree schema) columns checks ∷ [])
+    (all-append _ schema.tables (keyed_table own (next_tree schema) columns checks ∷ [])
+    (names_free schema name free) (apart, tt)) in
+    let index : index_named after name ≡ None =
+    subst (λ (xs : List Index). position_from (λ i. same_name i.name name) 0 xs ≡ None)
     (sym (append-nil schema.indexes)) none.1 in
-    ap (λ (o : Option ℕ). (is_some o || is_some (index_named (with_meta schema) device_name)) || is_some
-    (view_named schema device_name)) table
-    ∙ ap (λ (o : Option ℕ). is_some o || is_some (view_named schema device_name)) index
-    ∙ ap (λ (o : Option ℕ). is_some o) none.2
+    unnamed after name table index none.2
+
+-- the name of the table of the devices is free once that of the version is made
+pub half_free : (schema : Schema) → IsClear schema → (version : Version)
+    → is_used (with_meta schema) (device_name version) ≡ false
+unfolding same_name
+half_free schema clear First =
+    still_free schema meta_name (device_name First) _ _ refl (clear.free_devices First)
+half_free schema clear Second =
+    still_free schema meta_name (device_name Second) _ _ refl (clear.free_devices Second)
 
 abbrev counts : Table → Bool
 counts t = t.is_counted
@@ -141,6 +161,11 @@ still_counted schema table plain lacks =
     decided true true h is =
         ap (λ b. true && not b) (sequenced schema table (table_named schema (codes "sqlite_sequence")) refl is)
 
+-- a table that refers to nothing spares ours
+pub spares_all : {name : List ℕ} {tree : ℕ} {columns : List Column} {checks : List Term}
+    → SparesOurs (keyed_table name tree columns checks)
+spares_all = record { meta = tt; devices = λ version. tt }
+
 pub all_last : {X : Type 0} (P : X → Type 0) (xs : List X) (x : X) → AllByRecursion P (xs ++ x ∷ []) → P x
 all_last P [] x all = all.0
 all_last P (y ∷ xs) x all = all_last P xs x all.1
@@ -170,28 +195,29 @@ module _ (schema : Schema) (clear : IsClear schema) (low : next_tree schema < 65
   lower_below = all_weaker (λ t. t.tree < first) (λ t. t.tree < second) (λ t h.
       let r = rises in omega (arith, h, r)) schema.tables below
 
-  both_tables : HasTables (with_both schema)
+  both_tables : HasTables Second (with_both schema)
   unfolding same_name
   both_tables = record {
     meta = first;
     devices = second;
     meta_at = length schema.tables;
     devices_at = length front;
-    meta_stands = stands (with_both schema) schema.tables (device_table second ∷ []) (meta_table first)
-        (append_assoc schema.tables (meta_table first ∷ []) (device_table second ∷ []))
+    meta_stands = stands (with_both schema) schema.tables (device_table Second second ∷ []) (meta_table first)
+        (append_assoc schema.tables (meta_table first ∷ []) (device_table Second second ∷ []))
         (names_free schema meta_name clear.free_meta) refl
         (all_weaker (λ t. t.tree < first) (λ t. (t.tree == first) ≡ false)
         (λ t h. other t.tree first h) schema.tables below) (itself first) (stored first low);
-    devices_stand = stands (with_both schema) front [] (device_table second) refl
-        (all-append _ schema.tables (meta_table first ∷ []) (names_free schema device_name clear.free_devices)
+    devices_stand = stands (with_both schema) front [] (device_table Second second) refl
+        (all-append _ schema.tables (meta_table first ∷ [])
+        (names_free schema (device_name Second) (clear.free_devices Second))
         (refl, tt)) refl
         (all_weaker (λ t. t.tree < second) (λ t. (t.tree == second) ≡ false)
         (λ t h. other t.tree second h) front front_below) (itself second) (stored second lower);
     apart = let r = rises in omega (arith, r);
     spared =
-        all-append _ front (device_table second ∷ [])
-        (all-append _ schema.tables (meta_table first ∷ []) clear.spared ((tt, tt), tt)) ((tt, tt), tt);
-    alone = all-append _ front (device_table second ∷ [])
+        all-append _ front (device_table Second second ∷ [])
+        (all-append _ schema.tables (meta_table first ∷ []) clear.spared (spares_all, tt)) (spares_all, tt);
+    alone = all-append _ front (device_table Second second ∷ [])
         (all-append _ schema.tables (meta_table first ∷ [])
         (all_from _ schema.tables (λ t has.
         let a = all_has _ schema.tables t below has in
@@ -202,8 +228,11 @@ module _ (schema : Schema) (clear : IsClear schema) (low : next_tree schema < 65
     unindexed = all-append _ (schema.indexes ++ []) [] (all-append _ schema.indexes []
         (all_weaker (λ i. i.table < first) (λ i. (i.table ≢ first) × (i.table ≢ second)) (λ i h.
         let r = rises in (omega (arith, h), omega (arith, h, r))) schema.indexes owners) tt) tt;
+    free =
+        still_free (with_meta schema) (device_name Second) (device_name First) _ _ refl (half_free schema clear First);
+    counted = tt;
   }
 
-  pub made_tables : (t : HasTables (with_both schema)) × (t.meta ≡ first) × (t.devices ≡ second)
+  pub made_tables : (t : HasTables Second (with_both schema)) × (t.meta ≡ first) × (t.devices ≡ second)
   unfolding both_tables
   made_tables = (both_tables, refl, refl)

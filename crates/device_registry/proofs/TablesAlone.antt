@@ -17,7 +17,8 @@ use Rattle.sqlite_rules.specs.Action.{works, work_for, work_by, deed_for, pairs}
 use Rattle.sqlite_rules.specs.declared.action.Deed.{Deed}
 use Rattle.sqlite_catalog.proofs.SoundLemmas.{lowered}
 use Rattle.sqlite_trees.proofs.ListLemmas.{all_weaker}
-use Rattle.device_registry.specs.Stored.{SparesName, KeepsTree, HasTables}
+use Rattle.device_registry.specs.declared.table.Version.{Version}
+use Rattle.device_registry.specs.Stored.{SparesName, SparesOurs, KeepsTree, HasTables}
 use Rattle.device_registry.specs.Table.{meta_name, device_name}
 
 same_through : (a b c : List ℕ) → same_name a b ≡ true → same_name a c ≡ true → same_name b c ≡ true
@@ -94,21 +95,25 @@ pub record StandsAlone (schema : Schema) (tree : ℕ) : Type 0 where
   pub free : (keys : Keys) (olds news : List Row) → works schema keys 0 tree olds news ≡ []
   pub unindexed : AllByRecursion (λ index. index.table ≢ tree) schema.indexes
 
-pub devices_alone : (schema : Schema) (t : HasTables schema) → StandsAlone schema t.devices
-devices_alone schema t = record {
-  free = λ keys olds news. sets_off_nothing schema keys t.devices device_name
-      (all_weaker _ (KeepsTree device_name t.devices) (λ t both. both.1) schema.tables t.alone) olds news
-      (all_weaker _ (SparesName device_name) (λ t both. both.1) schema.tables t.spared);
-  unindexed = all_weaker _ (λ index. index.table ≢ t.devices) (λ index both. both.1) schema.indexes t.unindexed;
+pub stands_alone : (schema : Schema) (name : List ℕ) (tree : ℕ) → AllByRecursion (KeepsTree name tree) schema.tables
+    → AllByRecursion (SparesName name) schema.tables → AllByRecursion (λ index. index.table ≢ tree) schema.indexes
+    → StandsAlone schema tree
+stands_alone schema name tree keeps spares unindexed = record {
+  free = λ keys olds news. sets_off_nothing schema keys tree name keeps olds news spares;
+  unindexed = unindexed;
 }
 
-pub meta_alone : (schema : Schema) (t : HasTables schema) → StandsAlone schema t.meta
-meta_alone schema t = record {
-  free = λ keys olds news. sets_off_nothing schema keys t.meta meta_name
-      (all_weaker _ (KeepsTree meta_name t.meta) (λ t both. both.0) schema.tables t.alone) olds news
-      (all_weaker _ (SparesName meta_name) (λ t both. both.0) schema.tables t.spared);
-  unindexed = all_weaker _ (λ index. index.table ≢ t.meta) (λ index both. both.0) schema.indexes t.unindexed;
-}
+pub devices_alone : {version : Version} (schema : Schema) (t : HasTables version schema) → StandsAlone schema t.devices
+devices_alone {version} schema t = stands_alone schema (device_name version) t.devices
+    (all_weaker _ (KeepsTree (device_name version) t.devices) (λ t both. both.1) schema.tables t.alone)
+    (all_weaker SparesOurs (SparesName (device_name version)) (λ t ours. ours.devices version) schema.tables t.spared)
+    (all_weaker _ (λ index. index.table ≢ t.devices) (λ index both. both.1) schema.indexes t.unindexed)
+
+pub meta_alone : {version : Version} (schema : Schema) (t : HasTables version schema) → StandsAlone schema t.meta
+meta_alone schema t = stands_alone schema meta_name t.meta
+    (all_weaker _ (KeepsTree meta_name t.meta) (λ t both. both.0) schema.tables t.alone)
+    (all_weaker SparesOurs (SparesName meta_name) (λ t ours. ours.meta) schema.tables t.spared)
+    (all_weaker _ (λ index. index.table ≢ t.meta) (λ index both. both.0) schema.indexes t.unindexed)
 
 not_of : (index : Index) (table : Table) (new row : Row) → index.table ≢ table.tree
     → shares None table new row index ≡ false

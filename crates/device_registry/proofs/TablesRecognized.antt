@@ -1,7 +1,7 @@
 -- A database that lists the registry's texts in the trees of its two names has the registry's tables.
-use Rattle.std.proofs.Common.{◌≡◌, inl, inr, ℕ, ◌<◌, ◌==◌, ◌^◌, nat_le, Bool, true, false}
+use Rattle.std.proofs.Common.{codes, not, ◌≡◌, inl, inr, ℕ, ◌<◌, ◌==◌, ◌^◌, nat_le, Bool, true, false}
 use Rattle.std.proofs.Common.{List, [], ◌∷◌, ◌++◌, map}
-use Rattle.std.proofs.Common.{◌&&◌, ◌||◌, Some, option_map, Ok, refl, sym, ap, subst, ◌∙◌, arith, IsTrue, Less, is_eq}
+use Rattle.std.proofs.Common.{◌&&◌, ◌||◌, Some, option_map, Ok, refl, sym, ap, subst, ◌∙◌, arith, IsTrue, is_eq}
 use Rattle.std.proofs.lemmas.Bool.Decides.{nat_tests}
 use Rattle.std.proofs.lemmas.Slice.Eq.{bytes_eq-Decides}
 use Rattle.std.proofs.lemmas.List.Sorted.{list_any-IsPermutation}
@@ -21,34 +21,37 @@ use Rattle.sqlite_sql.specs.Term.{Env}
 use Rattle.sqlite_schema.specs.Names.{same_name}
 use Rattle.sqlite_typing.specs.Types.{row_classes}
 use Rattle.sqlite_trees.specs.Objects.{catalog_tree}
-use Rattle.sqlite_trees.specs.Tree.{Trees, IsTable, IsAscending, rowid, put_row}
-use Rattle.sqlite_trees.proofs.ListLemmas.{ascending-map, all_weaker}
-use Rattle.sqlite_rules.specs.Edit.{put_all, are_fresh, is_taken}
+use Rattle.sqlite_trees.specs.Tree.{Trees, IsAscending}
+use Rattle.sqlite_trees.proofs.ListLemmas.{all_weaker}
 use Rattle.sqlite_rules.specs.Lists.{Has}
 use Rattle.sqlite_rules.proofs.ListLemmas.{all_from, all_has, has_got, has_filtered, some_has, some_from}
-use Rattle.sqlite_rules.proofs.TableLemmas.{put_has, put_all_has, put_all_adds}
-use Rattle.sqlite_rules.proofs.ProbeLemmas.{has_mapped, mapped_has}
-use Rattle.sqlite_catalog.specs.Listing.{IsSound, IsTableRow, is_table_row}
+use Rattle.sqlite_rules.proofs.TableLemmas.{put_all_has}
+use Rattle.sqlite_rules.proofs.ProbeLemmas.{has_mapped}
+use Rattle.sqlite_catalog.specs.Listing.{IsSound, IsTableRow, IsViewRow, IsIndexRow, is_table_row, is_view_row}
+use Rattle.sqlite_catalog.specs.Listing.{is_index_row, is_foreign_row}
 use Rattle.sqlite_catalog.proofs.LayoutLemmas.{zipped_left}
 use Rattle.sqlite_catalog.proofs.SoundLemmas.{names_agree, lowered, list_parts}
 use Rattle.sqlite_catalog.proofs.StepLemmas.{named_once}
 use Rattle.sqlite_trees.specs.Sound as sound
 use Rattle.sqlite_trees.specs.Sound.{Head, head_at, may_follow, are_in_order}
 use Rattle.sqlite_value.specs.Order.{bytes}
+use Rattle.sqlite_value.proofs.OrderLemmas.{value_cmp-Text}
 use Rattle.std.specs.Char.{to_ascii_lowercase}
 use Rattle.std.proofs.lemmas.List.Folds.{list_any-append}
 use Rattle.std.proofs.lemmas.Bool.{cases_Bool, not-true}
+use Rattle.device_registry.specs.declared.table.Version.{Version}
+use Rattle.device_registry.specs.declared.table.Version.TheVariants.{First, Second}
 use Rattle.device_registry.specs.Table.{list_objects_text, meta_name, device_name, meta_text}
 use Rattle.device_registry.specs.Table.{device_text, meta_table, device_table}
 use Rattle.device_registry.specs.Stored.{Stands, KeepsTree, HasTables, IsRegistry}
-use Rattle.device_registry.specs.Opening.{IsOwn, IsFree, IsClear, IsAtRest, IsListedAs, AreListed}
+use Rattle.device_registry.specs.Opening.{IsOwn, IsFree, IsClear, IsAtRest, listing, IsListedAs, AreListed}
 use Rattle.device_registry.specs.Listing.{has_text, is_line, are_ours}
 use Rattle.device_registry.specs.Places.{is_clear, trees_in}
 use Rattle.sqlite_catalog.proofs.ReadLemmas.{lists_once}
 use Rattle.device_registry.proofs.TableTexts.{meta_is, device_is}
 use Rattle.device_registry.proofs.ListObjectsMeaning.{list_query_is}
 use Rattle.device_registry.proofs.ListObjectsAnswer.{listing_shows}
-use Rattle.device_registry.proofs.SchemaTests.{IsNamed, IsPlaced, any_none, found, has_name, is_cleared}
+use Rattle.device_registry.proofs.SchemaTests.{IsNamed, IsPlaced, found, has_name, is_cleared}
 use Rattle.device_registry.proofs.TestSteps.{both}
 
 -- ---- what a line tells
@@ -86,74 +89,56 @@ answered test db rows it =
     ∙ sym (list_any-IsPermutation (λ (o : Output). test o.1) it.kept it.ordered it.same)
     ∙ ap (list_any (λ (o : Output). test o.1)) kept ∙ any_output test (db 0)
 
-here : (trees : Trees) (name text : List ℕ) → list_any (λ r. is_line name text (line r))
-    (put_all [] (map shown (trees catalog_tree))) ≡ true → IsListedAs trees name text
+here : (trees : Trees) (name text : List ℕ) → list_any (λ r. is_line name text (line r)) (listing trees) ≡ true
+    → IsListedAs trees name text
 here trees name text h =
     let hit = some_has (λ r. is_line name text (line r)) _ h in
-    elim (put_all_has (map shown (trees catalog_tree)) [] hit.0 hit.1) [
-      | inl new ↦
-          let object = has_mapped shown (trees catalog_tree) hit.0 new in
-          let passes = both _ _ (subst (λ r. is_line name text (line r) ≡ true) object.2 hit.2) in
-          record {
-            row = object.0;
-            listed = object.1;
-            name_is = text_is (column object.0 2) name passes.0;
-            sql = text_is (column object.0 4) text passes.1;
-          }
-      | inr none ↦ absurd none
-    ]
+    let passes = both _ _ hit.2 in
+    record {
+      row = hit.0;
+      listed = hit.1;
+      name_is = text_is (column hit.0 2) name passes.0;
+      sql = text_is (column hit.0 5) text passes.1;
+    }
 
--- what the listing shows is listed
+-- the query of the objects passes a test where the list of the objects does
+lists_as : (old new : State) (rows : List Row) → IsDatabase old.now → Shown list_objects_text [] old new rows
+    → (test : Row → Bool) → list_any test rows ≡ list_any (λ r. test (line r)) (listing old.now.trees)
+lists_as old new rows sound shows test =
+    let show = listing_shows old new rows sound shows in
+    answered test show.0.trees rows (show.2.answer Null) ∙ ap (list_any (λ r. test (line r))) show.1
+
+-- what the query shows is listed
 told : (old new : State) (rows : List Row) → IsDatabase old.now → Shown list_objects_text [] old new rows
     → (name text : List ℕ) → list_any (is_line name text) rows ≡ true → IsListedAs old.now.trees name text
 told old new rows sound shows name text h =
-    let show = listing_shows old new rows sound shows in
-    let same = answered (is_line name text) show.0.trees rows (show.2.answer Null)
-    ∙ ap (list_any (λ r. is_line name text (line r))) show.1 in
-    here old.now.trees name text (sym same ∙ h)
+    here old.now.trees name text (sym (lists_as old new rows sound shows (is_line name text)) ∙ h)
 
-fresh_rising : (news rows : List Row) → IsTable news → ((x : Row) → Has rows x
-    → AllByRecursion (λ n. value_cmp (rowid x) (rowid n) ≡ Less) news) → are_fresh rows news ≡ true
-fresh_rising [] rows rising below = refl
-fresh_rising (n ∷ news) rows rising below =
-    let free : is_taken rows n ≡ false = any_none (λ r. is_eq (value_cmp (rowid r) (rowid n))) rows
-    (all_from _ rows (λ x has. ap is_eq (below x has).0)) in
-    rw free (fresh_rising news (put_row n rows) rising.1 (λ x has. elim (put_has n rows x has) [
-      | inl same ↦ subst (λ r. AllByRecursion (λ m. value_cmp (rowid r) (rowid m) ≡ Less) news) (sym same) rising.0
-      | inr was ↦ (below x was).1
-    ]))
-
--- and the listing shows each object
-shows_line : (old new : State) (rows : List Row) → IsDatabase old.now → IsTable (old.now.trees catalog_tree)
-    → Shown list_objects_text [] old new rows → (name text : List ℕ) → IsListedAs old.now.trees name text
-    → list_any (is_line name text) rows ≡ true
-shows_line old new rows sound rising shows name text it =
-    let show = listing_shows old new rows sound shows in
-    let objects = old.now.trees catalog_tree in
-    let same = answered (is_line name text) show.0.trees rows (show.2.answer Null)
-    ∙ ap (list_any (λ r. is_line name text (line r))) show.1 in
-    let fresh = fresh_rising (map shown objects) [] (ascending-map _ shown objects rising) (λ x has. absurd has) in
-    let there = put_all_adds (map shown objects) [] (shown it.row) fresh (mapped_has shown objects it.row it.listed) in
-    let passes : is_line name text (line (shown it.row)) ≡ true =
-    ap (λ v. has_text v name && has_text (column it.row 4) text) it.name_is
+-- and the query shows what is listed
+shows_line : (old new : State) (rows : List Row) → IsDatabase old.now → Shown list_objects_text [] old new rows
+    → (name text : List ℕ) → IsListedAs old.now.trees name text → list_any (is_line name text) rows ≡ true
+shows_line old new rows sound shows name text it =
+    let passes : is_line name text (line it.row) ≡ true =
+    ap (λ v. has_text v name && has_text (column it.row 5) text) it.name_is
     ∙ ap (λ v. has_text (Text name) name && has_text v text) it.sql
     ∙ rw ((bytes_eq-Decides name name).1 refl, (bytes_eq-Decides text text).1 refl) refl in
-    same ∙ some_from (λ r. is_line name text (line r)) _ (shown it.row) there passes
+    lists_as old new rows sound shows (is_line name text)
+    ∙ some_from (λ r. is_line name text (line r)) _ it.row it.listed passes
 
-pub ours_told : (old new : State) (rows : List Row) → IsDatabase old.now → Shown list_objects_text [] old new rows
-    → are_ours rows ≡ true → AreListed old.now.trees
-ours_told old new rows sound shows h =
+pub ours_told : (version : Version) (old new : State) (rows : List Row) → IsDatabase old.now
+    → Shown list_objects_text [] old new rows → are_ours version rows ≡ true → AreListed version old.now.trees
+ours_told version old new rows sound shows h =
     let parts = both _ _ h in (
       told old new rows sound shows meta_name meta_text parts.0,
-      told old new rows sound shows device_name device_text parts.1,
+      told old new rows sound shows (device_name version) (device_text version) parts.1,
     )
 
-pub ours_shown : (old new : State) (rows : List Row) → IsDatabase old.now → IsTable (old.now.trees catalog_tree)
-    → Shown list_objects_text [] old new rows → AreListed old.now.trees → are_ours rows ≡ true
-ours_shown old new rows sound rising shows listed =
-    ap (λ b. b && list_any (is_line device_name device_text) rows)
-    (shows_line old new rows sound rising shows meta_name meta_text listed.0)
-    ∙ shows_line old new rows sound rising shows device_name device_text listed.1
+pub ours_shown : (version : Version) (old new : State) (rows : List Row) → IsDatabase old.now
+    → Shown list_objects_text [] old new rows → AreListed version old.now.trees → are_ours version rows ≡ true
+ours_shown version old new rows sound shows listed =
+    ap (λ b. b && list_any (is_line (device_name version) (device_text version)) rows)
+    (shows_line old new rows sound shows meta_name meta_text listed.0)
+    ∙ shows_line old new rows sound shows (device_name version) (device_text version) listed.1
 
 -- ---- the tables
 
@@ -172,6 +157,24 @@ defined_as row t text made it lists is =
 
 abbrev name_in : Row → List ℕ
 name_in row = bytes (column row 2)
+
+untrue : false ≡ true → ⊥
+untrue e = cc
+
+-- the row of a table is that of no view and of no index
+no_view_row : (row : Row) → is_table_row row ≡ true → column row 1 ≡ Text (codes "table") → is_view_row row ≡ true → ⊥
+no_view_row row table kind view =
+    let own : is_foreign_row row ≡ false = not-true _ (both _ _ table).1 in
+    let e : false ≡ true =
+    sym (ap (λ b. is_eq (value_cmp (column row 1) (Text (codes "view"))) || b) own
+    ∙ ap (λ v. is_eq (value_cmp v (Text (codes "view"))) || false) kind
+    ∙ ap (λ o. is_eq o || false) (value_cmp-Text (codes "table") (codes "view"))) ∙ view in
+    absurd (untrue e)
+
+no_index_row : (row : Row) → is_table_row row ≡ true → is_index_row row ≡ true → ⊥
+no_index_row row table index =
+    let e : false ≡ true = sym (ap (λ b. not (b || is_view_row row)) table) ∙ index in
+    absurd (untrue e)
 
 not_both : (b : Bool) → b ≡ true → b ≡ false → ⊥
 not_both true h k = absurd cc
@@ -209,8 +212,13 @@ names_apart earlier (row ∷ rows) h =
       (all_weaker _ (λ r. sound.same_name (name_in row) (name_in r) ≡ false) (λ r both. both.1) rows split, more.1),
     )
 
-one_row : (rows : List Row) (a b : Row) → IsAscending (λ a b. sound.same_name (name_in a) (name_in b) ≡ false) rows
+-- no two rows have one name
+AreApart : List Row → Type 0
+AreApart = IsAscending (λ a b. sound.same_name (name_in a) (name_in b) ≡ false)
+
+one_row : (rows : List Row) (a b : Row) → AreApart rows
     → Has rows a → Has rows b → map to_ascii_lowercase (name_in a) ≡ map to_ascii_lowercase (name_in b) → a ≡ b
+unfolding AreApart
 one_row [] a b apart p q same = absurd p
 one_row (r ∷ rows) a b apart (inl p) (inl q) same = p ∙ sym q
 one_row (r ∷ rows) a b apart (inl p) (inr q) same =
@@ -221,29 +229,97 @@ one_row (r ∷ rows) a b apart (inr p) (inl q) same =
     (ap (λ x. map to_ascii_lowercase (name_in x)) (sym q) ∙ sym same)) (all_has _ rows a apart.0 p))
 one_row (r ∷ rows) a b apart (inr p) (inr q) same = one_row rows a b apart.1 p q same
 
+-- what is listed is an object
+record IsObject (trees : Trees) (name text : List ℕ) : Type 0 where
+  row : Row
+  there : Has (trees catalog_tree) row
+  name_is : column row 2 ≡ Text name
+  sql : column row 4 ≡ Text text
+
+object : (trees : Trees) (name text : List ℕ) → IsListedAs trees name text → IsObject trees name text
+object trees name text it = elim (put_all_has (map shown (trees catalog_tree)) [] it.row it.listed) [
+  | inl new ↦
+      let was = has_mapped shown (trees catalog_tree) it.row new in
+      record {
+        row = was.0;
+        there = was.1;
+        name_is = subst (λ r. column r 2 ≡ Text name) was.2 it.name_is;
+        sql = subst (λ r. column r 5 ≡ Text text) was.2 it.sql;
+      }
+  | inr none ↦ absurd none
+]
+
 module _ (db : Database) (sound : IsDatabase db) where
   abbrev objects : List Row
   objects = db.trees catalog_tree
+
+  apart : AreApart objects
+  unfolding AreApart
+  apart = (names_apart [] objects (list_parts objects sound.lists.listed.loads).1).1
 
   -- the table of this name is what the text defines
   defined : (name : List ℕ) (tree : ℕ) (n : IsNamed db.schema name tree) (text : List ℕ) (made : Table)
       → IsListedAs db.trees name text → table_defined_by text ≡ Ok made
       → (n.table ≡ record made { tree = tree }) × (tree < 65536)
-  defined name tree n text made it is =
+  defined name tree n text made lists is =
+      let it = object db.trees name text lists in
       let has = has_got db.schema.tables n.at n.table n.there in
       let row = zipped_left IsTableRow _ db.schema.tables n.table sound.lists.listed.tables has in
       let listed = (has_filtered is_table_row objects row.0 row.1).0 in
-      let apart = (names_apart [] objects (list_parts objects sound.lists.listed.loads).1).1 in
       let own : bytes (column row.0 2) ≡ n.table.name = ap bytes row.2.described.name_is in
       let other : bytes (column it.row 2) ≡ name = ap bytes it.name_is in
       let alike : map to_ascii_lowercase (name_in row.0) ≡ map to_ascii_lowercase (name_in it.row) =
       ap (map to_ascii_lowercase) own ∙ (lowered n.table.name name).0
       (has_name db.schema name n.at n.table n.named n.there) ∙ ap (map to_ascii_lowercase) (sym other) in
-      let same : row.0 ≡ it.row = one_row objects row.0 it.row apart listed it.listed alike in (
+      let same : row.0 ≡ it.row = one_row objects row.0 it.row apart listed it.there alike in (
         defined_as row.0 n.table text made row.2 (ap (λ r. column r 4) same ∙ it.sql) is
             ∙ ap (λ t. record made { tree = t }) n.is,
         subst (λ t. t < 65536) n.is row.2.described.low,
       )
+
+  -- ---- what has the name of a table is that table
+
+  module _ (table : Table) (has : Has db.schema.tables table) (name : List ℕ)
+      (named : same_name table.name name ≡ true) where
+    table_row : (row : Row) × Has objects row × (is_table_row row ≡ true) × IsTableRow row table
+    table_row =
+        let it = zipped_left IsTableRow _ db.schema.tables table sound.lists.listed.tables has in
+        let kept = has_filtered is_table_row objects it.0 it.1 in
+        (it.0, kept.0, kept.1, it.2)
+
+    -- no other object has it
+    one_object : (row : Row) (other : List ℕ) → Has objects row → column row 2 ≡ Text other
+        → same_name other name ≡ true → row ≡ table_row.0
+    one_object row other there is same =
+        let alike : map to_ascii_lowercase (name_in row) ≡ map to_ascii_lowercase (name_in table_row.0) =
+        ap (map to_ascii_lowercase) (ap bytes is) ∙ (lowered other name).0 same ∙ sym ((lowered table.name name).0 named)
+        ∙ sym (ap (map to_ascii_lowercase) (ap bytes table_row.3.described.name_is)) in
+        one_row objects row table_row.0 apart there table_row.1 alike
+
+    pub no_view : AllByRecursion (λ w. same_name w.name name ≡ false) db.schema.views
+    no_view = all_from _ db.schema.views (λ w there. elim (cases_Bool (same_name w.name name)) [
+      | inl same ↦
+          let it = zipped_left IsViewRow _ db.schema.views w sound.lists.listed.views there in
+          let kept = has_filtered is_view_row objects it.0 it.1 in
+          let one = one_object it.0 w.name kept.0 it.2.described.name_is same in
+          absurd (no_view_row table_row.0 table_row.2 table_row.3.described.kind_is
+          (subst (λ r. is_view_row r ≡ true) one kept.1))
+      | inr other ↦ other
+    ])
+
+    pub no_index : AllByRecursion (λ i. same_name i.name name ≡ false) db.schema.indexes
+    no_index = all_from _ db.schema.indexes (λ i there. elim (cases_Bool (same_name i.name name)) [
+      | inl same ↦
+          let it = zipped_left (IsIndexRow db.schema.tables) _ db.schema.indexes i sound.lists.listed.indexes there in
+          let kept = has_filtered is_index_row objects it.0 it.1 in
+          let one = one_object it.0 i.name kept.0 it.2.described.name_is same in
+          absurd (no_index_row table_row.0 table_row.2 (subst (λ r. is_index_row r ≡ true) one kept.1))
+      | inr other ↦ other
+    ])
+
+    pub one_table : (t : Table) → Has db.schema.tables t → same_name t.name name ≡ true → t ≡ table
+    one_table t there same = named_once db.schema.tables t table sound.lists.listed.named there has
+        ((lowered t.name table.name).1 ((lowered t.name name).0 same ∙ sym ((lowered table.name name).0 named)))
 
 find_lone : (tables : List Table) (table : Table) → ((t : Table) → Has tables t → t.tree ≡ table.tree → t ≡ table)
     → Has tables table → find (λ t. t.tree == table.tree) tables ≡ Some table
@@ -259,7 +335,8 @@ find_lone (t ∷ tables) table lone h = elim (cases_Bool (t.tree == table.tree))
         grind (arith, nat_tests, apart, e))
     later apart (inr h) = h
 
-stands_in : (db : Database) (name : List ℕ) (tree : ℕ) (n : IsNamed db.schema name tree) (table : Table) → IsDatabase db
+pub stands_in : (db : Database) (name : List ℕ) (tree : ℕ) (n : IsNamed db.schema name tree) (table : Table)
+    → IsDatabase db
     → AllByRecursion (KeepsTree name tree) db.schema.tables → n.table ≡ table → table.tree ≡ tree → tree < 65536
     → Stands db.schema name table n.at
 stands_in db name tree n table sound keeps is at low =
@@ -278,18 +355,24 @@ stands_in db name tree n table sound keeps is at low =
       classes = rw stored (ap (option_map row_classes) (find_lone db.schema.tables table lone has));
     }
 
-tables_told : (db : Database) (meta devices : ℕ) → IsDatabase db → IsPlaced db.schema meta devices → AreListed db.trees
-    → HasTables db.schema
+names_differ : (version : Version) → same_name (device_name version) meta_name ≡ true → ⊥
 unfolding same_name
-tables_told db meta devices sound placed listed =
+names_differ First e = absurd cc
+names_differ Second e = absurd cc
+
+tables_told : (version : Version) (db : Database) (meta devices : ℕ) → IsDatabase db
+    → IsPlaced version db.schema meta devices → AreListed version db.trees → HasTables version db.schema
+unfolding same_name
+tables_told version db meta devices sound placed listed =
     let own = defined db sound meta_name meta placed.meta_is meta_text (meta_table 0) listed.0 meta_is in
-    let other =
-    defined db sound device_name devices placed.devices_are device_text (device_table 0) listed.1 device_is in
+    let name = device_name version in
+    let there = defined db sound name devices placed.devices_are (device_text version) (device_table version 0)
+    listed.1 (device_is version) in
     let keeps = placed.alone.alone in
     let meta_stands = stands_in db meta_name meta placed.meta_is (meta_table meta) sound
     (all_weaker _ (KeepsTree meta_name meta) (λ t k. k.0) db.schema.tables keeps) own.0 refl own.1 in
-    let devices_stand = stands_in db device_name devices placed.devices_are (device_table devices) sound
-    (all_weaker _ (KeepsTree device_name devices) (λ t k. k.1) db.schema.tables keeps) other.0 refl other.1 in
+    let devices_stand = stands_in db name devices placed.devices_are (device_table version devices) sound
+    (all_weaker _ (KeepsTree name devices) (λ t k. k.1) db.schema.tables keeps) there.0 refl there.1 in
     record {
       meta = meta;
       devices = devices;
@@ -297,34 +380,37 @@ tables_told db meta devices sound placed listed =
       devices_at = placed.devices_are.at;
       meta_stands = meta_stands;
       devices_stand = devices_stand;
-      apart =
-          λ e. (let clash =
-          (all_has _ db.schema.tables (device_table devices) keeps
-          (has_got db.schema.tables placed.devices_are.at (device_table devices) devices_stand.there)).0 (sym e) in cc);
+      apart = λ e. names_differ version
+          ((all_has _ db.schema.tables (device_table version devices) keeps
+          (has_got db.schema.tables placed.devices_are.at (device_table version devices) devices_stand.there)).0
+          (sym e));
       spared = placed.alone.spared;
       alone = keeps;
       unindexed = placed.alone.unindexed;
+      free = placed.alone.free;
+      counted = placed.alone.counted;
     }
 
 -- where the two tables are found and listed, the schema has them
-pub tables_taken : (s : State) (meta devices : ℕ) → IsAtRest s → trees_in s.now.schema ≡ Some (meta, devices)
-    → AreListed s.now.trees → HasTables s.now.schema
-tables_taken s meta devices rest is listed =
-    tables_told s.now meta devices rest.sound (found s.now.schema meta devices is) listed
+pub tables_taken : (version : Version) (s : State) (meta devices : ℕ) → IsAtRest s
+    → trees_in version s.now.schema ≡ Some (meta, devices) → AreListed version s.now.trees
+    → HasTables version s.now.schema
+tables_taken version s meta devices rest is listed =
+    tables_told version s.now meta devices rest.sound (found version s.now.schema meta devices is) listed
 
 -- the trees of a sound database tell its schema
 pub same_schema : (db : Trees) (s t : Schema) → IsSound s db → IsSound t db → s ≡ t
 same_schema db s t a b = lists_once (db catalog_tree) s t a.lists b.lists
 
 -- so a registry as this program leaves it is found so
-pub own_found : (s : State) → IsAtRest s → IsOwn s.now.trees → IsRegistry s.now
-own_found s rest own =
+pub own_found : (version : Version) (s : State) → IsAtRest s → IsOwn version s.now.trees → IsRegistry version s.now
+own_found version s rest own =
     let schema : own.db.schema ≡ s.now.schema = same_schema s.now.trees own.db.schema s.now.schema
     (subst (IsSound own.db.schema) own.same own.sound) rest.sound in
     let db : own.db ≡ s.now = λ i. record { schema = schema i; trees = own.same i } in
-    subst IsRegistry db own.registry
+    subst (IsRegistry version) db own.registry
 
--- and a database in which the two tables can be made
+-- and a database in which the tables can be made
 pub free_found : (s : State) → IsAtRest s → IsFree s.now.trees → IsTrue (is_clear s.now.schema)
 free_found s rest free =
     let same : free.db.schema ≡ s.now.schema = same_schema s.now.trees free.db.schema s.now.schema

@@ -16,7 +16,7 @@ use Rattle.device_registry.proofs.RefusalKeeps.{back_at, inside_commit, made_com
 
 -- ---- what is not committed
 
-uncommitted_then : (a b c : State) → IsUncommitted a b → IsUncommitted b c → IsUncommitted a c
+pub uncommitted_then : (a b c : State) → IsUncommitted a b → IsUncommitted b c → IsUncommitted a c
 uncommitted_then a b c first second = record {
   stop = survives_then a b c (λ _. ⊥) (λ _. ⊥) (λ _. ⊥) (λ clean trees no. no) (λ clean trees no. no) first.stop
       second.stop;

@@ -21,10 +21,10 @@ use Rattle.device_registry.specs.Stored.{Stands}
 
 -- the version row, as it is written
 abbrev pub version_terms : List Term
-version_terms = lit (Int (pos 1)) ∷ lit Null ∷ lit (Int (pos 1)) ∷ []
+version_terms = lit (Int (pos 1)) ∷ lit Null ∷ lit (Int (pos 2)) ∷ []
 
 number_read : IsRead write_version_text (written.Insert Abort (codes "enogate_meta") (codes "k" ∷ codes "version" ∷ [])
-    (Values ((Integer (codes "1") ∷ Integer (codes "1") ∷ []) ∷ [])) [] [])
+    (Values ((Integer (codes "1") ∷ Integer (codes "2") ∷ []) ∷ [])) [] [])
 unfolding everything
 number_read = record { parsed = _; read = refl; is = refl; timeless = refl }
 
@@ -34,7 +34,7 @@ unfolding everything
 number_means schema at d it = insert_means it _ number_read refl (λ base. rw (it.named, it.there))
 
 renew_read : IsRead renew_text
-    (written.Update (codes "enogate_meta") ((codes "version", Integer (codes "1")) ∷ []) None [])
+    (written.Update (codes "enogate_meta") ((codes "version", Integer (codes "2")) ∷ []) None [])
 unfolding everything
 renew_read = record { parsed = _; read = refl; is = refl; timeless = refl }
 

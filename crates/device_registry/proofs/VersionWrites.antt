@@ -79,7 +79,7 @@ renew_does : (s : State) (after : Database) (text : List ℕ) (tally : Tally) (d
 renew_does s after text tally devices had h =
     let r = had.registry in
     let kept = renews s.now.schema r.tables.meta_at r.tables.meta s.step_limit (mode_of s) s.now.trees text tally after
-    r.whole.row r.tables.meta_stands.there (meta_alone s.now.schema r.tables) r.whole.one r.whole.version h in
+    r.whole.row r.tables.meta_stands.there (meta_alone s.now.schema r.tables) r.whole.one r.whole.numbered.key h in
     renewed_registers s.now after devices had kept.0 kept.1 kept.2
 
 renewed : (old new : State) (count : ℕ) (devices : Devices) → Shows old devices
@@ -112,13 +112,13 @@ effect old new count devices shows h =
     let kept =
     renews old.now.schema r.tables.meta_at r.tables.meta old.step_limit (mode_of old) old.now.trees
     (statement_of renew_text (understood old.now.schema renew_text)) w.tally new.now r.whole.row
-    r.tables.meta_stands.there (meta_alone old.now.schema r.tables) r.whole.one r.whole.version w.changed in
+    r.tables.meta_stands.there (meta_alone old.now.schema r.tables) r.whole.one r.whole.numbered.key w.changed in
     (kept.0, kept.1, kept.2, w.counted ∙ ap (λ rows. unwrap_or rows 0) kept.3)
 
 pub changes_one : (old new : State) (count : ℕ) → IsReady old → Executes renew_text [] old new (Ok count) → count ≡ 1
 changes_one old new count ready h = (effect old new count ready.devices ready.shows h).3
 
-has_at : {X : Type 0} (xs : List X) (x : X) → Has xs x → (i : ℕ) × (slice_get xs i ≡ Some x)
+pub has_at : {X : Type 0} (xs : List X) (x : X) → Has xs x → (i : ℕ) × (slice_get xs i ≡ Some x)
 has_at [] x h = absurd h
 has_at (y ∷ xs) x (inl here) = (0, ap Some (sym here))
 has_at (y ∷ xs) x (inr later) = let it = has_at xs x later in (suc it.0, it.1)
@@ -145,7 +145,7 @@ renewed_rows old new count devices shows h =
     subst (AllByRecursion (λ row. passes Datatype old.now.schema old.now.trees (meta_table r.tables.meta) row ≡ true))
     r.whole.one typed in
     let same : r.whole.row ≡ version_row =
-    version_is r.tables.meta r.whole.row r.whole.version
+    version_is r.tables.meta r.whole.row r.whole.numbered
     (first (are_typed (meta_table r.tables.meta).key 0 (meta_table r.tables.meta).columns (drop 1 r.whole.row))
     (has_computed (meta_table r.tables.meta) r.whole.row) row_typed.0) in
     record {

@@ -1,5 +1,5 @@
 -- From what the store says of the three statements that write to how they turn the registry.
-use Rattle.std.proofs.Common.{◌≡◌, ◌≢◌, inl, inr, ℕ, List, [], Some, None, Ok, Err, Result, arith}
+use Rattle.std.proofs.Common.{true, ◌≡◌, ◌≢◌, inl, inr, ℕ, List, [], None, Ok, Err, Result, arith}
 use Rattle.std.proofs.Common.{OnOk, OnErr, refl, sym, subst, ◌∙◌, false}
 use Rattle.std.specs.FinMap.{insert, remove}
 use Rattle.sqlite.specs.Order.{Row}
@@ -13,19 +13,21 @@ use Rattle.sqlite.specs.Effect.{Database}
 use Rattle.sqlite.specs.Does.{Does, Tally}
 use Rattle.sqlite.specs.State.{State, HasCleanDisk, Survives, Executes, CommitsBy, Runs, Writes, mode_of}
 use Rattle.sqlite.proofs.Callers.{runs_as}
-use Rattle.device_registry.specs.Table.{learn_text, forget_text, renew_text}
-use Rattle.device_registry.specs.Devices.{Devices, Learned, Change, changed, is_full}
+use Rattle.learned_devices.specs.Labels.{is_label}
+use Rattle.device_registry.specs.declared.table.Version.TheVariants.{Second}
+use Rattle.device_registry.specs.Table.{put_text, forget_text, renew_text}
+use Rattle.device_registry.specs.Devices.{Devices, Learned, Change, changed, forgotten, is_full}
 use Rattle.device_registry.specs.Stored.{IsRegistry, Registers, Holds}
 use Rattle.device_registry.specs.Ready.{Shows, IsReady, Turns, GoesOn}
-use Rattle.device_registry.proofs.StatementTexts.{learn_terms, program_of, forget_query, renew_query}
+use Rattle.device_registry.proofs.StatementTexts.{put_terms, program_of, forget_query, renew_query}
 use Rattle.device_registry.proofs.TextMeaning.{Means}
-use Rattle.device_registry.proofs.LearnMeaning.{learn_means}
+use Rattle.device_registry.proofs.PutMeaning.{put_means}
 use Rattle.device_registry.proofs.ForgetMeaning.{forget_means}
 use Rattle.device_registry.proofs.VersionMeaning.{renew_means}
 use Rattle.device_registry.proofs.RowsAsMap.{IsShort}
 use Rattle.device_registry.proofs.SenderTests.{asked}
 use Rattle.device_registry.proofs.TablesAlone.{devices_alone, meta_alone}
-use Rattle.device_registry.proofs.LearnEffect.{learn_params, learns}
+use Rattle.device_registry.proofs.PutEffect.{put_params, puts_in}
 use Rattle.device_registry.proofs.ForgetEffect.{forgets}
 use Rattle.device_registry.proofs.RenewEffect.{renews}
 use Rattle.device_registry.proofs.DevicesHeld.{put_registers, forgotten_registers, renewed_registers}
@@ -33,12 +35,12 @@ use Rattle.device_registry.proofs.StatementSteps.{commits_as, spared, not_execut
 
 -- A statement that writes, and what it makes of a registry of devices for which there is room.
 module _ (sql : List ℕ) (params : Row) (change : Change) (HasRoom : Devices → Type 0)
-    (command : (db : Database) → IsRegistry db → Command)
-    (means : (db : Database) (registry : IsRegistry db) → Means db.schema sql (command db registry))
-    (writes : (old new : State) (registry : IsRegistry old.now) (text : List ℕ) (count : ℕ)
+    (command : (db : Database) → IsRegistry Second db → Command)
+    (means : (db : Database) (registry : IsRegistry Second db) → Means db.schema sql (command db registry))
+    (writes : (old new : State) (registry : IsRegistry Second old.now) (text : List ℕ) (count : ℕ)
     → Runs old new None (command old.now registry) text params count
     → Writes old new None (command old.now registry) text params count)
-    (ends : (db : Database) (registry : IsRegistry db) → (command db registry ≢ Commit)
+    (ends : (db : Database) (registry : IsRegistry Second db) → (command db registry ≢ Commit)
     × ((name : List ℕ) → command db registry ≢ Release name))
     (does : (s : State) (after : Database) (text : List ℕ) (tally : Tally) (devices : Devices)
     (had : Registers s.now devices) → HasRoom devices
@@ -111,31 +113,34 @@ module _ (sql : List ℕ) (params : Row) (change : Change) (HasRoom : Devices �
       err_of (Ok count) h = tt
       err_of (Err e) h = spared old new (not_executed sql params old new e h)
 
-learn_does : (id : ℕ) (it : Learned) → IsShort it.eep → (s : State) (after : Database) (text : List ℕ) (tally : Tally)
-    (devices : Devices) (had : Registers s.now devices) → is_full devices id ≡ false
-    → Does s.step_limit (mode_of s) (learn_params id it) s.now text None
-    (InsertOr had.registry.tables.devices_at Replace (Values learn_terms 4) []) (Ok (tally, after))
-    → Registers after (insert devices id it)
-learn_does id it short s after text tally devices had room h =
-    let r = had.registry in
-    let put = learns s.now.schema r.tables.devices_at r.tables.devices s.step_limit (mode_of s) id it s.now.trees text
-    tally after r.tables.devices_stand.there (devices_alone s.now.schema r.tables) r.whole.rows h in
-    put_registers s.now after devices had id it short room put.0 put.1
+-- there is room for the sender, and the change makes this of it
+abbrev pub MakesIt : Change → ℕ → Learned → Devices → Type 0
+MakesIt change id it devices = (is_full devices id ≡ false) × (changed devices change ≡ insert devices id it)
 
-pub learn_turns : (id : ℕ) (it : Learned) → IsShort it.eep → (old new : State) (r : Result ℕ Error)
-    → (HasCleanDisk old → IsReady old)
-    → (HasCleanDisk old → (devices : Devices) → Shows old devices → is_full devices id ≡ false)
-    → Survives old new (CommitsBy learn_text (learn_params id it) old)
-    → (HasCleanDisk new → Executes learn_text (learn_params id it) old new r)
-    → Turns old new (record { sender = id; entry = Some it }) r
-learn_turns id it short = turned learn_text (learn_params id it) (record { sender = id; entry = Some it })
-    (λ devices. is_full devices id ≡ false)
-    (λ db registry. InsertOr registry.tables.devices_at Replace (Values learn_terms 4) [])
-    (λ db registry. learn_means db.schema registry.tables.devices_at registry.tables.devices
+put_does : (change : Change) (id : ℕ) (it : Learned) → IsShort it.eep → is_label it.label ≡ true → (s : State)
+    (after : Database) (text : List ℕ) (tally : Tally) (devices : Devices) (had : Registers s.now devices)
+    → MakesIt change id it devices
+    → Does s.step_limit (mode_of s) (put_params id it) s.now text None
+    (InsertOr had.registry.tables.devices_at Replace (Values put_terms 5) []) (Ok (tally, after))
+    → Registers after (changed devices change)
+put_does change id it short label s after text tally devices had room h =
+    let r = had.registry in
+    let put = puts_in s.now.schema r.tables.devices_at r.tables.devices s.step_limit (mode_of s) id it label s.now.trees
+    text tally after r.tables.devices_stand.there (devices_alone s.now.schema r.tables) r.whole.rows h in
+    subst (Registers after) (sym room.1) (put_registers s.now after devices had id it short room.0 put.0 put.1)
+
+pub put_turns : (change : Change) (id : ℕ) (it : Learned) → IsShort it.eep → is_label it.label ≡ true
+    → (old new : State) (r : Result ℕ Error) → (HasCleanDisk old → IsReady old)
+    → (HasCleanDisk old → (devices : Devices) → Shows old devices → MakesIt change id it devices)
+    → Survives old new (CommitsBy put_text (put_params id it) old)
+    → (HasCleanDisk new → Executes put_text (put_params id it) old new r) → Turns old new change r
+put_turns change id it short label = turned put_text (put_params id it) change (MakesIt change id it)
+    (λ db registry. InsertOr registry.tables.devices_at Replace (Values put_terms 5) [])
+    (λ db registry. put_means db.schema registry.tables.devices_at registry.tables.devices
     registry.tables.devices_stand)
     (λ old new registry text count h. h)
     (λ db registry. (λ e. cc, λ name e. cc))
-    (learn_does id it short)
+    (put_does change id it short label)
 
 forget_does : (id : ℕ) (s : State) (after : Database) (text : List ℕ) (tally : Tally) (devices : Devices)
     (had : Registers s.now devices) → Unit {0}
@@ -151,9 +156,9 @@ forget_does id s after text tally devices had room h =
 pub forget_turns : (id : ℕ) (old new : State) (r : Result ℕ Error) → (HasCleanDisk old → IsReady old)
     → Survives old new (CommitsBy forget_text (asked id) old)
     → (HasCleanDisk new → Executes forget_text (asked id) old new r)
-    → Turns old new (record { sender = id; entry = None }) r
+    → Turns old new (forgotten id) r
 forget_turns id old new r ready =
-    turned forget_text (asked id) (record { sender = id; entry = None }) (λ devices. Unit {0})
+    turned forget_text (asked id) (forgotten id) (λ devices. Unit {0})
     (λ db registry. Delete registry.tables.devices_at (program_of (forget_query registry.tables.devices)))
     (λ db registry. forget_means db.schema registry.tables.devices_at registry.tables.devices
     registry.tables.devices_stand)
@@ -170,7 +175,7 @@ renew_does : (change : Change) (s : State) (after : Database) (text : List ℕ) 
 renew_does change s after text tally devices had same h =
     let r = had.registry in
     let kept = renews s.now.schema r.tables.meta_at r.tables.meta s.step_limit (mode_of s) s.now.trees text tally after
-    r.whole.row r.tables.meta_stands.there (meta_alone s.now.schema r.tables) r.whole.one r.whole.version h in
+    r.whole.row r.tables.meta_stands.there (meta_alone s.now.schema r.tables) r.whole.one r.whole.numbered.key h in
     subst (Registers after) (sym same) (renewed_registers s.now after devices had kept.0 kept.1 kept.2)
 
 -- a change that leaves the devices as they are is made by writing the version row

@@ -1,15 +1,14 @@
 -- What is remembered of looked-up senders.
-use Rattle.std.specs.Prelude.{◌≡◌, ℕ, List, Option, IsTrue, Contains}
+use Rattle.std.specs.Prelude.{◌≡◌, ℕ, List, Option, Contains}
 use Rattle.sqlite.specs.State.{State, HasCleanDisk}
 use Rattle.learned_devices.specs.declared.Device.{Device}
 use Rattle.device_registry.specs.Devices.{Devices, device_of}
-use Rattle.device_registry.specs.Stored.{Registers}
+use Rattle.device_registry.specs.Ready.{Shows}
 
 -- the registry is open, and the entry is what it says of the sender
 pub record EntryAgrees (s : State) (entry : ℕ × Option Device) : Type 0 where
-  pub is_open : IsTrue s.is_open
   pub devices : Devices
-  pub registers : Registers s.now devices
+  pub shows : Shows s devices
   pub is : entry.1 ≡ device_of devices entry.0
 
 -- each entry agrees, so there is none once the connection may be shut

@@ -6,17 +6,22 @@ use Rattle.std.specs.FinMap.{FinMap, get, insert, remove, len, entries}
 use Rattle.erp1_telegrams.specs.declared.eep.Eep.{Eep}
 use Rattle.learned_devices.specs.declared.Device.{Device}
 
--- what is known of a sender: its profile, and its maker where it told one
+-- what is known of a sender: its profile, its maker where it told one, and its label, which may be the empty one
 pub record Learned : Type 0 where
   pub eep : Eep
   pub maker : Option ℕ
+  pub label : List ℕ
 
 -- what is known of each learned sender
 abbrev pub Devices : Type 0
 Devices = FinMap nat_cmp Learned
 
 abbrev pub device : ℕ → Learned → Device
-device id learned = record { id = id; eep = learned.eep; maker = learned.maker; label = [] }
+device id learned = record { id = id; eep = learned.eep; maker = learned.maker; label = learned.label }
+
+-- what is known of the sender of a device
+abbrev pub known_of : Device → Learned
+known_of it = record { eep = it.eep; maker = it.maker; label = it.label }
 
 -- the device of a sender, if it is learned
 abbrev pub device_of : Devices → ℕ → Option Device
@@ -34,16 +39,36 @@ most_devices = 1000
 abbrev pub is_full : Devices → ℕ → Bool
 is_full devices id = nat_le most_devices (len (remove devices id))
 
--- what is written of a sender: what is known of it from then on, or nothing, where it is forgotten
+-- what is done about a sender: it is learned with a profile and a maker, it is forgotten, or it gets a label
+pub data Deed : Type 0 where
+  Learn : (eep : Eep) (maker : Option ℕ) → Deed
+  Forget : Deed
+  Relabel : (label : List ℕ) → Deed
+
 pub record Change : Type 0 where
   pub sender : ℕ
-  pub entry : Option Learned
+  pub deed : Deed
 
 abbrev pub learned : Device → Change
-learned it = record { sender = it.id; entry = Some (record { eep = it.eep; maker = it.maker }) }
+learned it = record { sender = it.id; deed = Learn it.eep it.maker }
 
 abbrev pub forgotten : ℕ → Change
-forgotten id = record { sender = id; entry = None }
+forgotten id = record { sender = id; deed = Forget }
+
+abbrev pub relabelled : ℕ → List ℕ → Change
+relabelled id label = record { sender = id; deed = Relabel label }
+
+-- the label that a sender has once it is learned: a known one keeps its own, another gets the empty one
+abbrev pub kept_label : Option Learned → List ℕ
+kept_label (Some it) = it.label
+kept_label None = []
+
+-- what is known of a sender after a deed; a label changes nothing about an unknown one
+abbrev pub after : Option Learned → Deed → Option Learned
+after known (Learn eep maker) = Some (record { eep = eep; maker = maker; label = kept_label known })
+after known Forget = None
+after (Some it) (Relabel label) = Some (record { eep = it.eep; maker = it.maker; label = label })
+after None (Relabel label) = None
 
 abbrev pub entered : Devices → ℕ → Option Learned → Devices
 entered devices id (Some it) = insert devices id it
@@ -51,4 +76,4 @@ entered devices id None = remove devices id
 
 -- the devices with the change, which is at its sender alone
 abbrev pub changed : Devices → Change → Devices
-changed devices change = entered devices change.sender change.entry
+changed devices change = entered devices change.sender (after (get devices change.sender) change.deed)

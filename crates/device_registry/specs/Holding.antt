@@ -1,7 +1,8 @@
 -- What a registry holds, what a stop may leave of it, and how its calls move both.
-use Rattle.std.specs.Prelude.{◌≡◌, ◌⊎◌, ℕ, false, IsTrue, IfOk, MatchResult, Option, Result, Vec}
+use Rattle.std.specs.Prelude.{◌≡◌, ◌⊎◌, ℕ, Bool, false, is_some, IsTrue, IfOk, MatchBool, MatchResult}
+use Rattle.std.specs.Prelude.{List, Option, Result, Vec}
 use Rattle.std.specs.declared.alloc.Global.{Global}
-use Rattle.std.specs.FinMap.{empty}
+use Rattle.std.specs.FinMap.{empty, get}
 use Rattle.sqlite.specs.State.{State, HasCleanDisk}
 use Rattle.sqlite_trees.specs.Tree.{Trees}
 use Rattle.learned_devices.specs.declared.Device.{Device}
@@ -9,8 +10,10 @@ use Rattle.device_registry.specs.declared.fault.LearnFault.{LearnFault}
 use Rattle.device_registry.specs.declared.fault.LearnFault.TheVariants.{Full, Refused}
 use Rattle.device_registry.specs.declared.fault.StoreFault.{StoreFault}
 use Rattle.device_registry.specs.declared.receipt.Receipt.{Receipt}
-use Rattle.device_registry.specs.Devices.{Devices, device_of, all_of, is_full, Change, changed, learned, forgotten}
-use Rattle.device_registry.specs.Stored.{Registers, Holds, IsHeld, IsBare}
+use Rattle.device_registry.specs.Devices.{Devices, device_of, all_of, is_full}
+use Rattle.device_registry.specs.Devices.{Change, changed, learned, forgotten, relabelled}
+use Rattle.device_registry.specs.declared.table.Version.{Version}
+use Rattle.device_registry.specs.Stored.{Registers, HoldsAs, Holds, IsHeld, IsBare}
 
 -- while the disk is honest and the connection is open, the registry holds these devices
 abbrev pub HasDevices : State → Devices → Type 0
@@ -53,9 +56,10 @@ abbrev pub IsCommitted : State → Type 0
 IsCommitted s = HasCleanDisk s → IsTrue s.is_open → (devices : Devices) → HasDevices s devices
     → Holds s.committed.trees devices
 
--- a database with these trees is a registry of these devices, or has neither table yet, which is to hold none
+-- a database with these trees is a registry of these devices, of either version, or has none of the tables yet, which
+-- is to hold none
 abbrev pub Finds : Trees → Devices → Type 0
-Finds trees devices = Holds trees devices ⊎ (IsBare trees × (devices ≡ empty))
+Finds trees devices = ((version : Version) × HoldsAs version trees devices) ⊎ (IsBare trees × (devices ≡ empty))
 
 -- The registry is opened: it has the devices that were committed last, and a stop leaves these and nothing else.
 pub record Opens (old new : State) (devices : Devices) : Type 0 where
@@ -79,7 +83,7 @@ pub record LooksUp (old new : State) (id : ℕ) (result : Result (Option Device)
       → MatchResult result (λ found. (found ≡ device_of devices id) × Keeps old new devices)
       (λ _. Keeps old new devices)
 
--- a device is learned, in place of what was known of its sender
+-- a device is learned, in place of what was known of its sender but for the label
 pub record Learns (old new : State) (it : Device) (result : Result Receipt LearnFault) : Type 0 where
   pub clean : HasCleanDisk new → HasCleanDisk old
   pub registries : HasCleanDisk new → AreRegistries new.may_leave
@@ -95,6 +99,15 @@ pub record Forgets (old new : State) (id : ℕ) (result : Result Receipt StoreFa
   pub receipt : IfOk result (λ receipt. (receipt.id ≡ id) × (receipt.is_learned ≡ false))
   pub devices : HasCleanDisk new → (devices : Devices) → HasDevices old devices
       → MatchResult result (λ _. Commits new (forgotten id) devices) (λ _. Pends old new (forgotten id) devices)
+
+-- a sender gets a label, if it is learned: the answer is whether it is
+pub record Relabels (old new : State) (id : ℕ) (label : List ℕ) (result : Result Bool StoreFault) : Type 0 where
+  pub clean : HasCleanDisk new → HasCleanDisk old
+  pub registries : HasCleanDisk new → AreRegistries new.may_leave
+  pub devices : HasCleanDisk new → (devices : Devices) → HasDevices old devices
+      → MatchResult result (λ known. (known ≡ is_some (get devices id))
+      × MatchBool known (Commits new (relabelled id label) devices) (Keeps old new devices))
+      (λ _. Pends old new (relabelled id label) devices)
 
 -- all devices are listed
 pub record ListsAll (old new : State) (result : Result (Vec Device Global) StoreFault) : Type 0 where

@@ -5,6 +5,7 @@ use Rattle.std.specs.List.{list_any}
 use Rattle.sqlite.specs.declared.types.Value.{Value}
 use Rattle.sqlite.specs.declared.types.Value.TheVariants.{Null, Int, Real, Text, Blob}
 use Rattle.sqlite.specs.Order.{Row, column}
+use Rattle.device_registry.specs.declared.table.Version.{Version}
 use Rattle.device_registry.specs.Table.{meta_name, device_name, meta_text, device_text}
 
 abbrev pub has_text : Value → List ℕ → Bool
@@ -18,5 +19,6 @@ abbrev pub is_line : List ℕ → List ℕ → Row → Bool
 is_line name text row = has_text (column row 0) name && has_text (column row 2) text
 
 -- the rows list the two tables with their texts
-abbrev pub are_ours : List Row → Bool
-are_ours rows = list_any (is_line meta_name meta_text) rows && list_any (is_line device_name device_text) rows
+abbrev pub are_ours : Version → List Row → Bool
+are_ours version rows = list_any (is_line meta_name meta_text) rows
+    && list_any (is_line (device_name version) (device_text version)) rows

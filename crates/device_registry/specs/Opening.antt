@@ -1,11 +1,12 @@
 -- What an open finds, and what it leaves.
-use Rattle.std.specs.Prelude.{◌≡◌, ◌⊎◌, ◌≤◌, ℕ, List, [], IsTrue, false, Ok}
+use Rattle.std.specs.Prelude.{◌≡◌, ◌⊎◌, ◌≤◌, ℕ, List, [], map, IsTrue, false, Ok}
 use Rattle.std.specs.FinMap.{len}
 use Rattle.sqlite.specs.declared.types.Value.TheVariants.{Text}
 use Rattle.sqlite.specs.Order.{Row, column}
 use Rattle.sqlite.specs.Schema.{Schema}
 use Rattle.sqlite.specs.Does.{lacks_sequence}
 use Rattle.sqlite.specs.Effect.{Database, IsDatabase}
+use Rattle.sqlite.specs.Listing.{shown}
 use Rattle.sqlite.specs.State.{State, HasCleanDisk, IsUnchanged, Executes}
 use Rattle.sqlite.specs.Held.{Held}
 use Rattle.sqlite.specs.Files.{file_state, Finds as FindsFiles}
@@ -14,11 +15,14 @@ use Rattle.sqlite_disk.specs.declared.Disk.{Ghosts}
 use Rattle.sqlite_disk.specs.declared.Files.{Files}
 use Rattle.sqlite_store.specs.declared.store.FileStore.{FileStore}
 use Rattle.sqlite_catalog.specs.Change.{is_used}
+use Rattle.sqlite_rules.specs.Edit.{put_all}
 use Rattle.sqlite_rules.specs.Lists.{Has}
 use Rattle.sqlite_trees.specs.Objects.{catalog_tree}
-use Rattle.sqlite_trees.specs.Tree.{Trees, IsTable}
+use Rattle.sqlite_trees.specs.Tree.{Trees}
 use Rattle.device_registry.specs.declared.fault.OpenFault.{OpenFault}
 use Rattle.device_registry.specs.declared.fault.OpenFault.TheVariants.{NotARegistry}
+use Rattle.device_registry.specs.declared.table.Version.{Version}
+use Rattle.device_registry.specs.declared.table.Version.TheVariants.{First, Second}
 use Rattle.device_registry.specs.Devices.{Devices, most_devices}
 use Rattle.device_registry.specs.Table.{meta_name, device_name, meta_text, device_text, renew_text}
 use Rattle.device_registry.specs.Stored.{AreSpared, IsRegistry, Holds}
@@ -47,51 +51,56 @@ pub record IsPrepared (old new : State) (devices : Devices) : Type 0 where
 abbrev pub IsRenewed : State → State → Type 0
 IsRenewed old new = Executes renew_text [] old new (Ok 1)
 
--- the trees of a registry of the devices that are found in others
-pub record KeepsFound (found left : Trees) : Type 0 where
-  pub devices : Devices
-  pub finds : Finds found devices
-  pub holds : Holds left devices
+-- the list of the database's objects, as SQLite shows it
+abbrev pub listing : Trees → List Row
+listing trees = put_all [] (map shown (trees catalog_tree))
 
 -- an object of this name is listed with this text
 pub record IsListedAs (trees : Trees) (name text : List ℕ) : Type 0 where
   pub row : Row
-  pub listed : Has (trees catalog_tree) row
+  pub listed : Has (listing trees) row
   pub name_is : column row 2 ≡ Text name
-  pub sql : column row 4 ≡ Text text
+  pub sql : column row 5 ≡ Text text
 
 -- the two tables are listed with our texts
-abbrev pub AreListed : Trees → Type 0
-AreListed trees = IsListedAs trees meta_name meta_text × IsListedAs trees device_name device_text
+abbrev pub AreListed : Version → Trees → Type 0
+AreListed version trees =
+    IsListedAs trees meta_name meta_text × IsListedAs trees (device_name version) (device_text version)
 
--- a registry as this program leaves it
-pub record IsOwn (trees : Trees) : Type 0 where
+-- a registry of this version as this program leaves it
+pub record IsOwn (version : Version) (trees : Trees) : Type 0 where
   pub db : Database
   pub same : db.trees ≡ trees
   pub sound : IsDatabase db
-  pub registry : IsRegistry db
-  pub listed : AreListed trees
-  -- the objects have rowids that rise
-  pub rising : IsTable (trees catalog_tree)
+  pub registry : IsRegistry version db
+  pub listed : AreListed version trees
 
--- The two tables can be made: nothing has their names, no foreign key refers to them, and no table counts its rowids
--- without SQLite's table of the counts, which our CREATE would add.
+-- The trees of a registry of the devices that are found in others. Of a first version that this program left, it is a
+-- second version as this program leaves it.
+pub record KeepsFound (found left : Trees) : Type 0 where
+  pub devices : Devices
+  pub finds : Finds found devices
+  pub holds : Holds left devices
+  pub own : IsOwn First found → IsOwn Second left
+
+-- The tables can be made: nothing has their names, of whatever version, no foreign key refers to them, and no table
+-- counts its rowids without SQLite's table of the counts, which our CREATE would add.
 pub record IsClear (schema : Schema) : Type 0 where
   pub free_meta : is_used schema meta_name ≡ false
-  pub free_devices : is_used schema device_name ≡ false
+  pub free_devices : (version : Version) → is_used schema (device_name version) ≡ false
   pub spared : AreSpared schema
   pub counted : lacks_sequence schema ≡ false
 
--- a database in which the two tables can be made
+-- a database in which the tables can be made
 pub record IsFree (trees : Trees) : Type 0 where
   pub db : Database
   pub same : db.trees ≡ trees
   pub sound : IsDatabase db
   pub clear : IsClear db.schema
 
--- neither a registry as this program leaves it, nor a database in which one can be made
+-- neither a registry as this program leaves it, of either version, nor a database in which one can be made
 abbrev pub IsOther : Trees → Type 0
-IsOther trees = (¬ IsOwn trees) × (¬ IsFree trees)
+IsOther trees = ((version : Version) → ¬ IsOwn version trees) × (¬ IsFree trees)
 
 -- A database is refused. One that is no registry is as it was, and after another fault a stop leaves what it could
 -- leave before, or a registry of the devices that were committed.

@@ -4,13 +4,17 @@ use Rattle.std.specs.List.{AllByRecursion}
 use Rattle.sqlite.specs.Order.{Row}
 use Rattle.sqlite.specs.Schema.{Schema}
 use Rattle.sqlite.specs.Table.{Table}
+use Rattle.sqlite.specs.Does.{lacks_sequence}
 use Rattle.sqlite.specs.Effect.{Database, IsDatabase}
+use Rattle.sqlite_catalog.specs.Change.{is_used}
 use Rattle.sqlite_schema.specs.Names.{table_named, same_name}
 use Rattle.sqlite_trees.specs.Tree.{Trees}
 use Rattle.sqlite_typing.specs.Types.{table_classes, row_classes}
+use Rattle.device_registry.specs.declared.table.Version.{Version}
+use Rattle.device_registry.specs.declared.table.Version.TheVariants.{First, Second}
 use Rattle.device_registry.specs.Devices.{Devices, most_devices}
 use Rattle.device_registry.specs.Table.{meta_name, device_name, meta_table, device_table}
-use Rattle.device_registry.specs.Table.Rows.{IsDevice, IsVersion, RowidsDiffer, devices_in}
+use Rattle.device_registry.specs.Table.Rows.{IsDevice, IsVersion, RowidsDiffer, devices_in, rows_of}
 
 -- the schema's table of this name is this one, at this place
 pub record Stands (schema : Schema) (name : List ℕ) (table : Table) (at : ℕ) : Type 0 where
@@ -22,65 +26,90 @@ pub record Stands (schema : Schema) (name : List ℕ) (table : Table) (at : ℕ)
 abbrev pub SparesName : List ℕ → Table → Type 0
 SparesName name table = AllByRecursion (λ reference. same_name reference.parent name ≡ false) table.references
 
+-- the table refers to none of ours, of whatever version
+pub record SparesOurs (table : Table) : Type 0 where
+  pub meta : SparesName meta_name table
+  pub devices : (version : Version) → SparesName (device_name version) table
+
 -- no table refers to ours
 abbrev pub AreSpared : Schema → Type 0
-AreSpared schema = AllByRecursion (λ table. SparesName meta_name table × SparesName device_name table) schema.tables
+AreSpared schema = AllByRecursion SparesOurs schema.tables
 
 -- a table in this tree has this name
 abbrev pub KeepsTree : List ℕ → ℕ → Table → Type 0
 KeepsTree name tree table = table.tree ≡ tree → same_name table.name name ≡ true
 
--- The schema has the two tables of a registry, and what stands beside them leaves them alone: no foreign key refers to
--- them, no other table lies in their trees, and they have no index.
-pub record HasTables (schema : Schema) : Type 0 where
+abbrev pub other : Version → Version
+other First = Second
+other Second = First
+
+-- No table counts its rowids without SQLite's table of the counts: the CREATE that makes the second version of the
+-- first would add it.
+abbrev pub AreCounted : Version → Schema → Type 0
+AreCounted First schema = lacks_sequence schema ≡ false
+AreCounted Second schema = Unit {0}
+
+-- The schema has the two tables of a registry of this version, and what stands beside them leaves them alone: no
+-- foreign key refers to them, no other table lies in their trees, they have no index, and the name of the other
+-- version's table is free.
+pub record HasTables (version : Version) (schema : Schema) : Type 0 where
   -- the numbers of their trees, and their places in the schema
   pub meta : ℕ
   pub devices : ℕ
   pub meta_at : ℕ
   pub devices_at : ℕ
   pub meta_stands : Stands schema meta_name (meta_table meta) meta_at
-  pub devices_stand : Stands schema device_name (device_table devices) devices_at
+  pub devices_stand : Stands schema (device_name version) (device_table version devices) devices_at
   pub apart : meta ≢ devices
   pub spared : AreSpared schema
-  pub alone : AllByRecursion (λ table. KeepsTree meta_name meta table × KeepsTree device_name devices table)
+  pub alone : AllByRecursion (λ table. KeepsTree meta_name meta table × KeepsTree (device_name version) devices table)
       schema.tables
   pub unindexed : AllByRecursion (λ index. (index.table ≢ meta) × (index.table ≢ devices)) schema.indexes
+  pub free : is_used schema (device_name (other version)) ≡ false
+  pub counted : AreCounted version schema
 
--- in the trees of the two tables, the version is 1, and there are devices, none twice and at most 1,000
-pub record IsWhole (trees : Trees) (meta devices : ℕ) : Type 0 where
+-- in the trees of the two tables, the version is this one, and there are devices, none twice and at most 1,000
+pub record IsWhole (version : Version) (trees : Trees) (meta devices : ℕ) : Type 0 where
   pub row : Row
   pub one : trees meta ≡ row ∷ []
-  pub version : IsVersion row
-  pub rows : AllByRecursion IsDevice (trees devices)
-  pub once : RowidsDiffer (trees devices)
-  pub few : length (trees devices) ≤ most_devices
+  pub numbered : IsVersion version row
+  pub rows : AllByRecursion IsDevice (rows_of version (trees devices))
+  pub once : RowidsDiffer (rows_of version (trees devices))
+  pub few : length (rows_of version (trees devices)) ≤ most_devices
 
--- the database is a registry of version 1
-pub record IsRegistry (db : Database) : Type 0 where
-  pub tables : HasTables db.schema
-  pub whole : IsWhole db.trees tables.meta tables.devices
+-- the database is a registry of this version
+pub record IsRegistry (version : Version) (db : Database) : Type 0 where
+  pub tables : HasTables version db.schema
+  pub whole : IsWhole version db.trees tables.meta tables.devices
 
--- the database is a registry of these devices
-pub record Registers (db : Database) (devices : Devices) : Type 0 where
-  pub registry : IsRegistry db
-  pub is : devices_in (db.trees registry.tables.devices) ≡ devices
+-- the database is a registry of this version with these devices
+pub record RegistersAs (version : Version) (db : Database) (devices : Devices) : Type 0 where
+  pub registry : IsRegistry version db
+  pub is : devices_in (rows_of version (db.trees registry.tables.devices)) ≡ devices
 
--- the trees are those of a registry of these devices
-pub record Holds (trees : Trees) (devices : Devices) : Type 0 where
+-- the trees are those of a registry of this version with these devices
+pub record HoldsAs (version : Version) (trees : Trees) (devices : Devices) : Type 0 where
   pub db : Database
   pub same : db.trees ≡ trees
   pub sound : IsDatabase db
-  pub registers : Registers db devices
+  pub registers : RegistersAs version db devices
 
--- the trees are those of a registry
+-- the same of a registry as it is once opened, which is of the second version
+abbrev pub Registers : Database → Devices → Type 0
+Registers = RegistersAs Second
+
+abbrev pub Holds : Trees → Devices → Type 0
+Holds = HoldsAs Second
+
+-- the trees are those of a registry that was opened
 pub record IsHeld (trees : Trees) : Type 0 where
   pub devices : Devices
   pub holds : Holds trees devices
 
--- the trees are those of a database that has neither table
+-- the trees are those of a database that has none of the tables, of whatever version
 pub record IsBare (trees : Trees) : Type 0 where
   pub db : Database
   pub same : db.trees ≡ trees
   pub sound : IsDatabase db
   pub no_meta : table_named db.schema meta_name ≡ None
-  pub no_devices : table_named db.schema device_name ≡ None
+  pub no_devices : (version : Version) → table_named db.schema (device_name version) ≡ None

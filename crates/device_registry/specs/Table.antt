@@ -1,19 +1,24 @@
--- The two tables of the registry: their names, their version and their ranges, the texts of all statements on them, and
--- the tables that SQLite reads.
+-- The two tables of the registry, in the two versions that they have had: their names, their numbers and their ranges,
+-- the texts of all statements on them, and the tables that SQLite reads. The second version has labels; a database of
+-- the first is made one of the second when it is opened.
 pub mod Rows
 use Rattle.std.specs.Prelude.{ℕ, true, false, List, [], ◌∷◌, ◌++◌, Some, codes, pos, negsuc}
 use Rattle.sqlite.specs.Collation.TheVariants.{Binary}
 use Rattle.sqlite.specs.declared.types.Value.TheVariants.{Null, Int}
 use Rattle.sqlite.specs.Table.{Table}
-use Rattle.sqlite.specs.Kind.TheVariants.{Integer}
+use Rattle.sqlite.specs.Kind.{Kind}
+use Rattle.sqlite.specs.Kind.TheVariants.{Integer, Text}
 use Rattle.sqlite.specs.Term.{Term, lit, col, op2}
 use Rattle.sqlite_schema.specs.declared.schema.Column.{Column}
 use Rattle.sqlite_sql.specs.declared.ops.BinaryOp.TheVariants.{Compare, And}
 use Rattle.sqlite_sql.specs.declared.ops.CompareOp.TheVariants.{Eq, Le, Ge}
+use Rattle.device_registry.specs.declared.table.Version.{Version}
+use Rattle.device_registry.specs.declared.table.Version.TheVariants.{First, Second}
 
--- the version of the tables. Own choice
-abbrev pub table_version : ℕ
-table_version = 1
+-- the number that a version has in its row. Own choice
+abbrev pub number_of : Version → ℕ
+number_of First = 1
+number_of Second = 2
 
 -- FFFFFFFF is no sender
 abbrev pub last_sender : ℕ
@@ -32,41 +37,56 @@ last_maker = 2047
 abbrev pub meta_name : List ℕ
 meta_name = codes "enogate_meta"
 
-abbrev pub device_name : List ℕ
-device_name = codes "enogate_device"
+abbrev pub device_name : Version → List ℕ
+device_name First = codes "enogate_device"
+device_name Second = codes "enogate_device_v2"
 
 abbrev pub meta_text : List ℕ
 meta_text = codes "CREATE TABLE enogate_meta (k INTEGER PRIMARY KEY CHECK (k = 1), version INTEGER NOT NULL) STRICT"
 
-abbrev pub device_text : List ℕ
-device_text =
+abbrev pub device_text : Version → List ℕ
+device_text First =
     codes "CREATE TABLE enogate_device (id INTEGER PRIMARY KEY CHECK (id >= 0 AND id <= 4294967294), "
     ++ codes "eep INTEGER NOT NULL CHECK (eep >= 0 AND eep <= 16777215), "
     ++ codes "maker INTEGER NOT NULL CHECK (maker >= -1 AND maker <= 2047)) STRICT"
+device_text Second =
+    codes "CREATE TABLE enogate_device_v2 (id INTEGER PRIMARY KEY CHECK (id >= 0 AND id <= 4294967294), "
+    ++ codes "eep INTEGER NOT NULL CHECK (eep >= 0 AND eep <= 16777215), "
+    ++ codes "maker INTEGER NOT NULL CHECK (maker >= -1 AND maker <= 2047), label TEXT NOT NULL) STRICT"
 
 abbrev pub write_version_text : List ℕ
-write_version_text = codes "INSERT INTO enogate_meta (k, version) VALUES (1, 1)"
+write_version_text = codes "INSERT INTO enogate_meta (k, version) VALUES (1, 2)"
 
 abbrev pub read_version_text : List ℕ
 read_version_text = codes "SELECT k, version FROM enogate_meta"
 
+-- it writes the second version: in a registry of that version, as it stands
 abbrev pub renew_text : List ℕ
-renew_text = codes "UPDATE enogate_meta SET version = 1"
+renew_text = codes "UPDATE enogate_meta SET version = 2"
 
 abbrev pub find_text : List ℕ
-find_text = codes "SELECT id, eep, maker FROM enogate_device WHERE id = ?1"
+find_text = codes "SELECT id, eep, maker, label FROM enogate_device_v2 WHERE id = ?1"
 
-abbrev pub find_all_text : List ℕ
-find_all_text = codes "SELECT id, eep, maker FROM enogate_device ORDER BY id"
+-- devices of the first version are shown with the empty label
+abbrev pub find_all_text : Version → List ℕ
+find_all_text First = codes "SELECT id, eep, maker, '' FROM enogate_device ORDER BY id"
+find_all_text Second = codes "SELECT id, eep, maker, label FROM enogate_device_v2 ORDER BY id"
 
 abbrev pub count_others_text : List ℕ
-count_others_text = codes "SELECT count(*) FROM enogate_device WHERE id <> ?1"
+count_others_text = codes "SELECT count(*) FROM enogate_device_v2 WHERE id <> ?1"
 
-abbrev pub learn_text : List ℕ
-learn_text = codes "INSERT OR REPLACE INTO enogate_device (id, eep, maker) VALUES (?1, ?2, ?3)"
+abbrev pub put_text : List ℕ
+put_text = codes "INSERT OR REPLACE INTO enogate_device_v2 (id, eep, maker, label) VALUES (?1, ?2, ?3, ?4)"
 
 abbrev pub forget_text : List ℕ
-forget_text = codes "DELETE FROM enogate_device WHERE id = ?1"
+forget_text = codes "DELETE FROM enogate_device_v2 WHERE id = ?1"
+
+abbrev pub copy_text : List ℕ
+copy_text =
+    codes "INSERT INTO enogate_device_v2 (id, eep, maker, label) SELECT id, eep, maker, '' FROM enogate_device"
+
+abbrev pub drop_text : List ℕ
+drop_text = codes "DROP TABLE enogate_device"
 
 abbrev pub list_objects_text : List ℕ
 list_objects_text = codes "SELECT name, type, sql FROM sqlite_schema ORDER BY rowid"
@@ -77,9 +97,9 @@ abbrev pub key_column : List ℕ → Column
 key_column name =
     record { name = name; kind = Integer; is_strict = true; not_null = false; default = Null; collation = Binary }
 
-abbrev pub number_column : List ℕ → Column
-number_column name =
-    record { name = name; kind = Integer; is_strict = true; not_null = true; default = Null; collation = Binary }
+abbrev pub filled_column : Kind → List ℕ → Column
+filled_column kind name =
+    record { name = name; kind = kind; is_strict = true; not_null = true; default = Null; collation = Binary }
 
 abbrev pub keyed_table : List ℕ → ℕ → List Column → List Term → Table
 keyed_table name tree columns checks = record {
@@ -103,12 +123,17 @@ between place low high =
     op2 And (op2 (Compare Ge Binary) (col 1 place) low) (op2 (Compare Le Binary) (col 1 place) high)
 
 abbrev pub meta_table : ℕ → Table
-meta_table tree = keyed_table meta_name tree (key_column (codes "k") ∷ number_column (codes "version") ∷ [])
+meta_table tree = keyed_table meta_name tree (key_column (codes "k") ∷ filled_column Integer (codes "version") ∷ [])
     (op2 (Compare Eq Binary) (col 1 0) (lit (Int (pos 1))) ∷ [])
 
-abbrev pub device_table : ℕ → Table
-device_table tree =
-    keyed_table device_name tree
-    (key_column (codes "id") ∷ number_column (codes "eep") ∷ number_column (codes "maker") ∷ [])
+abbrev pub device_columns : Version → List Column
+device_columns First =
+    key_column (codes "id") ∷ filled_column Integer (codes "eep") ∷ filled_column Integer (codes "maker") ∷ []
+device_columns Second = key_column (codes "id") ∷ filled_column Integer (codes "eep")
+    ∷ filled_column Integer (codes "maker") ∷ filled_column Text (codes "label") ∷ []
+
+abbrev pub device_table : Version → ℕ → Table
+device_table version tree =
+    keyed_table (device_name version) tree (device_columns version)
     (between 0 (lit (Int (pos 0))) (lit (Int (pos last_sender))) ∷ between 2 (lit (Int (pos 0)))
     (lit (Int (pos last_profile))) ∷ between 3 (lit (Int (negsuc 0))) (lit (Int (pos last_maker))) ∷ [])

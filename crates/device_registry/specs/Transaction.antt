@@ -1,8 +1,11 @@
 -- A transaction of ours: what it has run so far, and that nothing of it is committed.
 use Rattle.std.specs.Prelude.{◌≡◌, ℕ, List, [], ◌∷◌, IsTrue, Ok}
+use Rattle.sqlite.specs.Effect.{IsDatabase}
 use Rattle.sqlite.specs.State.{State, HasCleanDisk, Survives, KeepsCommit, ExecutesInside}
 use Rattle.sqlite.specs.Held.{Held, state}
 use Rattle.sqlite_trees.specs.declared.store.Store.{Ghosts}
+use Rattle.device_registry.specs.declared.table.Version.{Version}
+use Rattle.device_registry.specs.Opening.{AreListed}
 
 -- Since the first state nothing is committed: a stop leaves what it could leave then, and a rollback what was committed
 -- then.
@@ -22,3 +25,14 @@ pub record IsInside {S : Type 0} (g : Ghosts S) (texts : List (List ℕ)) (old n
   pub uncommitted : IsUncommitted (state g old) (state g new)
   pub inside : HasCleanDisk (state g new) → IsTrue (state g new).in_transaction
   pub ran : HasCleanDisk (state g new) → Ran g texts old new
+
+-- the same, and it was seen to list the two tables of this version
+pub record IsListedInside {S : Type 0} (g : Ghosts S) (version : Version) (texts : List (List ℕ)) (old new : Held S)
+    : Type 0 where
+  pub mid : Held S
+  pub made : IsInside g texts old mid
+  pub uncommitted : IsUncommitted (state g old) (state g new)
+  pub inside : HasCleanDisk (state g new) → IsTrue (state g new).in_transaction
+  pub clean : HasCleanDisk (state g new) → HasCleanDisk (state g mid)
+  pub same : HasCleanDisk (state g new) → (state g new).now ≡ (state g mid).now
+  pub listed : HasCleanDisk (state g new) → IsDatabase (state g new).now → AreListed version (state g new).now.trees

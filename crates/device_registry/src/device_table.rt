@@ -1,13 +1,15 @@
 //! The devices in the store, with nothing beside it.
-ghost use Rattle.std.specs.Prelude.{◌≡◌, OnOk, Err};
+ghost use Rattle.std.specs.Prelude.{◌≡◌, OnOk, Err, Some};
+ghost use Rattle.std.specs.FinMap.{get};
 ghost use Rattle.sqlite.specs.State.{HasCleanDisk};
-ghost use Rattle.device_registry.specs.Holding.{LooksUp, Learns, Forgets, ListsAll, HandsOn};
-ghost use Rattle.device_registry.specs.Ready.{AreReady};
+ghost use Rattle.device_registry.specs.Devices.{Devices, Learn, Relabel, after, known_of};
+ghost use Rattle.device_registry.specs.Holding.{HasDevices, LooksUp, Learns, Forgets, Relabels, ListsAll, HandsOn};
+ghost use Rattle.device_registry.specs.Ready.{IsReady, AreReady};
 
 use crate::fault::{LearnFault, StoreFault};
 use crate::receipt::Receipt;
 use crate::sql_connection::SqlConnection;
-use crate::store_calls::{forget_or_renew, has_no_room, learn, list, look_up};
+use crate::store_calls::{forget_or_renew, has_no_room, list, look_up, put};
 use crate::table::rows::{all_listed, found};
 use learned_devices::Device;
 use std::alloc::Global;
@@ -47,8 +49,10 @@ impl<C: SqlConnection> DeviceTable<C> {
         found(&rows)
     }
 
-    /// Learns a device, in place of what was known of its sender.
+    /// Learns a device, in place of what was known of its sender. Its label is the one that the sender keeps.
     pub fn learn(&mut self, device: Device) -> Result<Receipt, LearnFault>
+        requires { HasCleanDisk (C.state self.old) → (devices : Devices) → HasDevices (C.state self.old) devices →
+            after (get devices device.id) (Learn device.eep device.maker) ≡ Some (known_of device) }
         ensures learns { Learns (C.state self.old) (C.state self.new) device result }
         ensures ready { HasCleanDisk (C.state self.new) → OnOk result (AreReady (C.state self.old)
             (C.state self.new)) }
@@ -59,8 +63,21 @@ impl<C: SqlConnection> DeviceTable<C> {
         if has_no_room(&mut self.conn, id)? {
             return Err(LearnFault::Full);
         }
-        let changed = learn(&mut self.conn, device)?;
+        let changed = put(&mut self.conn, device)?;
         Ok(Receipt::learned(changed, id))
+    }
+
+    /// Gives a sender, of which all but the label is known to be this, its label.
+    pub fn relabel(&mut self, device: Device) -> Result<bool, StoreFault>
+        requires ready { HasCleanDisk (C.state self.old) → IsReady (C.state self.old) }
+        requires known { HasCleanDisk (C.state self.old) → (devices : Devices) → HasDevices (C.state self.old) devices →
+            after (get devices device.id) (Relabel device.label) ≡ Some (known_of device) }
+        ensures relabels { Relabels (C.state self.old) (C.state self.new) device.id device.label result }
+        ensures ready { HasCleanDisk (C.state self.new) → OnOk result (AreReady (C.state self.old)
+            (C.state self.new)) }
+    {
+        put(&mut self.conn, device)?;
+        Ok(true)
     }
 
     /// Forgets a sender. It commits also where nothing is known of it.

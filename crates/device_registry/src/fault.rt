@@ -6,7 +6,8 @@ use sqlite::{Error, ErrorCode};
 use std::alloc::{AllocError, AllocFailed};
 
 /// What was wanting: memory, or an answer of the store. It is made by conversion alone, of an error of the store or of
-/// the allocator, or of one of this crate for a row that cannot be or a count without a row, and keeps its cause.
+/// the allocator, or of one of this crate (for a row that cannot be, a count without a row, or a migration that is not
+/// listed as it has to be), and keeps its cause.
 #[derive(Clone, Copy, Debug, PartialEq, Eq, thiserror::Error)]
 #[error("{}", if *.is_memory {"there is no memory"} else {"the store does not answer"})]
 pub struct StoreFault {
@@ -94,8 +95,8 @@ impl From<Error> for LearnFault {
 /// Why a database is not prepared, and no registry is opened.
 #[derive(Clone, Copy, Debug, PartialEq, Eq, thiserror::Error)]
 pub enum OpenFault {
-    /// The database holds something else, or something that is no version 1 registry under its names.
-    #[error("the database is no registry of version 1")]
+    /// The database holds something else, or something that is no registry of version 1 or 2 under its names.
+    #[error("the database is no registry of version 1 or 2")]
     NotARegistry,
     /// The store does not answer.
     #[error(transparent)]

@@ -12,6 +12,7 @@ pub mod laws;
 mod limits;
 mod listing;
 mod making;
+mod migrating;
 mod opening;
 mod places;
 mod receipt;

@@ -4,8 +4,8 @@ ghost use Rattle.std.specs.List.{list_any};
 ghost use Rattle.sqlite.specs.Order.{column};
 ghost use Rattle.device_registry.specs.Listing.{has_text, is_line, are_ours};
 
-use crate::table::statements::{CREATE_DEVICE, CREATE_META};
-use crate::table::{DEVICE, META};
+use crate::table::statements::CREATE_META;
+use crate::table::{META, Version};
 use sqlite::Row;
 use sqlite::types::ValueRef;
 
@@ -31,9 +31,10 @@ fn lists(rows: &[Row], name: &[u8], text: &[u8]) -> bool
     rows.iter().any(|row| is_line(row, name, text))
 }
 
-/// Whether the rows list the two tables with their texts.
-pub fn are_ours(rows: &[Row]) -> bool
-    ensures { result ≡ are_ours rows.now }
+/// Whether the rows list the two tables of this version with their texts.
+pub fn are_ours(rows: &[Row], version: Version) -> bool
+    ensures { result ≡ are_ours version rows.now }
 {
-    lists(rows, META, CREATE_META.as_bytes()) && lists(rows, DEVICE, CREATE_DEVICE.as_bytes())
+    lists(rows, META, CREATE_META.as_bytes())
+        && lists(rows, version.device(), version.create_device().as_bytes())
 }

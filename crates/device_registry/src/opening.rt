@@ -6,7 +6,8 @@ ghost use Rattle.device_registry.specs.Devices.{Devices};
 ghost use Rattle.device_registry.specs.Holding.{AreRegistries, Opens};
 ghost use Rattle.device_registry.specs.Stored.{IsHeld};
 ghost use Rattle.device_registry.specs.Ready.{IsReady, KeepsRows};
-ghost use Rattle.device_registry.specs.Opening.{IsAtRest, Remains, IsPrepared, IsRenewed, KeepsFound, IsOther};
+ghost use Rattle.device_registry.specs.declared.table.Version.TheVariants.{First, Second};
+ghost use Rattle.device_registry.specs.Opening.{IsAtRest, Remains, IsOwn, IsPrepared, IsRenewed, KeepsFound, IsOther};
 ghost use Rattle.device_registry.specs.Opening.{RefusesToOpen};
 
 use crate::cache::new_cache;
@@ -16,7 +17,8 @@ use crate::places::is_clear;
 use crate::registry::RegistryOver;
 use crate::sql_connection::SqlConnection;
 use crate::store_calls::renew;
-use crate::taking::is_registry;
+use crate::table::Version;
+use crate::taking::version_of;
 use sqlite::Error;
 use std::alloc::Global;
 
@@ -47,6 +49,8 @@ fn make_or_take<C: SqlConnection>(conn: &mut C) -> Result<(), OpenFault>
     requires rest { HasCleanDisk (C.state conn.old) → IsAtRest (C.state conn.old) }
     ensures prepared { HasCleanDisk (C.state conn.new) → OnOk result ((devices : Devices) × IsPrepared
         (C.state conn.old) (C.state conn.new) devices) }
+    ensures own { HasCleanDisk (C.state conn.new) → OnOk result (IsOwn First (C.state conn.old).now.trees →
+        IsOwn Second (C.state conn.new).now.trees) }
     ensures refused { HasCleanDisk (C.state conn.new) → result ≡ Err OpenFault.NotARegistry → IsOther
         (C.state conn.old).now.trees }
     ensures unchanged { HasCleanDisk (C.state conn.new) → result ≡ Err OpenFault.NotARegistry →
@@ -65,20 +69,26 @@ fn make_or_take<C: SqlConnection>(conn: &mut C) -> Result<(), OpenFault>
         conn.make_tables()?;
         return Ok(());
     }
-    if !is_registry(conn)? {
-        return Err(OpenFault::NotARegistry);
+    match version_of(conn)? {
+        None => Err(OpenFault::NotARegistry),
+        Some(Version::First) => {
+            conn.migrate_tables()?;
+            Ok(())
+        }
+        Some(Version::Second) => {
+            renew(conn)?;
+            Ok(())
+        }
     }
-    renew(conn)?;
-    Ok(())
 }
 
-/// Makes the database a registry: it takes one that is a registry of version 1, and gives the two tables to a
-/// database that has neither. It is what `open` does to the database, and the connection stays with the caller,
-/// between two transactions; a second call leaves every row as it is. `Ok` comes after a commit: of a registry that is
-/// taken, the version row is written as it stands.
+/// Makes the database a registry of version 2: it takes one that is, makes one of a registry of version 1, with the
+/// same devices and no labels, and gives the two tables to a database that has none of ours. It is what `open` does to
+/// the database, and the connection stays with the caller, between two transactions; a second call leaves every row as
+/// it is. `Ok` comes after a commit: of a registry that is taken, the version row is written as it stands.
 ///
 /// `NotARegistry` says that the database is something else, and it is as it was. After `Refused` it holds what it
-/// held, perhaps with the two tables.
+/// held, perhaps with the two tables, or as version 2.
 pub fn prepare<C: SqlConnection>(conn: &mut C) -> Result<(), OpenFault>
     requires idle { (C.state conn.old).in_transaction ≡ false }
     ensures clean { HasCleanDisk (C.state conn.new) → HasCleanDisk (C.state conn.old) }
@@ -87,6 +97,8 @@ pub fn prepare<C: SqlConnection>(conn: &mut C) -> Result<(), OpenFault>
     ensures opens { HasCleanDisk (C.state conn.new) → OnOk result ((devices : Devices) × Opens
         (C.state conn.old) (C.state conn.new) devices) }
     ensures ready { HasCleanDisk (C.state conn.new) → OnOk result (IsReady (C.state conn.new)) }
+    ensures migrated { HasCleanDisk (C.state conn.new) → OnOk result (IsOwn First (C.state conn.old).committed.trees →
+        (trees : Trees) → (C.state conn.new).may_leave trees → IsOwn Second trees) }
     ensures rows { HasCleanDisk (C.state conn.new) → OnOk result (IsHeld
         (C.state conn.old).committed.trees → KeepsRows (C.state conn.old) (C.state conn.new)) }
     ensures written { HasCleanDisk (C.state conn.new) → OnOk result (IsHeld
@@ -108,6 +120,8 @@ impl<C: SqlConnection + Drop> RegistryOver<C> {
         ensures opens { IfOk result (λ r. HasCleanDisk (C.state r) → (devices : Devices) × Opens
             (C.state conn) (C.state r) devices) }
         ensures ready { IfOk result (λ r. HasCleanDisk (C.state r) → IsReady (C.state r)) }
+        ensures migrated { IfOk result (λ r. HasCleanDisk (C.state r) → IsOwn First (C.state conn).committed.trees →
+            (trees : Trees) → (C.state r).may_leave trees → IsOwn Second trees) }
         ensures written { IfOk result (λ r. HasCleanDisk (C.state r) → IsHeld (C.state conn).committed.trees →
             IsRenewed (C.state conn) (C.state r)) }
         ensures refused { IfErr result (λ fault. fault ≡ OpenFault.NotARegistry → (last : C) ×
@@ -127,6 +141,8 @@ impl<C: SqlConnection + Drop> RegistryOver<C> {
         ensures opens { IfOk result (λ r. HasCleanDisk (C.state r) → (devices : Devices) × Opens
             (C.state conn) (C.state r) devices) }
         ensures ready { IfOk result (λ r. HasCleanDisk (C.state r) → IsReady (C.state r)) }
+        ensures migrated { IfOk result (λ r. HasCleanDisk (C.state r) → IsOwn First (C.state conn).committed.trees →
+            (trees : Trees) → (C.state r).may_leave trees → IsOwn Second trees) }
         ensures written { IfOk result (λ r. HasCleanDisk (C.state r) → IsHeld (C.state conn).committed.trees →
             IsRenewed (C.state conn) (C.state r)) }
         ensures refused { IfErr result (λ fault. fault ≡ OpenFault.NotARegistry → (last : C) ×

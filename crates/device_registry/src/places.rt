@@ -3,10 +3,11 @@ ghost use Rattle.std.specs.Prelude.{◌≡◌};
 ghost use Rattle.std.specs.List.{list_any};
 ghost use Rattle.sqlite.specs.Table.{Table};
 ghost use Rattle.sqlite_catalog.specs.Change.{is_used};
-ghost use Rattle.device_registry.specs.Places.{refers, is_referred, is_indexed, lacks_counts, is_clear};
+ghost use Rattle.device_registry.specs.Places.{refers, is_referred, are_referred, is_indexed, lacks_counts, is_clear};
+ghost use Rattle.device_registry.specs.Places.{are_counted};
 ghost use Rattle.device_registry.specs.Places.{is_lone, is_left_alone, tree_named, trees_in};
 
-use crate::table::{DEVICE, META};
+use crate::table::{META, Version};
 use sqlite_schema::names::same_name;
 use sqlite_schema::schema::{Schema, Table};
 
@@ -39,6 +40,15 @@ fn is_referred(schema: &Schema, name: &[u8]) -> bool
         .any(|table| refers(table, name))
 }
 
+/// Whether a foreign key refers to a table of ours, of whatever version.
+fn are_referred(schema: &Schema) -> bool
+    ensures { result ≡ are_referred schema.now }
+{
+    is_referred(schema, META)
+        || is_referred(schema, Version::First.device())
+        || is_referred(schema, Version::Second.device())
+}
+
 fn is_indexed(schema: &Schema, tree: u32) -> bool
     ensures { result ≡ is_indexed schema.now tree }
 {
@@ -66,14 +76,24 @@ fn lacks_counts(schema: &Schema) -> bool
     counts(schema) && schema.table_named(b"sqlite_sequence").is_none()
 }
 
-/// Whether the two tables can be made.
+/// Whether no table counts its rowids so, where that is asked: to make the second version of the first.
+fn are_counted(schema: &Schema, version: Version) -> bool
+    ensures { result ≡ are_counted version schema.now }
+{
+    match version {
+        Version::First => !lacks_counts(schema),
+        Version::Second => true,
+    }
+}
+
+/// Whether the tables can be made.
 pub fn is_clear(schema: &Schema) -> bool
     ensures { result ≡ is_clear schema.now }
 {
     !is_used(schema, META)
-        && !is_used(schema, DEVICE)
-        && !is_referred(schema, META)
-        && !is_referred(schema, DEVICE)
+        && !is_used(schema, Version::First.device())
+        && !is_used(schema, Version::Second.device())
+        && !are_referred(schema)
         && !lacks_counts(schema)
 }
 
@@ -85,15 +105,16 @@ fn is_lone(schema: &Schema, name: &[u8], tree: u32) -> bool
         || same_name(table.name.as_slice(), name))
 }
 
-fn is_left_alone(schema: &Schema, meta: u32, devices: u32) -> bool
-    ensures { result ≡ is_left_alone schema.now meta devices }
+fn is_left_alone(schema: &Schema, version: Version, meta: u32, devices: u32) -> bool
+    ensures { result ≡ is_left_alone version schema.now meta devices }
 {
-    !is_referred(schema, META)
-        && !is_referred(schema, DEVICE)
+    !are_referred(schema)
         && !is_indexed(schema, meta)
         && !is_indexed(schema, devices)
         && is_lone(schema, META, meta)
-        && is_lone(schema, DEVICE, devices)
+        && is_lone(schema, version.device(), devices)
+        && !is_used(schema, version.other().device())
+        && are_counted(schema, version)
 }
 
 fn tree_named(schema: &Schema, name: &[u8]) -> Option<u32>
@@ -104,13 +125,13 @@ fn tree_named(schema: &Schema, name: &[u8]) -> Option<u32>
     Some(table.tree)
 }
 
-/// The trees of the two tables, where they are left alone.
-pub fn trees_in(schema: &Schema) -> Option<(u32, u32)>
-    ensures { result ≡ trees_in schema.now }
+/// The trees of the two tables of this version, where they are left alone.
+pub fn trees_in(schema: &Schema, version: Version) -> Option<(u32, u32)>
+    ensures { result ≡ trees_in version schema.now }
 {
     let meta = tree_named(schema, META)?;
-    let devices = tree_named(schema, DEVICE)?;
-    if is_left_alone(schema, meta, devices) {
+    let devices = tree_named(schema, version.device())?;
+    if is_left_alone(schema, version, meta, devices) {
         Some((meta, devices))
     } else {
         None

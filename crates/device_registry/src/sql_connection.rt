@@ -6,18 +6,20 @@ ghost use Rattle.sqlite.specs.Effect.{IsDatabase};
 ghost use Rattle.sqlite.specs.State.{State, HasCleanDisk, Survives, IsUnchanged, IsLive, IsNotRun};
 ghost use Rattle.sqlite.specs.State.{Executes, CommitsBy, Shown, FailsToQuery, CommitsShowing};
 ghost use Rattle.sqlite_trees.specs.Tree.{Trees};
-ghost use Rattle.device_registry.specs.Stored.{Holds};
+ghost use Rattle.device_registry.specs.declared.table.Version.TheVariants.{First, Second};
+ghost use Rattle.device_registry.specs.Devices.{Devices};
+ghost use Rattle.device_registry.specs.Stored.{IsRegistry, RegistersAs, Holds};
 ghost use Rattle.device_registry.specs.Ready.{Shows};
-ghost use Rattle.device_registry.specs.Opening.{Remains};
+ghost use Rattle.device_registry.specs.Opening.{IsOwn, Remains};
 ghost use Rattle.device_registry.specs.Places.{is_clear};
 
-use crate::making;
+use crate::{making, migrating};
 use sqlite::types::ValueRef;
 use sqlite::{Alter, Connection, Error, Row, Statement};
 use sqlite_schema::schema::Schema;
 
 /// What the registry asks of a connection: calls of `sqlite::Connection` and of its statements, in the words of their
-/// contracts, and one of the registry's own, `make_tables`.
+/// contracts, and two of the registry's own, `make_tables` and `migrate_tables`.
 pub trait SqlConnection {
     /// What it holds, what is committed, and what a stop may leave.
     ghost state: { Self → State };
@@ -55,6 +57,7 @@ pub trait SqlConnection {
             (state self.old) (state self.new) rows.items) }
         ensures err { HasCleanDisk (state self.new) → IfErr result (FailsToQuery sql.now (bound params.now)
             (state self.old) (state self.new)) }
+        ensures mode { (state self.old).in_transaction ≡ false → (state self.new).in_transaction ≡ false }
         ensures survives { Survives (state self.old) (state self.new)
             (CommitsShowing sql.now (bound params.now) (state self.old)) };
 
@@ -78,6 +81,17 @@ pub trait SqlConnection {
             IsDatabase (state self.old).now }
         ensures made { HasCleanDisk (state self.new) → OnOk result (Shows (state self.new) empty) }
         ensures stop { Survives (state self.old) (state self.new) (λ trees. Holds trees empty) }
+        ensures remains { HasCleanDisk (state self.new) → OnErr result (Remains (state self.old) (state self.new)) };
+
+    /// Makes the tables of a registry of the first version those of the second, in one transaction.
+    fn migrate_tables(&mut self) -> Result<(), Error>
+        requires idle { (state self.old).in_transaction ≡ false }
+        requires first { HasCleanDisk (state self.old) → IsRegistry First (state self.old).now ×
+            IsDatabase (state self.old).now }
+        ensures made { HasCleanDisk (state self.new) → OnOk result (IsOwn Second (state self.new).now.trees ×
+            ((devices : Devices) → RegistersAs First (state self.old).now devices → Shows (state self.new) devices)) }
+        ensures stop { Survives (state self.old) (state self.new) (λ trees. IsOwn Second trees ×
+            ((devices : Devices) → RegistersAs First (state self.old).now devices → Holds trees devices)) }
         ensures remains { HasCleanDisk (state self.new) → OnErr result (Remains (state self.old) (state self.new)) };
 
     // While the connection is open, a stop leaves what is committed.
@@ -120,6 +134,10 @@ impl<S: Alter> SqlConnection for Connection<S> {
 
     fn make_tables(&mut self) -> Result<(), Error> {
         making::make(self)
+    }
+
+    fn migrate_tables(&mut self) -> Result<(), Error> {
+        migrating::migrate(self)
     }
 
     ghost settled = { λ s. S.Store.settled s.store };

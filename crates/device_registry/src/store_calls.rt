@@ -1,11 +1,12 @@
 //! The calls of the store that the registry makes, each by one statement. A call begins with a text that is compiled,
 //! which tells whether the connection is open: nothing is known of what a shut one writes.
 ghost use Rattle.std.specs.Prelude.{◌≡◌, [], ◌∷◌, map, pos, false, OnOk, OnErr, IfOk, IfErr};
-ghost use Rattle.sqlite.specs.declared.types.Value.TheVariants.{Int};
+ghost use Rattle.std.specs.FinMap.{insert};
+ghost use Rattle.sqlite.specs.declared.types.Value.TheVariants.{Int, Text};
 ghost use Rattle.sqlite.specs.State.{HasCleanDisk, Survives, Executes, CommitsBy, Shown, FailsToQuery, CommitsShowing};
-ghost use Rattle.device_registry.specs.Devices.{Devices, Change, changed, learned, forgotten, is_full, all_of};
+ghost use Rattle.device_registry.specs.Devices.{Devices, Change, changed, forgotten, known_of, is_full, all_of};
 ghost use Rattle.device_registry.specs.Devices.{device_of};
-ghost use Rattle.device_registry.specs.Table.{learn_text, forget_text, renew_text};
+ghost use Rattle.device_registry.specs.Table.{put_text, forget_text, renew_text};
 ghost use Rattle.device_registry.specs.Stored.{Holds};
 ghost use Rattle.device_registry.specs.Opening.{Remains};
 ghost use Rattle.device_registry.specs.Ready.{Shows, IsReady, StaysReady, Stays, Turns, KeepsRows};
@@ -15,7 +16,7 @@ use crate::fault::StoreFault;
 use crate::limits::MOST_DEVICES;
 use crate::sql_connection::SqlConnection;
 use crate::table::rows::{number, number_of, number_of_maker};
-use crate::table::statements::{COUNT_OTHERS, FIND, FIND_ALL, FORGET, LEARN, RENEW};
+use crate::table::statements::{COUNT_OTHERS, FIND, FIND_ALL, FORGET, PUT, RENEW};
 use learned_devices::Device;
 use sqlite::{Error, Row, Statement, params};
 
@@ -81,28 +82,37 @@ pub(crate) fn list<C: SqlConnection>(conn: &mut C) -> Result<Vec<Row>, Error>
     conn.query_all_prepared(&all, &[])
 }
 
-/// Runs the statement that learns a device.
-fn run_learn<C: SqlConnection>(conn: &mut C, id: i64, eep: i64, maker: i64) -> Result<usize, Error>
-    ensures runs { HasCleanDisk (C.state conn.new) → Executes learn_text (Int id ∷ Int eep ∷ Int maker ∷ [])
-        (C.state conn.old) (C.state conn.new) result }
+/// Runs the statement that puts a device in.
+fn run_put<C: SqlConnection>(
+    conn: &mut C,
+    id: i64,
+    eep: i64,
+    maker: i64,
+    label: &str,
+) -> Result<usize, Error>
+    ensures runs { HasCleanDisk (C.state conn.new) → Executes put_text
+        (Int id ∷ Int eep ∷ Int maker ∷ Text label.now ∷ []) (C.state conn.old) (C.state conn.new) result }
     ensures survives { Survives (C.state conn.old) (C.state conn.new)
-        (CommitsBy learn_text (Int id ∷ Int eep ∷ Int maker ∷ []) (C.state conn.old)) }
+        (CommitsBy put_text (Int id ∷ Int eep ∷ Int maker ∷ Text label.now ∷ []) (C.state conn.old)) }
 {
-    conn.execute(LEARN, params![id, eep, maker])
+    conn.execute(PUT, params![id, eep, maker, label])
 }
 
-/// Writes a device, in place of what is known of its sender.
-pub(crate) fn learn<C: SqlConnection>(conn: &mut C, device: Device) -> Result<usize, Error>
+/// Puts a device in, in place of what is known of its sender: for any change that makes this device of the sender.
+pub(crate) fn put<C: SqlConnection>(conn: &mut C, device: Device) -> Result<usize, Error>
     requires ready { HasCleanDisk (C.state conn.old) → IsReady (C.state conn.old) }
     requires room { HasCleanDisk (C.state conn.old) → (devices : Devices) → Shows
         (C.state conn.old) devices → is_full devices device.id ≡ false }
-    ensures { Turns (C.state conn.old) (C.state conn.new) (learned device) result }
+    ensures { (change : Change) → (HasCleanDisk (C.state conn.old) → (devices : Devices) → Shows
+        (C.state conn.old) devices → changed devices change ≡ insert devices device.id (known_of device))
+        → Turns (C.state conn.old) (C.state conn.new) change result }
 {
-    run_learn(
+    run_put(
         conn,
         i64::from(device.id),
         number_of(device.eep),
         number_of_maker(device.maker),
+        device.label.as_str(),
     )
 }
 

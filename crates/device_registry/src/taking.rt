@@ -1,11 +1,9 @@
-//! Whether a database is a registry of version 1.
-ghost use Rattle.std.specs.Prelude.{◌≡◌, [], false, Ok, IsTrue, IfOk, OnErr};
+//! Whether a database is a registry, and of which version.
+ghost use Rattle.std.specs.Prelude.{◌≡◌, [], false, Ok, IsTrue, IfOk, OnErr, MatchOption};
 ghost use Rattle.sqlite.specs.State.{HasCleanDisk, Survives, Shown, IsUnchanged};
 ghost use Rattle.sqlite.specs.Given.{IsPlain};
 ghost use Rattle.sqlite.specs.Listing.{understood};
 ghost use Rattle.sqlite.specs.Effect.{IsDatabase};
-ghost use Rattle.sqlite_trees.specs.Tree.{IsTable};
-ghost use Rattle.sqlite_trees.specs.Objects.{catalog_tree};
 ghost use Rattle.device_registry.specs.Stored.{HasTables, IsWhole, IsRegistry};
 ghost use Rattle.device_registry.specs.Opening.{IsAtRest, Remains, AreListed, IsOwn};
 
@@ -13,8 +11,9 @@ use crate::limits::MOST_DEVICES;
 use crate::listing::are_ours;
 use crate::places::trees_in;
 use crate::sql_connection::SqlConnection;
+use crate::table::Version;
 use crate::table::rows::{devices_rise, is_version};
-use crate::table::statements::{FIND_ALL, LIST_OBJECTS, READ_VERSION};
+use crate::table::statements::{LIST_OBJECTS, READ_VERSION};
 use sqlite::{Error, Row};
 
 /// The rows that a query with no parameters shows.
@@ -24,6 +23,7 @@ fn shown_by<C: SqlConnection>(conn: &mut C, sql: &str) -> Result<Vec<Row>, Error
     ensures shown { HasCleanDisk (C.state conn.new) → IfOk result (λ rows. Shown sql.now []
         (C.state conn.old) (C.state conn.new) rows.items × IsUnchanged (C.state conn.old)
         (C.state conn.new)) }
+    ensures mode { (C.state conn.old).in_transaction ≡ false → (C.state conn.new).in_transaction ≡ false }
     ensures stop { Survives (C.state conn.old) (C.state conn.new) (λ _. ⊥) }
     ensures remains { HasCleanDisk (C.state conn.new) → OnErr result (Remains (C.state conn.old)
         (C.state conn.new)) }
@@ -31,61 +31,83 @@ fn shown_by<C: SqlConnection>(conn: &mut C, sql: &str) -> Result<Vec<Row>, Error
     conn.query_all(sql, &[])
 }
 
-/// Whether the two tables are listed with our texts.
-fn lists_ours<C: SqlConnection>(conn: &mut C) -> Result<bool, Error>
+/// Whether the two tables of this version are listed with our texts.
+fn lists_ours<C: SqlConnection>(conn: &mut C, version: Version) -> Result<bool, Error>
     requires { HasCleanDisk (C.state conn.old) → IsDatabase (C.state conn.old).now }
     ensures ours { HasCleanDisk (C.state conn.new) → IfOk result (λ yes. IsUnchanged (C.state conn.old)
-        (C.state conn.new) × (IsTrue yes → AreListed (C.state conn.old).now.trees)) }
-    ensures other { HasCleanDisk (C.state conn.new) →
-        IsTable ((C.state conn.old).now.trees catalog_tree) → result ≡ Ok false → ¬ AreListed
+        (C.state conn.new) × (IsTrue yes → AreListed version (C.state conn.old).now.trees)) }
+    ensures other { HasCleanDisk (C.state conn.new) → result ≡ Ok false → ¬ AreListed version
         (C.state conn.old).now.trees }
+    ensures mode { (C.state conn.old).in_transaction ≡ false → (C.state conn.new).in_transaction ≡ false }
     ensures stop { Survives (C.state conn.old) (C.state conn.new) (λ _. ⊥) }
     ensures remains { HasCleanDisk (C.state conn.new) → OnErr result (Remains (C.state conn.old)
         (C.state conn.new)) }
 {
     let rows = shown_by(conn, LIST_OBJECTS)?;
-    Ok(are_ours(&rows))
+    Ok(are_ours(&rows, version))
 }
 
-/// Whether the version is 1, and the other rows are those of devices, not too many.
-fn is_whole<C: SqlConnection>(conn: &mut C) -> Result<bool, Error>
-    requires { HasCleanDisk (C.state conn.old) → HasTables (C.state conn.old).now.schema }
+/// Whether the version's row is that of this version, and the other rows are those of devices, not too many.
+fn is_whole<C: SqlConnection>(conn: &mut C, version: Version) -> Result<bool, Error>
+    requires { HasCleanDisk (C.state conn.old) → HasTables version (C.state conn.old).now.schema }
     ensures whole { HasCleanDisk (C.state conn.new) → IfOk result (λ yes. IsUnchanged (C.state conn.old)
-        (C.state conn.new) × (IsTrue yes → (t : HasTables (C.state conn.old).now.schema) →
-        IsWhole (C.state conn.old).now.trees t.meta t.devices)) }
-    ensures other { HasCleanDisk (C.state conn.new) → result ≡ Ok false → (t : HasTables
-        (C.state conn.old).now.schema) → ¬ IsWhole (C.state conn.old).now.trees t.meta t.devices }
+        (C.state conn.new) × (IsTrue yes → (t : HasTables version (C.state conn.old).now.schema) →
+        IsWhole version (C.state conn.old).now.trees t.meta t.devices)) }
+    ensures other { HasCleanDisk (C.state conn.new) → result ≡ Ok false → (t : HasTables version
+        (C.state conn.old).now.schema) → ¬ IsWhole version (C.state conn.old).now.trees t.meta t.devices }
+    ensures mode { (C.state conn.old).in_transaction ≡ false → (C.state conn.new).in_transaction ≡ false }
     ensures stop { Survives (C.state conn.old) (C.state conn.new) (λ _. ⊥) }
     ensures remains { HasCleanDisk (C.state conn.new) → OnErr result (Remains (C.state conn.old)
         (C.state conn.new)) }
 {
     let versions = shown_by(conn, READ_VERSION)?;
-    if !is_version(&versions) {
+    if !is_version(&versions, version) {
         return Ok(false);
     }
-    let devices = shown_by(conn, FIND_ALL)?;
+    let devices = shown_by(conn, version.find_all())?;
     if devices.len() > MOST_DEVICES {
         return Ok(false);
     }
     Ok(devices_rise(&devices))
 }
 
-/// Whether the database is a registry that may be taken.
-pub fn is_registry<C: SqlConnection>(conn: &mut C) -> Result<bool, Error>
+/// Whether the database is a registry of this version that may be taken.
+fn is_registry<C: SqlConnection>(conn: &mut C, version: Version) -> Result<bool, Error>
     requires { HasCleanDisk (C.state conn.old) → IsAtRest (C.state conn.old) }
     ensures ours { HasCleanDisk (C.state conn.new) → IfOk result (λ yes. IsUnchanged (C.state conn.old)
-        (C.state conn.new) × (IsTrue yes → IsRegistry (C.state conn.old).now)) }
-    ensures other { HasCleanDisk (C.state conn.new) → result ≡ Ok false → ¬ IsOwn
+        (C.state conn.new) × (IsTrue yes → IsRegistry version (C.state conn.old).now)) }
+    ensures other { HasCleanDisk (C.state conn.new) → result ≡ Ok false → ¬ IsOwn version
         (C.state conn.old).now.trees }
+    ensures mode { (C.state conn.old).in_transaction ≡ false → (C.state conn.new).in_transaction ≡ false }
     ensures stop { Survives (C.state conn.old) (C.state conn.new) (λ _. ⊥) }
     ensures remains { HasCleanDisk (C.state conn.new) → OnErr result (Remains (C.state conn.old)
         (C.state conn.new)) }
 {
-    let Some((_meta, _devices)) = trees_in(conn.schema()) else {
+    let Some((_meta, _devices)) = trees_in(conn.schema(), version) else {
         return Ok(false);
     };
-    if !lists_ours(conn)? {
+    if !lists_ours(conn, version)? {
         return Ok(false);
     }
-    is_whole(conn)
+    is_whole(conn, version)
+}
+
+/// The version of the registry that the database is, if it is one that may be taken.
+pub fn version_of<C: SqlConnection>(conn: &mut C) -> Result<Option<Version>, Error>
+    requires { HasCleanDisk (C.state conn.old) → IsAtRest (C.state conn.old) }
+    ensures found { HasCleanDisk (C.state conn.new) → IfOk result (λ found. IsUnchanged (C.state conn.old)
+        (C.state conn.new) × MatchOption found ((version : _) → ¬ IsOwn version (C.state conn.old).now.trees)
+        (λ version. IsRegistry version (C.state conn.old).now)) }
+    ensures mode { (C.state conn.old).in_transaction ≡ false → (C.state conn.new).in_transaction ≡ false }
+    ensures stop { Survives (C.state conn.old) (C.state conn.new) (λ _. ⊥) }
+    ensures remains { HasCleanDisk (C.state conn.new) → OnErr result (Remains (C.state conn.old)
+        (C.state conn.new)) }
+{
+    if is_registry(conn, Version::First)? {
+        return Ok(Some(Version::First));
+    }
+    if is_registry(conn, Version::Second)? {
+        return Ok(Some(Version::Second));
+    }
+    Ok(None)
 }

@@ -6,6 +6,8 @@ mod devices;
 mod disks;
 mod faults;
 mod given;
+mod looking;
+mod prepared;
 mod remembering;
 mod steps;
 mod stops;

@@ -1,10 +1,14 @@
 //! The statements of a transaction of ours.
 ghost use Rattle.std.specs.Prelude.{◌≡◌, map, IsTrue, MatchResult};
+ghost use Rattle.sqlite.specs.Effect.{IsDatabase};
 ghost use Rattle.sqlite.specs.State.{HasCleanDisk};
 ghost use Rattle.sqlite.specs.Held.{state};
-ghost use Rattle.device_registry.specs.Transaction.{IsInside, IsUncommitted};
+ghost use Rattle.device_registry.specs.Transaction.{IsInside, IsListedInside, IsUncommitted};
 
-use sqlite::{Alter, Error, Transaction};
+use crate::listing::are_ours;
+use crate::table::Version;
+use crate::table::statements::LIST_OBJECTS;
+use sqlite::{Alter, Error, ErrorCode, Transaction};
 
 /// Runs the texts in turn, up to the first that is refused.
 pub fn run_all<S: Alter>(ours: &mut Transaction<'_, S>, texts: &[&str]) -> Result<(), Error>
@@ -17,6 +21,30 @@ pub fn run_all<S: Alter>(ours: &mut Transaction<'_, S>, texts: &[&str]) -> Resul
 {
     for text in texts {
         ours.execute(text, &[])?;
+    }
+    Ok(())
+}
+
+/// Runs the texts, and sees that the two tables of this version are listed with our texts then. Where they are not,
+/// SQLite has not done what it was told.
+pub fn run_listed<S: Alter>(
+    ours: &mut Transaction<'_, S>,
+    texts: &[&str],
+    version: Version,
+) -> Result<(), Error>
+    requires inside { HasCleanDisk (state S.Store ours.old.conn.now) →
+        IsTrue (state S.Store ours.old.conn.now).in_transaction }
+    requires sound { (mid : _) → HasCleanDisk (state S.Store mid) → IsInside S.Store
+        (map (λ text. text.now) texts.now) ours.old.conn.now mid → IsDatabase (state S.Store mid).now }
+    ensures same_reference { ours.new.conn.ghost_name ≡ ours.old.conn.ghost_name }
+    ensures inside { MatchResult result
+        (λ _. IsListedInside S.Store version (map (λ text. text.now) texts.now) ours.old.conn.now ours.new.conn.now)
+        (λ _. IsUncommitted (state S.Store ours.old.conn.now) (state S.Store ours.new.conn.now)) }
+{
+    run_all(ours, texts)?;
+    let rows = ours.query_all(LIST_OBJECTS, &[])?;
+    if !are_ours(&rows, version) {
+        return Err(Error::SqliteFailure(ErrorCode::DatabaseCorrupt));
     }
     Ok(())
 }

@@ -44,8 +44,9 @@ fn are_shown(text: &[u8]) -> bool
     text.iter().all(is_shown)
 }
 
-/// Whether a text would be a label, were it not too long.
-fn is_name(text: &[u8]) -> bool
+/// Whether a text would be a label, were it not too long: bytes from space to `~` of ASCII, of which neither the first
+/// nor the last is a space. The empty text is one.
+pub fn is_name(text: &[u8]) -> bool
     ensures { result ≡ is_name text.now }
 {
     are_shown(text) && !text.starts_with(b" ") && !text.ends_with(b" ")
@@ -75,7 +76,8 @@ impl Label {
 
     /// The text of the label.
     pub fn as_str(&self) -> &str
-        ensures { result.now ≡ self.now }
+        ensures text { result.now ≡ self.now }
+        ensures label { is_label result.now ≡ true }
     {
         self.text.as_str()
     }

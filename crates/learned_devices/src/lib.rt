@@ -9,7 +9,7 @@ mod label;
 mod tests;
 
 use erp1_telegrams::Eep;
-pub use label::{LONGEST_LABEL, Label};
+pub use label::{LONGEST_LABEL, Label, is_name};
 
 /// What is known of a sender: plain numbers and a label, none of which takes memory.
 #[derive(Clone, Debug, Drop, PartialEq, Eq)]

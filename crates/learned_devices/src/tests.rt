@@ -1,5 +1,5 @@
 //! Which texts are labels.
-use crate::{Device, LONGEST_LABEL, Label};
+use crate::{Device, LONGEST_LABEL, Label, is_name};
 use erp1_telegrams::Eep;
 use std::test::Fail;
 
@@ -38,6 +38,19 @@ fn no_labels(rt: HostRuntime) -> Result<(), Fail> {
         "123456789012345678901234567890123",
     ] {
         assert!(rt; Label::new(text).is_none());
+    }
+    Ok(())
+}
+
+#[test]
+fn names(rt: HostRuntime) -> Result<(), Fail> {
+    let names: [&[u8]; 4] = [b"", b"~", b"a  b", b"123456789012345678901234567890123"];
+    for text in names {
+        assert!(rt; is_name(text));
+    }
+    let others: [&[u8]; 6] = [b" ", b" x", b"x ", b"a\tb", b"a\x7Fb", b"a\x80b"];
+    for text in others {
+        assert!(rt; !is_name(text));
     }
     Ok(())
 }

@@ -9,8 +9,11 @@ use Rattle.sqlite.specs.declared.types.Value.TheVariants.{Null, Int, Real, Text,
 use Rattle.sqlite.specs.Order.{Row, column}
 use Rattle.sqlite_trees.specs.Tree.{IsAscending, rowid}
 use Rattle.learned_devices.specs.declared.Device.{Device}
+use Rattle.learned_devices.specs.Labels.{is_label}
+use Rattle.device_registry.specs.declared.table.Version.{Version}
+use Rattle.device_registry.specs.declared.table.Version.TheVariants.{First, Second}
 use Rattle.device_registry.specs.Devices.{Learned, Devices, device}
-use Rattle.device_registry.specs.Table.{table_version, last_sender, last_profile, last_maker}
+use Rattle.device_registry.specs.Table.{number_of, last_sender, last_profile, last_maker}
 
 -- ---- the values
 
@@ -42,21 +45,39 @@ maker_in (Real x) = None
 maker_in (Text t) = None
 maker_in (Blob b) = None
 
+abbrev pub label_in : Value → List ℕ
+label_in (Text label) = label
+label_in (Int n) = []
+label_in Null = []
+label_in (Real x) = []
+label_in (Blob b) = []
+
 -- ---- the rows of the tables
 
 -- a row of the device table has its rowid, which is the sender, and then the columns
 abbrev pub entry_of : Row → ℕ × Learned
-entry_of row =
-    (natural (column row 0), record { eep = eep_of (natural (column row 2)); maker = maker_in (column row 3) })
+entry_of row = (
+  natural (column row 0),
+  record { eep = eep_of (natural (column row 2)); maker = maker_in (column row 3); label = label_in (column row 4) },
+)
 
 abbrev pub devices_in : List Row → Devices
 devices_in rows = from_entries (map entry_of rows)
+
+-- a row of the first version as the second has it: with the empty label
+abbrev pub with_label : Row → Row
+with_label row = column row 0 ∷ Null ∷ column row 2 ∷ column row 3 ∷ Text [] ∷ []
+
+-- the rows of a version as the second has them
+abbrev pub rows_of : Version → List Row → List Row
+rows_of First rows = map with_label rows
+rows_of Second rows = rows
 
 -- no two rows have one rowid, in whatever order they come
 abbrev pub RowidsDiffer : List Row → Type 0
 RowidsDiffer = IsAscending (λ a b. rowid a ≢ rowid b)
 
--- a row of the device table: a sender, a profile and a maker, each in its range
+-- a row of the device table: a sender, a profile and a maker, each in its range, and a label
 pub record IsDevice (row : Row) : Type 0 where
   pub id : ℕ
   pub id_is : column row 0 ≡ Int (pos id)
@@ -67,22 +88,29 @@ pub record IsDevice (row : Row) : Type 0 where
   pub maker : ℤ
   pub maker_is : column row 3 ≡ Int maker
   pub is_maker : (negsuc 0 ≤ℤ maker) × (maker ≤ℤ pos last_maker)
+  pub label : List ℕ
+  pub label_is : column row 4 ≡ Text label
+  pub is_label : is_label label ≡ true
 
 -- the row of a device
 abbrev pub stored : ℕ → Learned → Row
-stored id it = Int (pos id) ∷ Null ∷ Int (pos (eep_number it.eep)) ∷ Int (maker_number it.maker) ∷ []
+stored id it =
+    Int (pos id) ∷ Null ∷ Int (pos (eep_number it.eep)) ∷ Int (maker_number it.maker) ∷ Text it.label ∷ []
 
 -- the row of the version
-pub record IsVersion (row : Row) : Type 0 where
+pub record IsVersion (version : Version) (row : Row) : Type 0 where
   pub key : column row 0 ≡ Int (pos 1)
-  pub version : column row 2 ≡ Int (pos table_version)
+  pub number : column row 2 ≡ Int (pos (number_of version))
 
 -- ---- the rows that queries show
 
--- the device that a query shows by its sender, its profile and its maker
+-- the device that a query shows by its sender, its profile, its maker and its label
 abbrev pub listed : Row → Device
-listed row =
-    device (natural (column row 0)) (record { eep = eep_of (natural (column row 1)); maker = maker_in (column row 2) })
+listed row = device (natural (column row 0)) (record {
+  eep = eep_of (natural (column row 1));
+  maker = maker_in (column row 2);
+  label = label_in (column row 3);
+})
 
 -- the row of this device is shown, or none
 abbrev pub AreFound : Option Device → List Row → Type 0
@@ -90,11 +118,11 @@ AreFound None rows = rows ≡ []
 AreFound (Some it) rows = (row : Row) × (rows ≡ row ∷ []) × (listed row ≡ it)
 
 -- the rows show the row of the version
-pub record ShowsVersion (rows : List Row) : Type 0 where
+pub record ShowsVersion (version : Version) (rows : List Row) : Type 0 where
   pub row : Row
   pub are : rows ≡ row ∷ []
   pub key : column row 0 ≡ Int (pos 1)
-  pub version : column row 1 ≡ Int (pos table_version)
+  pub number : column row 1 ≡ Int (pos (number_of version))
 
 -- a number that is not past the last
 abbrev pub is_number : ℕ → Value → Bool
@@ -114,10 +142,19 @@ is_maker (Real x) = false
 is_maker (Text t) = false
 is_maker (Blob b) = false
 
--- the row shows a device, each number in its range
+-- a text that is a label
+abbrev pub is_label_text : Value → Bool
+is_label_text (Text label) = is_label label
+is_label_text (Int n) = false
+is_label_text Null = false
+is_label_text (Real x) = false
+is_label_text (Blob b) = false
+
+-- the row shows a device, each number in its range, and a label
 abbrev pub shows_device : Row → Bool
 shows_device row =
     is_number last_sender (column row 0) && is_number last_profile (column row 1) && is_maker (column row 2)
+    && is_label_text (column row 3)
 
 -- the rows show devices, whose senders rise from this one
 abbrev pub devices_rise : ℕ → List Row → Bool

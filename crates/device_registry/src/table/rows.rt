@@ -5,11 +5,12 @@ ghost use Rattle.sqlite.specs.declared.types.Value.TheVariants.{Int};
 ghost use Rattle.sqlite.specs.Order.{Row as SqlRow, column};
 ghost use Rattle.learned_devices.specs.declared.Device.{Device};
 ghost use Rattle.device_registry.specs.Faults.{IsMemoryWhere};
-ghost use Rattle.device_registry.specs.Table.{table_version};
-ghost use Rattle.device_registry.specs.Table.Rows.{AreFound, ShowsVersion, listed, is_number, is_maker, shows_device};
-ghost use Rattle.device_registry.specs.Table.Rows.{devices_rise, eep_number, eep_of, maker_number, maker_in};
+ghost use Rattle.device_registry.specs.Table.{number_of};
+ghost use Rattle.device_registry.specs.Table.Rows.{AreFound, ShowsVersion, listed, is_number, is_maker, is_label_text};
+ghost use Rattle.device_registry.specs.Table.Rows.{shows_device, devices_rise, eep_number, eep_of, maker_number};
+ghost use Rattle.device_registry.specs.Table.Rows.{maker_in, label_in};
 
-use super::{KEY, LAST_MAKER, LAST_PROFILE, LAST_SENDER, NO_MAKER, VERSION};
+use super::{KEY, LAST_MAKER, LAST_PROFILE, LAST_SENDER, NO_MAKER, Version};
 use crate::fault::StoreFault;
 use erp1_telegrams::Eep;
 use learned_devices::{Device, Label};
@@ -39,6 +40,17 @@ fn read_maker(row: &Row, at: usize) -> Option<Option<u16>>
     }
 }
 
+/// The label at a place of the row, where there is one.
+fn read_label(row: &Row, at: usize) -> Option<Label>
+    ensures { MatchOption result (is_label_text (column row.now at) ≡ false)
+        (λ label. (label ≡ label_in (column row.now at)) × IsTrue (is_label_text (column row.now at))) }
+{
+    match row.get_ref(at) {
+        Ok(ValueRef::Text(found)) => Label::new(str::from_utf8(found).ok()?),
+        _ => None,
+    }
+}
+
 /// A profile, of its number.
 fn eep_of_number(number: u32) -> Eep
     ensures { result ≡ eep_of number }
@@ -50,7 +62,7 @@ fn eep_of_number(number: u32) -> Eep
     }
 }
 
-/// The device that a row shows, where each of its numbers is in its range.
+/// The device that a row shows, where each of its numbers is in its range and its label is one.
 fn device_in(row: &Row) -> Option<Device>
     ensures { MatchOption result (shows_device row.now ≡ false)
         (λ it. (it ≡ listed row.now) × IsTrue (shows_device row.now)) }
@@ -58,11 +70,12 @@ fn device_in(row: &Row) -> Option<Device>
     let id = number_in(row, 0, LAST_SENDER)?;
     let eep = eep_of_number(number_in(row, 1, LAST_PROFILE)?);
     let maker = read_maker(row, 2)?;
+    let label = read_label(row, 3)?;
     Some(Device {
         id,
         eep,
         maker,
-        label: Label::empty(),
+        label,
     })
 }
 
@@ -90,12 +103,12 @@ fn has_number(row: &Row, at: usize, number: i64) -> bool
     }
 }
 
-/// Whether there is one row, the version's.
-pub fn is_version(rows: &[Row]) -> bool
-    ensures version { IsTrue result → ShowsVersion rows.now }
-    ensures complete { rows.now ≡ (Int (pos 1) ∷ Int (pos table_version) ∷ []) ∷ [] → IsTrue result }
+/// Whether there is one row, that of this version.
+pub fn is_version(rows: &[Row], version: Version) -> bool
+    ensures version { IsTrue result → ShowsVersion version rows.now }
+    ensures complete { rows.now ≡ (Int (pos 1) ∷ Int (pos (number_of version)) ∷ []) ∷ [] → IsTrue result }
 {
-    rows.len() == 1 && has_number(&rows[0], 0, KEY) && has_number(&rows[0], 1, VERSION)
+    rows.len() == 1 && has_number(&rows[0], 0, KEY) && has_number(&rows[0], 1, version.number())
 }
 
 /// The device that a row shows. No registry has a row that shows none.

@@ -1,7 +1,9 @@
 //! Calls of a registry as data, each with the answer that is wanted of it.
 ghost use Rattle.std.specs.Prelude.{◌≤◌};
 
-use super::given::{Fresh, Unlabelled, contact, either, fresh_registry, is_full, open_idle};
+use super::given::{
+    Fresh, Known, contact, either, fresh_registry, is_full, open_idle, relabel, varied,
+};
 use super::remembering::Remembering;
 use std::alloc::Global;
 use std::process::Abort;
@@ -11,19 +13,21 @@ use std::test::Fail;
 #[derive(Clone, Copy)]
 pub enum Act {
     /// A sender is this device, or is not learned.
-    Finds(u32, Option<Unlabelled>),
+    Finds(u32, Option<Known>),
     /// The device is learned.
-    Learns(Unlabelled),
+    Learns(Known),
     /// The device is one too many.
-    IsFullFor(Unlabelled),
+    IsFullFor(Known),
+    /// The sender gets this label, if it is learned, which it is or is not.
+    Relabels(u32, &'static str, bool),
     /// The sender is not learned from then on.
     Forgets(u32),
     /// So many devices are listed.
     Counts(usize),
     /// At this place of the list, from 0 on, stands this device.
-    Lists(usize, Unlabelled),
+    Lists(usize, Known),
     /// What is remembered of a sender, if it is.
-    Remembers(u32, Option<Option<Unlabelled>>),
+    Remembers(u32, Option<Option<Known>>),
     /// So many senders are remembered.
     RemembersSoMany(usize),
     /// An act with so many senders, with the IDs from 0 on.
@@ -43,6 +47,8 @@ pub enum Many {
     FindsInTurn,
     /// Contacts are remembered.
     RemembersContacts,
+    /// Varied devices are listed, and nothing else.
+    ListsVaried,
 }
 
 /// Takes the acts in turn, over a new registry with a cache of so many senders, and those behind them once its database
@@ -79,6 +85,7 @@ fn take<R: Remembering>(rt: &impl Abort, registry: &mut R, act: Act) -> Result<(
         Act::Finds(id, wanted) => find(rt, registry, id, wanted),
         Act::Learns(known) => learn(rt, registry, known),
         Act::IsFullFor(known) => be_full_for(rt, registry, known),
+        Act::Relabels(id, label, wanted) => give_label(rt, registry, id, label, wanted),
         Act::Forgets(id) => forget(rt, registry, id),
         Act::Counts(wanted) => count(rt, registry, wanted),
         Act::Lists(at, wanted) => list(rt, registry, at, wanted),
@@ -100,6 +107,7 @@ fn take_many<R: Remembering>(
         Many::LearnsInTurn => learn_in_turn(rt, registry, count),
         Many::FindsInTurn => find_in_turn(rt, registry, count),
         Many::RemembersContacts => remember_contacts(rt, registry, count),
+        Many::ListsVaried => list_varied(rt, registry, count),
     }
 }
 
@@ -107,9 +115,9 @@ fn find<R: Remembering>(
     rt: &impl Abort,
     registry: &mut R,
     id: u32,
-    wanted: Option<Unlabelled>,
+    wanted: Option<Known>,
 ) -> Result<(), Fail> {
-    assert_eq!(rt; registry.find(id)?, wanted.map(Unlabelled::device), "{id}");
+    assert_eq!(rt; registry.find(id)?, wanted.map(Known::device), "{id}");
     Ok(())
 }
 
@@ -120,8 +128,8 @@ fn find_none<R: Remembering>(rt: &impl Abort, registry: &mut R, count: u32) -> R
     Ok(())
 }
 
-fn learn<R: Remembering>(rt: &impl Abort, registry: &mut R, known: Unlabelled) -> Result<(), Fail> {
-    let receipt = registry.learn(known.device())?;
+fn learn<R: Remembering>(rt: &impl Abort, registry: &mut R, known: Known) -> Result<(), Fail> {
+    let receipt = registry.learn(known.unlabelled())?;
     assert_eq!(rt; receipt.spend(), (known.id, true));
     Ok(())
 }
@@ -160,9 +168,9 @@ fn find_in_turn<R: Remembering>(rt: &impl Abort, registry: &mut R, count: u32) -
 fn be_full_for<R: Remembering>(
     rt: &impl Abort,
     registry: &mut R,
-    known: Unlabelled,
+    known: Known,
 ) -> Result<(), Fail> {
-    match registry.learn(known.device()) {
+    match registry.learn(known.unlabelled()) {
         Ok(receipt) => {
             let (_id, _is_learned) = receipt.spend();
             Err(Fail::from("one too many"))
@@ -172,6 +180,17 @@ fn be_full_for<R: Remembering>(
             Ok(())
         }
     }
+}
+
+fn give_label<R: Remembering>(
+    rt: &impl Abort,
+    registry: &mut R,
+    id: u32,
+    label: &str,
+    wanted: bool,
+) -> Result<(), Fail> {
+    assert_eq!(rt; relabel(registry, id, label)?, Ok(wanted), "{id}, {label}");
+    Ok(())
 }
 
 fn forget<R: Remembering>(rt: &impl Abort, registry: &mut R, id: u32) -> Result<(), Fail> {
@@ -189,9 +208,21 @@ fn list<R: Remembering>(
     rt: &impl Abort,
     registry: &mut R,
     at: usize,
-    wanted: Unlabelled,
+    wanted: Known,
 ) -> Result<(), Fail> {
     assert_eq!(rt; registry.all()?.get(at), Some(&wanted.device()), "{at}");
+    Ok(())
+}
+
+fn list_varied<R: Remembering>(rt: &impl Abort, registry: &mut R, count: u32) -> Result<(), Fail> {
+    let mut ids = 0..count;
+    for found in &registry.all()? {
+        assert_eq!(rt;
+            Some(found.copied()),
+            ids.next().map(|id| varied(id).device())
+        );
+    }
+    assert_eq!(rt; ids.next(), None);
     Ok(())
 }
 
@@ -199,11 +230,11 @@ fn remember<R: Remembering>(
     rt: &impl Abort,
     registry: &R,
     id: u32,
-    wanted: Option<Option<Unlabelled>>,
+    wanted: Option<Option<Known>>,
 ) -> Result<(), Fail> {
     assert_eq!(rt;
         registry.remembered(id),
-        wanted.map(|known| known.map(Unlabelled::device)),
+        wanted.map(|known| known.map(Known::device)),
         "{id}"
     );
     Ok(())

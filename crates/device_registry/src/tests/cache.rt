@@ -2,14 +2,14 @@
 ghost use Rattle.std.specs.Prelude.{◌≤◌};
 
 use super::acts::{Act, Many, play};
-use super::given::{Unlabelled, contact, sensor};
+use super::given::{Known, contact, sensor};
 use sqlite::MemStore;
 use std::alloc::Global;
 use std::process::Abort;
 use std::test::Fail;
 
 /// A sender that is remembered as not learned.
-const NOT_LEARNED: Option<Option<Unlabelled>> = Some(None);
+const NOT_LEARNED: Option<Option<Known>> = Some(None);
 
 #[test]
 fn a_look_up_is_remembered(rt: HostRuntime) -> Result<(), Fail> {
@@ -51,6 +51,28 @@ fn a_change_is_remembered(rt: HostRuntime) -> Result<(), Fail> {
 }
 
 #[test]
+fn a_label_is_remembered(rt: HostRuntime) -> Result<(), Fail> {
+    let before = [Act::Learns(contact(5)), Act::Learns(contact(7))];
+    let behind = [
+        Act::Relabels(5, "Door", true),
+        Act::Remembers(5, Some(Some(contact(5).labelled("Door")))),
+        Act::Relabels(6, "Hall", false),
+        Act::Remembers(6, NOT_LEARNED),
+        Act::RemembersSoMany(2),
+        Act::Learns(sensor(5)),
+        Act::Remembers(5, Some(Some(sensor(5).labelled("Door")))),
+        Act::Learns(sensor(6)),
+        Act::Remembers(6, Some(Some(sensor(6)))),
+        Act::Learns(sensor(7)),
+        Act::Remembers(7, Some(Some(sensor(7)))),
+        Act::Relabels(5, "", true),
+        Act::Remembers(5, Some(Some(sensor(5)))),
+        Act::Finds(5, Some(sensor(5))),
+    ];
+    play::<MemStore>(rt.alloc(), &rt, 64, &before, &behind)
+}
+
+#[test]
 fn one_place_is_for_the_last_sender(rt: HostRuntime) -> Result<(), Fail> {
     let acts = [
         Act::Learns(contact(5)),
@@ -67,6 +89,11 @@ fn one_place_is_for_the_last_sender(rt: HostRuntime) -> Result<(), Fail> {
         Act::Remembers(6, None),
         Act::RemembersSoMany(1),
         Act::Finds(6, Some(sensor(6))),
+        Act::Relabels(6, "Hall", true),
+        Act::Relabels(5, "Door", false),
+        Act::Remembers(6, None),
+        Act::Finds(6, Some(sensor(6).labelled("Hall"))),
+        Act::RemembersSoMany(1),
     ];
     play::<MemStore>(rt.alloc(), &rt, 1, &acts, &[])
 }

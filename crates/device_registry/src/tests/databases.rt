@@ -1,58 +1,60 @@
-//! Which databases are taken, and that the others are left as they were.
-use super::acts::{Act, take_all};
-use super::given::{
-    DEVICE_TABLE, Fresh, META_TABLE, VERSION_ROW, number, open_idle, prepare_idle, run, sensor,
-};
+//! Which databases are refused, and that they are left as they were; and which rows may stand in the tables.
+use super::given::{Fresh, open_idle, prepare_idle, run};
+use super::looking::{has_objects, in_version, objects, prepares, run_lines, show};
 use crate::OpenFault;
+use crate::table::Version;
 use crate::table::rows::{devices_rise, is_version};
-use sqlite::{Alter, Connection, MemStore, Row};
+use sqlite::{Alter, Connection, MemStore};
 use std::alloc::Global;
 use std::process::Abort;
 use std::test::Fail;
 
-/// Databases that have not both tables as they ought to be. Of each: its statements, of which META, DEVICE and VERSION
-/// stand for ours; a query that shows a number; and that number.
+/// The two versions.
+const VERSIONS: [Version; 2] = [Version::First, Version::Second];
+
+/// Databases that have not both tables as they ought to be, of either version. Of each: its statements; a query that
+/// shows a number; and that number. What differs between the versions is marked.
 const WITHOUT_OURS: &str = "\
-META
+<META>
 ? SELECT count(*) FROM enogate_meta
 = 0
 
-META
-VERSION
+<META>
+<VERSION>
 ? SELECT version FROM enogate_meta
-= 1
+= <n>
 
-DEVICE
-INSERT INTO enogate_device VALUES (5, 13959169, -1)
-? SELECT id + eep + maker FROM enogate_device
+<DEVICE>
+INSERT INTO <device> VALUES (5, 13959169, -1<empty>)
+? SELECT id + eep + maker FROM <device>
 = 13959173
 
 CREATE TABLE Enogate_Meta (note TEXT); INSERT INTO Enogate_Meta VALUES ('mine')
 ? SELECT count(*) FROM enogate_meta WHERE note = 'mine'
 = 1
 
-CREATE TABLE ENOGATE_DEVICE (id); INSERT INTO enogate_device VALUES (8)
-? SELECT id FROM enogate_device
+CREATE TABLE <Device> (id); INSERT INTO <device> VALUES (8)
+? SELECT id FROM <device>
 = 8
 
 CREATE TABLE enogate_meta (k INTEGER PRIMARY KEY, version INTEGER) STRICT
-DEVICE
-INSERT INTO enogate_meta VALUES (1, 1), (2, 1)
+<DEVICE>
+INSERT INTO enogate_meta VALUES (1, <n>), (2, <n>)
 ? SELECT sum(k) FROM enogate_meta
 = 3
 
-META
-VERSION
-CREATE TABLE enogate_device (id INTEGER PRIMARY KEY, eep INTEGER, maker INTEGER) STRICT
-INSERT INTO enogate_device VALUES (4294967295, -5, 2048)
-? SELECT id + eep + maker FROM enogate_device
+<META>
+<VERSION>
+CREATE TABLE <device> (id INTEGER PRIMARY KEY, eep INTEGER, maker INTEGER, label TEXT) STRICT
+INSERT INTO <device> VALUES (4294967295, -5, 2048, NULL)
+? SELECT id + eep + maker FROM <device>
 = 4294969338
 
 CREATE TABLE enogate_meta (k INTEGER PRIMARY KEY CHECK (k = 1),  version INTEGER NOT NULL) STRICT
-DEVICE
-VERSION
+<DEVICE>
+<VERSION>
 ? SELECT version FROM enogate_meta
-= 1
+= <n>
 
 CREATE TABLE room (id INTEGER PRIMARY KEY) STRICT; INSERT INTO room VALUES (4)
 CREATE VIEW enogate_meta AS SELECT id FROM room
@@ -60,150 +62,160 @@ CREATE VIEW enogate_meta AS SELECT id FROM room
 = 4
 
 CREATE TABLE room (id INTEGER PRIMARY KEY) STRICT; INSERT INTO room VALUES (4)
-CREATE VIEW Enogate_Device AS SELECT id + 1 AS next FROM room
-? SELECT next FROM enogate_device
+CREATE VIEW <Device> AS SELECT id + 1 AS next FROM room
+? SELECT next FROM <device>
 = 5
 
-META
-VERSION
-CREATE VIEW enogate_device AS SELECT version FROM enogate_meta
-? SELECT version FROM enogate_device
-= 1
+<META>
+<VERSION>
+CREATE VIEW <device> AS SELECT version FROM enogate_meta
+? SELECT version FROM <device>
+= <n>
 
 CREATE TABLE room (id INTEGER PRIMARY KEY, name TEXT) STRICT; INSERT INTO room VALUES (3, 'hall')
 CREATE INDEX Enogate_Meta ON room (name)
 ? SELECT id FROM room WHERE name = 'hall'
 = 3
 
-CREATE TABLE room (id INTEGER PRIMARY KEY, device INTEGER REFERENCES Enogate_Device (id)) STRICT
+CREATE TABLE room (id INTEGER PRIMARY KEY, name TEXT) STRICT; INSERT INTO room VALUES (3, 'hall')
+CREATE INDEX <Device> ON room (name)
+? SELECT id FROM room WHERE name = 'hall'
+= 3
+
+CREATE TABLE room (id INTEGER PRIMARY KEY, device INTEGER REFERENCES <Device> (id)) STRICT
 CREATE TABLE bed (id INTEGER PRIMARY KEY) STRICT; INSERT INTO bed VALUES (6)
 ? SELECT id FROM bed
 = 6
 
 CREATE TABLE note (id INTEGER PRIMARY KEY, meta INTEGER REFERENCES enogate_meta) STRICT
 ? SELECT count(*) FROM note
-= 0";
+= 0
+
+<META>
+<VERSION>
+CREATE TABLE <device> (id INTEGER PRIMARY KEY CHECK (id >= 0 AND id <= 4294967294), \
+eep INTEGER NOT NULL CHECK (eep >= 0 AND eep <= 16777215), \
+maker INTEGER NOT NULL CHECK (maker >= -1 AND maker <= 2048)<label>) STRICT
+INSERT INTO <device> VALUES (5, 13959169, -1<empty>)
+? SELECT maker FROM <device>
+= -1";
 
 /// Databases of our two tables that are no registry, told in the same way.
 const BESIDE_OURS: &str = "\
-META
-DEVICE
+<META>
+<DEVICE>
 ? SELECT count(*) FROM enogate_meta
 = 0
 
-META
-DEVICE
-INSERT INTO enogate_meta VALUES (1, 9)
+<META>
+<DEVICE>
+INSERT INTO enogate_meta VALUES (1, 3)
 ? SELECT version FROM enogate_meta
-= 9
+= 3
 
-META
-DEVICE
+<META>
+<DEVICE>
 INSERT INTO enogate_meta VALUES (1, 0)
 ? SELECT version FROM enogate_meta
 = 0
 
-META
-DEVICE
+<META>
+<DEVICE>
 INSERT INTO enogate_meta VALUES (1, -1)
 ? SELECT version FROM enogate_meta
 = -1
 
-META
-DEVICE
-VERSION
-INSERT INTO enogate_device VALUES (5, 1, -1)
-CREATE TABLE room (id INTEGER PRIMARY KEY, device INTEGER REFERENCES Enogate_Device (id)) STRICT
+<META>
+<DEVICE>
+<OTHER VERSION>
+? SELECT version + <n> FROM enogate_meta
+= 3
+
+<OURS>
+<OTHER DEVICE>
+INSERT INTO <device> VALUES (5, 1, -1<empty>)
+? SELECT count(*) FROM <other>
+= 0
+
+<OURS>
+CREATE VIEW <Other> AS SELECT version FROM enogate_meta
+? SELECT version FROM <other>
+= <n>
+
+<OURS>
+CREATE TABLE room (id INTEGER PRIMARY KEY, name TEXT) STRICT; INSERT INTO room VALUES (3, 'hall')
+CREATE INDEX <Other> ON room (name)
+? SELECT id FROM room WHERE name = 'hall'
+= 3
+
+<OURS>
+INSERT INTO <device> VALUES (5, 1, -1<empty>)
+CREATE TABLE room (id INTEGER PRIMARY KEY, device INTEGER REFERENCES <Device> (id)) STRICT
 INSERT INTO room VALUES (1, 5)
 ? SELECT device FROM room
 = 5
 
-META
-DEVICE
-VERSION
+<OURS>
+CREATE TABLE room (id INTEGER PRIMARY KEY, device INTEGER REFERENCES <Other> (id)) STRICT
+? SELECT version FROM enogate_meta
+= <n>
+
+<OURS>
 CREATE TABLE note (id INTEGER PRIMARY KEY, meta INTEGER REFERENCES enogate_meta) STRICT
 ? SELECT version FROM enogate_meta
-= 1
+= <n>
 
-META
-DEVICE
-VERSION
-CREATE UNIQUE INDEX by_eep ON enogate_device (eep)
+<OURS>
+CREATE UNIQUE INDEX by_eep ON <device> (eep)
 ? SELECT version FROM enogate_meta
-= 1
+= <n>
 
-META
-DEVICE
-VERSION
+<OURS>
 CREATE INDEX by_version ON enogate_meta (version)
 ? SELECT version FROM enogate_meta
-= 1
+= <n>
 
-META
-DEVICE
-VERSION
-INSERT INTO enogate_device WITH RECURSIVE n (i) AS (SELECT 0 UNION ALL SELECT i + 1 FROM n) \
-SELECT i, 13959169, -1 FROM n LIMIT 1001
-? SELECT count(*) FROM enogate_device
+<OURS>
+INSERT INTO <device> WITH RECURSIVE n (i) AS (SELECT 0 UNION ALL SELECT i + 1 FROM n) \
+SELECT i, 13959169, -1<empty> FROM n LIMIT 1001
+? SELECT count(*) FROM <device>
 = 1001";
 
-fn statement(line: &str) -> &str {
-    match line {
-        "META" => META_TABLE,
-        "DEVICE" => DEVICE_TABLE,
-        "VERSION" => VERSION_ROW,
-        _ => line,
-    }
-}
+/// A database of version 2 whose device has a text for a label, told in the same way.
+const WITH_LABEL: &str = "\
+<OURS>
+INSERT INTO enogate_device_v2 VALUES (5, 13959169, -1, ''), (6, 13959169, -1, <text>)
+? SELECT count(*) FROM enogate_device_v2 WHERE label = <text>
+= 1";
 
-// Runs the statements, of which each has a line.
-fn run_lines<S: Alter>(conn: &mut Connection<S>, lines: &str) -> Result<(), Fail> {
-    for line in lines.lines() {
-        run(conn, statement(line))?;
-    }
-    Ok(())
-}
+/// Texts that are no labels, as SQL tells them.
+const NO_LABELS: &str = "\
+'abcdefghijklmnopqrstuvwxyz0123456'
+' '
+' Door'
+'Door '
+'Do\u{1}or'
+'Do\tor'
+'\u{1F}'
+'Door\u{7F}'
+'T\u{FC}r'";
 
-// The objects of a database, each by its kind, its name and its text.
-fn objects<S: Alter>(alloc: Global, conn: &mut Connection<S>) -> Result<String, Fail> {
-    let mut told = String::new(alloc);
-    for row in &conn.query_all(
-        "SELECT type, name, sql FROM sqlite_schema ORDER BY rowid",
-        &[],
-    )? {
-        tell_object(row, &mut told)?;
-    }
-    Ok(told)
-}
+/// Further databases of version 2, told in the same way: with a label that is no UTF-8, and of a table that would take
+/// none.
+const BESIDE_SECOND: &str = "\
+<OURS>
+INSERT INTO enogate_device_v2 SELECT 5, 13959169, -1, CAST(x'80' AS TEXT)
+? SELECT count(*) FROM enogate_device_v2 WHERE hex(label) = '80'
+= 1
 
-fn tell_object(row: &Row, told: &mut String) -> Result<(), Fail> {
-    for at in 0..3 {
-        let text: Option<String> = row.get(at)?;
-        told.push_str(text.as_deref().unwrap_or("no text"))?;
-        told.push('\n')?;
-    }
-    Ok(())
-}
-
-fn has_objects<S: Alter>(
-    alloc: Global,
-    rt: &impl Abort,
-    conn: &mut Connection<S>,
-    wanted: &str,
-) -> Result<(), Fail> {
-    assert_eq!(rt; objects(alloc, conn)?.as_str(), wanted);
-    Ok(())
-}
-
-fn show<S: Alter>(
-    rt: &impl Abort,
-    conn: &mut Connection<S>,
-    query: &str,
-    shown: i64,
-) -> Result<(), Fail> {
-    assert_eq!(rt; number(conn, query)?, shown, "{query}");
-    Ok(())
-}
+<META>
+<VERSION>
+CREATE TABLE enogate_device_v2 (id INTEGER PRIMARY KEY CHECK (id >= 0 AND id <= 4294967294), \
+eep INTEGER NOT NULL CHECK (eep >= 0 AND eep <= 16777215), \
+maker INTEGER NOT NULL CHECK (maker >= -1 AND maker <= 2047), label TEXT) STRICT
+INSERT INTO enogate_device_v2 VALUES (5, 13959169, -1, 'Door')
+? SELECT count(*) FROM enogate_device_v2 WHERE label = 'Door'
+= 1";
 
 fn is_refused_to_prepare<S: Alter>(rt: &impl Abort, conn: &mut Connection<S>) -> Result<(), Fail> {
     assert_eq!(rt; prepare_idle(conn)?, Err(OpenFault::NotARegistry));
@@ -248,8 +260,14 @@ fn is_left_by_prepare<S: Alter>(
     has_objects(alloc, rt, conn, before.as_str())
 }
 
-// Each of these databases is refused.
-fn are_refused<S: Fresh>(alloc: Global, rt: &impl Abort, cases: &str) -> Result<(), Fail> {
+// Each of these databases, in a version, is refused.
+fn are_refused<S: Fresh>(
+    alloc: Global,
+    rt: &impl Abort,
+    cases: &str,
+    version: Version,
+) -> Result<(), Fail> {
+    let cases = in_version(alloc, cases, version)?;
     for case in cases.split("\n\n") {
         let (statements, shows) = case.split_once("\n? ").ok_or("no query")?;
         let (query, shown) = shows.split_once("\n= ").ok_or("no number")?;
@@ -263,12 +281,55 @@ fn are_refused<S: Fresh>(alloc: Global, rt: &impl Abort, cases: &str) -> Result<
 
 #[test]
 fn databases_without_our_tables(rt: HostRuntime) -> Result<(), Fail> {
-    are_refused::<MemStore>(rt.alloc(), &rt, WITHOUT_OURS)
+    for version in VERSIONS {
+        are_refused::<MemStore>(rt.alloc(), &rt, WITHOUT_OURS, version)?;
+    }
+    Ok(())
 }
 
 #[test]
 fn our_tables_with_something_wrong(rt: HostRuntime) -> Result<(), Fail> {
-    are_refused::<MemStore>(rt.alloc(), &rt, BESIDE_OURS)
+    for version in VERSIONS {
+        are_refused::<MemStore>(rt.alloc(), &rt, BESIDE_OURS, version)?;
+    }
+    Ok(())
+}
+
+#[test]
+fn labels_that_are_none(rt: HostRuntime) -> Result<(), Fail> {
+    for text in NO_LABELS.lines() {
+        let cases = WITH_LABEL.replace(rt.alloc(), "<text>", text)?;
+        are_refused::<MemStore>(rt.alloc(), &rt, cases.as_str(), Version::Second)?;
+    }
+    are_refused::<MemStore>(rt.alloc(), &rt, BESIDE_SECOND, Version::Second)
+}
+
+/// Rows that our tables themselves do not take.
+const NOT_TAKEN: &str = "\
+INSERT INTO enogate_meta VALUES (2, 2)
+INSERT INTO enogate_meta VALUES (1, NULL)
+INSERT INTO enogate_device_v2 VALUES (-1, 1, 1, '')
+INSERT INTO enogate_device_v2 VALUES (4294967295, 1, 1, '')
+INSERT INTO enogate_device_v2 VALUES (5, 16777216, 1, '')
+INSERT INTO enogate_device_v2 VALUES (5, 1, 2048, '')
+INSERT INTO enogate_device_v2 VALUES (5, 1, -2, '')
+INSERT INTO enogate_device_v2 VALUES (5, 1, 1, NULL)
+INSERT INTO enogate_device_v2 VALUES (5, 1, 1, x'41')
+INSERT INTO enogate_device_v2 (id, eep, maker) VALUES (5, 1, 1)";
+
+// Our own tables do not take these rows.
+fn are_not_taken<S: Fresh>(alloc: Global, rt: &impl Abort) -> Result<(), Fail> {
+    let mut conn = S::fresh(alloc)?;
+    prepares(rt, &mut conn)?;
+    for sql in NOT_TAKEN.lines() {
+        assert!(rt; conn.execute_batch(sql).is_err(), "{sql}");
+    }
+    show(rt, &mut conn, "SELECT count(*) FROM enogate_device_v2", 0)
+}
+
+#[test]
+fn rows_that_the_tables_refuse(rt: HostRuntime) -> Result<(), Fail> {
+    are_not_taken::<MemStore>(rt.alloc(), &rt)
 }
 
 // Whether each of these rows may stand in the table of the devices.
@@ -286,192 +347,73 @@ fn are_devices<S: Fresh>(
     Ok(())
 }
 
-// Whether each of these rows may stand in the table of the version.
+// Whether each of these rows may stand in the table of the version, which is this one. What differs is marked.
 fn are_version<S: Fresh>(
     alloc: Global,
     rt: &impl Abort,
+    version: Version,
     wanted: bool,
     selects: &str,
 ) -> Result<(), Fail> {
+    let selects = in_version(alloc, selects, version)?;
     let mut conn = S::fresh(alloc)?;
     for sql in selects.lines() {
         let rows = conn.query_all(sql, &[])?;
-        assert_eq!(rt; is_version(rows.as_slice()), wanted, "{sql}");
+        assert_eq!(rt; is_version(rows.as_slice(), version), wanted, "{sql}");
     }
     Ok(())
 }
 
 const DEVICES: &str = "\
-SELECT 1, 1, -1 LIMIT 0
-SELECT 0, 0, -1
-SELECT 4294967294, 16777215, 2047
-SELECT 0, 5, 0 UNION ALL SELECT 1, 5, 0 UNION ALL SELECT 4294967294, 0, -1";
+SELECT 1, 1, -1, '' LIMIT 0
+SELECT 0, 0, -1, ''
+SELECT 4294967294, 16777215, 2047, '~ abcdefghijklmnopqrstuvwxyz 012'
+SELECT 0, 5, 0, '' UNION ALL SELECT 1, 5, 0, 'a' UNION ALL SELECT 4294967294, 0, -1, 'a'";
 
 const NO_DEVICES: &str = "\
-SELECT -1, 1, -1
-SELECT '5', 1, -1
-SELECT NULL, 1, -1
-SELECT 5, 1, -1 UNION ALL SELECT 5, 2, -1
-SELECT 5, 1, -1 UNION ALL SELECT 4, 1, -1";
+SELECT -1, 1, -1, ''
+SELECT '5', 1, -1, ''
+SELECT NULL, 1, -1, ''
+SELECT 4294967295, 1, -1, ''
+SELECT 5, -5, -1, ''
+SELECT 5, 16777216, -1, ''
+SELECT 5, NULL, -1, ''
+SELECT 5, '1', -1, ''
+SELECT 5, 1, 2048, ''
+SELECT 5, 1, -2, ''
+SELECT 5, 1, NULL, ''
+SELECT 5, 1, -1, NULL
+SELECT 5, 1, -1, 5
+SELECT 5, 1, -1, x'41'
+SELECT 5, 1, -1, ' '
+SELECT 5, 1, -1, 'abcdefghijklmnopqrstuvwxyz0123456'
+SELECT 5, 1, -1, '' UNION ALL SELECT 5, 2, -1, ''
+SELECT 5, 1, -1, '' UNION ALL SELECT 4, 1, -1, ''";
 
 const NO_VERSION: &str = "\
-SELECT 1, 1 LIMIT 0
-SELECT 1, 2
+SELECT 1, <n> LIMIT 0
+SELECT 1, 3 - <n>
+SELECT 1, 3
 SELECT 1, 0
-SELECT 1, '1'
+SELECT 1, '<n>'
 SELECT 1, NULL
-SELECT NULL, 1
-SELECT 1, 1 UNION ALL SELECT 1, 1";
+SELECT 2, <n>
+SELECT 0, <n>
+SELECT -1, <n>
+SELECT NULL, <n>
+SELECT 1, <n> UNION ALL SELECT 1, <n>";
 
 #[test]
-fn rows_that_may_stand(rt: HostRuntime) -> Result<(), Fail> {
+fn rows_of_devices(rt: HostRuntime) -> Result<(), Fail> {
     are_devices::<MemStore>(rt.alloc(), &rt, true, DEVICES)?;
-    are_version::<MemStore>(rt.alloc(), &rt, true, "SELECT 1, 1")?;
-    are_devices::<MemStore>(rt.alloc(), &rt, false, NO_DEVICES)?;
-    are_version::<MemStore>(rt.alloc(), &rt, false, NO_VERSION)
-}
-
-const DEVICES_OUT_OF_RANGE: &str = "\
-SELECT 4294967295, 1, -1
-SELECT 5, -5, -1
-SELECT 5, 16777216, -1
-SELECT 5, NULL, -1
-SELECT 5, '1', -1
-SELECT 5, 1, 2048
-SELECT 5, 1, -2
-SELECT 5, 1, NULL";
-
-const VERSIONS_OUT_OF_RANGE: &str = "\
-SELECT 2, 1
-SELECT 0, 1
-SELECT -1, 1";
-
-#[test]
-fn rows_out_of_range(rt: HostRuntime) -> Result<(), Fail> {
-    are_devices::<MemStore>(rt.alloc(), &rt, false, DEVICES_OUT_OF_RANGE)?;
-    are_version::<MemStore>(rt.alloc(), &rt, false, VERSIONS_OUT_OF_RANGE)
-}
-
-fn prepares<S: Alter>(rt: &impl Abort, conn: &mut Connection<S>) -> Result<(), Fail> {
-    assert_eq!(rt; prepare_idle(conn)?, Ok(()));
-    Ok(())
-}
-
-// The objects and the rows of an empty database, once it is prepared.
-fn is_made<S: Fresh>(alloc: Global, rt: &impl Abort) -> Result<(), Fail> {
-    let mut conn = S::fresh(alloc)?;
-    prepares(rt, &mut conn)?;
-    let wanted = format!(in alloc;
-        "table\nenogate_meta\n{}\ntable\nenogate_device\n{}\n",
-        META_TABLE.trim_end_matches(';'),
-        DEVICE_TABLE.trim_end_matches(';'),
-    )?;
-    has_objects(alloc, rt, &mut conn, wanted.as_str())?;
-    show(
-        rt,
-        &mut conn,
-        "SELECT k * 10 + version FROM enogate_meta",
-        11,
-    )?;
-    show(rt, &mut conn, "SELECT count(*) FROM enogate_device", 0)
+    are_devices::<MemStore>(rt.alloc(), &rt, false, NO_DEVICES)
 }
 
 #[test]
-fn an_empty_database_is_made_one(rt: HostRuntime) -> Result<(), Fail> {
-    is_made::<MemStore>(rt.alloc(), &rt)
-}
-
-// A second `prepare` leaves each row.
-fn is_taken_again<S: Fresh>(alloc: Global, rt: &impl Abort) -> Result<(), Fail> {
-    let mut conn = S::fresh(alloc)?;
-    prepares(rt, &mut conn)?;
-    run(
-        &mut conn,
-        "INSERT INTO enogate_device VALUES (7, 13959169, -1); INSERT INTO enogate_device VALUES (3, 10813957, 70);
-        CREATE TABLE room (name TEXT) STRICT; INSERT INTO room VALUES ('hall'), ('attic');
-        INSERT INTO enogate_device VALUES (5, 0, 2047)",
-    )?;
-    prepares(rt, &mut conn)?;
-    assert!(rt; conn.is_autocommit());
-    show_each(rt, &mut conn, LEFT)
-}
-
-// Queries, each with the number that it shows behind a second `prepare`.
-const LEFT: &str = "\
-SELECT k * 10 + version FROM enogate_meta = 11
-SELECT count(*) FROM enogate_device = 3
-SELECT count(*) FROM enogate_device WHERE id = 3 AND eep = 10813957 AND maker = 70 = 1
-SELECT count(*) FROM enogate_device WHERE id = 5 AND eep = 0 AND maker = 2047 = 1
-SELECT count(*) FROM enogate_device WHERE id = 7 AND eep = 13959169 AND maker = -1 = 1
-SELECT count(*) FROM room WHERE name IN ('hall', 'attic') = 2
-SELECT count(*) FROM room = 2";
-
-fn show_each<S: Alter>(rt: &impl Abort, conn: &mut Connection<S>, table: &str) -> Result<(), Fail> {
-    for line in table.lines() {
-        let (query, shown) = line.rsplit_once(" = ").ok_or("no number")?;
-        show(rt, conn, query, shown.parse()?)?;
+fn rows_of_the_version(rt: HostRuntime) -> Result<(), Fail> {
+    for version in VERSIONS {
+        are_version::<MemStore>(rt.alloc(), &rt, version, true, "SELECT 1, <n>")?;
+        are_version::<MemStore>(rt.alloc(), &rt, version, false, NO_VERSION)?;
     }
     Ok(())
-}
-
-#[test]
-fn a_second_prepare_leaves_every_row(rt: HostRuntime) -> Result<(), Fail> {
-    is_taken_again::<MemStore>(rt.alloc(), &rt)
-}
-
-// A database of another hand is taken.
-fn a_thousand_are_taken<S: Fresh>(alloc: Global, rt: &impl Abort) -> Result<(), Fail> {
-    let mut conn = S::fresh(alloc)?;
-    run_lines(&mut conn, "META\nDEVICE\nVERSION")?;
-    run(
-        &mut conn,
-        "INSERT INTO enogate_device WITH RECURSIVE n (i) AS (SELECT 4294967294 UNION ALL SELECT i - 1 FROM n) \
-        SELECT i, 10813957, 70 FROM n LIMIT 1000",
-    )?;
-    let acts = [
-        Act::Counts(1000),
-        Act::Lists(0, sensor(4_294_966_295)),
-        Act::Lists(999, sensor(4_294_967_294)),
-    ];
-    take_all(rt, &mut open_idle(alloc, conn)??, &acts)
-}
-
-#[test]
-fn a_thousand_devices_of_another_hand(rt: HostRuntime) -> Result<(), Fail> {
-    a_thousand_are_taken::<MemStore>(rt.alloc(), &rt)
-}
-
-// `prepare` of a database that has other objects, and once more with a device in it.
-fn is_prepared_beside_others<S: Fresh>(alloc: Global, rt: &impl Abort) -> Result<(), Fail> {
-    let mut conn = S::fresh(alloc)?;
-    run(
-        &mut conn,
-        "CREATE TABLE room (id INTEGER PRIMARY KEY, name TEXT NOT NULL UNIQUE) STRICT;
-        INSERT INTO room VALUES (1, 'hall');
-        CREATE TABLE bed (id INTEGER PRIMARY KEY AUTOINCREMENT, room INTEGER REFERENCES room (id)) STRICT;
-        CREATE INDEX by_room ON bed (room); CREATE VIEW enogate AS SELECT name FROM room",
-    )?;
-    prepares(rt, &mut conn)?;
-    run(
-        &mut conn,
-        "INSERT INTO enogate_device VALUES (1, 10813957, 70)",
-    )?;
-    prepares(rt, &mut conn)?;
-    show(
-        rt,
-        &mut conn,
-        "SELECT count(*) FROM enogate WHERE name = 'hall'",
-        1,
-    )?;
-    let mut registry = open_idle(alloc, conn)??;
-    take_all(
-        rt,
-        &mut registry,
-        &[Act::Counts(1), Act::Lists(0, sensor(1))],
-    )
-}
-
-#[test]
-fn other_objects_beside_ours(rt: HostRuntime) -> Result<(), Fail> {
-    is_prepared_beside_others::<MemStore>(rt.alloc(), &rt)
 }

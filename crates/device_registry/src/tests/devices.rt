@@ -1,6 +1,6 @@
 //! What is learned is found, listed and forgotten, also by the next open.
 use super::acts::{Act, Many, play, take_all};
-use super::given::{Fresh, Unlabelled, contact, fresh_registry, open_idle, run, sensor};
+use super::given::{Fresh, Known, contact, fresh_registry, open_idle, run, sensor};
 use erp1_telegrams::Eep;
 use sqlite::{Alter, Connection, MemStore};
 use std::alloc::Global;
@@ -23,9 +23,60 @@ fn learns_finds_and_forgets(rt: HostRuntime) -> Result<(), Fail> {
     play::<MemStore>(rt.alloc(), &rt, 64, &acts, &[])
 }
 
+/// The longest label.
+const LONGEST: &str = "~ abcdefghijklmnopqrstuvwxyz 012";
+
+#[test]
+fn labels_are_kept(rt: HostRuntime) -> Result<(), Fail> {
+    let before = [
+        Act::Learns(contact(5)),
+        Act::Learns(sensor(7)),
+        Act::Relabels(5, "Door \"A\"", true),
+        Act::Finds(5, Some(contact(5).labelled("Door \"A\""))),
+        Act::Lists(0, contact(5).labelled("Door \"A\"")),
+        Act::Learns(sensor(5)),
+        Act::Finds(5, Some(sensor(5).labelled("Door \"A\""))),
+        Act::Relabels(7, LONGEST, true),
+    ];
+    let behind = [
+        Act::Lists(0, sensor(5).labelled("Door \"A\"")),
+        Act::Lists(1, sensor(7).labelled(LONGEST)),
+        Act::Finds(5, Some(sensor(5).labelled("Door \"A\""))),
+        Act::Finds(7, Some(sensor(7).labelled(LONGEST))),
+        Act::Relabels(7, "Hall", true),
+        Act::Finds(7, Some(sensor(7).labelled("Hall"))),
+        Act::Relabels(5, "", true),
+        Act::Finds(5, Some(sensor(5))),
+        Act::Lists(0, sensor(5)),
+        Act::Counts(2),
+    ];
+    play::<MemStore>(rt.alloc(), &rt, 64, &before, &behind)
+}
+
+#[test]
+fn a_label_goes_with_its_sender(rt: HostRuntime) -> Result<(), Fail> {
+    let before = [
+        Act::Relabels(5, "Door", false),
+        Act::Finds(5, None),
+        Act::Counts(0),
+        Act::Learns(contact(5)),
+        Act::Finds(5, Some(contact(5))),
+        Act::Relabels(5, "Door", true),
+        Act::Relabels(4, "Hall", false),
+        Act::Relabels(4, "", false),
+        Act::Counts(1),
+        Act::Forgets(5),
+        Act::Relabels(5, "Hall", false),
+        Act::Learns(contact(5)),
+        Act::Finds(5, Some(contact(5))),
+    ];
+    let behind = [Act::Counts(1), Act::Lists(0, contact(5))];
+    play::<MemStore>(rt.alloc(), &rt, 64, &before, &behind)
+}
+
 #[test]
 fn numbers_at_their_ends(rt: HostRuntime) -> Result<(), Fail> {
-    let least = Unlabelled {
+    let least = Known {
         id: 0,
         eep: Eep {
             rorg: 0,
@@ -33,8 +84,9 @@ fn numbers_at_their_ends(rt: HostRuntime) -> Result<(), Fail> {
             typ: 0,
         },
         maker: Some(0),
+        label: "",
     };
-    let greatest = Unlabelled {
+    let greatest = Known {
         id: 0xFFFF_FFFE,
         eep: Eep {
             rorg: 0xFF,
@@ -42,6 +94,7 @@ fn numbers_at_their_ends(rt: HostRuntime) -> Result<(), Fail> {
             typ: 0xFF,
         },
         maker: Some(2047),
+        label: "",
     };
     let before = [Act::Learns(greatest), Act::Learns(least)];
     let behind = [
@@ -85,7 +138,7 @@ fn open_writes_one_row<S: Fresh>(alloc: Global, rt: &impl Abort) -> Result<(), F
     let mut registry = fresh_registry::<S>(alloc, 64)?;
     take_all(rt, &mut registry, &[Act::Learns(contact(1))])?;
     let mut conn = registry.close();
-    run(&mut conn, "DELETE FROM enogate_device WHERE id > 1")?;
+    run(&mut conn, "DELETE FROM enogate_device_v2 WHERE id > 1")?;
     has_changed(rt, &conn, 0)?;
     has_changed(rt, &open_idle(alloc, conn)??.close(), 1)
 }

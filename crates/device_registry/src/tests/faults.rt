@@ -38,7 +38,7 @@ fn each_fault_says_why(rt: HostRuntime) -> Result<(), Fail> {
         alloc,
         &rt,
         &OpenFault::NotARegistry,
-        "the database is no registry of version 1",
+        "the database is no registry of version 1 or 2",
     )?;
     says(alloc, &rt, &OpenFault::from(AllocError), NO_MEMORY)
 }

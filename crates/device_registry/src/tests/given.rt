@@ -4,7 +4,7 @@ ghost use Rattle.std.specs.Prelude.{◌≡◌, ◌≤◌, []};
 use super::remembering::Remembering;
 use crate::{Device, Label, LearnFault, OpenFault, Registry, StoreFault, prepare};
 use erp1_telegrams::Eep;
-use sqlite::{Alter, Connection, MemStore};
+use sqlite::{Alter, Connection, MemStore, params};
 use std::alloc::Global;
 use std::test::Fail;
 
@@ -23,23 +23,52 @@ pub const SENSOR: Eep = Eep {
 pub const META_TABLE: &str = "CREATE TABLE enogate_meta (k INTEGER PRIMARY KEY CHECK (k = 1), \
     version INTEGER NOT NULL) STRICT;";
 
-pub const DEVICE_TABLE: &str = "CREATE TABLE enogate_device (\
+pub const FIRST_DEVICE_TABLE: &str = "CREATE TABLE enogate_device (\
     id INTEGER PRIMARY KEY CHECK (id >= 0 AND id <= 4294967294), \
     eep INTEGER NOT NULL CHECK (eep >= 0 AND eep <= 16777215), \
     maker INTEGER NOT NULL CHECK (maker >= -1 AND maker <= 2047)) STRICT;";
 
-pub const VERSION_ROW: &str = "INSERT INTO enogate_meta VALUES (1, 1);";
+pub const DEVICE_TABLE: &str = "CREATE TABLE enogate_device_v2 (\
+    id INTEGER PRIMARY KEY CHECK (id >= 0 AND id <= 4294967294), \
+    eep INTEGER NOT NULL CHECK (eep >= 0 AND eep <= 16777215), \
+    maker INTEGER NOT NULL CHECK (maker >= -1 AND maker <= 2047), \
+    label TEXT NOT NULL) STRICT;";
 
-/// What is known of a sender that has the empty label.
+pub const FIRST_VERSION_ROW: &str = "INSERT INTO enogate_meta VALUES (1, 1);";
+
+pub const VERSION_ROW: &str = "INSERT INTO enogate_meta VALUES (1, 2);";
+
+/// What is known of a sender.
 #[derive(Clone, Copy)]
-pub struct Unlabelled {
+pub struct Known {
     pub id: u32,
     pub eep: Eep,
     pub maker: Option<u16>,
+    pub label: &'static str,
 }
 
-impl Unlabelled {
-    pub fn device(self) -> Device
+impl Known {
+    /// The same with this label.
+    pub fn labelled(self, label: &'static str) -> Known {
+        Known {
+            id: self.id,
+            eep: self.eep,
+            maker: self.maker,
+            label,
+        }
+    }
+
+    pub fn device(self) -> Device {
+        Device {
+            id: self.id,
+            eep: self.eep,
+            maker: self.maker,
+            label: Label::new(self.label).unwrap_or(Label::empty()),
+        }
+    }
+
+    /// The device with the empty label, which is how it is learned.
+    pub fn unlabelled(self) -> Device
         ensures { result.label ≡ [] }
     {
         Device {
@@ -51,25 +80,55 @@ impl Unlabelled {
     }
 }
 
-pub fn contact(id: u32) -> Unlabelled {
-    Unlabelled {
+pub fn contact(id: u32) -> Known {
+    Known {
         id,
         eep: CONTACT,
         maker: None,
+        label: "",
     }
 }
 
-pub fn sensor(id: u32) -> Unlabelled {
-    Unlabelled {
+pub fn sensor(id: u32) -> Known {
+    Known {
         id,
         eep: SENSOR,
         maker: Some(70),
+        label: "",
     }
 }
 
 /// A contact or a sensor, in turn.
-pub fn either(id: u32) -> Unlabelled {
+pub fn either(id: u32) -> Known {
     if id % 2 == 0 { contact(id) } else { sensor(id) }
+}
+
+/// One of 1,000 devices, of which no two have one profile or one maker.
+pub fn varied(id: u32) -> Known {
+    let at = id % 1000;
+    Known {
+        id,
+        eep: Eep {
+            rorg: 0xD5,
+            func: (at / 256) as u8,
+            typ: (at % 256) as u8,
+        },
+        maker: (0 < at).then_some(at as u16),
+        label: "",
+    }
+}
+
+/// Makes a database one of the first version, with so many of those devices, with the IDs from 0 on.
+pub fn be_first_version<S: Alter>(conn: &mut Connection<S>, devices: i64) -> Result<(), Fail> {
+    run(conn, META_TABLE)?;
+    run(conn, FIRST_DEVICE_TABLE)?;
+    run(conn, FIRST_VERSION_ROW)?;
+    conn.execute(
+        "INSERT INTO enogate_device WITH RECURSIVE n (i) AS (SELECT 0 UNION ALL SELECT i + 1 FROM n) \
+        SELECT i, 13959168 + i, i - (i = 0) FROM n LIMIT ?1",
+        params![devices],
+    )?;
+    Ok(())
 }
 
 pub fn is_store(fault: &StoreFault) -> bool {
@@ -94,9 +153,19 @@ pub fn is_full(fault: &LearnFault) -> bool {
     matches!(fault, LearnFault::Full)
 }
 
-pub fn learn<R: Remembering>(registry: &mut R, known: Unlabelled) -> Result<(), LearnFault> {
-    let (_id, _is_learned) = registry.learn(known.device())?.spend();
+pub fn learn<R: Remembering>(registry: &mut R, known: Known) -> Result<(), LearnFault> {
+    let (_id, _is_learned) = registry.learn(known.unlabelled())?.spend();
     Ok(())
+}
+
+/// `relabel`, with a text that is a label.
+pub fn relabel<R: Remembering>(
+    registry: &mut R,
+    id: u32,
+    text: &str,
+) -> Result<Result<bool, StoreFault>, Fail> {
+    let label = Label::new(text).ok_or("no label")?;
+    Ok(registry.relabel(id, label.as_str()))
 }
 
 pub fn forget<R: Remembering>(registry: &mut R, id: u32) -> Result<(), StoreFault> {

@@ -1,5 +1,6 @@
 //! What tests ask of a registry, whatever its store is.
-ghost use Rattle.std.specs.Prelude.{◌≡◌, []};
+ghost use Rattle.std.specs.Prelude.{◌≡◌, [], true};
+ghost use Rattle.learned_devices.specs.Labels.{is_label};
 
 use crate::cache::copied;
 use crate::{Device, LearnFault, Receipt, RegistryOver, SqlConnection, StoreFault};
@@ -10,6 +11,9 @@ pub trait Remembering {
 
     fn learn(&mut self, device: Device) -> Result<Receipt, LearnFault>
         requires { device.label ≡ [] };
+
+    fn relabel(&mut self, id: u32, text: &str) -> Result<bool, StoreFault>
+        requires { is_label text.now ≡ true };
 
     fn forget(&mut self, id: u32) -> Result<Receipt, StoreFault>;
 
@@ -29,6 +33,10 @@ impl<C: SqlConnection> Remembering for RegistryOver<C> {
 
     fn learn(&mut self, device: Device) -> Result<Receipt, LearnFault> {
         RegistryOver::learn(self, device)
+    }
+
+    fn relabel(&mut self, id: u32, text: &str) -> Result<bool, StoreFault> {
+        RegistryOver::relabel(self, id, text)
     }
 
     fn forget(&mut self, id: u32) -> Result<Receipt, StoreFault> {

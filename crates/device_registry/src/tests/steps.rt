@@ -1,8 +1,8 @@
 //! What a registry does over a disk that refuses, one step each.
-use super::acts::{Act, take_all};
+use super::acts::{Act, Many, take_all};
 use super::given::{
-    contact, forget, is_learn_store, is_open_store, is_store, learn, open_idle, prepare_idle,
-    sensor,
+    Known, contact, forget, is_learn_store, is_open_store, is_store, learn, number, open_idle,
+    prepare_idle, relabel, run, sensor,
 };
 use super::remembering::Remembering;
 use crate::Registry;
@@ -16,11 +16,18 @@ use std::test::Fail;
 pub enum Call {
     Find,
     Learn,
+    Relabel,
     Forget,
     All,
 }
 
-pub const CALLS: [Call; 4] = [Call::Find, Call::Learn, Call::Forget, Call::All];
+pub const CALLS: [Call; 5] = [
+    Call::Find,
+    Call::Relabel,
+    Call::Learn,
+    Call::Forget,
+    Call::All,
+];
 
 /// What became of calls over a disk that refuses.
 #[derive(Clone, Copy, Debug, PartialEq, Eq)]
@@ -41,8 +48,19 @@ pub enum End {
     NotFound,
     /// An empty database was not prepared, and was behind a stop.
     MadeBehind,
+    /// A registry of version 1 was not prepared, and behind a stop it was this version.
+    Was(i64),
     /// A change that was told was found behind a stop.
     Kept,
+}
+
+/// What a filled registry knows of a sender: one has a label.
+fn known(id: u32) -> Known {
+    if id == 9 {
+        contact(9).labelled("Room")
+    } else {
+        contact(id)
+    }
 }
 
 /// The connection of a closed registry with so many contacts, with the IDs from 0 on.
@@ -53,14 +71,18 @@ pub fn filled<S: Alter + Drop>(
 ) -> Result<Connection<S>, Fail> {
     let mut conn = open_idle(alloc, conn)??.close();
     conn.execute(
-        "INSERT INTO enogate_device WITH RECURSIVE n (i) AS (SELECT 0 UNION ALL SELECT i + 1 FROM n) \
-        SELECT i, 13959169, -1 FROM n LIMIT ?1",
+        "INSERT INTO enogate_device_v2 WITH RECURSIVE n (i) AS (SELECT 0 UNION ALL SELECT i + 1 FROM n) \
+        SELECT i, 13959169, -1, '' FROM n LIMIT ?1",
         params![devices],
+    )?;
+    run(
+        &mut conn,
+        "UPDATE enogate_device_v2 SET label = 'Room' WHERE id = 9",
     )?;
     Ok(conn)
 }
 
-// Whether `find` is refused by the store. Else it finds the contact.
+// Whether `find` is refused by the store. Else it finds what a filled registry knows.
 fn is_find_refused<R: Remembering>(
     rt: &impl Abort,
     registry: &mut R,
@@ -68,7 +90,7 @@ fn is_find_refused<R: Remembering>(
 ) -> Result<bool, Fail> {
     match registry.find(id) {
         Ok(found) => {
-            assert_eq!(rt; found, Some(contact(id).device()));
+            assert_eq!(rt; found, Some(known(id).device()));
             Ok(false)
         }
         Err(fault) => {
@@ -91,6 +113,24 @@ fn is_learn_refused<R: Remembering>(
     Ok(false)
 }
 
+// Whether `relabel` is refused by the store. Else the sender is known.
+fn is_relabel_refused<R: Remembering>(
+    rt: &impl Abort,
+    registry: &mut R,
+    id: u32,
+) -> Result<bool, Fail> {
+    match relabel(registry, id, "Hall")? {
+        Ok(known) => {
+            assert!(rt; known);
+            Ok(false)
+        }
+        Err(fault) => {
+            assert!(rt; is_store(&fault));
+            Ok(true)
+        }
+    }
+}
+
 // Whether `forget` is refused by the store.
 fn is_forget_refused<R: Remembering>(
     rt: &impl Abort,
@@ -109,6 +149,7 @@ fn is_all_refused<R: Remembering>(rt: &impl Abort, registry: &mut R) -> Result<b
     match registry.all() {
         Ok(all) => {
             assert!(rt; all.contains(&sensor(3).device()) && !all.contains(&contact(5).device()));
+            assert!(rt; all.contains(&contact(9).labelled("Hall").device()));
             Ok(false)
         }
         Err(fault) => {
@@ -122,6 +163,7 @@ fn is_refused<R: Remembering>(rt: &impl Abort, registry: &mut R, call: Call) -> 
     match call {
         Call::Find => is_find_refused(rt, registry, 7),
         Call::Learn => is_learn_refused(rt, registry, 3),
+        Call::Relabel => is_relabel_refused(rt, registry, 9),
         Call::Forget => is_forget_refused(rt, registry, 5),
         Call::All => is_all_refused(rt, registry),
     }
@@ -135,6 +177,7 @@ fn is_found_behind<R: Remembering>(
 ) -> Result<bool, Fail> {
     let id = match call {
         Call::Learn => 3,
+        Call::Relabel => 9,
         Call::Forget => 5,
         Call::Find | Call::All => return Ok(false),
     };
@@ -168,14 +211,15 @@ fn look_ups<R: Remembering>(rt: &impl Abort, registry: &mut R) -> Result<End, Fa
     Ok(End::NoRefusal)
 }
 
-// The connection of a closed registry that has learned a sender and forgotten another.
+// The connection of a closed registry that has learned a sender, given another a label and forgotten a third.
 fn changed<S: Alter + Drop>(rt: &impl Abort, registry: Registry<S>) -> Result<Connection<S>, Fail> {
     let mut registry = registry;
-    take_all(
-        rt,
-        &mut registry,
-        &[Act::Learns(sensor(600)), Act::Forgets(7)],
-    )?;
+    let acts = [
+        Act::Learns(sensor(600)),
+        Act::Relabels(9, "Hall", true),
+        Act::Forgets(7),
+    ];
+    take_all(rt, &mut registry, &acts)?;
     Ok(registry.close())
 }
 
@@ -190,7 +234,7 @@ fn refused_to_learn<S: Alter + Drop>(
 }
 
 /// The connection, opened and closed once more, or none where the disk refuses that.
-pub fn opened_and_closed<S: Alter + Drop>(
+fn opened_and_closed<S: Alter + Drop>(
     alloc: Global,
     rt: &impl Abort,
     conn: Connection<S>,
@@ -216,7 +260,7 @@ fn found<R: Remembering>(rt: &impl Abort, registry: &mut R) -> Result<End, Fail>
     }
 }
 
-// `prepare` of an empty database.
+// `prepare` of a database that is no registry of version 2 yet.
 fn prepared<S: Alter>(rt: &impl Abort, conn: &mut Connection<S>) -> Result<End, Fail> {
     match prepare_idle(conn)? {
         Ok(()) => Ok(End::NoRefusal),
@@ -238,7 +282,9 @@ pub enum Trial {
     Learning(bool),
     /// `prepare` of an empty database, and a stop.
     Preparing,
-    /// A `learn` and a `forget`, and a stop.
+    /// `prepare` of a registry of version 1 with so many devices, and a stop.
+    Migrating(u32),
+    /// A `learn`, a `relabel` and a `forget`, and a stop.
     Changing,
 }
 
@@ -246,7 +292,7 @@ pub enum Trial {
 pub fn pages(trial: Trial) -> usize {
     match trial {
         Trial::Calls(pages) => pages,
-        Trial::LookUps => 1,
+        Trial::LookUps | Trial::Migrating(_) => 1,
         Trial::Learning(_) => 20,
         Trial::Preparing | Trial::Changing => 9,
     }
@@ -265,7 +311,7 @@ pub fn before_stop<S: Alter + Drop>(
         Trial::Calls(_) => calling(alloc, rt, conn, end),
         Trial::LookUps => looking_up(alloc, rt, conn, end),
         Trial::Learning(opens_again) => learning(alloc, rt, conn, opens_again, end),
-        Trial::Preparing => preparing(rt, conn, end),
+        Trial::Preparing | Trial::Migrating(_) => preparing(rt, conn, end),
         Trial::Changing => changing(alloc, rt, conn),
     }
 }
@@ -342,12 +388,29 @@ pub fn behind_stop<S: Alter + Drop>(
     trial: Trial,
     end: End,
 ) -> Result<End, Fail> {
+    let mut conn = conn;
+    let end = told_by_version(&mut conn, trial, end)?;
     let mut registry = open_idle(alloc, conn)??;
     match trial {
         Trial::Learning(_) => found(rt, &mut registry),
         Trial::Preparing => is_empty_and_learns(rt, &mut registry, end),
+        Trial::Migrating(devices) => has_all_and_learns(rt, &mut registry, devices, end),
         Trial::Changing => keeps_changes(rt, &mut registry),
         Trial::Calls(_) | Trial::LookUps => Ok(end),
+    }
+}
+
+// Of a registry of version 1 that was refused, the end tells which version it was behind the stop.
+fn told_by_version<S: Alter>(
+    conn: &mut Connection<S>,
+    trial: Trial,
+    end: End,
+) -> Result<End, Fail> {
+    match (trial, end) {
+        (Trial::Migrating(_), End::MadeBehind) => {
+            Ok(End::Was(number(conn, "SELECT version FROM enogate_meta")?))
+        }
+        _ => Ok(end),
     }
 }
 
@@ -365,9 +428,25 @@ fn is_empty_and_learns<R: Remembering>(
     Ok(end)
 }
 
+fn has_all_and_learns<R: Remembering>(
+    rt: &impl Abort,
+    registry: &mut R,
+    devices: u32,
+    end: End,
+) -> Result<End, Fail> {
+    let acts = [
+        Act::Many(Many::ListsVaried, devices),
+        Act::Learns(sensor(7)),
+        Act::Finds(7, Some(sensor(7))),
+    ];
+    take_all(rt, registry, &acts)?;
+    Ok(end)
+}
+
 fn keeps_changes<R: Remembering>(rt: &impl Abort, registry: &mut R) -> Result<End, Fail> {
     let acts = [
         Act::Finds(600, Some(sensor(600))),
+        Act::Finds(9, Some(contact(9).labelled("Hall"))),
         Act::Finds(7, None),
         Act::Counts(10),
     ];

@@ -1,11 +1,11 @@
 //! What a refusal of the disk leaves in the registry, and what a stop behind it leaves in the files.
+use super::acts::{Act, take_all};
 use super::disks::{
     Disks, Refusal, Stop, Which, closed, connected, empty_files, refusing, stopped,
     surely_connected,
 };
-use super::steps::{
-    CALLS, Call, End, Trial, before_stop, behind_stop, filled, opened_and_closed, pages,
-};
+use super::given::{be_first_version, open_idle};
+use super::steps::{CALLS, Call, End, Trial, before_stop, behind_stop, filled, pages};
 use std::alloc::Global;
 use std::process::Abort;
 use std::test::Fail;
@@ -22,6 +22,13 @@ const DEATH: Stop = Stop::OfProcess;
 fn made(alloc: Global, devices: i64) -> Result<Disks, Fail> {
     let conn = surely_connected(alloc, empty_files(alloc), 9)?;
     closed(filled(alloc, conn, devices)?)
+}
+
+// The files of a closed database that is a registry of version 1 with so many devices.
+fn made_first(alloc: Global, devices: u32) -> Result<Disks, Fail> {
+    let mut conn = surely_connected(alloc, empty_files(alloc), 9)?;
+    be_first_version(&mut conn, i64::from(devices))?;
+    closed(conn)
 }
 
 // How a trial over these files ends.
@@ -61,9 +68,11 @@ fn end_behind(
 fn refusal(trial: Trial, turn: u64) -> Refusal {
     match trial {
         Trial::Learning(_) => Refusal::Write(turn.saturating_add(1)),
-        Trial::Calls(_) | Trial::LookUps | Trial::Preparing | Trial::Changing => Refusal::From(
-            turn,
-        ),
+        Trial::Calls(_)
+        | Trial::LookUps
+        | Trial::Preparing
+        | Trial::Migrating(_)
+        | Trial::Changing => Refusal::From(turn),
     }
 }
 
@@ -87,17 +96,16 @@ fn each_refused(
     Err(Fail::from("refusals without end"))
 }
 
-// How many syncs of the log a connection over these files makes, with a registry opened on it or without.
-fn syncs(alloc: Global, rt: &impl Abort, files: &Disks, opens: bool) -> Result<u64, Fail> {
+// How many syncs of the log a connection over these files makes, with a registry opened on it that does so, or without.
+fn syncs(alloc: Global, rt: &impl Abort, files: &Disks, acts: Option<&[Act]>) -> Result<u64, Fail> {
     let files = refusing(alloc, files, Which::Log, Refusal::Nothing)?;
     let conn = surely_connected(alloc, files, 9)?;
-    if !opens {
+    let Some(acts) = acts else {
         return Ok(stopped(alloc, conn, DEATH)?.syncs);
-    }
-    match opened_and_closed(alloc, rt, conn)? {
-        Some(conn) => Ok(stopped(alloc, conn, DEATH)?.syncs),
-        None => Err(Fail::from("no registry")),
-    }
+    };
+    let mut registry = open_idle(alloc, conn)??;
+    take_all(rt, &mut registry, acts)?;
+    Ok(stopped(alloc, registry.close(), DEATH)?.syncs)
 }
 
 #[test]
@@ -122,7 +130,7 @@ fn each_call_meets_a_refusal(rt: HostRuntime) -> Result<(), Fail> {
 fn a_refused_change_is_not_remembered(rt: HostRuntime) -> Result<(), Fail> {
     let files = made(rt.alloc(), FEW)?;
     let ends = each_refused(rt.alloc(), &rt, &files, Which::Log, Trial::Calls(20), DEATH)?;
-    for call in [Call::Learn, Call::Forget] {
+    for call in [Call::Learn, Call::Relabel, Call::Forget] {
         assert!(rt; ends.contains(&End::At(call, true)), "{call:?}");
     }
     Ok(())
@@ -159,8 +167,21 @@ fn what_was_told_is_found_behind_a_stop(rt: HostRuntime) -> Result<(), Fail> {
 #[test]
 fn an_open_answers_behind_a_sync(rt: HostRuntime) -> Result<(), Fail> {
     let files = made(rt.alloc(), FEW)?;
-    let before = syncs(rt.alloc(), &rt, &files, false)?;
-    assert!(rt; syncs(rt.alloc(), &rt, &files, true)? > before);
+    let before = syncs(rt.alloc(), &rt, &files, None)?;
+    assert!(rt; syncs(rt.alloc(), &rt, &files, Some(&[]))? > before);
+    Ok(())
+}
+
+// No contract can tell it: a stop leaves the same devices.
+#[test]
+fn a_label_that_is_there_is_answered_behind_a_sync(rt: HostRuntime) -> Result<(), Fail> {
+    let files = made(rt.alloc(), FEW)?;
+    let labels = [
+        Act::Relabels(5, "Door", true),
+        Act::Relabels(5, "Door", true),
+    ];
+    let before = syncs(rt.alloc(), &rt, &files, Some(&labels[..1]))?;
+    assert!(rt; syncs(rt.alloc(), &rt, &files, Some(&labels))? > before);
     Ok(())
 }
 
@@ -194,6 +215,36 @@ fn an_empty_database_is_prepared_behind_each_stop(rt: HostRuntime) -> Result<(),
             assert!(rt;
                 which == Which::Database || ends.contains(&End::MadeBehind),
                 "{stop:?}"
+            );
+        }
+    }
+    Ok(())
+}
+
+// Registries of version 1, whose `prepare` is refused from each call of a file on, and then stopped.
+fn migrates_behind_each_stop(
+    alloc: Global,
+    rt: &impl Abort,
+    devices: u32,
+    which: Which,
+    stop: Stop,
+) -> Result<Vec<End>, Fail> {
+    let files = made_first(alloc, devices)?;
+    each_refused(alloc, rt, &files, which, Trial::Migrating(devices), stop)
+}
+
+#[test]
+fn a_thousand_devices_are_migrated_behind_each_stop(rt: HostRuntime) -> Result<(), Fail> {
+    for which in [Which::Log, Which::Database] {
+        for stop in [Stop::OfProcess, Stop::OfMachine] {
+            let ends = migrates_behind_each_stop(rt.alloc(), &rt, 1000, which, stop)?;
+            assert!(rt; ends.contains(&End::Was(1)), "{which:?}, {stop:?}");
+            // A write that was told as failed lies in the log, and the process alone has died.
+            let is_migrated = which == Which::Log && stop == Stop::OfProcess;
+            assert_eq!(rt;
+                ends.contains(&End::Was(2)),
+                is_migrated,
+                "{which:?}, {stop:?}"
             );
         }
     }

@@ -9,5 +9,9 @@ returns-then-lists c =
     let rows = c.args.rows.now in
     let first : list_any (is_line meta_name meta_text) rows ≡ true = ap (λ t. list_any (is_line meta_name t) rows)
     (sym c.as_bytes.ensures.value) ∙ sym c.lists.ensures ∙ c.if-lists.true in
-    c.lists-then-lists.ensures ∙ ap (λ t. list_any (is_line device_name t) rows) c.as_bytes-then-lists.ensures.value
-    ∙ ap (λ b. b && list_any (is_line device_name device_text) rows) (sym first)
+    let name = device_name c.args.version in
+    let text = device_text c.args.version in
+    c.lists-then-lists.ensures ∙ ap (λ t. list_any (is_line c.device.result.now t) rows)
+    (c.as_bytes-then-lists.ensures.value ∙ c.create_device.ensures)
+    ∙ ap (λ n. list_any (is_line n text) rows) c.device.ensures
+    ∙ ap (λ b. b && list_any (is_line name text) rows) (sym first)

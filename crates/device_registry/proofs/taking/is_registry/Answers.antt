@@ -11,9 +11,9 @@ use Rattle.device_registry.proofs.taking.is_registry.Goals as goal
 pub returns-in_default-clause-other : goal.returns-in_default-clause-other
 returns-in_default-clause-other g c clean none own =
     let old = g.C.SqlConnection.state c.args.conn.now in
-    let it = own_found old (c.requires clean) own in
-    let is : trees_in old.now.schema ≡ Some (it.tables.meta, it.tables.devices) =
-    placed_tables old.now.schema it.tables in
+    let it = own_found c.args.version old (c.requires clean) own in
+    let is : trees_in c.args.version old.now.schema ≡ Some (it.tables.meta, it.tables.devices) =
+    placed_tables c.args.version old.now.schema it.tables in
     absurd (search rules)
 
 pub returns-then-not-branch-clause-other : goal.returns-then-not-branch-clause-other
@@ -21,9 +21,9 @@ returns-then-not-branch-clause-other g c clean none own =
     let old = g.C.SqlConnection.state c.args.conn.now in
     let early : HasCleanDisk old = omega (arith, clean, c.lists_ours.ensures.stop.clean) in
     let rest = c.requires early in
-    let it = own_found old rest own in
-    let is : trees_in old.now.schema ≡ Some (it.tables.meta, it.tables.devices) =
-    placed_tables old.now.schema it.tables in
+    let it = own_found c.args.version old rest own in
+    let is : trees_in c.args.version old.now.schema ≡ Some (it.tables.meta, it.tables.devices) =
+    placed_tables c.args.version old.now.schema it.tables in
     absurd (search rules)
 
 pub is_whole-requires : goal.is_whole-requires
@@ -32,9 +32,9 @@ is_whole-requires g c clean =
     let early : HasCleanDisk old = omega (arith, clean, c.lists_ours.ensures.stop.clean) in
     let got = c.in_ok-lists_ours.ensures.ours clean in
     let yes : IsTrue c.in_ok-lists_ours.field-0 = search rules in
-    let is : trees_in old.now.schema ≡ Some (c.in-Some._meta, c.in-Some._devices) = search rules in
-    subst (λ (db : Database). HasTables db.schema) (sym got.0.0.now_is)
-    (tables_taken old c.in-Some._meta c.in-Some._devices (c.requires early) is (got.1 yes))
+    let is : trees_in c.args.version old.now.schema ≡ Some (c.in-Some._meta, c.in-Some._devices) = search rules in
+    subst (λ (db : Database). HasTables c.args.version db.schema) (sym got.0.0.now_is)
+    (tables_taken c.args.version old c.in-Some._meta c.in-Some._devices (c.requires early) is (got.1 yes))
 
 pub returns-clause-ours : goal.returns-clause-ours
 returns-clause-ours g c clean =
@@ -44,9 +44,9 @@ returns-clause-ours g c clean =
     let early : HasCleanDisk old = omega (arith, between, c.lists_ours.ensures.stop.clean) in
     let got = c.in_ok-lists_ours.ensures.ours between in
     let yes : IsTrue c.in_ok-lists_ours.field-0 = search rules in
-    let is : trees_in old.now.schema ≡ Some (c.in-Some._meta, c.in-Some._devices) = search rules in
-    taken_if c.is_whole.result old mid (g.C.SqlConnection.state c.is_whole.new.conn) got.0
-    (tables_taken old c.in-Some._meta c.in-Some._devices (c.requires early) is (got.1 yes))
+    let is : trees_in c.args.version old.now.schema ≡ Some (c.in-Some._meta, c.in-Some._devices) = search rules in
+    taken_if c.args.version c.is_whole.result old mid (g.C.SqlConnection.state c.is_whole.new.conn) got.0
+    (tables_taken c.args.version old c.in-Some._meta c.in-Some._devices (c.requires early) is (got.1 yes))
     (c.is_whole.ensures.whole clean)
 
 pub returns-clause-other : goal.returns-clause-other
@@ -56,5 +56,5 @@ returns-clause-other g c clean none own =
     let between : HasCleanDisk mid = omega (arith, clean, c.is_whole.ensures.stop.clean) in
     let early : HasCleanDisk old = omega (arith, between, c.lists_ours.ensures.stop.clean) in
     let got = c.in_ok-lists_ours.ensures.ours between in
-    let it = own_found old (c.requires early) own in
-    not_whole old mid got.0 (c.is_whole.ensures.other clean none) it.tables it.whole
+    let it = own_found c.args.version old (c.requires early) own in
+    not_whole c.args.version old mid got.0 (c.is_whole.ensures.other clean none) it.tables it.whole

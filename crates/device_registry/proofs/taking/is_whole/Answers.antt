@@ -6,7 +6,7 @@ use Rattle.sqlite.specs.Given.{IsPlain}
 use Rattle.sqlite.specs.Listing.{understood}
 use Rattle.sqlite.specs.Effect.{Database}
 use Rattle.sqlite.proofs.Callers.{unchanged_then}
-use Rattle.device_registry.specs.Table.{find_all_text}
+use Rattle.device_registry.specs.Table.{number_of, find_all_text}
 use Rattle.device_registry.specs.Devices.{most_devices}
 use Rattle.device_registry.specs.Table.Rows.{ShowsVersion, devices_rise}
 use Rattle.device_registry.proofs.ListDevicesMeaning.{all_means}
@@ -25,15 +25,16 @@ shown_by-requires-2 g c clean =
     let early : HasCleanDisk old = omega (arith, clean, c.shown_by.ensures.stop.clean) in
     let t = c.requires early in
     let same = ap (λ (d : Database). d.schema) (c.in_ok-versions.ensures.shown clean).1.0.now_is in
-    subst (λ s. IsPlain (understood s find_all_text)) (sym same)
-    (all_means old.now.schema t.devices_at t.devices t.devices_stand).plain
+    let plain = subst (λ s. IsPlain (understood s (find_all_text c.args.version))) (sym same)
+    (all_means c.args.version old.now.schema t.devices_at t.devices t.devices_stand).plain in
+    rw c.find_all.ensures plain
 
 pub returns-then-not-is_version-clause-other : goal.returns-then-not-is_version-clause-other
 returns-then-not-is_version-clause-other g c clean none t it =
     let old = g.C.SqlConnection.state c.args.conn.now in
     let mid = g.C.SqlConnection.state c.shown_by.new.conn in
-    let told : c.in_ok-versions.versions.items ≡ (Int (pos 1) ∷ Int (pos 1) ∷ []) ∷ [] =
-    version_told old mid c.in_ok-versions.versions.items t it (c.in_ok-versions.ensures.shown clean).0 in
+    let told : c.in_ok-versions.versions.items ≡ (Int (pos 1) ∷ Int (pos (number_of c.args.version)) ∷ []) ∷ [] =
+    version_told c.args.version old mid c.in_ok-versions.versions.items t it (c.in_ok-versions.ensures.shown clean).0 in
     let is_one : IsTrue c.is_version.result = c.is_version.ensures.complete (search (rules, told)) in
     absurd (let e = c.if-not-is_version.true in cc)
 
@@ -44,13 +45,13 @@ returns-clause-whole g c clean =
     let new = g.C.SqlConnection.state c.shown_by-2.new.conn in
     let between : HasCleanDisk mid = omega (arith, clean, c.shown_by-2.ensures.stop.clean) in
     let first = c.in_ok-versions.ensures.shown between in
-    let second = c.in_ok-devices.ensures.shown clean in (
+    let second = rw c.find_all.ensures at (c.in_ok-devices.ensures.shown clean) in (
       unchanged_then old mid new first.1 second.1,
       λ yes t.
-          let version : ShowsVersion c.in_ok-versions.versions.items = search rules in
+          let version : ShowsVersion c.args.version c.in_ok-versions.versions.items = search rules in
           let few : length c.in_ok-devices.devices.items ≤ most_devices = search rules in
           let up : devices_rise 0 c.in_ok-devices.devices.items ≡ true = search rules in
-          whole old mid new c.in_ok-versions.versions.items c.in_ok-devices.devices.items t version first.0 first.1
+          whole c.args.version old mid new c.in_ok-versions.versions.items c.in_ok-devices.devices.items t version first.0 first.1
           second.0 few up,
     )
 
@@ -63,8 +64,8 @@ returns-then-len-gt-MOST_DEVICES-clause-other g c clean none t it =
     let mid = g.C.SqlConnection.state c.shown_by.new.conn in
     let new = g.C.SqlConnection.state c.shown_by-2.new.conn in
     let between : HasCleanDisk mid = omega (arith, clean, c.shown_by-2.ensures.stop.clean) in
-    let count = devices_told old mid new c.in_ok-devices.devices.items t (c.in_ok-versions.ensures.shown between).1
-    (c.in_ok-devices.ensures.shown clean).0 in
+    let count = devices_told c.args.version old mid new c.in_ok-devices.devices.items t (c.in_ok-versions.ensures.shown between).1
+    (rw c.find_all.ensures at (c.in_ok-devices.ensures.shown clean)).0 in
     let many : most_devices < length c.in_ok-devices.devices.items = search rules in
     absurd (told_count _ _ count it.few many)
 
@@ -74,7 +75,7 @@ returns-clause-other g c clean none t it =
     let mid = g.C.SqlConnection.state c.shown_by.new.conn in
     let new = g.C.SqlConnection.state c.shown_by-2.new.conn in
     let between : HasCleanDisk mid = omega (arith, clean, c.shown_by-2.ensures.stop.clean) in
-    let up = rise_told old mid new c.in_ok-devices.devices.items t it (c.in_ok-versions.ensures.shown between).1
-    (c.in_ok-devices.ensures.shown clean).0 in
+    let up = rise_told c.args.version old mid new c.in_ok-devices.devices.items t it (c.in_ok-versions.ensures.shown between).1
+    (rw c.find_all.ensures at (c.in_ok-devices.ensures.shown clean)).0 in
     let not_up : devices_rise 0 c.in_ok-devices.devices.items ≡ false = search (rules, none) in
     absurd (let e = sym up ∙ not_up in cc)

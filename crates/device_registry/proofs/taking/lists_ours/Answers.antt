@@ -15,18 +15,19 @@ returns-clause-ours g c clean =
     let show = c.in_ok-rows.ensures.shown clean in (
       show.1,
       λ yes.
-          let are : are_ours c.in_ok-rows.rows.items ≡ true = search rules in
-          ours_told old (g.C.SqlConnection.state c.shown_by.new.conn) c.in_ok-rows.rows.items (c.requires early) show.0
+          let are : are_ours c.args.version c.in_ok-rows.rows.items ≡ true = search rules in
+          ours_told c.args.version old (g.C.SqlConnection.state c.shown_by.new.conn) c.in_ok-rows.rows.items
+          (c.requires early) show.0
           are,
     )
 
 pub returns-clause-other : goal.returns-clause-other
-returns-clause-other g c clean rising none listed =
+returns-clause-other g c clean none listed =
     let old = g.C.SqlConnection.state c.args.conn.now in
     let early : HasCleanDisk old = omega (arith, clean, c.shown_by.ensures.stop.clean) in
     let show = c.in_ok-rows.ensures.shown clean in
-    let are : are_ours c.in_ok-rows.rows.items ≡ true =
-    ours_shown old (g.C.SqlConnection.state c.shown_by.new.conn) c.in_ok-rows.rows.items
-    (c.requires early) rising show.0 listed in
+    let are : are_ours c.args.version c.in_ok-rows.rows.items ≡ true =
+    ours_shown c.args.version old (g.C.SqlConnection.state c.shown_by.new.conn) c.in_ok-rows.rows.items
+    (c.requires early) show.0 listed in
     let yes : c.are_ours.result ≡ true = search rules in
     absurd (let e = none in cc)

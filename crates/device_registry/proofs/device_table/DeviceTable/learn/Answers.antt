@@ -1,8 +1,9 @@
 use Rattle.std.proofs.Common.{◌∙◌, sym, ap, subst, Err}
 use Rattle.std.proofs.lemmas.Result.{err_from_is_err_and}
-use Rattle.device_registry.specs.Devices.{learned}
+use Rattle.device_registry.specs.Devices.{learned, known_of}
 use Rattle.device_registry.specs.Holding.{Learns}
-use Rattle.device_registry.proofs.RegistryCalls.{had, shown_before, keeps_well, learns_not, is_full_then, refused_well}
+use Rattle.device_registry.proofs.RegistryCalls.{puts_it, had, shown_before, keeps_well}
+use Rattle.device_registry.proofs.RegistryCalls.{learns_not, is_full_then, refused_well}
 use Rattle.device_registry.proofs.RegistryCalls.{learn_refused, made_well, learn_made, ready_both, ready_made}
 use Rattle.device_registry.proofs.device_table.DeviceTable.learn.Goals as goal
 
@@ -44,11 +45,11 @@ returns-then-branch-clause-ready_if_full g c clean =
 
 -- ---- the write
 
-pub learn-requires-clause-ready : goal.learn-requires-clause-ready
-learn-requires-clause-ready g c clean = (c.in_ok-has_no_room.ensures.full clean).0
+pub put-requires-clause-ready : goal.put-requires-clause-ready
+put-requires-clause-ready g c clean = (c.in_ok-has_no_room.ensures.full clean).0
 
-pub learn-requires-clause-room : goal.learn-requires-clause-room
-learn-requires-clause-room g c clean devices shows =
+pub put-requires-clause-room : goal.put-requires-clause-room
+put-requires-clause-room g c clean devices shows =
     let old = g.C.SqlConnection.state c.self.inside.conn in
     let mid = g.C.SqlConnection.state c.has_no_room.new.conn in
     sym ((c.in_ok-has_no_room.ensures.full clean).1 devices
@@ -56,46 +57,75 @@ learn-requires-clause-room g c clean devices shows =
 
 pub invariant_of-self-in_err-changed : goal.invariant_of-self-in_err-changed
 invariant_of-self-in_err-changed g c =
-    refused_well (g.C.SqlConnection.state c.self.inside.conn) (g.C.SqlConnection.state c.has_no_room.new.conn)
-    (g.C.SqlConnection.state c.learn.new.conn) (learned c.args.device) c.learn.result
-    c.has_no_room.ensures.stays c.self.invariant c.learn.ensures c.in_err-changed.ensures.refused
+    let old = g.C.SqlConnection.state c.self.inside.conn in
+    let mid = g.C.SqlConnection.state c.has_no_room.new.conn in
+    let new = g.C.SqlConnection.state c.put.new.conn in
+    let change = learned c.args.device in
+    let stays = c.has_no_room.ensures.stays in
+    let makes = puts_it old mid stays c.self.invariant change (known_of c.args.device)
+    (rw (← c.self.view_is) at c.requires) in
+    let turns = c.put.ensures change makes in
+    refused_well old mid new change c.put.result stays c.self.invariant turns
+    (c.in_err-changed.ensures change makes).refused
 
 pub returns-in_err-changed-clause-learns : goal.returns-in_err-changed-clause-learns
 returns-in_err-changed-clause-learns g c =
     let old = g.C.SqlConnection.state c.self.inside.conn in
     let mid = g.C.SqlConnection.state c.has_no_room.new.conn in
-    let new = g.C.SqlConnection.state c.learn.new.conn in
+    let new = g.C.SqlConnection.state c.put.new.conn in
+    let change = learned c.args.device in
+    let stays = c.has_no_room.ensures.stays in
+    let makes = puts_it old mid stays c.self.invariant change (known_of c.args.device)
+    (rw (← c.self.view_is) at c.requires) in
+    let turns = c.put.ensures change makes in
     let why = err_from_is_err_and c.from_residual-in_err-changed.result c.from_residual-in_err-changed.ensures.1 in
     rw (← c.self.view_is) (subst (Learns old new c.args.device) (sym (why.1 ∙ ap Err why.2))
-    (learn_refused old mid new c.learn.result c.has_no_room.ensures.stays c.self.invariant c.args.device _
-    c.learn.ensures c.in_err-changed.ensures.refused))
+    (learn_refused old mid new c.put.result stays c.self.invariant c.args.device _ turns
+    (c.in_err-changed.ensures change makes).refused))
 
 pub invariant_of-self-2 : goal.invariant_of-self-2
 invariant_of-self-2 g c =
-    made_well (g.C.SqlConnection.state c.self.inside.conn) (g.C.SqlConnection.state c.has_no_room.new.conn)
-    (g.C.SqlConnection.state c.learn.new.conn) (learned c.args.device) c.learn.result
-    c.has_no_room.ensures.stays c.self.invariant c.learn.ensures c.in_ok-changed.ensures.made
+    let old = g.C.SqlConnection.state c.self.inside.conn in
+    let mid = g.C.SqlConnection.state c.has_no_room.new.conn in
+    let new = g.C.SqlConnection.state c.put.new.conn in
+    let change = learned c.args.device in
+    let stays = c.has_no_room.ensures.stays in
+    let makes = puts_it old mid stays c.self.invariant change (known_of c.args.device)
+    (rw (← c.self.view_is) at c.requires) in
+    let turns = c.put.ensures change makes in
+    made_well old mid new change c.put.result stays c.self.invariant turns (c.in_ok-changed.ensures change makes).made
     (λ clean. (c.in_ok-has_no_room.ensures.full clean).0)
 
 pub returns-clause-learns : goal.returns-clause-learns
 returns-clause-learns g c =
     let old = g.C.SqlConnection.state c.self.inside.conn in
     let mid = g.C.SqlConnection.state c.has_no_room.new.conn in
-    let new = g.C.SqlConnection.state c.learn.new.conn in
+    let new = g.C.SqlConnection.state c.put.new.conn in
+    let change = learned c.args.device in
+    let stays = c.has_no_room.ensures.stays in
+    let makes = puts_it old mid stays c.self.invariant change (known_of c.args.device)
+    (rw (← c.self.view_is) at c.requires) in
+    let turns = c.put.ensures change makes in
     rw (← c.self.view_is, c.learned.ensures)
-    (learn_made old mid new c.learn.result c.has_no_room.ensures.stays c.self.invariant
-    c.args.device c.learn.ensures c.in_ok-changed.ensures.made
+    (learn_made old mid new c.put.result stays c.self.invariant c.args.device turns
+    (c.in_ok-changed.ensures change makes).made
     (λ clean. (c.in_ok-has_no_room.ensures.full clean).0)
-    (λ trees is_open. g.met.C.SqlConnection.settled c.learn.new.conn trees is_open)
+    (λ trees is_open. g.met.C.SqlConnection.settled c.put.new.conn trees is_open)
     (λ clean devices has.
     let told = c.in_ok-has_no_room.ensures.full clean in
-    sym (told.1 devices (had old mid c.has_no_room.ensures.stays c.self.invariant clean told.0 devices has))
+    sym (told.1 devices (had old mid stays c.self.invariant clean told.0 devices has))
     ∙ c.if-branch.false))
 
 pub returns-clause-ready : goal.returns-clause-ready
 returns-clause-ready g c clean =
-    rw (← c.self.view_is) (ready_made (g.C.SqlConnection.state c.self.inside.conn)
-    (g.C.SqlConnection.state c.has_no_room.new.conn)
-    (g.C.SqlConnection.state c.learn.new.conn) (learned c.args.device) c.learn.result
-    c.has_no_room.ensures.stays c.self.invariant c.learn.ensures (c.in_ok-changed.ensures.made clean) clean
-    (c.in_ok-has_no_room.ensures.full (c.learn.ensures.clean clean)).0)
+    let old = g.C.SqlConnection.state c.self.inside.conn in
+    let mid = g.C.SqlConnection.state c.has_no_room.new.conn in
+    let new = g.C.SqlConnection.state c.put.new.conn in
+    let change = learned c.args.device in
+    let stays = c.has_no_room.ensures.stays in
+    let makes = puts_it old mid stays c.self.invariant change (known_of c.args.device)
+    (rw (← c.self.view_is) at c.requires) in
+    let turns = c.put.ensures change makes in
+    rw (← c.self.view_is) (ready_made old mid new change c.put.result stays c.self.invariant turns
+    ((c.in_ok-changed.ensures change makes).made clean) clean
+    (c.in_ok-has_no_room.ensures.full (turns.clean clean)).0)

@@ -1,50 +1,33 @@
-use Rattle.std.proofs.Common.{◌≡◌, ◌∙◌, ℕ, List, Some, Err, ap, subst}
-use Rattle.learned_devices.specs.declared.Device.{Device}
-use Rattle.device_registry.specs.Devices.{learned}
+use Rattle.std.proofs.Common.{◌∙◌, Err, ap, sym, subst}
+use Rattle.std.proofs.lemmas.Result.{err_from_is_err_and}
+use Rattle.device_registry.specs.Devices.{Learned}
 use Rattle.device_registry.specs.Holding.{Learns}
-use Rattle.device_registry.specs.declared.fault.LearnFault.TheVariants.{Full}
-use Rattle.device_registry.proofs.CacheAgreement.{changed_recalled, full_recalled}
+use Rattle.device_registry.proofs.RegistryCalls.{learns_unlooked, keeps_label, learns_after, learns_alike}
 use Rattle.device_registry.proofs.registry.RegistryOver.learn.Goals as goal
 
--- the device with another label
-abbrev labelled : Device → List ℕ → Device
-labelled it label = record { id = it.id; eep = it.eep; maker = it.maker; label = label }
+pub returns-in_err-known : goal.returns-in_err-known
+returns-in_err-known g c =
+    let old = g.C.SqlConnection.state c.args.self.now in
+    let mid = g.C.SqlConnection.state c.known.new.self in
+    let why = err_from_is_err_and c.from_residual.result c.from_residual.ensures.1 in
+    subst (Learns old mid c.args.device) (sym (why.1 ∙ ap Err why.2))
+    (learns_unlooked old mid c.args.device.id c.args.device _ c.in_err-known.ensures.looks_up)
 
-pub invariant_of-self : goal.invariant_of-self
-invariant_of-self g c = (
-  c.learn.ensures.learns.registries,
-  changed_recalled (g.C.SqlConnection.state c.self.inside.table) (g.C.SqlConnection.state c.learn.new.self)
-      (learned c.args.device)
-      (Some c.copied-copy.result) c.self.inside.cache.entries c.forget_entry.new.cache.entries c.remember.new.cache.entries
-      c.learn.ensures.learns.clean c.in-Ok.ensures.ready
-      (λ clean devices has. (c.in-Ok.ensures.learns.devices clean devices has).1)
-      (ap (λ it. Some it) (c.copied-copy.ensures ∙ ap (labelled c.args.device) c.requires)) c.self.invariant.1
-      c.forget_entry.ensures.kept c.remember.ensures.kept,
-)
+pub learn_kept-requires : goal.learn_kept-requires
+learn_kept-requires g c =
+    let old = g.C.SqlConnection.state c.args.self.now in
+    let mid = g.C.SqlConnection.state c.known.new.self in
+    keeps_label old mid c.args.device.id c.in_ok-known.known c.in_ok-known.ensures.looks_up mid
+    c.in_ok-known.ensures.ready c.keeping_label.result c.args.device.eep c.args.device.maker c.keeping_label.ensures.0
+    c.keeping_label.ensures.1
 
-pub returns-in-Ok : goal.returns-in-Ok
-returns-in-Ok g c = rw (← c.self.view_is) c.in-Ok.ensures.learns
-
--- ---- there is no room, and what is remembered of the others stays
-
-pub invariant_of-self-in-Err-Full : goal.invariant_of-self-in-Err-Full
-invariant_of-self-in-Err-Full g c =
-    let old = g.C.SqlConnection.state c.self.inside.table in
-    let new = g.C.SqlConnection.state c.learn.new.self in
-    let full : c.learn.result ≡ Err Full = c.in-Err-Full.is ∙ ap Err c.in-Err-Full.field-0-is in
-    let told : Learns old new c.args.device (Err Full) =
-    subst (Learns old new c.args.device) full c.learn.ensures.learns in (
-      told.registries,
-      full_recalled old new c.self.inside.cache.entries c.forget_entry.new.cache.entries told.clean
-          (λ clean. c.learn.ensures.ready_if_full clean full) (λ clean devices has. (told.devices clean devices has).1)
-          c.self.invariant.1 (λ e has. (c.forget_entry.ensures.kept e has).0),
-    )
-
-pub returns-in-Err-Full : goal.returns-in-Err-Full
-returns-in-Err-Full g c =
-    rw (← c.self.view_is) (subst
-    (Learns (g.C.SqlConnection.state c.self.inside.table) (g.C.SqlConnection.state c.learn.new.self) c.args.device)
-    (c.in-Err-Full.is ∙ ap Err c.in-Err-Full.field-0-is) c.learn.ensures.learns)
-
-pub returns-in-Err : goal.returns-in-Err
-returns-in-Err g c = rw (← c.self.view_is) c.in-Err.ensures.learns
+pub returns : goal.returns
+returns g c =
+    let old = g.C.SqlConnection.state c.args.self.now in
+    let mid = g.C.SqlConnection.state c.known.new.self in
+    let new = g.C.SqlConnection.state c.learn_kept.new.self in
+    let is = c.keeping_label.ensures.1 in
+    learns_alike old new c.args.device c.keeping_label.result c.learn_kept.result c.keeping_label.ensures.0
+    (ap (λ (l : Learned). l.eep) is) (ap (λ (l : Learned). l.maker) is)
+    (learns_after old mid c.args.device.id c.in_ok-known.known c.in_ok-known.ensures.looks_up new
+    c.keeping_label.result c.learn_kept.result c.learn_kept.ensures)

@@ -1,8 +1,8 @@
--- What the statement that learns a device makes of the database.
+-- What the statement that puts a device in makes of the database.
 use Rattle.std.proofs.Common.{◌≡◌, ◌≢◌, inl, inr, ℕ, ℤ, pos, Bool, true, false, not, List, [], ◌∷◌, Some, None}
 use Rattle.std.proofs.Common.{Option, Ok, refl, sym, ap, subst, ◌∙◌, ◌&&◌, ◌||◌, slice_get}
 use Rattle.std.specs.List.{AllByRecursion}
-use Rattle.sqlite.specs.declared.types.Value.TheVariants.{Int}
+use Rattle.sqlite.specs.declared.types.Value.TheVariants.{Int, Text}
 use Rattle.sqlite.specs.Order.{Row, column}
 use Rattle.sqlite_value.specs.Keys.{first_key}
 use Rattle.sqlite_schema.specs.Rules.{equal}
@@ -26,18 +26,21 @@ use Rattle.sqlite.specs.Effect.{Database}
 use Rattle.sqlite.specs.Does.{Tally, Does, AtPlace, OnRows}
 use Rattle.sqlite.specs.Rows.{Written, Task, nothing, count_of, rowids_for, Puts, Clears, Tries, TriesEach}
 use Rattle.sqlite.proofs.Callers.{one_step}
+use Rattle.learned_devices.specs.Labels.{is_label}
+use Rattle.device_registry.specs.declared.table.Version.TheVariants.{Second}
 use Rattle.device_registry.specs.Table.{device_table}
 use Rattle.device_registry.specs.Devices.{Learned}
 use Rattle.device_registry.specs.Table.Rows.{IsDevice, stored, maker_number, eep_number}
-use Rattle.device_registry.proofs.StatementTexts.{learn_terms}
+use Rattle.device_registry.proofs.StatementTexts.{put_terms}
 use Rattle.device_registry.proofs.SenderTests.{equal_ids}
 use Rattle.device_registry.proofs.DeviceChecks.{checked}
 use Rattle.device_registry.proofs.TablesAlone.{StandsAlone, no_shares}
 use Rattle.device_registry.proofs.DistinctRows.{IsFree, untaken}
-use Rattle.device_registry.proofs.RowWrites.{cast_int, cast_none, went, same_value, SparesOthers, spares}
+use Rattle.device_registry.proofs.RowWrites.{cast_int, cast_none, cast_label, went, same_value, SparesOthers, spares}
 
-abbrev pub learn_params : ℕ → Learned → Row
-learn_params id it = Int (pos id) ∷ Int (pos (eep_number it.eep)) ∷ Int (maker_number it.maker) ∷ []
+abbrev pub put_params : ℕ → Learned → Row
+put_params id it =
+    Int (pos id) ∷ Int (pos (eep_number it.eep)) ∷ Int (maker_number it.maker) ∷ Text it.label ∷ []
 
 -- the row is put, in place of the one with its rowid, and nothing else changes
 pub record IsPut (schema : Schema) (devices id : ℕ) (it : Learned) (before after : Trees) : Type 0 where
@@ -48,8 +51,8 @@ pub record IsPut (schema : Schema) (devices id : ℕ) (it : Learned) (before aft
   pub rows : after devices ≡ put_row (stored id it) (without_all (before devices) gone)
   pub others : SparesOthers schema devices before after
 
-cast_stored : (d id : ℕ) (it : Learned) → cast_row (device_table d) (stored id it) ≡ stored id it
-cast_stored d id it = simp (cast_int, cast_none)
+cast_stored : (d id : ℕ) (it : Learned) → cast_row (device_table Second d) (stored id it) ≡ stored id it
+cast_stored d id it = simp (cast_int, cast_none, cast_label)
 
 held : (rows : List Row) (r : Row) → AllByRecursion IsDevice rows → Has rows r → IsDevice r
 held [] r all h = absurd h
@@ -80,16 +83,16 @@ same_id indexes table id it r is none h =
     ap id_in is.id_is ∙ ap pos (equal_ids is.id id (subst (λ v. equal Binary v (Int (pos id)) ≡ true) is.id_is e))
 
 module _ (schema : Schema) (limit : Option ℕ) (keys : Keys) (params : Row) (d id : ℕ) (it : Learned)
-    (stands : StandsAlone schema d) where
+    (is_one : is_label it.label ≡ true) (stands : StandsAlone schema d) where
   abbrev task : Task
-  task = record { limit = limit; keys = keys; schema = schema; table = device_table d; params = params }
+  task = record { limit = limit; keys = keys; schema = schema; table = device_table Second d; params = params }
 
   puts : (db : Trees) (w : Written) → Puts task (stored id it) db (Ok w)
       → (w.trees d ≡ put_row (stored id it) (db d)) × SparesOthers schema d db w.trees × IsFree (stored id it) (db d)
   puts db w h =
       let done = went h in
       let trees : w.trees ≡ done.0 = ap (λ (it : Written). it.trees) (same_value done.2) in
-      let edit = edit_of db (device_table d) [] Given 0 (stored id it ∷ []) in
+      let edit = edit_of db (device_table Second d) [] Given 0 (stored id it ∷ []) in
       let step = one_step schema keys db done.0 edit (stands.free keys [] edit.news) done.1 in (
         ap (λ (t : Trees). t d) trees ∙ step.rows ∙ ap (λ r. put_row r (db d)) (cast_stored d id it),
         λ i t there other. ap (λ (s : Trees). s t.tree) trees ∙ spares schema keys db done.0 edit step i t there other,
@@ -103,7 +106,7 @@ module _ (schema : Schema) (limit : Option ℕ) (keys : Keys) (params : Row) (d 
   clears db [] w h = puts db w h
   clears db (x ∷ more) w h =
       let done = went h in
-      let edit = edit_of db (device_table d) (ids_of (x ∷ more)) Given 0 [] in
+      let edit = edit_of db (device_table Second d) (ids_of (x ∷ more)) Given 0 [] in
       let step = one_step schema keys db done.0 edit (stands.free keys (taken_by db edit) []) done.1 in
       let put = puts done.0 w done.2 in (
         put.0 ∙ ap (put_row (stored id it)) step.rows,
@@ -113,11 +116,11 @@ module _ (schema : Schema) (limit : Option ℕ) (keys : Keys) (params : Row) (d 
       )
 
   conflicting : (db : Trees) (found : List Row) → AllByRecursion IsDevice (db d)
-      → AreConflicts None schema.indexes (device_table d) (db d) (stored id it) found
+      → AreConflicts None schema.indexes (device_table Second d) (db d) (stored id it) found
       → AllByRecursion (λ i. i ≡ pos id) (ids_of found)
   conflicting db found all h = gone_ids id found (λ x in_found.
       let one = h.sound x in_found in
-      rw one.3 (same_id schema.indexes (device_table d) id it one.0
+      rw one.3 (same_id schema.indexes (device_table Second d) id it one.0
       (held (db d) one.0 all one.1) stands.unindexed one.2))
 
   tries : (db : Trees) (w : Written) → AllByRecursion IsDevice (db d) → Tries task Replace [] (stored id it) db (Ok w)
@@ -128,7 +131,7 @@ module _ (schema : Schema) (limit : Option ℕ) (keys : Keys) (params : Row) (d 
       let found = h.0 in
       let step = clears db found w h.2 in
       record {
-        device = checked d id it judged.3;
+        device = checked d id it is_one judged.3;
         gone = ids_of found;
         same = conflicting db found all h.1;
         fresh = step.2;
@@ -136,18 +139,18 @@ module _ (schema : Schema) (limit : Option ℕ) (keys : Keys) (params : Row) (d 
         others = step.1;
       }
 
-pub learns : (schema : Schema) (at d : ℕ) (limit : Option ℕ) (mode : Mode) (id : ℕ) (it : Learned) (db : Trees)
-    (text : List ℕ) (tally : Tally) (after : Database)
-    → slice_get schema.tables at ≡ Some (device_table d) → StandsAlone schema d → AllByRecursion IsDevice (db d)
-    → Does limit mode (learn_params id it) (record { schema = schema; trees = db }) text None
-    (InsertOr at Replace (Values learn_terms 4) []) (Ok (tally, after))
+pub puts_in : (schema : Schema) (at d : ℕ) (limit : Option ℕ) (mode : Mode) (id : ℕ) (it : Learned)
+    (is_one : is_label it.label ≡ true) (db : Trees) (text : List ℕ) (tally : Tally) (after : Database)
+    → slice_get schema.tables at ≡ Some (device_table Second d) → StandsAlone schema d → AllByRecursion IsDevice (db d)
+    → Does limit mode (put_params id it) (record { schema = schema; trees = db }) text None
+    (InsertOr at Replace (Values put_terms 5) []) (Ok (tally, after))
     → (after.schema ≡ schema) × IsPut schema d id it db after.trees
-learns schema at d limit mode id it db text tally after there stands all does =
-    let command = InsertOr at Replace (Values learn_terms 4) [] in
+puts_in schema at d limit mode id it is_one db text tally after there stands all does =
+    let command = InsertOr at Replace (Values put_terms 5) [] in
     let here = λ (table : Table).
     let t : Task =
-    record { limit = limit; keys = mode.keys; schema = schema; table = table; params = learn_params id it } in t in
-    let h : OnRows (here (device_table d)) mode None command db (Ok (tally, after)) =
+    record { limit = limit; keys = mode.keys; schema = schema; table = table; params = put_params id it } in t in
+    let h : OnRows (here (device_table Second d)) mode None command db (Ok (tally, after)) =
     subst (λ o. AtPlace (λ table. OnRows (here table) mode None command db) o (Ok (tally, after))) there does in
     let done = went h in
     let given = went done.1 in
@@ -160,12 +163,14 @@ learns schema at d limit mode id it db text tally after there stands all does =
     let now : after ≡ record { schema = schema; trees = done.0.trees } =
     ap (λ (p : Tally × Database). p.1) (same_value shown.2) in
     let each =
-    went (subst (λ rows. TriesEach (here (device_table d)) Replace [] rows top (nothing db) (Ok tried.0)) given.1.1
+    went
+    (subst (λ rows. TriesEach (here (device_table Second d)) Replace [] rows top (nothing db) (Ok tried.0)) given.1.1
     tried.1) in
-    let new_is : with_rowid (rowids_for (device_table d) top) (db d) (cast_row (device_table d) (stored id it))
+    let new_is :
+    with_rowid (rowids_for (device_table Second d) top) (db d) (cast_row (device_table Second d) (stored id it))
     ≡ stored id it = ap (with_rowid Chosen (db d)) (cast_stored d id it) in
-    let put = tries schema limit mode.keys (learn_params id it) d id it stands db each.0 all
-    (subst (λ new. Tries (here (device_table d)) Replace [] new db (Ok each.0)) new_is each.1) in
+    let put = tries schema limit mode.keys (put_params id it) d id it is_one stands db each.0 all
+    (subst (λ new. Tries (here (device_table Second d)) Replace [] new db (Ok each.0)) new_is each.1) in
     let trees : after.trees ≡ each.0.trees =
     ap (λ (d : Database). d.trees) now ∙ ap (λ (w : Written). w.trees) (same_value ended.2) ∙ same_value ended.1
     ∙ ap (λ (p : Written × ℤ). p.0.trees) (same_value each.2) in

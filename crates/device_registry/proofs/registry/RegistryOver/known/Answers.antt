@@ -1,5 +1,5 @@
-use Rattle.device_registry.proofs.CacheAgreement.{fewer_recalled, recalled, unmoved, found_recalled}
-use Rattle.device_registry.proofs.registry.RegistryOver.find.Goals as goal
+use Rattle.device_registry.proofs.CacheAgreement.{fewer_recalled, recalled, told_ready, unmoved, found_recalled}
+use Rattle.device_registry.proofs.registry.RegistryOver.known.Goals as goal
 
 -- ---- the sender is remembered
 
@@ -10,8 +10,8 @@ invariant_of-self g c = (
       c.cached.new.cache.entries c.self.invariant.1 c.cached.ensures.kept,
 )
 
-pub returns-in-Some : goal.returns-in-Some
-returns-in-Some g c =
+pub returns-in-Some-clause-looks_up : goal.returns-in-Some-clause-looks_up
+returns-in-Some-clause-looks_up g c =
     let now = g.C.SqlConnection.state c.self.inside.table in
     rw (← c.self.view_is) (record {
       clean = λ clean. clean;
@@ -23,6 +23,12 @@ returns-in-Some g c =
             unmoved now devices has,
           );
     })
+
+pub returns-in-Some-clause-ready : goal.returns-in-Some-clause-ready
+returns-in-Some-clause-ready g c clean =
+    let now = g.C.SqlConnection.state c.self.inside.table in
+    rw (← c.self.view_is) (told_ready now (c.args.id, c.in-Some.known)
+    (c.self.invariant.1 (c.args.id, c.in-Some.known) c.in-Some.ensures.known clean))
 
 -- ---- it is looked up
 
@@ -37,8 +43,11 @@ invariant_of-self-in-Ok g c =
           c.cached.ensures.kept) (rw c.copied-copy.ensures at c.remember.ensures.kept),
     )
 
-pub returns-in-Ok : goal.returns-in-Ok
-returns-in-Ok g c = rw (← c.self.view_is) c.in-Ok.ensures.looks_up
+pub returns-in-Ok-clause-looks_up : goal.returns-in-Ok-clause-looks_up
+returns-in-Ok-clause-looks_up g c = rw (← c.self.view_is) c.in-Ok.ensures.looks_up
 
-pub returns-in-Err : goal.returns-in-Err
-returns-in-Err g c = rw (← c.self.view_is) c.in-Err.ensures.looks_up
+pub returns-in-Ok-clause-ready : goal.returns-in-Ok-clause-ready
+returns-in-Ok-clause-ready g c clean = rw (← c.self.view_is) (c.in-Ok.ensures.ready clean)
+
+pub returns-in-Err-clause-looks_up : goal.returns-in-Err-clause-looks_up
+returns-in-Err-clause-looks_up g c = rw (← c.self.view_is) c.in-Err.ensures.looks_up

@@ -1,0 +1,65 @@
+-- The list of the objects, queried inside a transaction of ours.
+use Rattle.std.proofs.Common.{◌≡◌, ◌⊎◌, inl, inr, List, [], Ok, Err, Result, IfOk, IfErr, true, sym, subst, ◌∙◌}
+use Rattle.std.proofs.Common.{arith, ℕ}
+use Rattle.sqlite.specs.declared.error.Error.{Error}
+use Rattle.sqlite.specs.Order.{Row}
+use Rattle.sqlite.specs.Effect.{Database, IsDatabase}
+use Rattle.sqlite.specs.State.{State, HasCleanDisk, Survives, KeepsCommit, Shown, FailsToQuery, IsTooLate, IsUnchanged}
+use Rattle.sqlite.specs.Held.{Held, state}
+use Rattle.sqlite_trees.specs.declared.store.Store.{Ghosts}
+use Rattle.device_registry.specs.declared.table.Version.{Version}
+use Rattle.device_registry.specs.Table.{list_objects_text}
+use Rattle.device_registry.specs.Listing.{are_ours}
+use Rattle.device_registry.specs.Opening.{AreListed}
+use Rattle.device_registry.specs.Transaction.{IsUncommitted, IsInside, IsListedInside}
+use Rattle.device_registry.proofs.ListObjectsAnswer.{listing_plain}
+use Rattle.device_registry.proofs.RefusalKeeps.{spared_commit}
+use Rattle.device_registry.proofs.StatementSteps.{not_shown, shown_same}
+use Rattle.device_registry.proofs.TablesRecognized.{ours_told}
+use Rattle.device_registry.proofs.TransactionSteps.{uncommitted_then}
+
+-- nothing is committed by it
+seen_commit : {V : Type 0} (items : V → List Row) (old new : State) (r : Result V Error) → IsDatabase old.now
+    → IfOk r (λ v. Shown list_objects_text [] old new (items v))
+    → IfErr r (λ e. FailsToQuery list_objects_text [] old new e ⊎ IsTooLate list_objects_text [] old new e)
+    → KeepsCommit old new
+seen_commit items old new (Ok v) sound ok err =
+    spared_commit old new (inl (shown_same list_objects_text [] old new (listing_plain old.now sound) (items v) ok))
+seen_commit items old new (Err e) sound ok (inl fails) =
+    spared_commit old new (not_shown list_objects_text [] old new (listing_plain old.now sound) e fails)
+seen_commit items old new (Err e) sound ok (inr late) = spared_commit old new (inl late.5)
+
+module _ {S : Type 0} (g : Ghosts S) (texts : List (List ℕ)) (a b c : Held S) (made : IsInside g texts a b)
+    (sound : HasCleanDisk (state g b) → IsDatabase (state g b).now)
+    (stop : Survives (state g b) (state g c) (λ _. ⊥)) where
+  early : HasCleanDisk (state g c) → HasCleanDisk (state g b)
+  early clean = omega (arith, clean, stop.clean)
+
+  pub seen_uncommitted : {V : Type 0} (items : V → List Row) (r : Result V Error)
+      → (HasCleanDisk (state g c) → IfOk r (λ v. Shown list_objects_text [] (state g b) (state g c) (items v)))
+      → (HasCleanDisk (state g c) → IfErr r (λ e. FailsToQuery list_objects_text [] (state g b) (state g c) e
+      ⊎ IsTooLate list_objects_text [] (state g b) (state g c) e))
+      → IsUncommitted (state g a) (state g c)
+  seen_uncommitted items r ok err = uncommitted_then (state g a) (state g b) (state g c) made.uncommitted (record {
+    stop = stop;
+    kept = λ clean. seen_commit items (state g b) (state g c) r (sound (early clean)) (ok clean) (err clean);
+  })
+
+  -- and where it has our lines they are listed
+  pub listed_inside : (version : Version) (rows : List Row) → IsUncommitted (state g a) (state g c)
+      → (HasCleanDisk (state g c) → Shown list_objects_text [] (state g b) (state g c) rows)
+      → are_ours version rows ≡ true → IsListedInside g version texts a c
+  listed_inside version rows uncommitted shown ours =
+      let same = λ (clean : HasCleanDisk (state g c)).
+      let it : IsUnchanged (state g b) (state g c) = shown_same list_objects_text [] (state g b) (state g c)
+      (listing_plain (state g b).now (sound (early clean))) rows (shown clean) in it in
+      record {
+        mid = b;
+        made = made;
+        uncommitted = uncommitted;
+        inside = λ clean. (same clean).0.mode ∙ made.inside (early clean);
+        clean = early;
+        same = λ clean. (same clean).0.now_is;
+        listed = λ clean _. subst (λ (db : Database). AreListed version db.trees) (sym (same clean).0.now_is)
+            (ours_told version (state g b) (state g c) rows (sound (early clean)) (shown clean) ours);
+      }

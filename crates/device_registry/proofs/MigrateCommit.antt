@@ -1,0 +1,122 @@
+-- The transaction of the migration, from its begin to its end.
+use Rattle.std.proofs.Common.{◌≡◌, ℕ, List, [], ◌∷◌, Result, OnOk, IfErr, OnErr, true, refl, sym, subst}
+use Rattle.std.proofs.Common.{arith}
+use Rattle.sqlite.specs.declared.error.Error.{Error}
+use Rattle.sqlite.specs.Effect.{Database, IsDatabase}
+use Rattle.sqlite.specs.State.{State, HasCleanDisk, Survives}
+use Rattle.sqlite.specs.Steps.{FailsToCommit}
+use Rattle.sqlite.specs.Held.{Held, state}
+use Rattle.sqlite_trees.specs.declared.store.Store.{Ghosts}
+use Rattle.device_registry.specs.declared.table.Version.TheVariants.{First, Second}
+use Rattle.device_registry.specs.Devices.{Devices}
+use Rattle.device_registry.specs.Table.{device_text, copy_text, drop_text, renew_text}
+use Rattle.device_registry.specs.Table.Rows.{devices_in, rows_of}
+use Rattle.device_registry.specs.Stored.{IsRegistry, RegistersAs, Registers, Holds}
+use Rattle.device_registry.specs.Ready.{Shows}
+use Rattle.device_registry.specs.Opening.{AreListed, IsOwn, Remains}
+use Rattle.device_registry.specs.Transaction.{IsUncommitted, IsInside, IsListedInside}
+use Rattle.device_registry.proofs.DevicesHeld.{registers_by}
+use Rattle.device_registry.proofs.MakeEffect.{Commits, shows_committed, ok_committed}
+use Rattle.device_registry.proofs.MigrateEffect.{migrates}
+use Rattle.device_registry.proofs.TransactionSteps.{since, leaves, uncommitted_remains}
+
+abbrev pub migration : List (List ℕ)
+migration = device_text Second ∷ copy_text ∷ drop_text ∷ renew_text ∷ []
+
+-- a database that shows a registry of the second version with the devices of a first, listed as this program lists it
+record IsMigrated (old : Database) (new : Database) : Type 0 where
+  registry : IsRegistry First old
+  registers : Registers new (devices_in (rows_of First (old.trees registry.tables.devices)))
+  sound : IsDatabase new
+  listed : AreListed Second new.trees
+
+-- it registers whatever the first did
+same_devices : (old new : Database) → IsMigrated old new → (devices : Devices) → RegistersAs First old devices
+    → Registers new devices
+same_devices old new it devices were = subst (Registers new)
+    (registers_by First old _ devices (record { registry = it.registry; is = refl }) were) it.registers
+
+owned : (old new : Database) → IsMigrated old new → IsOwn Second new.trees
+owned old new it =
+    record { db = new; same = refl; sound = it.sound; registry = it.registers.registry; listed = it.listed }
+
+-- what the texts make of a first version
+module _ {S : Type 0} (g : Ghosts S) (old start mid : Held S) (is : start ≡ record old { in_transaction = true })
+    (it : IsInside g migration start mid) (was : IsRegistry First (state g old).now)
+    (was_sound : IsDatabase (state g old).now) (clean : HasCleanDisk (state g mid)) where
+  pub ran : Registers (state g mid).now (devices_in (rows_of First ((state g old).now.trees was.tables.devices)))
+      × IsDatabase (state g mid).now
+  ran =
+      let at = subst (λ h. IsInside g migration h mid) is it in
+      let one = at.ran clean in
+      let two = one.3 in
+      let three = two.3 in
+      let four = three.3 in
+      subst (λ h. Registers (state g h).now
+      (devices_in (rows_of First ((state g old).now.trees was.tables.devices))) × IsDatabase (state g h).now) four.3
+      (migrates (state g (record old { in_transaction = true })) (state g one.0) (state g two.0) (state g three.0)
+      (state g four.0) one.1 two.1 three.1 four.1 was was_sound one.2 two.2 three.2 four.2)
+
+module _ {S : Type 0} (g : Ghosts S) (old start : Held S) (is : start ≡ record old { in_transaction = true })
+    (first : HasCleanDisk (state g old) → IsRegistry First (state g old).now × IsDatabase (state g old).now) where
+  before : (new : State) → IsUncommitted (state g start) new → HasCleanDisk new
+      → IsRegistry First (state g old).now × IsDatabase (state g old).now
+  before new it clean = first (omega (arith, clean, (since g old start new is it).stop.clean))
+
+  -- it is a database
+  pub sound_inside : (mid : Held S) → HasCleanDisk (state g mid) → IsInside g migration start mid
+      → IsDatabase (state g mid).now
+  sound_inside mid clean it =
+      let was = before (state g mid) it.uncommitted clean in (ran g old start mid is it was.0 was.1 clean).1
+
+module _ {S : Type 0} (g : Ghosts S) (old start last : Held S) (is : start ≡ record old { in_transaction = true })
+    (it : IsListedInside g Second migration start last)
+    (first : HasCleanDisk (state g old) → IsRegistry First (state g old).now × IsDatabase (state g old).now) where
+  -- what it shows before the commit
+  shows : HasCleanDisk (state g last) → IsMigrated (state g old).now (state g last).now
+  shows clean =
+      let was = before g old start is first (state g last) it.uncommitted clean in
+      let done = ran g old start it.mid is it.made was.0 was.1 (it.clean clean) in
+      let P = λ (db : Database).
+      Registers db (devices_in (rows_of First ((state g old).now.trees was.0.tables.devices))) × IsDatabase db in
+      let here = subst P (sym (it.same clean)) done in
+      record { registry = was.0; registers = here.0; sound = here.1; listed = it.listed clean here.1 }
+
+  module _ {V : Type 0} (r : Result V Error) (e : State)
+      (commits : Survives (state g last) e (λ trees. trees ≡ (state g last).now.trees)) where
+    pub made : (HasCleanDisk e → OnOk r (Commits (state g last) e)) → HasCleanDisk e → OnOk r (IsOwn Second e.now.trees
+        × ((devices : Devices) → RegistersAs First (state g old).now devices → Shows e devices))
+    made ends clean =
+        let db = shows (omega (arith, clean, commits.clean)) in
+        ok_committed (state g last) e r
+        (IsOwn Second e.now.trees
+        × ((devices : Devices) → RegistersAs First (state g old).now devices → Shows e devices))
+        (λ done. (
+          subst (λ (db : Database). IsOwn Second db.trees) (sym done.1.now_is)
+              (owned (state g old).now (state g last).now db),
+          λ devices were. shows_committed (state g last) e devices
+              (same_devices (state g old).now (state g last).now db devices were) db.sound done,
+        ))
+        (ends clean)
+
+    pub made_stop : Survives (state g old) e (λ trees. IsOwn Second trees
+        × ((devices : Devices) → RegistersAs First (state g old).now devices → Holds trees devices))
+    made_stop =
+        leaves (state g old) (state g last) e (since g old start (state g last) is it.uncommitted) commits
+        (λ trees. IsOwn Second trees
+        × ((devices : Devices) → RegistersAs First (state g old).now devices → Holds trees devices))
+        (λ clean. let db = shows clean in (
+          owned (state g old).now (state g last).now db,
+          λ devices were. record {
+            db = (state g last).now;
+            same = refl;
+            sound = db.sound;
+            registers = same_devices (state g old).now (state g last).now db devices were;
+          },
+        ))
+
+    pub made_not : (HasCleanDisk e → IfErr r (FailsToCommit (state g last) e)) → HasCleanDisk e
+        → OnErr r (Remains (state g old) e)
+    made_not failed =
+        uncommitted_remains (state g old) (state g last) e (since g old start (state g last) is it.uncommitted) commits
+        r it.inside failed

@@ -1,0 +1,93 @@
+-- What the texts mean that copy the devices of the first version and drop its table.
+use Rattle.std.proofs.Common.{◌≡◌, ℕ, List, [], ◌∷◌, codes, false, None, Some, Ok, refl}
+use Rattle.sqlite.specs.declared.types.Value.TheVariants as value
+use Rattle.sqlite.specs.Term.{lit, col}
+use Rattle.sqlite.specs.Collation.TheVariants.{Binary}
+use Rattle.sqlite.specs.Schema.{Schema}
+use Rattle.sqlite.specs.Source.TheVariants as source
+use Rattle.sqlite.specs.Command.TheVariants.{Insert, DropTable}
+use Rattle.sqlite_schema.specs.Names.{view_named, same_name}
+use Rattle.sqlite_ast.specs.declared.Conflict.TheVariants.{Abort}
+use Rattle.sqlite_ast.specs.declared.Expr.TheVariants.{Text}
+use Rattle.sqlite_ast.specs.declared.Rows.TheVariants as rows
+use Rattle.sqlite_ast.specs.declared.Shown.TheVariants.{One}
+use Rattle.sqlite_ast.specs.declared.Statement.TheVariants as written
+use Rattle.sqlite_draft.specs.declared.query.Draft.{Draft}
+use Rattle.sqlite_resolve.specs.Compile.{timed, returning, command, drop_table, insert, insert_or_abort, new_rows}
+use Rattle.sqlite_resolve.specs.Compile.{source_of, queried, is_reserved}
+use Rattle.sqlite_resolve.specs.Write.{inserted, selected, as_row, places}
+use Rattle.sqlite_tied.specs.Compute.{everything}
+use Rattle.device_registry.specs.declared.table.Version.TheVariants.{First, Second}
+use Rattle.device_registry.proofs.StatementTexts.{column_read, program_of, plain_query, copy_query}
+use Rattle.device_registry.proofs.TextMeaning.{IsRead, Means, means, draft_of, program_is}
+use Rattle.device_registry.proofs.SelectMeaning.{PlainSelect, plain_select, select_of, asked, query_is}
+use Rattle.device_registry.proofs.WriteMeaning.{insert_means}
+use Rattle.device_registry.specs.Table.{copy_text, drop_text, device_name, device_table}
+use Rattle.device_registry.specs.Stored.{Stands}
+
+-- the columns that are filled, and their places in a row
+abbrev filled : List (List ℕ)
+filled = codes "id" ∷ codes "eep" ∷ codes "maker" ∷ codes "label" ∷ []
+
+abbrev filled_places : List ℕ
+filled_places = 0 ∷ 2 ∷ 3 ∷ 4 ∷ []
+
+-- the devices of the first version, each with the empty label
+abbrev copied : PlainSelect
+copied = plain_select (device_name First) (column_read (codes "id") ∷ column_read (codes "eep")
+    ∷ column_read (codes "maker") ∷ One (Text []) None (codes "''") ∷ []) None []
+
+copy_read : IsRead copy_text
+    (written.Insert Abort (device_name Second) filled (rows.Select (select_of copied)) [] [])
+unfolding everything
+copy_read = record { parsed = _; read = refl; is = refl; timeless = refl }
+
+-- what they are as a query, before it is laid out as rows of the second version
+abbrev copy_draft : ℕ → Draft
+copy_draft d = draft_of (device_table First d)
+    (plain_query d [] (col 1 0 ∷ col 1 2 ∷ col 1 3 ∷ lit (value.Text []) ∷ []))
+
+abbrev laid_out : ℕ → Draft
+laid_out d = record (copy_draft d) { project = (copy_query d).project; collations = (copy_query d).collations }
+
+places_are : (e : ℕ) → places (device_table Second e) filled ≡ Ok filled_places
+unfolding everything
+places_are e = refl
+
+row_is : (base d e : ℕ) → as_row (device_table Second e) base filled_places (copy_draft d)
+    ≡ Ok ((copy_query d).project, (copy_query d).collations)
+unfolding everything
+row_is base d e = refl
+
+module _ (schema : Schema) (at d : ℕ) (it : Stands schema (device_name First) (device_table First d) at) where
+  asks : asked schema at (device_table First d) copied
+      ≡ Ok (
+        copy_draft d,
+        codes "id" ∷ codes "eep" ∷ codes "maker" ∷ codes "''" ∷ [],
+        None ∷ Some Binary ∷ Some Binary ∷ None ∷ [],
+      )
+  unfolding everything
+  asks = rw (it.there, it.there)
+
+  pub copy_means : (to e : ℕ) → Stands schema (device_name Second) (device_table Second e) to
+      → Means schema copy_text (Insert to (source.Query (program_of (copy_query d))))
+  unfolding command insert_or_abort insert new_rows inserted selected source_of queried
+  copy_means to e target =
+      insert_means target _ copy_read refl
+      (λ base. rw (
+        target.named,
+        target.there,
+        places_are e,
+        query_is copied it _ asks,
+        row_is base d e,
+        program_is it (laid_out d) (record { from = refl; accepted = refl }),
+      ))
+
+  drop_read : IsRead drop_text (written.DropTable false (device_name First))
+  unfolding everything
+  drop_read = record { parsed = _; read = refl; is = refl; timeless = refl }
+
+  -- no view has its name
+  pub drop_means : view_named schema (device_name First) ≡ None → Means schema drop_text (DropTable at)
+  unfolding timed returning command drop_table is_reserved same_name
+  drop_means none = means schema _ drop_read refl (λ base. refl) (λ base. rw (none, it.named))

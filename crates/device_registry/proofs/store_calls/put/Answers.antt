@@ -1,0 +1,33 @@
+use Rattle.std.proofs.Common.{rules, ◌≡◌, ◌<◌, true, SFits, w64, to_z-of_z}
+use Rattle.sqlite.specs.State.{HasCleanDisk, Executes, CommitsBy, Survives}
+use Rattle.learned_devices.specs.Labels.{is_label}
+use Rattle.device_registry.specs.Devices.{Learned, known_of}
+use Rattle.device_registry.specs.Table.{put_text}
+use Rattle.device_registry.proofs.PutEffect.{put_params}
+use Rattle.device_registry.proofs.WritesTurn.{put_turns}
+use Rattle.device_registry.proofs.store_calls.put.Goals as goal
+
+pub returns : goal.returns
+returns g c change makes =
+    let old = g.C.SqlConnection.state c.args.conn.now in
+    let new = g.C.SqlConnection.state c.run_put.new.conn in
+    let it : Learned = known_of c.args.device in
+    let rorg : c.args.device.eep.rorg < 256 = search rules in
+    let func : c.args.device.eep.func < 256 = search rules in
+    let typ : c.args.device.eep.typ < 256 = search rules in
+    let a : SFits w64 c.from.result = search rules in
+    let b : SFits w64 c.number_of.result = search rules in
+    let m : SFits w64 c.number_of_maker.result = search rules in
+    let label : is_label it.label ≡ true = search rules in
+    let survived : Survives old new (CommitsBy put_text (put_params c.args.device.id it) old) =
+    rw (c.from.ensures, c.number_of.ensures, c.number_of_maker.ensures, c.as_str.ensures.text) at
+    (simp to_z-of_z at c.run_put.ensures.survives) in
+    let ran = λ (clean : HasCleanDisk new).
+    let done : Executes put_text (put_params c.args.device.id it) old new c.run_put.result =
+    rw (c.from.ensures, c.number_of.ensures, c.number_of_maker.ensures, c.as_str.ensures.text) at
+    (simp to_z-of_z at (c.run_put.ensures.runs clean)) in done in
+    put_turns change c.args.device.id it (record { rorg = rorg; func = func; typ = typ }) label old new
+    c.run_put.result c.requires.ready (λ clean devices shows. (
+      c.requires.room clean devices shows,
+      makes clean devices shows,
+    )) survived ran

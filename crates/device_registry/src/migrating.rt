@@ -1,0 +1,38 @@
+//! A registry of the first version, made one of the second.
+ghost use Rattle.std.specs.Prelude.{◌≡◌, false, IsTrue, OnOk, OnErr};
+ghost use Rattle.sqlite.specs.State.{HasCleanDisk, Survives};
+ghost use Rattle.sqlite.specs.Effect.{IsDatabase};
+ghost use Rattle.sqlite.specs.Held.{state};
+ghost use Rattle.device_registry.specs.declared.table.Version.TheVariants.{First, Second};
+ghost use Rattle.device_registry.specs.Devices.{Devices};
+ghost use Rattle.device_registry.specs.Stored.{IsRegistry, RegistersAs, Holds};
+ghost use Rattle.device_registry.specs.Ready.{Shows};
+ghost use Rattle.device_registry.specs.Opening.{IsOwn, Remains};
+
+use crate::table::Version;
+use crate::table::statements::{COPY, CREATE_DEVICE, DROP_FIRST_DEVICE, RENEW};
+use crate::transaction::run_listed;
+use sqlite::{Alter, Connection, Error};
+
+/// Makes the second version of the table, with the devices of the first, drops the first and writes the second version,
+/// in one transaction.
+pub fn migrate<S: Alter>(conn: &mut Connection<S>) -> Result<(), Error>
+    requires idle { conn.old.in_transaction ≡ false }
+    requires first { HasCleanDisk (state S.Store conn.old) → IsRegistry First (state S.Store conn.old).now ×
+        IsDatabase (state S.Store conn.old).now }
+    ensures made { HasCleanDisk (state S.Store conn.new) → OnOk result (IsOwn Second (state S.Store conn.new).now.trees
+        × ((devices : Devices) → RegistersAs First (state S.Store conn.old).now devices →
+        Shows (state S.Store conn.new) devices)) }
+    ensures stop { Survives (state S.Store conn.old) (state S.Store conn.new) (λ trees. IsOwn Second trees ×
+        ((devices : Devices) → RegistersAs First (state S.Store conn.old).now devices → Holds trees devices)) }
+    ensures remains { HasCleanDisk (state S.Store conn.new) → OnErr result (Remains (state S.Store conn.old)
+        (state S.Store conn.new)) }
+{
+    let mut migrating = conn.transaction();
+    run_listed(
+        &mut migrating,
+        &[CREATE_DEVICE, COPY, DROP_FIRST_DEVICE, RENEW],
+        Version::Second,
+    )?;
+    migrating.commit()
+}

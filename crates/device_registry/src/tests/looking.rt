@@ -1,0 +1,109 @@
+//! Databases made of texts, and looks at what they hold.
+use super::given::{
+    DEVICE_TABLE, FIRST_DEVICE_TABLE, FIRST_VERSION_ROW, META_TABLE, VERSION_ROW, number,
+    prepare_idle, run,
+};
+use crate::table::Version;
+use sqlite::{Alter, Connection, Row};
+use std::alloc::Global;
+use std::process::Abort;
+use std::test::Fail;
+
+/// The statements that make a registry, by their marks.
+const OURS: &str = "<META>\n<DEVICE>\n<VERSION>";
+
+/// The marks of a text that is told of both versions: each with what stands for it in the first, and in the second.
+const MARKS: [(&str, &str, &str); 13] = [
+    ("<OURS>", OURS, OURS),
+    ("<META>", META_TABLE, META_TABLE),
+    ("<DEVICE>", FIRST_DEVICE_TABLE, DEVICE_TABLE),
+    ("<OTHER DEVICE>", DEVICE_TABLE, FIRST_DEVICE_TABLE),
+    ("<VERSION>", FIRST_VERSION_ROW, VERSION_ROW),
+    ("<OTHER VERSION>", VERSION_ROW, FIRST_VERSION_ROW),
+    ("<device>", "enogate_device", "enogate_device_v2"),
+    ("<Device>", "Enogate_Device", "ENOGATE_device_V2"),
+    ("<other>", "enogate_device_v2", "enogate_device"),
+    ("<Other>", "Enogate_Device_V2", "enogate_DEVICE"),
+    ("<label>", "", ", label TEXT NOT NULL"),
+    ("<empty>", "", ", ''"),
+    ("<n>", "1", "2"),
+];
+
+/// The text in a version.
+pub fn in_version(alloc: Global, text: &str, version: Version) -> Result<String, Fail> {
+    let mut told = String::from_str(alloc, text)?;
+    for (mark, first, second) in MARKS {
+        told = match version {
+            Version::First => told.replace(alloc, mark, first)?,
+            Version::Second => told.replace(alloc, mark, second)?,
+        };
+    }
+    Ok(told)
+}
+
+/// Runs the statements, of which each has a line.
+pub fn run_lines<S: Alter>(conn: &mut Connection<S>, lines: &str) -> Result<(), Fail> {
+    for line in lines.lines() {
+        run(conn, line)?;
+    }
+    Ok(())
+}
+
+/// The objects of a database, each by its kind, its name and its text.
+pub fn objects<S: Alter>(alloc: Global, conn: &mut Connection<S>) -> Result<String, Fail> {
+    let mut told = String::new(alloc);
+    for row in &conn.query_all(
+        "SELECT type, name, sql FROM sqlite_schema ORDER BY rowid",
+        &[],
+    )? {
+        tell_object(row, &mut told)?;
+    }
+    Ok(told)
+}
+
+fn tell_object(row: &Row, told: &mut String) -> Result<(), Fail> {
+    for at in 0..3 {
+        let text: Option<String> = row.get(at)?;
+        told.push_str(text.as_deref().unwrap_or("no text"))?;
+        told.push('\n')?;
+    }
+    Ok(())
+}
+
+pub fn has_objects<S: Alter>(
+    alloc: Global,
+    rt: &impl Abort,
+    conn: &mut Connection<S>,
+    wanted: &str,
+) -> Result<(), Fail> {
+    assert_eq!(rt; objects(alloc, conn)?.as_str(), wanted);
+    Ok(())
+}
+
+pub fn show<S: Alter>(
+    rt: &impl Abort,
+    conn: &mut Connection<S>,
+    query: &str,
+    shown: i64,
+) -> Result<(), Fail> {
+    assert_eq!(rt; number(conn, query)?, shown, "{query}");
+    Ok(())
+}
+
+pub fn prepares<S: Alter>(rt: &impl Abort, conn: &mut Connection<S>) -> Result<(), Fail> {
+    assert_eq!(rt; prepare_idle(conn)?, Ok(()));
+    Ok(())
+}
+
+/// Shows, of each line of the table, by its query its number.
+pub fn show_each<S: Alter>(
+    rt: &impl Abort,
+    conn: &mut Connection<S>,
+    table: &str,
+) -> Result<(), Fail> {
+    for line in table.lines() {
+        let (query, shown) = line.rsplit_once(" = ").ok_or("no number")?;
+        show(rt, conn, query, shown.parse()?)?;
+    }
+    Ok(())
+}
