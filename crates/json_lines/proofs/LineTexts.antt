@@ -216,7 +216,7 @@ device_told known bytes sent =
     let same : object_text (told (device_members known)) ++ codes "\n" ≡ text (DeviceLine known) =
     rw (plain-eep known.eep, plain-id known.id, text-maker known.maker) refl in
     let whole : has_float (object_of (device_members known)) ≡ false = rw (no_float-maker known.maker) refl in
-    line_told (device_members known) bytes (refl, (refl, (refl, (refl, tt)))) whole sent ∙ same
+    line_told (device_members known) bytes (refl, (refl, (refl, (refl, (refl, tt))))) whole sent ∙ same
 
 pub list_told : (count : ℕ) (bytes : List ℕ) → IsLineOf (SendsValue (object_of (list_members count))) bytes
     → bytes ≡ text (ListEnd count)

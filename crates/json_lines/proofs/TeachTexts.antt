@@ -62,11 +62,6 @@ grouped-teach : (maker word more : List ℕ)
     ≡ maker ++ 44 ∷ ((codes "\"result\":\"" ++ (word ++ codes "\",\"type\":\"teach\"}\n")) ++ more)
 grouped-teach maker word more = simp append_assoc
 
-grouped-device : (maker more : List ℕ)
-    → (((maker ++ codes ",\"type\":\"device\"") ++ codes "}") ++ codes "\n") ++ more
-    ≡ maker ++ 44 ∷ (codes "\"type\":\"device\"}\n" ++ more)
-grouped-device maker more = simp append_assoc
-
 pub teach-known : (eep : Eep) (id : ℕ) (maker : Option ℕ) (outcome : Outcome) (more : List ℕ)
     → drop 42 (text (Teach (record { eep = Some eep; id = id; maker = maker; outcome = outcome })) ++ more)
     ≡ or_null decimal maker ++ 44 ∷ (result_text outcome ++ more)
@@ -78,12 +73,6 @@ pub teach-unknown : (id : ℕ) (maker : Option ℕ) (outcome : Outcome) (more : 
     ≡ or_null decimal maker ++ 44 ∷ (result_text outcome ++ more)
 unfolding encode_with result_text
 teach-unknown id maker outcome more = grouped-teach (or_null decimal maker) (outcome_word outcome) more
-
-device-known : (known : Device) (more : List ℕ)
-    → drop 42 (text (DeviceLine known) ++ more)
-    ≡ or_null decimal known.maker ++ 44 ∷ (codes "\"type\":\"device\"}\n" ++ more)
-unfolding encode_with
-device-known known more = grouped-device (or_null decimal known.maker) more
 
 -- ---- the ends of teach lines
 
@@ -161,12 +150,15 @@ teach-more line told more e = one line.eep told.eep e
         let bytes : 110 ≡ 34 = ap (λ (t : List ℕ). slice_index_or t 7 0) h in
         absurd (omega (arith, bytes))
 
--- the end of a device's line is none of a teach line
-device-end : (outcome : Outcome) (more : List ℕ) → codes "\"type\":\"device\"}\n" ++ more ≢ result_text outcome ++ []
-unfolding result_text
-device-end outcome more e =
-    let bytes : 116 ≡ 114 = ap (λ (t : List ℕ). slice_index_or t 1 0) e in
-    absurd (omega (arith, bytes))
+-- behind the ID a device's line goes on with its label, and a teach line that tells a profile with its maker
+device-goes_on : (known : Device) (more : List ℕ) → slice_index_or (text (DeviceLine known) ++ more) 35 0 ≡ 108
+unfolding encode_with
+device-goes_on known more = refl
+
+teach-goes_on : (eep : Eep) (line : TeachLine)
+    → slice_index_or (text (Teach (record line { eep = Some eep })) ++ []) 35 0 ≡ 109
+unfolding encode_with
+teach-goes_on eep line = refl
 
 -- a device's line, and more
 device-more : (known : Device) (told : TeachLine) (more : List ℕ)
@@ -175,10 +167,9 @@ device-more known told more e = one told.eep e
   where
     one : (b : Option Eep) → text (DeviceLine known) ++ more ≢ text (Teach (record told { eep = b })) ++ []
     one (Some b) h =
-        let behinds : codes "\"type\":\"device\"}\n" ++ more ≡ result_text told.outcome ++ [] =
-        same-behind known.maker told.maker _ _ _ _ (device-known known more)
-        (teach-known b told.id told.maker told.outcome []) (ap (drop 42) h) in
-        device-end told.outcome more behinds
+        let bytes : 108 ≡ 109 =
+        sym (device-goes_on known more) ∙ ap (λ (t : List ℕ). slice_index_or t 35 0) h ∙ teach-goes_on b told in
+        absurd (omega (arith, bytes))
     one None h =
         let bytes : 34 ≡ 110 = ap (λ (t : List ℕ). slice_index_or t 7 0) h in
         absurd (omega (arith, bytes))

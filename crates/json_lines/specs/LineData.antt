@@ -108,6 +108,7 @@ abbrev pub device_members : Device → List (List ℕ × Data)
 device_members known =
     (codes "eep", profile_data known.eep)
     ∷ (codes "id", id_data known.id)
+    ∷ (codes "label", string known.label)
     ∷ (codes "maker", or_null number_data known.maker)
     ∷ (codes "type", string (codes "device")) ∷ []
 

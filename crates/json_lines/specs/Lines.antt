@@ -181,6 +181,7 @@ members_of (Teach line) =
 members_of (DeviceLine known) =
     (codes "eep", profile_text known.eep)
     ∷ (codes "id", in_quotes (id_text known.id))
+    ∷ (codes "label", quoted known.label)
     ∷ (codes "maker", or_null decimal known.maker)
     ∷ (codes "type", in_quotes (codes "device")) ∷ []
 members_of (ListEnd count) = (codes "count", decimal count) ∷ (codes "type", in_quotes (codes "list")) ∷ []

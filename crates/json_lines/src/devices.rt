@@ -23,11 +23,13 @@ impl Described for DeviceObject<'_> {
 
 impl Serialize for DeviceObject<'_> {
     fn serialize<S: Serializer>(&self, out: &mut S) -> Result<(), S::Error> {
-        out.begin_map(Some(4))?;
+        out.begin_map(Some(5))?;
         out.key("eep")?;
         put_profile(self.device.eep, out)?;
         out.key("id")?;
         put_id(self.device.id, out)?;
+        out.key("label")?;
+        out.str(self.device.label.as_str())?;
         out.key("maker")?;
         put_maker(self.device.maker, out)?;
         out.key("type")?;
@@ -73,7 +75,8 @@ fn list_end(alloc: Global, count: usize) -> Result<Line, AllocError>
 
 /// The lines of some devices in their order, and behind them the line of their count.
 ///
-/// `{"eep":"D5-00-01","id":"01800ABC","maker":null,"type":"device"}`, `{"count":1,"type":"list"}`
+/// `{"eep":"D5-00-01","id":"01800ABC","label":"Door \"A\"","maker":null,"type":"device"}`,
+/// `{"count":1,"type":"list"}`
 ///
 /// Any error is told as out of memory.
 pub fn device_lines(alloc: Global, devices: &[Device]) -> Result<Line, AllocError>

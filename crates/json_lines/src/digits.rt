@@ -7,7 +7,7 @@ ghost use Rattle.json_lines.specs.Lines.{as_text, byte_text, eep_text, id_text};
 use erp1_telegrams::Eep;
 
 // The bytes as upper-case hexadecimal digits.
-fn put_upper(bytes: &[u8], digits: &mut [u8])
+pub(crate) fn put_upper(bytes: &[u8], digits: &mut [u8])
     requires { length digits.old ≡ 2 * length bytes.now }
     ensures text { digits.new ≡ encode_upper bytes.now }
     ensures ascii { IsAscii digits.new }
@@ -28,7 +28,7 @@ pub(crate) fn id_digits(id: u32) -> [u8; 8]
 }
 
 // The digits of a byte.
-fn byte_digits(byte: u8) -> [u8; 2]
+pub(crate) fn byte_digits(byte: u8) -> [u8; 2]
     ensures text { result ≡ byte_text byte }
     ensures ascii { IsAscii result }
 {

@@ -1,7 +1,8 @@
 //! The lines that the desk is sent: one JSON object each, with no space between its parts, the members in the byte
 //! order of their names, and a line feed at the end; and the counts that a status line tells.
 //!
-//! What a line tells is a value of `DeskLine`, in `specs/Lines.antt`, and its bytes are that value's `text`.
+//! What a line tells is a value of `DeskLine`, in `specs/Lines.antt`, and its bytes are that value's `text`; what a
+//! packet line tells is a `PacketLine`, and its bytes are that value's `packet_text`, in `specs/PacketLines.antt`.
 #![tactic(auto)]
 
 mod counts;
@@ -10,7 +11,9 @@ mod digits;
 mod fixed;
 pub mod laws;
 mod line;
+mod packet;
 mod parts;
+mod pieces;
 mod reading;
 mod response;
 mod status;
@@ -20,6 +23,8 @@ pub use counts::{Count, Counts};
 pub use devices::device_lines;
 pub use fixed::{ErrorName, done_line};
 pub use line::Line;
+pub use packet::{PacketLine, ToldPacket, ToldTelegram, Why, packet_line};
+pub use pieces::LONGEST_PACKET_LINE;
 pub use reading::reading_line;
 pub use response::response_line;
 pub use status::status_line;

@@ -13,7 +13,7 @@ use std::alloc::{AllocError, Global};
 use teach_in::{Outcome, Verdict};
 
 // The word of an outcome.
-fn word_of(outcome: Outcome) -> &'static str
+pub(crate) fn word_of(outcome: Outcome) -> &'static str
     ensures { result.now ≡ outcome_word outcome }
 {
     match outcome {

@@ -240,7 +240,7 @@ fn help_of_both(rt: HostRuntime) -> Result<(), Fail> {
 
 #[test]
 fn version_text(rt: HostRuntime) -> Result<(), Fail> {
-    assert_eq!(rt; told(&rt, "enogate --version")?.as_str(), "enogate 0.1.0\n");
+    assert_eq!(rt; told(&rt, "enogate --version")?.as_str(), "enogate 0.2.0\n");
     Ok(())
 }
 

@@ -25,6 +25,8 @@ mod orders;
 #[cfg(test)]
 mod over_std;
 #[cfg(test)]
+mod packet_lines;
+#[cfg(test)]
 mod packets;
 #[cfg(test)]
 mod plain;

@@ -143,7 +143,7 @@ fn listings(rt: HostRuntime) -> Result<(), Fail> {
         id: 0x0000_0001,
         eep: CONTACT,
         maker: None,
-        label: Label::empty(),
+        label: Label::new("Door \"A\" \\ ~").ok_or("no label")?,
     };
     let actuator = Device {
         id: 0x0180_0ABC,
@@ -155,15 +155,17 @@ fn listings(rt: HostRuntime) -> Result<(), Fail> {
         id: 0xFFFF_FFFE,
         eep: ACTUATOR,
         maker: Some(2047),
-        label: Label::empty(),
+        label: Label::new("Window, first floor, left, no. 7").ok_or("no label")?,
     };
     let lines = device_lines(rt.alloc(), &[contact, actuator, last])?;
     check(
         &rt,
         lines.as_bytes(),
-        "{\"eep\":\"D5-00-01\",\"id\":\"00000001\",\"maker\":null,\"type\":\"device\"}\n\
-         {\"eep\":\"D2-01-12\",\"id\":\"01800ABC\",\"maker\":70,\"type\":\"device\"}\n\
-         {\"eep\":\"D2-01-12\",\"id\":\"FFFFFFFE\",\"maker\":2047,\"type\":\"device\"}\n\
+        "{\"eep\":\"D5-00-01\",\"id\":\"00000001\",\"label\":\"Door \\\"A\\\" \\\\ ~\",\"maker\":null,\
+         \"type\":\"device\"}\n\
+         {\"eep\":\"D2-01-12\",\"id\":\"01800ABC\",\"label\":\"\",\"maker\":70,\"type\":\"device\"}\n\
+         {\"eep\":\"D2-01-12\",\"id\":\"FFFFFFFE\",\"label\":\"Window, first floor, left, no. 7\",\"maker\":2047,\
+         \"type\":\"device\"}\n\
          {\"count\":3,\"type\":\"list\"}\n",
     );
     Ok(())

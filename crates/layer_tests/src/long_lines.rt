@@ -85,7 +85,7 @@ fn a_thousand_devices(rt: HostRuntime) -> Result<(), Fail> {
     let wanted = text(
         rt.alloc(),
         "",
-        "{\"eep\":\"A5-10-05\",\"id\":\"FFFFFFFE\",\"maker\":2047,\"type\":\"device\"}\n",
+        "{\"eep\":\"A5-10-05\",\"id\":\"FFFFFFFE\",\"label\":\"\",\"maker\":2047,\"type\":\"device\"}\n",
         1000,
         "",
         "{\"count\":1000,\"type\":\"list\"}\n",

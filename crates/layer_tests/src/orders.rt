@@ -2,6 +2,7 @@
 use actuator_commands::laws::{ids_are_spelled, lines_have_two_faults, orders_are_spelled};
 use actuator_commands::{Order, OrderFault, Quantity, id_of, parse};
 use erp1_telegrams::Eep;
+use learned_devices::Label;
 use std::process::Abort;
 
 const DEVICE: u32 = 0x0180_0ABC;
@@ -53,6 +54,28 @@ fn orders(rt: HostRuntime) {
         assert_eq!(rt; parse(line), Ok(order));
     }
     orders_are_spelled();
+}
+
+#[test]
+fn label_orders(rt: HostRuntime) {
+    let cases: [(&[u8], u32, &str); 8] = [
+        (b"label 01800ABC", DEVICE, ""),
+        (b"label 01800ABC Door \"A\"", DEVICE, "Door \"A\""),
+        (b"label 01800abc a  b", DEVICE, "a  b"),
+        (b"label 01800ABC ~", DEVICE, "~"),
+        (b"label 01800ABC 01800ABC", DEVICE, "01800ABC"),
+        (b"label 00000000 label on", 0, "label on"),
+        (b"label FFFFFFFE \\", 0xFFFF_FFFE, "\\"),
+        (
+            b"label 01800ABC ABCDEFGHIJKLMNOPQRSTUVWXYZ012345",
+            DEVICE,
+            "ABCDEFGHIJKLMNOPQRSTUVWXYZ012345",
+        ),
+    ];
+    for (line, id, text) in cases {
+        let order = Label::new(text).map(|label| Order::Label { id, label });
+        assert_eq!(rt; order.map(Ok), Some(parse(line)));
+    }
 }
 
 #[test]
@@ -148,8 +171,11 @@ fn orders_to_all(rt: HostRuntime) {
     }
 }
 
-/// Lines with a number out of its range. Here as below `|` stands between two lines.
+/// Lines with a number out of its range, or with a label of 33 bytes. Here as below `|` stands between two lines.
 const OUT_OF_RANGE: &str = "\
+    label FFFFFFFF|label ffffffff x|label FFFFFFFF x|\
+    label 01800ABC ABCDEFGHIJKLMNOPQRSTUVWXYZ0123456|\
+    label 01800ABC ABCDEFGHIJKLMNOPQRSTU  VWXYZ01234|\
     add FFFFFFFF D5-00-01|add ffffFFFF ff-ff-ff|remove FFFFFFFF|remove ffffffff|\
     switch FFFFFFFF 0 on|switch 01800ABC 31 on|switch 01800ABC 99999 off|dim FFFFFFFF 0 0|\
     dim 01800ABC 31 0|dim 01800ABC 0 101|dim 01800ABC 0 99999|query FFFFFFFF 0|query 01800ABC 31|\
@@ -191,6 +217,15 @@ const OTHER_DIGITS: &str = "\
     add 01800ABC D5-00-001|add 01800ABC D5_00-01|add 01800ABC D5-00_01|add 01800ABC D5-0G-01|\
     learn as D5-00|learn as D5-00-1|learn as D50001|add FFFFFFFF D5-00-0";
 
+/// Labels of the wrong shape, the last ones beside an ID that is out of range, or of 33 bytes.
+const NO_LABELS: &str = "\
+    label|label |label x|label x 01800ABC|Label 01800ABC x|lable 01800ABC x|labels 01800ABC x|\
+    01800ABC x|label 0180 x|label 001800ABC x|label 01800ABG x|label 01800ABCx|label 01800ABC |\
+    label 01800ABC  |label 01800ABC  x|label 01800ABC x |label  01800ABC x| label 01800ABC x|\
+    label\t01800ABC x|label 01800ABC\tx|label 01800ABC\t|label 01800ABC a\tb|label 01800ABC x\r|\
+    label 01800ABC a\x1Fb|label 01800ABC a\x7Fb|label 01800ABC T\u{FC}r|label FFFFFFFF |\
+    label FFFFFFFF  x|label FFFFFFFF a\tb|label 01800ABC ABCDEFGHIJKLMNOPQRSTUVWXYZ012345 ";
+
 // None of these lines is an order.
 fn are_no_orders(rt: &impl Abort, lines: &str) {
     for line in lines.split('|') {
@@ -200,7 +235,13 @@ fn are_no_orders(rt: &impl Abort, lines: &str) {
 
 #[test]
 fn lines_that_are_no_order(rt: HostRuntime) {
-    for lines in [OTHER_LETTERS, OTHER_WORDS, OTHER_SPACES, OTHER_DIGITS] {
+    for lines in [
+        OTHER_LETTERS,
+        OTHER_WORDS,
+        OTHER_SPACES,
+        OTHER_DIGITS,
+        NO_LABELS,
+    ] {
         are_no_orders(&rt, lines);
     }
 }
@@ -253,7 +294,7 @@ fn lines_that_are_no_order_to_devices(rt: HostRuntime) {
 
 #[test]
 fn bytes_that_are_no_text(rt: HostRuntime) {
-    let lines: [&[u8]; 2] = [b"teach \xB2", b"teach 5\xFF"];
+    let lines: [&[u8]; 3] = [b"teach \xB2", b"teach 5\xFF", b"label 01800ABC a\x80b"];
     for line in lines {
         assert_eq!(rt; parse(line), Err(OrderFault::Syntax));
     }

@@ -256,7 +256,8 @@ fn devices_that_have_no_such_order(rt: HostRuntime) -> Result<(), Fail> {
 }
 
 const ORDERS_OF_NO_TELEGRAM: &str = "\
-    learn on|learn on answer|learn as D5-00-01|learn off|add 01800ABC D5-00-01|remove 01800ABC|list|status|base";
+    learn on|learn on answer|learn as D5-00-01|learn off|add 01800ABC D5-00-01|remove 01800ABC|\
+    label 01800ABC x|label 01800ABC|list|status|base";
 
 #[test]
 fn orders_of_no_telegram(rt: HostRuntime) -> Result<(), Fail> {
@@ -292,7 +293,7 @@ fn recipients(rt: HostRuntime) -> Result<(), Fail> {
 
 #[test]
 fn orders_to_no_device(rt: HostRuntime) -> Result<(), Fail> {
-    for line in "central 5 on|remove 01800ABC|base".split('|') {
+    for line in "central 5 on|remove 01800ABC|label 01800ABC x|base".split('|') {
         assert_eq!(rt; parse(line.as_bytes())?.recipient(), None, "{line}");
     }
     Ok(())

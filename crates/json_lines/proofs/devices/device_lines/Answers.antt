@@ -1,4 +1,5 @@
 use Rattle.std.proofs.Common.{rules, ◌≡◌, ℕ, ◌+◌, ◌<◌, List, ◌++◌, length, map, take, append-nil, refl, arith, suc}
+use Rattle.std.proofs.Common.{ap₂, ◌∙◌}
 use Rattle.std.proofs.Math.Seq.{take-suc}
 use Rattle.std.proofs.Math.ListN.{get_or}
 use Rattle.std.proofs.lemmas.List.{map-append}
@@ -21,5 +22,6 @@ pub loop-device-preserved : goal.loop-device-preserved
 loop-device-preserved c =
     let line : c.in_ok-device_line.field-0 ≡ text (DeviceLine c.device-item.result) = c.in_ok-device_line.ensures in
     let added : c.append.new.self ≡ c.loop-device.lines ++ c.in_ok-device_line.field-0 = search rules in
-    rw (added, line, c.loop-device.invariant) (one_more DeviceLine text c.args.devices.now c.loop-device.device-index
-    c.device-item.result (search arith) c.device-item.is)
+    added ∙ ap₂ (λ (told next : List ℕ). told ++ next) c.loop-device.invariant line
+    ∙ one_more DeviceLine text c.args.devices.now c.loop-device.device-index c.device-item.result (search arith)
+    c.device-item.is

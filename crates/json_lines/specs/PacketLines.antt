@@ -1,0 +1,94 @@
+-- The packet lines, and their texts, as bytes. Of each packet such a line tells what it was, and by one word why what
+-- was done with it was done. Own choice, with the layout of the other lines.
+use Rattle.std.specs.Prelude.{ℕ, ◌+◌, List, [], ◌∷◌, ◌++◌, codes, decimal}
+use Rattle.std.specs.List.{join_by}
+use Rattle.hex.specs.Hex.{encode_upper}
+use Rattle.json_lines.specs.Lines.{or_null, dbm_text, id_text, profile_text, byte_text, in_quotes, outcome_word}
+use Rattle.json_lines.specs.Lines.{member_text, object_text}
+use Rattle.json_lines.specs.ToldTelegram.{ToldTelegram}
+use Rattle.json_lines.specs.declared.packet.PacketLine.{PacketLine}
+use Rattle.json_lines.specs.declared.packet.ToldPacket.{ToldPacket}
+use Rattle.json_lines.specs.declared.packet.ToldPacket.TheVariants.{Telegram, Other}
+use Rattle.json_lines.specs.declared.packet.Why.{Why}
+use Rattle.json_lines.specs.declared.packet.Why.TheVariants.{Refused, Response, EmptyResponse, OtherType, NoTelegram}
+use Rattle.json_lines.specs.declared.packet.Why.TheVariants.{FromBroadcast, ForOthers, TeachInReply, Told}
+use Rattle.json_lines.specs.declared.packet.Why.TheVariants.{WindowClosed, OtherMode, Read, UnknownSender, WrongKind}
+use Rattle.json_lines.specs.declared.packet.Why.TheVariants.{WrongLength, OtherMessage}
+
+-- the word of why; of what came of a sender, the outcome's. Own choice
+abbrev pub why_word : Why → List ℕ
+why_word Refused = codes "refused"
+why_word Response = codes "response"
+why_word EmptyResponse = codes "empty_response"
+why_word OtherType = codes "other_type"
+why_word NoTelegram = codes "no_telegram"
+why_word FromBroadcast = codes "from_broadcast"
+why_word ForOthers = codes "for_others"
+why_word TeachInReply = codes "teach_in_reply"
+why_word (Told outcome) = outcome_word outcome
+why_word WindowClosed = codes "window_closed"
+why_word OtherMode = codes "other_mode"
+why_word Read = codes "read"
+why_word UnknownSender = codes "unknown_sender"
+why_word WrongKind = codes "wrong_kind"
+why_word WrongLength = codes "wrong_length"
+why_word OtherMessage = codes "other_message"
+
+-- an ID as a string. Own choice
+abbrev pub id_string : ℕ → List ℕ
+id_string id = in_quotes (id_text id)
+
+-- ---- the members of a line, in the byte order of their names
+
+-- how a telegram came, and of whom. Own choice
+abbrev pub sender_members : ToldTelegram → List (List ℕ × List ℕ)
+sender_members told =
+    (codes "dbm", or_null dbm_text told.dbm)
+    ∷ (codes "dest", or_null id_string told.dest)
+    ∷ (codes "eep", or_null profile_text told.eep)
+    ∷ (codes "id", id_string told.id)
+    ∷ (codes "maker", or_null decimal told.maker) ∷ []
+
+-- what a telegram carries. Own choice
+abbrev pub content_members : ToldTelegram → List (List ℕ × List ℕ)
+content_members told =
+    (codes "payload", in_quotes (encode_upper told.payload))
+    ∷ (codes "rorg", in_quotes (byte_text told.rorg))
+    ∷ (codes "status", in_quotes (byte_text told.status)) ∷ []
+
+-- another packet: its type, and the number of bytes of its data. Own choice
+abbrev pub other_members : ℕ → ℕ → List (List ℕ × List ℕ)
+other_members kind size = (codes "kind", decimal kind) ∷ (codes "size", decimal size) ∷ []
+
+-- what the packet was. Own choice
+abbrev pub packet_members : ToldPacket → List (List ℕ × List ℕ)
+packet_members (Telegram told) = sender_members told ++ content_members told
+packet_members (Other kind size) = other_members kind size
+
+-- the type of the line, and why. Own choice
+abbrev pub end_members : Why → List (List ℕ × List ℕ)
+end_members why = (codes "type", in_quotes (codes "packet")) ∷ (codes "why", in_quotes (why_word why)) ∷ []
+
+-- ---- the lines
+
+-- the text of a line: one object, and a line feed. Own choice
+abbrev pub packet_text : PacketLine → List ℕ
+packet_text line = object_text (packet_members line.packet ++ end_members line.why) ++ codes "\n"
+
+-- members in their order, with a comma between each two (RFC 8259, "Objects")
+abbrev pub members_text : List (List ℕ × List ℕ) → List ℕ
+members_text = join_by member_text (codes ",")
+
+-- the length of the longest text of the members of a sender, of a content, and of an end, and of the longest line: with
+-- both braces, a comma behind the sender's members and one behind the content's, and the line feed
+abbrev pub longest_sender : ℕ
+longest_sender = 75
+
+abbrev pub longest_content : ℕ
+longest_content = 66
+
+abbrev pub longest_end : ℕ
+longest_end = 38
+
+abbrev pub longest_packet_line : ℕ
+longest_packet_line = longest_sender + longest_content + longest_end + 5

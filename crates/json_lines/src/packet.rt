@@ -1,0 +1,231 @@
+//! The line that tells what a packet was, and why what was done with it was done.
+
+ghost use Rattle.std.specs.Prelude.{◌≡◌, ◌+◌, ◌≤◌, ◌++◌, length};
+ghost use Rattle.arrayvec.specs.ArrayVec.{array_vec_len};
+ghost use Rattle.json_lines.specs.PacketLines.{content_members, end_members, members_text, other_members};
+ghost use Rattle.json_lines.specs.PacketLines.{packet_members, packet_text, sender_members, why_word};
+ghost use Rattle.json_lines.specs.PacketLines.{longest_content, longest_end, longest_packet_line, longest_sender};
+
+use crate::pieces::{
+    LONGEST_PACKET_LINE, Text, put, put_byte, put_dbm, put_dest, put_id, put_known_profile,
+    put_maker, put_number, put_payload, put_string,
+};
+use crate::teach::word_of;
+use arrayvec::ArrayVec;
+use erp1_telegrams::Eep;
+use std::marker::Model;
+use teach_in::Outcome;
+
+/// Why what was done with a packet was done.
+#[derive(Clone, Copy, Debug, PartialEq, Eq)]
+pub enum Why {
+    /// There was no memory, or the store refused.
+    Refused,
+    /// The packet is a response.
+    Response,
+    /// The packet is a response with no code.
+    EmptyResponse,
+    /// The packet is of a type that is not for the gateway.
+    OtherType,
+    /// The packet carries nothing that is read as a telegram.
+    NoTelegram,
+    /// The telegram's sender is the broadcast ID.
+    FromBroadcast,
+    /// The telegram is for another device.
+    ForOthers,
+    /// The telegram is a reply of teach-in.
+    TeachInReply,
+    /// The telegram's sender was to be learned or forgotten, and this came of it.
+    Told(Outcome),
+    /// The telegram is one of teach-in, and the gateway does not learn.
+    WindowClosed,
+    /// The telegram is one of teach-in that the mode in which the gateway learns does not take.
+    OtherMode,
+    /// The telegram was read.
+    Read,
+    /// The telegram's sender is not learned.
+    UnknownSender,
+    /// The telegram has not the kind of its sender's profile.
+    WrongKind,
+    /// The telegram's payload has not the length of its sender's profile.
+    WrongLength,
+    /// The telegram is a message that is not read by its sender's profile.
+    OtherMessage,
+}
+
+/// What is told of a telegram. In contracts it is the record `ToldTelegram` of `specs/ToldTelegram.antt`.
+#[derive(Clone, Debug, Drop)]
+pub struct ToldTelegram {
+    /// How strongly it was received, in dBm without the minus, where that is known.
+    pub dbm: Option<u8>,
+    /// The ID of the device that it is for, where it is not for all.
+    pub dest: Option<u32>,
+    /// The profile of its sender, where that is known.
+    pub eep: Option<Eep>,
+    /// The ID of its sender.
+    pub id: u32,
+    /// The number of its sender's maker, where that is known.
+    pub maker: Option<u16>,
+    /// What the sender says.
+    pub payload: ArrayVec<u8, 14>,
+    /// Its kind.
+    pub rorg: u8,
+    /// The status byte.
+    pub status: u8,
+}
+
+impl Model for ToldTelegram {
+    ghost use Rattle.json_lines.specs.ToldTelegram.{ToldTelegram as Said};
+
+    ghost Value = { Said };
+
+    ghost view = { λ t. record {
+      dbm = t.dbm;
+      dest = t.dest;
+      eep = t.eep;
+      id = t.id;
+      maker = t.maker;
+      payload = t.payload.items;
+      rorg = t.rorg;
+      status = t.status;
+    } };
+}
+
+/// What a packet was.
+#[derive(Clone, Debug, Drop)]
+pub enum ToldPacket {
+    /// It carries this telegram.
+    Telegram(ToldTelegram),
+    /// It is another packet.
+    Other {
+        /// The packet type.
+        kind: u8,
+        /// The number of bytes of its data.
+        size: u16,
+    },
+}
+
+/// What a packet was, and why what was done with it was done.
+#[derive(Clone, Debug, Drop)]
+pub struct PacketLine {
+    /// What it was.
+    pub packet: ToldPacket,
+    /// Why what was done with it was done.
+    pub why: Why,
+}
+
+// The word of why.
+fn why_word(why: Why) -> &'static str
+    ensures text { result.now ≡ why_word why }
+    ensures short { length result.now ≤ 14 }
+{
+    match why {
+        Why::Refused => "refused",
+        Why::Response => "response",
+        Why::EmptyResponse => "empty_response",
+        Why::OtherType => "other_type",
+        Why::NoTelegram => "no_telegram",
+        Why::FromBroadcast => "from_broadcast",
+        Why::ForOthers => "for_others",
+        Why::TeachInReply => "teach_in_reply",
+        Why::Told(outcome) => word_of(outcome),
+        Why::WindowClosed => "window_closed",
+        Why::OtherMode => "other_mode",
+        Why::Read => "read",
+        Why::UnknownSender => "unknown_sender",
+        Why::WrongKind => "wrong_kind",
+        Why::WrongLength => "wrong_length",
+        Why::OtherMessage => "other_message",
+    }
+}
+
+// How a telegram came, and of whom.
+fn put_sender(told: &ToldTelegram, out: &mut Text)
+    requires { array_vec_len out.old + longest_sender ≤ longest_packet_line }
+    ensures items { out.new.items ≡ out.old.items ++ members_text (sender_members told.now) }
+    ensures len { array_vec_len out.new ≤ array_vec_len out.old + longest_sender }
+{
+    put(b"\"dbm\":", out);
+    put_dbm(told.dbm, out);
+    put(b",\"dest\":", out);
+    put_dest(told.dest, out);
+    put(b",\"eep\":", out);
+    put_known_profile(told.eep, out);
+    put(b",\"id\":", out);
+    put_id(told.id, out);
+    put(b",\"maker\":", out);
+    put_maker(told.maker, out);
+}
+
+// What a telegram carries.
+fn put_content(told: &ToldTelegram, out: &mut Text)
+    requires { array_vec_len out.old + longest_content ≤ longest_packet_line }
+    ensures items { out.new.items ≡ out.old.items ++ members_text (content_members told.now) }
+    ensures len { array_vec_len out.new ≤ array_vec_len out.old + longest_content }
+{
+    put(b"\"payload\":", out);
+    put_payload(&told.payload, out);
+    put(b",\"rorg\":", out);
+    put_byte(told.rorg, out);
+    put(b",\"status\":", out);
+    put_byte(told.status, out);
+}
+
+// Another packet.
+fn put_other(kind: u8, size: u16, out: &mut Text)
+    requires { array_vec_len out.old + 25 ≤ longest_packet_line }
+    ensures items { out.new.items ≡ out.old.items ++ members_text (other_members kind size) }
+    ensures len { array_vec_len out.new ≤ array_vec_len out.old + 25 }
+{
+    put(b"\"kind\":", out);
+    put_number(u16::from(kind), out);
+    put(b",\"size\":", out);
+    put_number(size, out);
+}
+
+// What a packet was.
+fn put_packet(told: &ToldPacket, out: &mut Text)
+    requires { array_vec_len out.old + longest_sender + longest_content + 1 ≤ longest_packet_line }
+    ensures items { out.new.items ≡ out.old.items ++ members_text (packet_members told.now) }
+    ensures len { array_vec_len out.new ≤ array_vec_len out.old + longest_sender + longest_content + 1 }
+{
+    match told {
+        ToldPacket::Telegram(telegram) => {
+            put_sender(telegram, out);
+            put(b",", out);
+            put_content(telegram, out);
+        }
+        ToldPacket::Other { kind, size } => put_other(*kind, *size, out),
+    }
+}
+
+// The type of the line, and why.
+fn put_end(why: Why, out: &mut Text)
+    requires { array_vec_len out.old + longest_end ≤ longest_packet_line }
+    ensures items { out.new.items ≡ out.old.items ++ members_text (end_members why) }
+    ensures len { array_vec_len out.new ≤ array_vec_len out.old + longest_end }
+{
+    put(b"\"type\":\"packet\",\"why\":", out);
+    put_string(why_word(why).as_bytes(), out);
+}
+
+/// The line that tells what a packet was, and by one word why what was done with it was done. Of a telegram: the
+/// signal strength in dBm, the ID of the device that it is for (`null` where it is for all), the profile, the ID and
+/// the maker's number of its sender, its payload, its kind and its status; `null` where something is not known. Of any
+/// other packet: its type, and the number of bytes of its data.
+///
+/// `{"dbm":-45,"dest":null,"eep":"D5-00-01","id":"01800ABC","maker":null,"payload":"09","rorg":"D5","status":"00",`
+/// `"type":"packet","why":"read"}`, `{"kind":4,"size":12,"type":"packet","why":"other_type"}`
+///
+/// It takes no memory, and it has room for each line.
+pub fn packet_line(told: &PacketLine) -> ArrayVec<u8, LONGEST_PACKET_LINE>
+    ensures { result.items ≡ packet_text told.now }
+{
+    let mut out = ArrayVec::new();
+    put(b"{", &mut out);
+    put_packet(&told.packet, &mut out);
+    put(b",", &mut out);
+    put_end(told.why, &mut out);
+    put(b"}\n", &mut out);
+    out
+}

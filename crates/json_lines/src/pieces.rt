@@ -1,0 +1,135 @@
+//! The pieces of a packet line, each put behind the others in place, which takes no memory.
+
+ghost use Rattle.std.specs.Prelude.{◌≡◌, ◌+◌, ◌≤◌, ◌++◌, length, decimal};
+ghost use Rattle.arrayvec.specs.ArrayVec.{array_vec_len};
+ghost use Rattle.hex.specs.Hex.{encode_upper};
+ghost use Rattle.json_lines.specs.Lines.{byte_text, dbm_text, in_quotes, or_null, profile_text};
+ghost use Rattle.json_lines.specs.PacketLines.{id_string, longest_packet_line};
+
+use crate::digits::{byte_digits, eep_digits, id_digits, put_upper};
+use arrayvec::ArrayVec;
+use erp1_telegrams::Eep;
+use itoa::Buffer;
+
+/// The length of the longest packet line, in bytes.
+pub const LONGEST_PACKET_LINE: usize = 184;
+
+// What is written of a packet line.
+pub(crate) type Text = ArrayVec<u8, LONGEST_PACKET_LINE>;
+
+// A piece as it is.
+pub(crate) fn put(piece: &[u8], out: &mut Text)
+    requires { array_vec_len out.old + length piece.now ≤ longest_packet_line }
+    ensures items { out.new.items ≡ out.old.items ++ piece.now }
+    ensures len { array_vec_len out.new ≡ array_vec_len out.old + length piece.now }
+{
+    // It fits, so there is no error.
+    let _ = out.try_extend_from_slice(piece);
+}
+
+// A piece in quotation marks.
+pub(crate) fn put_string(piece: &[u8], out: &mut Text)
+    requires { array_vec_len out.old + length piece.now + 2 ≤ longest_packet_line }
+    ensures items { out.new.items ≡ out.old.items ++ in_quotes piece.now }
+    ensures len { array_vec_len out.new ≡ array_vec_len out.old + length piece.now + 2 }
+{
+    out.push(b'"');
+    put(piece, out);
+    out.push(b'"');
+}
+
+// A byte.
+pub(crate) fn put_byte(byte: u8, out: &mut Text)
+    requires { array_vec_len out.old + 4 ≤ longest_packet_line }
+    ensures items { out.new.items ≡ out.old.items ++ in_quotes (byte_text byte) }
+    ensures len { array_vec_len out.new ≡ array_vec_len out.old + 4 }
+{
+    put_string(&byte_digits(byte), out);
+}
+
+// An ID.
+pub(crate) fn put_id(id: u32, out: &mut Text)
+    requires { array_vec_len out.old + 10 ≤ longest_packet_line }
+    ensures items { out.new.items ≡ out.old.items ++ id_string id }
+    ensures len { array_vec_len out.new ≡ array_vec_len out.old + 10 }
+{
+    put_string(&id_digits(id), out);
+}
+
+// The ID of the device that a telegram is for, or null.
+pub(crate) fn put_dest(dest: Option<u32>, out: &mut Text)
+    requires { array_vec_len out.old + 10 ≤ longest_packet_line }
+    ensures items { out.new.items ≡ out.old.items ++ or_null id_string dest }
+    ensures len { array_vec_len out.new ≤ array_vec_len out.old + 10 }
+{
+    match dest {
+        Some(id) => put_id(id, out),
+        None => put(b"null", out),
+    }
+}
+
+// A profile, or null.
+pub(crate) fn put_known_profile(eep: Option<Eep>, out: &mut Text)
+    requires { array_vec_len out.old + 10 ≤ longest_packet_line }
+    ensures items { out.new.items ≡ out.old.items ++ or_null profile_text eep }
+    ensures len { array_vec_len out.new ≤ array_vec_len out.old + 10 }
+{
+    match eep {
+        Some(eep) => put_string(&eep_digits(eep), out),
+        None => put(b"null", out),
+    }
+}
+
+// A number.
+pub(crate) fn put_number(n: u16, out: &mut Text)
+    requires { array_vec_len out.old + 5 ≤ longest_packet_line }
+    ensures items { out.new.items ≡ out.old.items ++ decimal n }
+    ensures len { array_vec_len out.new ≤ array_vec_len out.old + 5 }
+{
+    put(Buffer::new().format(n).as_bytes(), out);
+}
+
+// The number of a maker, or null.
+pub(crate) fn put_maker(maker: Option<u16>, out: &mut Text)
+    requires { array_vec_len out.old + 5 ≤ longest_packet_line }
+    ensures items { out.new.items ≡ out.old.items ++ or_null decimal maker }
+    ensures len { array_vec_len out.new ≤ array_vec_len out.old + 5 }
+{
+    match maker {
+        Some(maker) => put_number(maker, out),
+        None => put(b"null", out),
+    }
+}
+
+// The signal strength.
+fn put_strength(byte: u8, out: &mut Text)
+    requires { array_vec_len out.old + 4 ≤ longest_packet_line }
+    ensures items { out.new.items ≡ out.old.items ++ dbm_text byte }
+    ensures len { array_vec_len out.new ≤ array_vec_len out.old + 4 }
+{
+    put(Buffer::new().format(0 - i16::from(byte)).as_bytes(), out);
+}
+
+// The signal strength, or null.
+pub(crate) fn put_dbm(dbm: Option<u8>, out: &mut Text)
+    requires { array_vec_len out.old + 4 ≤ longest_packet_line }
+    ensures items { out.new.items ≡ out.old.items ++ or_null dbm_text dbm }
+    ensures len { array_vec_len out.new ≤ array_vec_len out.old + 4 }
+{
+    match dbm {
+        Some(byte) => put_strength(byte, out),
+        None => put(b"null", out),
+    }
+}
+
+// The bytes of a payload.
+pub(crate) fn put_payload(payload: &ArrayVec<u8, 14>, out: &mut Text)
+    requires { array_vec_len out.old + 30 ≤ longest_packet_line }
+    ensures items { out.new.items ≡ out.old.items ++ in_quotes (encode_upper payload.now.items) }
+    ensures len { array_vec_len out.new ≤ array_vec_len out.old + 30 }
+{
+    let mut room = [0; 28];
+    let digits = &mut room[..2 * payload.len()];
+    put_upper(payload.as_slice(), digits);
+    put_string(digits, out);
+}
