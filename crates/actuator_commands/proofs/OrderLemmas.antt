@@ -1,27 +1,30 @@
 -- The computed order of a line is the one that the line spells.
 use Rattle.std.proofs.Common.{◌≡◌, ℕ, Bool, true, false, cond, List, [], ◌∷◌, refl, sym, ap, ◌∙◌, subst, Option, Some}
 use Rattle.std.proofs.Common.{None, not, ◌==◌, ◌&&◌, ◌⊎◌, inl, inr}
-use Rattle.std.specs.Prelude.{Result, Ok, Err, codes, bytes_eq, nat_le, option_map}
-use Rattle.std.specs.List.{AllByRecursion, AllZip, list_all}
+use Rattle.std.specs.Prelude.{Result, Ok, Err, codes, bytes_eq, nat_le, option_map, length, ◌++◌}
+use Rattle.std.specs.List.{AllByRecursion, AllZip, join_with_byte, list_all}
 use Rattle.std.proofs.lemmas.Bool.{and_parts, le-leb, leb-true, ne_eqb}
 use Rattle.std.proofs.lemmas.List.Splits.{join_with_byte-slice_split}
-use Rattle.actuator_commands.specs.Words.{words, Word, Says, Id, Profile, Number, SpellsWord, IsWordInRange}
+use Rattle.actuator_commands.specs.Words.{words, Word, Says, Id, Profile, Number, Text, SpellsWord, IsWordInRange}
 use Rattle.actuator_commands.specs.Words.{is_word_in_range, id_in, eep_in, number_in, state_in, quantity_in}
-use Rattle.actuator_commands.specs.Words.{of_two, of_three}
+use Rattle.actuator_commands.specs.Words.{of_two, of_three, text_in, label_in}
+use Rattle.learned_devices.specs.Labels.{longest_label}
 use Rattle.actuator_commands.specs.declared.orders.Order.{Order}
 use Rattle.actuator_commands.specs.declared.orders.Order.TheVariants.{LearnOn, LearnOnAnswer, LearnAs, LearnOff}
-use Rattle.actuator_commands.specs.declared.orders.Order.TheVariants.{Add, Remove, List as ListAll, Status, Base}
+use Rattle.actuator_commands.specs.declared.orders.Order.TheVariants.{Add, Remove, Label, List as ListAll, Status, Base}
 use Rattle.actuator_commands.specs.declared.orders.Order.TheVariants.{Switch, Dim, Query, Meter, Blind, Stop}
 use Rattle.actuator_commands.specs.declared.orders.Order.TheVariants.{Central, Level, Teach}
 use Rattle.actuator_commands.specs.declared.orders.OrderFault.{OrderFault}
 use Rattle.actuator_commands.specs.declared.orders.OrderFault.TheVariants.{Syntax, Range}
 use Rattle.actuator_commands.specs.Orders.{words_of, HasShape, IsInRange, Spells, is_in_range}
-use Rattle.actuator_commands.specs.Orders.{one_word, two_words, three_words, four_words}
+use Rattle.actuator_commands.specs.Orders.{one_word, two_words, three_words, four_words, plain_order, label_order}
 use Rattle.actuator_commands.specs.Orders.{order_in, result_of, order_of, OrdersAreSpelled}
+use Rattle.actuator_commands.proofs.LabelLemmas.{label_shaped}
 use Rattle.actuator_commands.proofs.NumberLemmas.{number_spelled, number_read}
-use Rattle.actuator_commands.proofs.SpaceLemmas.{words-joined}
+use Rattle.actuator_commands.proofs.SpaceLemmas.{plain-words, words-joined, id-lacks, label-apart, label-alone}
 use Rattle.actuator_commands.proofs.SpellingLemmas.{named, id_spelled, id_read, eep_spelled, eep_read, state_spelled}
-use Rattle.actuator_commands.proofs.SpellingLemmas.{state_read, quantity_spelled, quantity_read}
+use Rattle.actuator_commands.proofs.SpellingLemmas.{state_read, quantity_spelled, quantity_read, text_read}
+use Rattle.actuator_commands.proofs.WordLemmas.{label_whole}
 
 -- ---- the shape
 
@@ -151,7 +154,7 @@ fits_four_words name second third fourth =
     )))
     tt)))
 
-fits : (ws : List (List ℕ)) → Fits ws (order_in ws)
+fits : (ws : List (List ℕ)) → Fits ws (plain_order ws)
 unfolding Fits
 fits [] = tt
 fits (name ∷ []) = fits_one_word name
@@ -159,6 +162,40 @@ fits (name ∷ second ∷ []) = fits_two_words name second
 fits (name ∷ second ∷ third ∷ []) = fits_three_words name second third
 fits (name ∷ second ∷ third ∷ fourth ∷ []) = fits_four_words name second third fourth
 fits (a ∷ b ∷ c ∷ d ∷ e ∷ more) = tt
+
+-- the line that is joined of the words has the shape of the order, if there is one
+Shaped : List (List ℕ) → Option Order → Type 0
+Shaped ws None = Unit {0}
+Shaped ws (Some order) = HasShape (join_with_byte 32 ws) order
+
+shaped_words : (ws : List (List ℕ)) (o : Option Order) → Fits ws o → Shaped ws o
+unfolding Fits Shaped
+shaped_words ws None fit = tt
+shaped_words ws (Some order) fit = (ws, refl, fit)
+
+shaped_by : (digits : List ℕ) (more : List (List ℕ)) (i : Option ℕ) (t : Option (List ℕ)) → id_in digits ≡ i
+    → label_in more ≡ t
+    → Shaped (codes "label" ∷ digits ∷ more) (of_two (λ id label. Label id label) i t)
+unfolding Shaped
+shaped_by digits more None t is is_text = tt
+shaped_by digits more (Some id) None is is_text = tt
+shaped_by digits more (Some id) (Some label) is is_text = label_shaped digits more id label is is_text
+
+shaped_label : (more : List (List ℕ)) → Shaped (codes "label" ∷ more) (label_order more)
+unfolding Shaped
+shaped_label [] = tt
+shaped_label (digits ∷ more) = shaped_by digits more (id_in digits) (label_in more) refl refl
+
+shaped : (ws : List (List ℕ)) → Shaped ws (order_in ws)
+unfolding Shaped
+shaped [] = tt
+shaped (name ∷ more) = by_name (bytes_eq name (codes "label")) refl
+  where
+    by_name : (b : Bool) → bytes_eq name (codes "label") ≡ b
+        → Shaped (name ∷ more) (cond b (label_order more) (plain_order (name ∷ more)))
+    by_name true is =
+        subst (λ n. Shaped (n ∷ more) (label_order more)) (sym (named name (codes "label") is)) (shaped_label more)
+    by_name false is = shaped_words (name ∷ more) (plain_order (name ∷ more)) (fits (name ∷ more))
 
 -- texts that spell words: the first of them, and the others
 record Parts (ws : List (List ℕ)) (word : Word) (more : List Word) : Type 0 where
@@ -267,6 +304,11 @@ read ws LearnOff h =
 read ws (Add id eep) h =
     let t = three_texts ws _ _ _ h in rw (t.whole, id_read t.b id t.is_b, eep_read t.c eep t.is_c) refl
 read ws (Remove id) h = let t = two_texts ws _ _ h in rw (t.whole, id_read t.b id t.is_b) refl
+read ws (Label id []) h = let t = two_texts ws _ _ h in rw (t.whole, id_read t.b id t.is_b) refl
+read ws (Label id (first ∷ more)) h =
+    let t = three_texts ws _ _ _ h in
+    ap order_in t.whole ∙ ap (λ o. of_two (λ id label. Label id label) o (text_in t.c)) (id_read t.b id t.is_b)
+    ∙ ap (λ o. of_two (λ id label. Label id label) (Some id) o) (text_read t.c (first ∷ more) t.is_c)
 read ws ListAll h = ap order_in (one_text ws _ h)
 read ws Status h = ap order_in (one_text ws _ h)
 read ws Base h = ap order_in (one_text ws _ h)
@@ -306,6 +348,9 @@ in_range (Profile eep ∷ some) is = (tt, in_range some is)
 in_range (Number most n ∷ some) is =
     let parts = and_parts (nat_le n most) (list_all is_word_in_range some) is in
     (leb-true n most parts.0, in_range some parts.1)
+in_range (Text name ∷ some) is =
+    let parts = and_parts (nat_le (length name) longest_label) (list_all is_word_in_range some) is in
+    (leb-true (length name) longest_label parts.0, in_range some parts.1)
 
 all_tested : (some : List Word) → AllByRecursion IsWordInRange some → list_all is_word_in_range some ≡ true
 all_tested [] is = refl
@@ -313,6 +358,7 @@ all_tested (Says name ∷ some) is = all_tested some is.1
 all_tested (Id id ∷ some) is = rw (ne_eqb id 0xFFFF_FFFF is.0) (all_tested some is.1)
 all_tested (Profile eep ∷ some) is = all_tested some is.1
 all_tested (Number most n ∷ some) is = rw (le-leb n most is.0) (all_tested some is.1)
+all_tested (Text name ∷ some) is = rw (le-leb (length name) longest_label is.0) (all_tested some is.1)
 
 -- ---- both
 
@@ -329,21 +375,45 @@ speaks_by_range line order true e shape = (shape, in_range (words_of order) e)
 speaks_by_range line order false e shape =
     (order, shape, λ h. let tested = all_tested (words_of order) h in cc)
 
-speaks_by_shape : (line : List ℕ) (o : Option Order) → Fits (words line) o → Speaks line (result_of o)
-unfolding Speaks Fits
-speaks_by_shape line None fits = tt
-speaks_by_shape line (Some order) fits =
+speaks_by_shape : (line : List ℕ) (o : Option Order) → Shaped (words line) o → Speaks line (result_of o)
+unfolding Speaks Shaped
+speaks_by_shape line None shape = tt
+speaks_by_shape line (Some order) shape =
     speaks_by_range line order (is_in_range order) refl
-    (words line, sym (join_with_byte-slice_split 32 line), fits)
+    (subst (λ l. HasShape l order) (join_with_byte-slice_split 32 line) shape)
 
 speaks : (line : List ℕ) → Speaks line (order_of line)
-speaks line = speaks_by_shape line (order_in (words line)) (fits (words line))
+speaks line = speaks_by_shape line (order_in (words line)) (shaped (words line))
+
+-- the words of a line with the shape of `label` are read as its texts
+label_joined : (texts : List (List ℕ)) (id : ℕ) (label : List ℕ)
+    → AllZip SpellsWord texts (words_of (Label id label))
+    → order_in (words (join_with_byte 32 texts)) ≡ order_in texts
+label_joined texts id [] h =
+    let t = two_texts texts _ _ h in
+    let apart : words (codes "label" ++ 32 ∷ t.b) ≡ codes "label" ∷ t.b ∷ [] =
+    label-alone t.b (id-lacks t.b id t.is_b) in
+    ap (λ ws. order_in (words (join_with_byte 32 ws))) t.whole ∙ ap order_in apart ∙ ap order_in (sym t.whole)
+label_joined texts id (first ∷ more) h =
+    let t = three_texts texts _ _ _ h in
+    ap (λ ws. order_in (words (join_with_byte 32 ws))) t.whole
+    ∙ ap order_in (label-apart t.b t.c (id-lacks t.b id t.is_b))
+    ∙ ap (λ o. of_two (λ id label. Label id label) (id_in t.b) o) (label_whole t.c) ∙ ap order_in (sym t.whole)
+
+-- and those of any order
+read_joined : (order : Order) (texts : List (List ℕ)) → AllZip SpellsWord texts (words_of order)
+    → order_in (words (join_with_byte 32 texts)) ≡ order_in texts
+read_joined order texts spell =
+    elim (plain-words order) [
+      | inl plain ↦ ap order_in (words-joined order texts plain spell)
+      | inr it ↦
+          label_joined texts it.id it.label (subst (λ o. AllZip SpellsWord texts (words_of o)) it.is spell)
+    ]
 
 -- a line with the shape of an order is read as its range says
 in_shape : (line : List ℕ) (order : Order) → HasShape line order → order_of line ≡ result_of (Some order)
 in_shape line order (texts, is, spell) =
-    ap order_of is ∙ ap (λ ws. result_of (order_in ws)) (words-joined order texts spell)
-    ∙ ap result_of (read texts order spell)
+    ap order_of is ∙ ap result_of (read_joined order texts spell) ∙ ap result_of (read texts order spell)
 
 no_syntax : (order : Order) (b : Bool) → cond b (Ok order) (Err Range) ≡ Err Syntax → ⊥
 no_syntax order true e = cc

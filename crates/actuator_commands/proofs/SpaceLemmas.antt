@@ -1,6 +1,7 @@
--- No word of an order holds a space, so a line that is joined of them has just them for its words.
+-- No word of an order but `label` holds a space, so a line that is joined of them has just them for its words. Of
+-- `label` the first two words are found, and behind them its text.
 use Rattle.std.proofs.Common.{◌≡◌, ℕ, ◌<◌, Bool, true, false, not, List, [], ◌∷◌, codes, refl, sym, ap, subst, ◌∙◌}
-use Rattle.std.proofs.Common.{◌==◌, Ok, arith}
+use Rattle.std.proofs.Common.{◌==◌, ◌++◌, ◌⊎◌, inl, inr, Ok, arith}
 use Rattle.std.specs.Fmt.{decimal}
 use Rattle.std.specs.List.{All, AllByRecursion, AllZip, join_with_byte, list_all}
 use Rattle.std.specs.Str.Parse.{AllDigits}
@@ -12,9 +13,10 @@ use Rattle.std.proofs.lemmas.List.Splits.{slice_split_none, slice_split_at}
 use Rattle.hex.specs.Hex.{decode_of, is_hex_digit}
 use Rattle.hex.proofs.HexLemmas.{decode_of-ok}
 use Rattle.erp1_telegrams.specs.declared.eep.Eep.{Eep}
-use Rattle.actuator_commands.specs.Words.{words, Word, Says, Id, Profile, Number, SpellsEep, SpellsWord}
+use Rattle.actuator_commands.specs.Words.{words, Word, Says, Id, Profile, Number, Text}
+use Rattle.actuator_commands.specs.Words.{SpellsId, SpellsEep, SpellsWord}
 use Rattle.actuator_commands.specs.declared.orders.Order.{Order}
-use Rattle.actuator_commands.specs.declared.orders.Order.TheVariants.{LearnOn, Switch, Meter, Central}
+use Rattle.actuator_commands.specs.declared.orders.Order.TheVariants.{LearnOn, Label, Switch, Meter, Central}
 use Rattle.actuator_commands.specs.declared.orders.Quantity.TheVariants.{Energy, Power}
 use Rattle.actuator_commands.specs.Orders.{words_of}
 
@@ -63,18 +65,20 @@ decimals-lack (d ∷ digits) are =
 number-lacks : (n : ℕ) → n < 100000 → LacksSpace (decimal n)
 number-lacks n below = decimals-lack (decimal n) (decimal_is_IsNumeral n (omega arith)).0.1
 
--- whether the word's own text, where it has one, has no space
+-- whether the word's own text, where it has one, has surely no space
 abbrev is_plain : Word → Bool
 is_plain (Says name) = list_all (λ b. not (b == 32)) name
 is_plain (Id id) = true
 is_plain (Profile eep) = true
 is_plain (Number most n) = true
+is_plain (Text name) = false
 
 word-lacks : (text : List ℕ) (word : Word) → is_plain word ≡ true → SpellsWord text word → LacksSpace text
 word-lacks text (Says name) plain is = subst LacksSpace (sym is) (lacks name plain)
 word-lacks text (Id id) plain (bytes, four, decoded, is) = digits-lack text bytes decoded
 word-lacks text (Profile eep) plain spells = profile-lacks text eep spells
 word-lacks text (Number most n) plain (is, below) = subst LacksSpace (sym is) (number-lacks n below)
+word-lacks text (Text name) plain spells = absurd cc
 
 words-lack : (texts : List (List ℕ)) (some : List Word) → list_all is_plain some ≡ true → AllZip SpellsWord texts some
     → AllByRecursion LacksSpace texts
@@ -84,14 +88,22 @@ words-lack (text ∷ texts) (word ∷ more) plain spell =
     let parts = and_parts (is_plain word) (list_all is_plain more) plain in
     (word-lacks text word parts.0 spell.0, words-lack texts more parts.1 spell.1)
 
-plain-words : (order : Order) → list_all is_plain (words_of order) ≡ true
-plain-words (Switch id channel true) = refl
-plain-words (Switch id channel false) = refl
-plain-words (Meter id channel Energy) = refl
-plain-words (Meter id channel Power) = refl
-plain-words (Central offset true) = refl
-plain-words (Central offset false) = refl
-plain-words order = refl
+-- the order is `label`
+pub record IsLabelOrder (order : Order) : Type 0 where
+  pub id : ℕ
+  pub label : List ℕ
+  pub is : order ≡ Label id label
+
+-- no word of an order may hold a space, or the order is `label`
+pub plain-words : (order : Order) → (list_all is_plain (words_of order) ≡ true) ⊎ IsLabelOrder order
+plain-words (Switch id channel true) = inl refl
+plain-words (Switch id channel false) = inl refl
+plain-words (Meter id channel Energy) = inl refl
+plain-words (Meter id channel Power) = inl refl
+plain-words (Central offset true) = inl refl
+plain-words (Central offset false) = inl refl
+plain-words (Label id label) = inr (record { id = id; label = label; is = refl })
+plain-words order = inl refl
 
 joined : (text : List ℕ) (texts : List (List ℕ)) → LacksSpace text → AllByRecursion LacksSpace texts
     → words (join_with_byte 32 (text ∷ texts)) ≡ text ∷ texts
@@ -105,9 +117,29 @@ some_words : (order : Order) → AllZip SpellsWord [] (words_of order) → ⊥
 some_words LearnOn none = none
 some_words order none = none
 
-pub words-joined : (order : Order) (texts : List (List ℕ)) → AllZip SpellsWord texts (words_of order)
-    → words (join_with_byte 32 texts) ≡ texts
-words-joined order [] spell = absurd (some_words order spell)
-words-joined order (text ∷ texts) spell =
-    let lack = words-lack (text ∷ texts) (words_of order) (plain-words order) spell in
+pub words-joined : (order : Order) (texts : List (List ℕ)) → list_all is_plain (words_of order) ≡ true
+    → AllZip SpellsWord texts (words_of order) → words (join_with_byte 32 texts) ≡ texts
+words-joined order [] plain spell = absurd (some_words order spell)
+words-joined order (text ∷ texts) plain spell =
+    let lack = words-lack (text ∷ texts) (words_of order) plain spell in
     joined text texts lack.0 lack.1
+
+-- ---- a label
+
+-- an ID has no space
+pub id-lacks : (digits : List ℕ) (id : ℕ) → SpellsId digits id → LacksSpace digits
+id-lacks digits id (bytes, four, decoded, is) = digits-lack digits bytes decoded
+
+-- the words of a line that begins with `label` and an ID: behind them those of the text, if there is one
+pub label-apart : (digits text : List ℕ) → LacksSpace digits
+    → words (codes "label" ++ 32 ∷ (digits ++ 32 ∷ text)) ≡ codes "label" ∷ digits ∷ words text
+label-apart digits text lack =
+    slice_split_at (λ b. b == 32) (codes "label") 32 (digits ++ 32 ∷ text) (lacks (codes "label") refl) refl
+    ∙ ap (λ (rest : List (List ℕ)). codes "label" ∷ rest)
+    (slice_split_at (λ b. b == 32) digits 32 text lack refl)
+
+pub label-alone : (digits : List ℕ) → LacksSpace digits
+    → words (codes "label" ++ 32 ∷ digits) ≡ codes "label" ∷ digits ∷ []
+label-alone digits lack =
+    slice_split_at (λ b. b == 32) (codes "label") 32 digits (lacks (codes "label") refl) refl
+    ∙ ap (λ (rest : List (List ℕ)). codes "label" ∷ rest) (slice_split_none (λ b. b == 32) digits lack)

@@ -1,6 +1,6 @@
--- The computed ID, profile, state and quantity of a text are those that the text spells.
+-- The computed ID, profile, state, quantity and label of a text are those that the text spells.
 use Rattle.std.proofs.Common.{◌≡◌, ℕ, Bool, true, false, cond, List, [], ◌∷◌, ◌++◌, length, refl, sym, ap}
-use Rattle.std.proofs.Common.{◌∙◌, arith}
+use Rattle.std.proofs.Common.{◌∙◌, subst, arith}
 use Rattle.std.proofs.Common.{Option, Some, None}
 use Rattle.std.specs.Prelude.{Result, Ok, Err, bytes_eq, codes}
 use Rattle.std.specs.Int.{w32, from_be_bytes}
@@ -13,7 +13,7 @@ use Rattle.erp1_telegrams.specs.declared.eep.Eep.{Eep}
 use Rattle.actuator_commands.specs.declared.orders.Quantity.{Quantity}
 use Rattle.actuator_commands.specs.declared.orders.Quantity.TheVariants.{Energy, Power}
 use Rattle.actuator_commands.specs.Words.{SpellsId, SpellsEep, byte_from, byte_in, id_from, id_in, eep_from, eep_in}
-use Rattle.actuator_commands.specs.Words.{state_name, state_in, quantity_name, quantity_in}
+use Rattle.actuator_commands.specs.Words.{state_name, state_in, quantity_name, quantity_in, is_text, text_in}
 
 -- ---- an ID
 
@@ -148,3 +148,13 @@ quantity_spelled text quantity e = by_tests (bytes_eq text (codes "energy")) (by
 pub quantity_read : (quantity : Quantity) → quantity_in (quantity_name quantity) ≡ Some quantity
 quantity_read Energy = refl
 quantity_read Power = refl
+
+-- ---- the text of a label
+
+pub text_spelled : (text name : List ℕ) → text_in text ≡ Some name → (text ≡ name) × (is_text name ≡ true)
+text_spelled text name e =
+    let test = chosen (is_text text) (Some text) name e in
+    let same : text ≡ name = cc (test.1) in (same, subst (λ n. is_text n ≡ true) same test.0)
+
+pub text_read : (text name : List ℕ) → (text ≡ name) × (is_text name ≡ true) → text_in text ≡ Some name
+text_read text name (same, may) = ap text_in same ∙ ap (λ b. cond b (Some name) None) may

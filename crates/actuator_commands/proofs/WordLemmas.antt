@@ -1,10 +1,12 @@
--- The first word of a line.
-use Rattle.std.proofs.Common.{◌≡◌, ℕ, ◌+◌, ◌<◌, Bool, true, false, eqb, ltb, List, [], ◌∷◌, length, take, drop}
-use Rattle.std.proofs.Common.{refl, ap, ◌∙◌, arith, Some, None}
-use Rattle.std.specs.List.{onto_first, position_or_len, position}
-use Rattle.std.proofs.lemmas.List.Splits.{slice_split_first, slice_split-cons_no}
+-- The first word of a line, and a text that was taken apart at its spaces.
+use Rattle.std.proofs.Common.{◌≡◌, ℕ, ◌+◌, ◌<◌, ◌==◌, Bool, true, false, eqb, ltb}
+use Rattle.std.proofs.Common.{List, [], ◌∷◌, length, take, drop}
+use Rattle.std.proofs.Common.{refl, sym, ap, ◌∙◌, arith, Some, None}
+use Rattle.std.specs.List.{join_with_byte, onto_first, position_or_len, position}
+use Rattle.std.proofs.lemmas.List.Splits.{slice_split_first, slice_split-cons_no, join_with_byte-slice_split}
+use Rattle.std.proofs.lemmas.List.Splits.{length-slice_split}
 use Rattle.std.proofs.lemmas.Bool.Decides.{nat_tests}
-use Rattle.actuator_commands.specs.Words.{words}
+use Rattle.actuator_commands.specs.Words.{text_in, label_in, words}
 
 abbrev is_space : ℕ → Bool
 is_space b = eqb b 32
@@ -42,3 +44,13 @@ pub words-none : (xs : List ℕ) → None ≡ position is_space xs → words xs 
 words-none xs e =
     one_word xs (λ k. let t : ltb (position_or_len is_space xs) (length xs) ≡ true = grind (arith, nat_tests, k) in
     let s : None ≡ Some (position_or_len is_space xs) = rw t at e in cc)
+
+-- the text of a label is read of its words as of the whole
+pub label_whole : (text : List ℕ) → label_in (words text) ≡ text_in text
+label_whole text = by_words (words text) refl
+  where
+    by_words : (ws : List (List ℕ)) → words text ≡ ws → label_in ws ≡ text_in text
+    by_words [] e =
+        let none : 0 ≡ length (words text) = ap length (sym e) in
+        absurd (omega (arith, none, length-slice_split (λ b. b == 32) text))
+    by_words (first ∷ more) e = ap text_in (ap (join_with_byte 32) (sym e) ∙ join_with_byte-slice_split 32 text)

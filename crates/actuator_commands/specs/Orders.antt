@@ -3,16 +3,21 @@
 use Rattle.std.specs.Prelude.{◌≡◌, ℕ, Bool, ◌&&◌, List, [], ◌∷◌, codes, bytes_eq, Option, Some, None, Result, Ok, Err}
 use Rattle.std.specs.Prelude.{option_map, if◌then◌else◌}
 use Rattle.std.specs.List.{AllByRecursion, AllZip, join_with_byte, list_all}
-use Rattle.actuator_commands.specs.Words.{words, Word, Says, Id, Profile, Number, SpellsWord, IsWordInRange}
+use Rattle.actuator_commands.specs.Words.{words, Word, Says, Id, Profile, Number, Text, SpellsWord, IsWordInRange}
 use Rattle.actuator_commands.specs.Words.{state_name, quantity_name, is_word_in_range, id_in, eep_in, number_in}
-use Rattle.actuator_commands.specs.Words.{state_in, quantity_in, of_two, of_three}
+use Rattle.actuator_commands.specs.Words.{state_in, quantity_in, label_in, of_two, of_three}
 use Rattle.actuator_commands.specs.declared.orders.Order.{Order}
 use Rattle.actuator_commands.specs.declared.orders.Order.TheVariants.{LearnOn, LearnOnAnswer, LearnAs, LearnOff}
-use Rattle.actuator_commands.specs.declared.orders.Order.TheVariants.{Add, Remove, List as ListAll, Status, Base}
+use Rattle.actuator_commands.specs.declared.orders.Order.TheVariants.{Add, Remove, Label, List as ListAll, Status, Base}
 use Rattle.actuator_commands.specs.declared.orders.Order.TheVariants.{Switch, Dim, Query, Meter, Blind, Stop}
 use Rattle.actuator_commands.specs.declared.orders.Order.TheVariants.{Central, Level, Teach}
 use Rattle.actuator_commands.specs.declared.orders.OrderFault.{OrderFault}
 use Rattle.actuator_commands.specs.declared.orders.OrderFault.TheVariants.{Syntax, Range}
+
+-- the words of a label: one, or none where it is empty. Own choice.
+abbrev pub label_words : List ℕ → List Word
+label_words [] = []
+label_words (first ∷ more) = Text (first ∷ more) ∷ []
 
 -- The table of the orders: the words of each, as they stand in its lines. Own choice.
 abbrev pub words_of : Order → List Word
@@ -22,6 +27,7 @@ words_of (LearnAs eep) = Says (codes "learn") ∷ Says (codes "as") ∷ Profile 
 words_of LearnOff = Says (codes "learn") ∷ Says (codes "off") ∷ []
 words_of (Add id eep) = Says (codes "add") ∷ Id id ∷ Profile eep ∷ []
 words_of (Remove id) = Says (codes "remove") ∷ Id id ∷ []
+words_of (Label id label) = Says (codes "label") ∷ Id id ∷ label_words label
 words_of ListAll = Says (codes "list") ∷ []
 words_of Status = Says (codes "status") ∷ []
 words_of Base = Says (codes "base") ∷ []
@@ -43,7 +49,7 @@ abbrev pub HasShape : List ℕ → Order → Type 0
 HasShape line order =
     (texts : List (List ℕ)) × (line ≡ join_with_byte 32 texts) × AllZip SpellsWord texts (words_of order)
 
--- the order's numbers are in range
+-- the order's numbers are in range, and the length of its label
 abbrev pub IsInRange : Order → Type 0
 IsInRange order = AllByRecursion IsWordInRange (words_of order)
 
@@ -53,11 +59,11 @@ Spells line order = HasShape line order × IsInRange order
 
 -- ---- the same, computed. That it is the same is the law `orders_are_spelled`.
 
--- whether the order's numbers are in range
+-- whether the order's numbers are in range, and the length of its label
 abbrev pub is_in_range : Order → Bool
 is_in_range order = list_all is_word_in_range (words_of order)
 
--- the order whose shape the words have
+-- the order whose shape the words have, but for `label`
 abbrev pub one_word : List ℕ → Option Order
 one_word name =
     if bytes_eq name (codes "list") then Some ListAll
@@ -101,14 +107,23 @@ four_words name second third fourth =
     (number_in fourth)
     else None
 
-abbrev pub order_in : List (List ℕ) → Option Order
-order_in (name ∷ []) = one_word name
-order_in (name ∷ second ∷ []) = two_words name second
-order_in (name ∷ second ∷ third ∷ []) = three_words name second third
-order_in (name ∷ second ∷ third ∷ fourth ∷ []) = four_words name second third fourth
-order_in texts = None
+abbrev pub plain_order : List (List ℕ) → Option Order
+plain_order (name ∷ []) = one_word name
+plain_order (name ∷ second ∷ []) = two_words name second
+plain_order (name ∷ second ∷ third ∷ []) = three_words name second third
+plain_order (name ∷ second ∷ third ∷ fourth ∷ []) = four_words name second third fourth
+plain_order texts = None
 
--- an order that has the shape is taken where its numbers are in range
+-- the order that begins with `label`, by the words behind it: those of its text are joined again
+abbrev pub label_order : List (List ℕ) → Option Order
+label_order [] = None
+label_order (digits ∷ more) = of_two (λ id label. Label id label) (id_in digits) (label_in more)
+
+abbrev pub order_in : List (List ℕ) → Option Order
+order_in [] = None
+order_in (name ∷ more) = if bytes_eq name (codes "label") then label_order more else plain_order (name ∷ more)
+
+-- an order that has the shape is taken where it is in range
 abbrev pub result_of : Option Order → Result Order OrderFault
 result_of (Some order) = if is_in_range order then Ok order else Err Range
 result_of None = Err Syntax

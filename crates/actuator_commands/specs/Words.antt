@@ -6,22 +6,24 @@ use Rattle.std.specs.Borrow.{Bor}
 use Rattle.std.specs.Char.{is_ascii_digit}
 use Rattle.std.specs.Fmt.{decimal}
 use Rattle.std.specs.Int.{w32, from_be_bytes}
-use Rattle.std.specs.List.{list_all, slice_split}
+use Rattle.std.specs.List.{join_with_byte, list_all, slice_split}
 use Rattle.std.specs.Option.{option_and_then, option_map, option_map_or}
 use Rattle.std.specs.Str.Parse.{digits_value}
 use Rattle.hex.specs.Hex.{decode_of, decode_sized}
 use Rattle.hex.specs.declared.error.FromHexError.{FromHexError}
 use Rattle.erp1_telegrams.specs.declared.eep.Eep.{Eep}
+use Rattle.learned_devices.specs.Labels.{longest_label, is_name}
 use Rattle.actuator_commands.specs.declared.orders.Quantity.{Quantity}
 use Rattle.actuator_commands.specs.declared.orders.Quantity.TheVariants.{Energy, Power}
 
--- A word of an order: a text that stands as it is, an ID, a profile, or a number, which is in range up to `most`. Own
--- choice.
+-- A word of an order: a text that stands as it is, an ID, a profile, a number, which is in range up to `most`, or the
+-- text of a label, in which spaces may stand. Own choice.
 pub data Word : Type 0 where
   Says : (text : List ℕ) → Word
   Id : (id : ℕ) → Word
   Profile : (eep : Eep) → Word
   Number : (most n : ℕ) → Word
+  Text : (name : List ℕ) → Word
 
 -- the words for what is on and what is off, and for what is measured. Own choice.
 abbrev pub state_name : Bool → List ℕ
@@ -53,20 +55,27 @@ pub record SpellsEep (text : List ℕ) (eep : Eep) : Type 0 where
 abbrev pub SpellsNumber : List ℕ → ℕ → Type 0
 SpellsNumber text n = (text ≡ decimal n) × (n < 100000)
 
+-- whether a text may be a label that is not empty, were it not too long. Own choice.
+abbrev pub is_text : List ℕ → Bool
+is_text [] = false
+is_text (first ∷ more) = is_name (first ∷ more)
+
 -- the text spells the word
 abbrev pub SpellsWord : List ℕ → Word → Type 0
 SpellsWord text (Says name) = text ≡ name
 SpellsWord text (Id id) = SpellsId text id
 SpellsWord text (Profile eep) = SpellsEep text eep
 SpellsWord text (Number most n) = SpellsNumber text n
+SpellsWord text (Text name) = (text ≡ name) × (is_text name ≡ true)
 
--- the word's number is in range: no device has the broadcast ID (EnOcean Serial Protocol 3, "Packet type 1:
--- RADIO_ERP1")
+-- the word's number is in range, or its length: no device has the broadcast ID (EnOcean Serial Protocol 3, "Packet type
+-- 1: RADIO_ERP1")
 abbrev pub IsWordInRange : Word → Type 0
 IsWordInRange (Says name) = Unit {0}
 IsWordInRange (Id id) = id ≢ 0xFFFF_FFFF
 IsWordInRange (Profile eep) = Unit {0}
 IsWordInRange (Number most n) = n ≤ most
+IsWordInRange (Text name) = length name ≤ longest_label
 
 -- ---- the same, computed. That it is the same are the laws `ids_are_spelled` and `orders_are_spelled`.
 
@@ -79,12 +88,13 @@ words = slice_split (λ b. b == 32)
 abbrev pub words_left : Option (Bor (List ℕ)) → List (List ℕ)
 words_left left = option_map_or (λ rest. words rest.now) left []
 
--- whether the word's number is in range
+-- whether the word's number, or its length, is in range
 abbrev pub is_word_in_range : Word → Bool
 is_word_in_range (Says name) = true
 is_word_in_range (Id id) = not (id == 0xFFFF_FFFF)
 is_word_in_range (Profile eep) = true
 is_word_in_range (Number most n) = nat_le n most
+is_word_in_range (Text name) = nat_le (length name) longest_label
 
 -- the number of two hexadecimal digits
 abbrev pub byte_from : Result (List ℕ) FromHexError → Option ℕ
@@ -136,6 +146,15 @@ is_number text = begins_well text && nat_le (length text) 5 && list_all is_ascii
 -- the number that a text spells
 abbrev pub number_in : List ℕ → Option ℕ
 number_in text = if is_number text then Some (digits_value 10 text) else None
+
+-- the text of a label that a text spells
+abbrev pub text_in : List ℕ → Option (List ℕ)
+text_in text = if is_text text then Some text else None
+
+-- the label of the words that are left of a line, with the spaces between them: the empty one where none is left
+abbrev pub label_in : List (List ℕ) → Option (List ℕ)
+label_in [] = Some []
+label_in (first ∷ more) = text_in (join_with_byte 32 (first ∷ more))
 
 -- what is made of two words or of three, where each can be read
 abbrev pub of_two : {A B C : Type 0} → (A → B → C) → Option A → Option B → Option C

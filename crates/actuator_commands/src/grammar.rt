@@ -1,10 +1,12 @@
 //! The grammar of orders, as a reader: which order a line spells.
-ghost use Rattle.std.specs.Prelude.{◌≡◌};
-ghost use Rattle.actuator_commands.specs.Orders.{one_word, two_words, three_words, four_words, order_in, order_of};
-ghost use Rattle.actuator_commands.specs.Words.{words};
+ghost use Rattle.std.specs.Prelude.{◌≡◌, ◌∷◌, Some};
+ghost use Rattle.actuator_commands.specs.Orders.{one_word, two_words, three_words, four_words, plain_order};
+ghost use Rattle.actuator_commands.specs.Orders.{label_order, order_of, result_of};
+ghost use Rattle.actuator_commands.specs.Words.{words_left};
 
 use crate::orders::{Order, OrderFault, is_in_range};
-use crate::words::{eep_of, id_of, next_word, number_of, quantity_of, state_of};
+use crate::words::{eep_of, id_of, label_of, next_word, number_of, quantity_of, state_of};
+use learned_devices::Label;
 
 fn one_word(name: &[u8]) -> Option<Order>
     ensures { result ≡ one_word name.now }
@@ -101,12 +103,11 @@ fn four_words(name: &[u8], second: &[u8], third: &[u8], fourth: &[u8]) -> Option
     }
 }
 
-// The order whose shape a line has, whatever its numbers.
-fn order_in(line: &[u8]) -> Option<Order>
-    ensures { result ≡ order_in (words line.now) }
+// The order, but for `label`, whose shape a line has, whatever its numbers. `name` is the line's first word, behind
+// which this is left.
+fn plain_order(name: &[u8], mut left: Option<&[u8]>) -> Option<Order>
+    ensures { result ≡ plain_order (name.now ∷ words_left left.entry) }
 {
-    let mut left = Some(line);
-    let name = next_word(&mut left)?;
     let words = (
         next_word(&mut left),
         next_word(&mut left),
@@ -122,18 +123,45 @@ fn order_in(line: &[u8]) -> Option<Order>
     }
 }
 
+// The order whose shape a line has, where it is in range.
+fn in_range(order: Order) -> Result<Order, OrderFault>
+    ensures { result ≡ result_of (Some order) }
+{
+    if !is_in_range(&order) {
+        return Err(OrderFault::Range);
+    }
+    Ok(order)
+}
+
+// The order of a line that begins with the word `label`, behind which this is left.
+fn label_order(mut left: Option<&[u8]>) -> Result<Order, OrderFault>
+    ensures { result ≡ result_of (label_order (words_left left.entry)) }
+{
+    let digits = next_word(&mut left).ok_or(OrderFault::Syntax)?;
+    let id = id_of(digits).ok_or(OrderFault::Syntax)?;
+    let text = label_of(left).ok_or(OrderFault::Syntax)?;
+    match Label::new(text) {
+        Some(label) => in_range(Order::Label { id, label }),
+        None => Err(OrderFault::Range),
+    }
+}
+
 /// Reads the order that a line of the desk spells: the words that `Order` shows, as they stand and with exactly one
 /// space between two of them, and nothing before or behind. `line` comes without its line end. An ID is what `id_of`
 /// reads, from `00000000` to `FFFFFFFE`, a profile three pairs of hexadecimal digits of either case with `-` between
-/// them, and a number `0` or up to five decimal digits that do not begin with 0.
+/// them, and a number `0` or up to five decimal digits that do not begin with 0. The text of a label is all that stands
+/// behind the ID and one space, with the spaces in it: at least one byte and at most `LONGEST_LABEL`, from space to `~`
+/// of ASCII, of which neither the first nor the last is a space.
 ///
 /// A line that is no order is refused as `Range` where it has the shape of one, and else as `Syntax`.
 pub fn parse(line: &[u8]) -> Result<Order, OrderFault>
     ensures { result ≡ order_of line.now }
 {
-    let order = order_in(line).ok_or(OrderFault::Syntax)?;
-    if !is_in_range(&order) {
-        return Err(OrderFault::Range);
+    let mut left = Some(line);
+    let name = next_word(&mut left).ok_or(OrderFault::Syntax)?;
+    if name == b"label".as_slice() {
+        return label_order(left);
     }
-    Ok(order)
+    let order = plain_order(name, left).ok_or(OrderFault::Syntax)?;
+    in_range(order)
 }

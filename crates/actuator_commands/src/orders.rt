@@ -4,6 +4,7 @@ ghost use Rattle.actuator_commands.specs.Orders.{is_in_range};
 ghost use Rattle.actuator_commands.specs.Packets.{recipient, sends};
 
 use erp1_telegrams::{BROADCAST, Eep};
+use learned_devices::{LONGEST_LABEL, Label};
 use thiserror::Error;
 
 /// The greatest number of a channel: 30 is all channels of a device (EnOcean Equipment Profiles 2.6, "D2-01", "I/O
@@ -21,8 +22,8 @@ const MOST_RAMP: u32 = 255;
 
 /// An order of the desk. An ID is that of a device, 0 to FFFFFFFE. A channel is 0 to 29, or 30 for all channels of the
 /// device. A value is 0 to 100 percent, and a ramp 0 to 255 seconds. An offset is 0 to 127: the order goes out from the
-/// base ID and the offset, which is the sender that devices were taught.
-#[derive(Clone, Copy, Debug, PartialEq, Eq)]
+/// base ID and the offset, which is the sender that devices were taught. An order takes no memory.
+#[derive(Clone, Debug, Drop, PartialEq, Eq)]
 pub enum Order {
     /// `learn on`: learn by telegrams of teach-in.
     LearnOn,
@@ -36,6 +37,12 @@ pub enum Order {
     Add(u32, Eep),
     /// `remove ID`: forget the device with this ID.
     Remove(u32),
+    /// `label ID TEXT`: know the device with this ID by this label. The text is all that follows the space behind the
+    /// ID, its spaces too. `label ID` is the order with the empty label.
+    Label {
+        id: u32,
+        label: Label,
+    },
     /// `list`: tell all devices.
     List,
     /// `status`: tell the counts and the mode.
@@ -109,8 +116,8 @@ pub enum OrderFault {
     /// The line has not the shape of an order.
     #[error("not an order")]
     Syntax,
-    /// The line has the shape of one, but a number is out of its range, or the ID is `FFFFFFFF`, which no device has;
-    /// or the base ID and the offset of an order make this ID.
+    /// The line has the shape of one, but a number is out of its range, a label is too long, or the ID is `FFFFFFFF`,
+    /// which no device has; or the base ID and the offset of an order make this ID.
     #[error("a number out of range")]
     Range,
     /// The order's device is not known.
@@ -169,6 +176,7 @@ pub(crate) fn is_in_range(order: &Order) -> bool
         | Order::Status
         | Order::Base => true,
         Order::Add(id, _) | Order::Remove(id) | Order::Stop { id } => *id != BROADCAST,
+        Order::Label { id, label } => *id != BROADCAST && label.as_str().len() <= LONGEST_LABEL,
         Order::Switch { id, channel, .. }
         | Order::Query { id, channel }
         | Order::Meter { id, channel, .. } => *id != BROADCAST && *channel <= LAST_CHANNEL,

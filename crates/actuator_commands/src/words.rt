@@ -1,13 +1,14 @@
 //! The words of a line, and what a word spells.
-ghost use Rattle.std.specs.Prelude.{◌≡◌, ◌==◌, [], ◌∷◌, MatchOption, position};
+ghost use Rattle.std.specs.Prelude.{◌≡◌, ◌==◌, [], ◌∷◌, MatchOption, option_map, position};
 ghost use Rattle.std.specs.Char.{is_ascii_digit};
 ghost use Rattle.std.specs.List.{list_all};
 ghost use Rattle.actuator_commands.specs.Words.{begins_well, byte_in, eep_in, id_in, is_number, number_in};
-ghost use Rattle.actuator_commands.specs.Words.{quantity_in, state_in, words_left};
+ghost use Rattle.actuator_commands.specs.Words.{text_in, quantity_in, state_in, label_in, words_left};
 
 use crate::orders::Quantity;
 use erp1_telegrams::Eep;
 use hex::FromHex;
+use learned_devices::is_name;
 
 // Where the first space stands.
 fn space(line: &[u8]) -> Option<usize>
@@ -121,5 +122,26 @@ pub(crate) fn quantity_of(text: &[u8]) -> Option<Quantity>
         Some(Quantity::Power)
     } else {
         None
+    }
+}
+
+// Reads the text of a label, of any length but 0.
+fn text_of(text: &[u8]) -> Option<&str>
+    ensures { option_map (λ text. text.now) result ≡ text_in text.now }
+{
+    if text.is_empty() || !is_name(text) {
+        return None;
+    }
+    str::from_utf8(text).ok()
+}
+
+/// Reads all that is left of a line, with its spaces, as the text of a label, of any length. Where nothing is left, the
+/// text is empty; where nothing stands behind a last space, there is none.
+pub(crate) fn label_of(left: Option<&[u8]>) -> Option<&str>
+    ensures { option_map (λ label. label.now) result ≡ label_in (words_left left.entry) }
+{
+    match left {
+        Some(text) => text_of(text),
+        None => Some(""),
     }
 }

@@ -4,8 +4,8 @@ use Rattle.actuator_commands.proofs.orders.is_in_range.Goals as goal
 pub returns-then-channel-le-LAST_CHANNEL : goal.returns-then-channel-le-LAST_CHANNEL
 returns-then-channel-le-LAST_CHANNEL c = search rules
 
-pub returns-then-id-3 : goal.returns-then-id-3
-returns-then-id-3 c = search rules
+pub returns-then-id-4 : goal.returns-then-id-4
+returns-then-id-4 c = search rules
 
 pub returns-then-value-le-MOST_VALUE : goal.returns-then-value-le-MOST_VALUE
 returns-then-value-le-MOST_VALUE c = search rules
@@ -16,5 +16,5 @@ returns-in-Central c = search rules
 pub returns-in-Add : goal.returns-in-Add
 returns-in-Add c = search rules
 
-pub returns-then-id-2 : goal.returns-then-id-2
-returns-then-id-2 c = search rules
+pub returns-then-id-3 : goal.returns-then-id-3
+returns-then-id-3 c = search rules
