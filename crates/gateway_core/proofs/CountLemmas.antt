@@ -31,7 +31,7 @@ unrefused state =
       };
       passes = refl;
       hears = λ response. refl;
-    }) (record {
+    }) (λ line. record {
       denies = λ name. refl;
       finds = λ name. refl;
       opens = λ mode. refl;
@@ -40,6 +40,7 @@ unrefused state =
       reports = refl;
       adds = λ known. refl;
       drops = λ known is. refl;
+      relabels = λ id label is known. refl;
     })
 
 -- a packet that is taken is counted, and a line is not
@@ -59,8 +60,8 @@ packets-counted state packet =
     })
 
 lines-uncounted : (state : State) (line : List ℕ) → count_of state (Ordered line) ≡ None
-lines-uncounted state =
-    of_line (λ e. e.count ≡ None) state (record {
+lines-uncounted state line =
+    of_line (λ e. e.count ≡ None) state line (record {
       denies = λ name. refl;
       finds = λ name. refl;
       opens = λ mode. refl;
@@ -69,6 +70,7 @@ lines-uncounted state =
       reports = refl;
       adds = λ known. refl;
       drops = λ known is. refl;
+      relabels = λ id label is known. refl;
     })
 
 -- where it is answered with a teach line, that is counted, and only there

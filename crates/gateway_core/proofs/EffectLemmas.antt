@@ -1,6 +1,6 @@
 -- What holds of the effect of every item.
 use Rattle.std.proofs.Common.{◌≡◌, ◌≢◌, ◌⊎◌, inl, inr, ℕ, Bool, true, false, List, [], ◌∷◌, Option}
-use Rattle.std.proofs.Common.{Some, None, refl, ap}
+use Rattle.std.proofs.Common.{Some, None, refl, sym, ap, subst, IsSome}
 use Rattle.std.specs.Prelude.{Result, Ok, Err, nat_lt, length, if◌then◌else◌}
 use Rattle.esp3_frames.specs.Packet.{Packet}
 use Rattle.erp1_telegrams.specs.declared.eep.Eep.{Eep}
@@ -26,7 +26,7 @@ use Rattle.json_lines.specs.declared.fixed.ErrorName.{ErrorName}
 use Rattle.json_lines.specs.declared.fixed.ErrorName.TheVariants as error
 use Rattle.actuator_commands.specs.declared.orders.Order.{Order}
 use Rattle.actuator_commands.specs.declared.orders.Order.TheVariants.{LearnOn, LearnOnAnswer, LearnOff, Add, Remove}
-use Rattle.actuator_commands.specs.declared.orders.Order.TheVariants.{LearnAs, List as ListAll, Status, Base}
+use Rattle.actuator_commands.specs.declared.orders.Order.TheVariants.{LearnAs, Label, List as ListAll, Status, Base}
 use Rattle.actuator_commands.specs.declared.orders.Order.TheVariants.{Switch, Dim, Query, Meter, Blind, Stop}
 use Rattle.actuator_commands.specs.declared.orders.Order.TheVariants.{Central, Level, Teach as TeachAll}
 use Rattle.actuator_commands.specs.declared.orders.OrderFault.{OrderFault}
@@ -39,11 +39,11 @@ use Rattle.gateway_core.specs.Step.{State, Item, Received, Ordered, Effect, igno
 use Rattle.gateway_core.specs.Step.{Need, NeedsMemory, NeedsStore}
 use Rattle.gateway_core.specs.Step.{counted_line, denied, sends_packet, telegram_sent, error_of}
 use Rattle.gateway_core.specs.Step.{sending_effect}
-use Rattle.gateway_core.specs.Step.{tells, sets, learns, forgets, tells_sender, accepts, deletes, line_with}
+use Rattle.gateway_core.specs.Step.{tells, sets, learns, forgets, labels, tells_sender, accepts, deletes, line_with}
 use Rattle.gateway_core.specs.Step.{plan_effect}
 use Rattle.gateway_core.specs.Step.{PassedOver, Teaches, data_case, kind_case, reading_effect, case_effect}
 use Rattle.gateway_core.specs.Step.{telegram_effect, packet_effect, line_effect}
-use Rattle.gateway_core.specs.Step.{packet_by, removal, if_supported, order_effect, longest_line, effect}
+use Rattle.gateway_core.specs.Step.{packet_by, if_known, if_supported, order_effect, longest_line, effect}
 use Rattle.gateway_core.proofs.DeviceLemmas.{device_of-known}
 
 -- ---- a telegram of teach-in is one, whatever it tells
@@ -156,8 +156,8 @@ sends-effect state (Level offset value ramp) is = refl
 sends-effect state (TeachAll offset) is = refl
 sends-effect state order is = absurd cc
 
--- it holds of each effect that a line may have
-pub record OfLine (P : Effect → Type 0) (state : State) : Type 0 where
+-- it holds of each effect that a line may have which spells this
+pub record OfLine (P : Effect → Type 0) (state : State) (spelled : Result Order OrderFault) : Type 0 where
   pub denies : (name : ErrorName) → P (denied name)
   pub finds : (name : ErrorName) → P (tells NeedsStore (Error name ∷ []))
   pub opens : (mode : Mode) → P (sets mode)
@@ -166,6 +166,8 @@ pub record OfLine (P : Effect → Type 0) (state : State) : Type 0 where
   pub reports : P (tells NeedsMemory (StatusLine state.counts state.mode ∷ []))
   pub adds : (known : Device) → P (learns known)
   pub drops : (known : Device) → device_of state.devices known.id ≡ Some known → P (forgets known)
+  pub relabels : (id : ℕ) (label : List ℕ) → spelled ≡ Ok (Label id label) → IsSome (device_of state.devices id)
+      → P (labels id label)
 
 module _ (P : Effect → Type 0) (state : State) where
   of-packet : (packet : Packet) → OfPacket P state packet → (response : Option Response)
@@ -178,49 +180,56 @@ module _ (P : Effect → Type 0) (state : State) where
   pub of_packet : (packet : Packet) → OfPacket P state packet → P (packet_effect state packet)
   of_packet packet each = of-packet packet each (response_in packet) (telegram_of packet) refl
 
-  of-supported : OfLine P state → (eep : Eep) (effect : Effect) → P effect → P (if_supported eep effect)
+  of-supported : {spelled : Result Order OrderFault} → OfLine P state spelled → (eep : Eep) (effect : Effect)
+      → P effect → P (if_supported eep effect)
   of-supported each eep effect holds = either P (supported eep) _ _ holds (each.denies error.UnsupportedProfile)
 
-  of-removal : OfLine P state → (id : ℕ) (known : Option Device) → device_of state.devices id ≡ known
-      → P (removal known)
-  of-removal each id None is = each.finds error.UnknownDevice
-  of-removal each id (Some known) is = each.drops known (device_of-known state.devices id known is)
+  of-known : {spelled : Result Order OrderFault} → OfLine P state spelled → (known : Option Device)
+      (effect_of : Device → Effect) → ((it : Device) → known ≡ Some it → P (effect_of it)) → P (if_known known effect_of)
+  of-known each None effect_of holds = each.finds error.UnknownDevice
+  of-known each (Some it) effect_of holds = holds it refl
 
-  of-sending : OfLine P state → (asked : Bool) (telegram : Result Telegram OrderFault)
-      → P (telegram_sent asked (Some telegram))
+  of-sending : {spelled : Result Order OrderFault} → OfLine P state spelled → (asked : Bool)
+      (telegram : Result Telegram OrderFault) → P (telegram_sent asked (Some telegram))
   of-sending each asked (Ok t) = each.sends asked _
   of-sending each true (Err fault) = each.finds (error_of fault)
   of-sending each false (Err fault) = each.denies (error_of fault)
 
-  of-order : OfLine P state → (order : Result Order OrderFault) → P (order_effect state order)
-  of-order each (Err fault) = each.denies (error_of fault)
-  of-order each (Ok LearnOn) = each.opens _
-  of-order each (Ok LearnOnAnswer) = each.opens _
-  of-order each (Ok (LearnAs eep)) = of-supported each eep _ (each.opens _)
-  of-order each (Ok LearnOff) = each.opens _
-  of-order each (Ok (Add id eep)) =
+  of-order : (order : Result Order OrderFault) → OfLine P state order → P (order_effect state order)
+  of-order (Err fault) each = each.denies (error_of fault)
+  of-order (Ok LearnOn) each = each.opens _
+  of-order (Ok LearnOnAnswer) each = each.opens _
+  of-order (Ok (LearnAs eep)) each = of-supported each eep _ (each.opens _)
+  of-order (Ok LearnOff) each = each.opens _
+  of-order (Ok (Add id eep)) each =
       let known : Device = record { id = id; eep = eep; maker = None; label = [] } in
       of-supported each eep _ (either P (is_full state.devices id) _ _ (each.finds error.Full) (each.adds known))
-  of-order each (Ok (Remove id)) = of-removal each id (device_of state.devices id) refl
-  of-order each (Ok ListAll) = each.lists
-  of-order each (Ok Status) = each.reports
-  of-order each (Ok Base) = each.sends false _
-  of-order each (Ok (Switch id channel on)) = of-sending each true _
-  of-order each (Ok (Dim id channel value)) = of-sending each true _
-  of-order each (Ok (Query id channel)) = of-sending each true _
-  of-order each (Ok (Meter id channel quantity)) = of-sending each true _
-  of-order each (Ok (Blind id value)) = of-sending each true _
-  of-order each (Ok (Stop id)) = of-sending each true _
-  of-order each (Ok (Central offset on)) = of-sending each false _
-  of-order each (Ok (Level offset value ramp)) = of-sending each false _
-  of-order each (Ok (TeachAll offset)) = of-sending each false _
+  of-order (Ok (Remove id)) each =
+      of-known each (device_of state.devices id) forgets
+      (λ known has. each.drops known (device_of-known state.devices id known has))
+  of-order (Ok (Label id label)) each =
+      of-known each (device_of state.devices id) (λ known. labels id label)
+      (λ known has. each.relabels id label refl (subst (λ o. IsSome o) (sym has) refl))
+  of-order (Ok ListAll) each = each.lists
+  of-order (Ok Status) each = each.reports
+  of-order (Ok Base) each = each.sends false _
+  of-order (Ok (Switch id channel on)) each = of-sending each true _
+  of-order (Ok (Dim id channel value)) each = of-sending each true _
+  of-order (Ok (Query id channel)) each = of-sending each true _
+  of-order (Ok (Meter id channel quantity)) each = of-sending each true _
+  of-order (Ok (Blind id value)) each = of-sending each true _
+  of-order (Ok (Stop id)) each = of-sending each true _
+  of-order (Ok (Central offset on)) each = of-sending each false _
+  of-order (Ok (Level offset value ramp)) each = of-sending each false _
+  of-order (Ok (TeachAll offset)) each = of-sending each false _
 
   -- of every line
-  pub of_line : OfLine P state → (line : List ℕ) → P (line_effect state line)
-  of_line each line =
-      either P (nat_lt longest_line (length line)) _ _ (each.denies error.TooLong) (of-order each (order_of line))
+  pub of_line : (line : List ℕ) → OfLine P state (order_of line) → P (line_effect state line)
+  of_line line each =
+      either P (nat_lt longest_line (length line)) _ _ (each.denies error.TooLong) (of-order (order_of line) each)
 
   -- and of every item
-  pub of_effect : ((packet : Packet) → OfPacket P state packet) → OfLine P state → (item : Item) → P (effect state item)
+  pub of_effect : ((packet : Packet) → OfPacket P state packet) → ((line : List ℕ) → OfLine P state (order_of line))
+      → (item : Item) → P (effect state item)
   of_effect packets lines (Received packet) = of_packet packet (packets packet)
-  of_effect packets lines (Ordered line) = of_line lines line
+  of_effect packets lines (Ordered line) = of_line line (lines line)

@@ -13,5 +13,5 @@ pub use Rattle.gateway_core.proofs.PrefixLemmas.{safe_is_prefix, left_is_prefix}
 pub use Rattle.gateway_core.proofs.RestLemmas.{rest_goes_on, items_behind, rest_behind}
 pub use Rattle.gateway_core.proofs.RunLemmas.{handles-nothing, handles-append, same_refusals}
 pub use Rattle.gateway_core.proofs.StopLemmas.{safe_joins, safe-weaker}
-pub use Rattle.gateway_core.proofs.TellingLemmas.{changes_are_told, teach_lines_are_told}
+pub use Rattle.gateway_core.proofs.TellingLemmas.{changes_are_told, labels_are_told, teach_lines_are_told}
 pub use Rattle.gateway_core.proofs.WindowLemmas.{packets_change_in_windows}

@@ -1,17 +1,22 @@
 -- What is told is found by later lives.
-use Rattle.std.proofs.Common.{◌≡◌, ◌≢◌, ◌⊎◌, inl, inr, ℕ, true, false, cond, List, [], ◌∷◌, ◌++◌, Option}
-use Rattle.std.proofs.Common.{Some, None, sym, ap, subst, ◌∙◌, arith, nat_cmp}
+use Rattle.std.proofs.Common.{◌≡◌, ◌≢◌, inl, inr, ℕ, true, false, cond, List, [], ◌∷◌, ◌++◌, Option}
+use Rattle.std.proofs.Common.{Some, None, refl, sym, ap, subst, ◌∙◌, arith, nat_cmp}
 use Rattle.std.specs.List.{AllByRecursion}
 use Rattle.std.specs.Ordering.{eq_by_cmp}
 use Rattle.std.specs.Cmp.{nat_cmp_total}
 use Rattle.std.proofs.lemmas.Bool.Decides.{nat_tests}
 use Rattle.std.specs.FinMap.{get, get-insert, get-remove}
-use Rattle.device_registry.specs.Devices.{Learned, Devices, Change, entered, changed}
+use Rattle.std.specs.Prelude.{unwrap_or, IsSome}
+use Rattle.std.specs.Option.{option_map}
+use Rattle.device_registry.specs.Devices.{Learned, Devices, Deed, Learn, Forget, Relabel, Change, kept_label, after}
+use Rattle.device_registry.specs.Devices.{entered, changed, device, learned, forgotten, relabelled}
 use Rattle.gateway_core.specs.Step.{State, Item, Answer, change_of, with_change, state_after}
 use Rattle.gateway_core.specs.Run.{Fate, Taken, Refused, RefusedAtWrite, state_with, Run}
+use Rattle.gateway_core.specs.Promises.{Promises, Leaves}
 use Rattle.gateway_core.specs.Stops.{Left, nothing_left, told, pending, left_with, left_by, Safe}
 use Rattle.gateway_core.specs.Lives.{Life, begun, stopped_in, IsLife, AreLives, written, Agrees, Spares, StopSpares}
 use Rattle.gateway_core.specs.Lives.{LifeSpares, LivesKeep}
+use Rattle.gateway_core.proofs.EffectLemmas.{of_effect}
 use Rattle.gateway_core.proofs.StopLemmas.{left_by-append}
 
 same_key : (q : ℕ) → eq_by_cmp nat_cmp q q ≡ true
@@ -25,27 +30,118 @@ get-entered : (devices : Devices) (id : ℕ) (o : Option Learned) (q : ℕ)
 get-entered devices id (Some it) q = get-insert nat_cmp_total devices id it q
 get-entered devices id None q = get-remove nat_cmp_total devices id q
 
-get-same : (devices : Devices) (change : Change) → get (changed devices change) change.sender ≡ change.entry
-get-same devices change = get-entered devices change.sender change.entry change.sender
-    ∙ ap (λ b. cond b change.entry (get devices change.sender)) (same_key change.sender)
+get-same : (devices : Devices) (change : Change)
+    → get (changed devices change) change.sender ≡ after (get devices change.sender) change.deed
+get-same devices change =
+    let o = after (get devices change.sender) change.deed in
+    get-entered devices change.sender o change.sender
+    ∙ ap (λ b. cond b o (get devices change.sender)) (same_key change.sender)
 
 get-other : (devices : Devices) (change : Change) (q : ℕ) → change.sender ≢ q
     → get (changed devices change) q ≡ get devices q
 get-other devices change q h =
-    get-entered devices change.sender change.entry q
-    ∙ ap (λ b. cond b change.entry (get devices q)) (other_key q change.sender h)
+    let o = after (get devices change.sender) change.deed in
+    get-entered devices change.sender o q ∙ ap (λ b. cond b o (get devices q)) (other_key q change.sender h)
 
--- a change that agrees with what is known keeps it
-get-agreeing : (devices : Devices) (it change : Change) → (change.sender ≢ it.sender) ⊎ (change ≡ it)
-    → get devices it.sender ≡ it.entry → get (changed devices change) it.sender ≡ it.entry
-get-agreeing devices it change (inl apart) has = get-other devices change it.sender apart ∙ has
-get-agreeing devices it change (inr is) has = ap (λ c. get (changed devices c) it.sender) is ∙ get-same devices it
+-- ---- what is promised
+
+-- a deed that leaves it
+leaves : (deed other : Deed) (known : Option Learned) → Leaves deed other → Promises deed known
+    → Promises deed (after known other)
+leaves (Learn eep maker) (Learn e m) known l p =
+    (record { eep = e; maker = m; label = kept_label known }, refl, l.0, l.1)
+leaves (Learn eep maker) (Relabel label) known l p = (
+  record { eep = p.0.eep; maker = p.0.maker; label = label },
+  ap (λ k. after k (Relabel label)) p.1,
+  p.2,
+  p.3,
+)
+leaves Forget Forget known l p = refl
+leaves Forget (Relabel label) known l p = ap (λ k. after k (Relabel label)) p
+leaves (Relabel label) (Learn e m) known l p = (
+  record { eep = e; maker = m; label = kept_label known },
+  refl,
+  ap kept_label p.1 ∙ p.2,
+)
+leaves (Relabel label) (Relabel other) known l p = (
+  record { eep = p.0.eep; maker = p.0.maker; label = other },
+  ap (λ k. after k (Relabel other)) p.1,
+  l,
+)
+leaves (Learn eep maker) Forget known l p = absurd l
+leaves Forget (Learn eep maker) known l p = absurd l
+leaves (Relabel label) Forget known l p = absurd l
+
+-- a change that leaves it, or of another sender
+get-agreeing : (devices : Devices) (it change : Change) → Agrees it (Some change)
+    → Promises it.deed (get devices it.sender) → Promises it.deed (get (changed devices change) it.sender)
+get-agreeing devices it change (inl apart) p =
+    subst (Promises it.deed) (sym (get-other devices change it.sender apart)) p
+get-agreeing devices it change (inr l) p = by_key (eq_by_cmp nat_cmp it.sender change.sender) refl
+  where
+    o : Option Learned
+    o = after (get devices change.sender) change.deed
+
+    by_key : (b : _) → eq_by_cmp nat_cmp it.sender change.sender ≡ b
+        → Promises it.deed (get (changed devices change) it.sender)
+    by_key true e =
+        let key : it.sender ≡ change.sender = grind (arith, nat_tests) in
+        subst (Promises it.deed) (sym (ap (get (changed devices change)) key ∙ get-same devices change))
+        (leaves it.deed change.deed (get devices change.sender) l (subst (λ k. Promises it.deed (get devices k)) key p))
+    by_key false e =
+        subst (Promises it.deed)
+        (sym (get-entered devices change.sender o it.sender ∙ ap (λ b. cond b o (get devices it.sender)) e)) p
+
+-- it is so once the change is made
+abbrev IsPromised : Devices → Change → Type 0
+IsPromised devices change = Promises change.deed (after (get devices change.sender) change.deed)
+
+-- a learned sender has the label that it gets
+labelled : (known : Option Learned) (id : ℕ) (label : List ℕ) → IsSome (option_map (device id) known)
+    → Promises (Relabel label) (after known (Relabel label))
+labelled (Some it) id label is = (_, refl, refl)
+labelled None id label is = absurd cc
+
+-- each change that an item asks for makes what it promises: a label is given to none but a learned sender
+item-promises : (state : State) (item : Item) (change : Change) → change_of state item ≡ Some change
+    → IsPromised state.devices change
+item-promises state item =
+    of_effect (λ e. (change : Change) → e.change ≡ Some change → IsPromised state.devices change) state
+    (λ packet. record {
+      telegrams = λ t carried. record {
+        ignores = λ change e. absurd cc;
+        looks = λ change e. absurd cc;
+        reads = λ line change e. absurd cc;
+        admits = λ hears eep maker change e. asked _ (_, refl, refl, refl) change e;
+        deletes = λ learning asks change e. asked (forgotten t.sender) refl change e;
+        refuses = λ hears need line is change e. absurd cc;
+      };
+      passes = λ change e. absurd cc;
+      hears = λ response change e. absurd cc;
+    })
+    (λ line. record {
+      denies = λ name change e. absurd cc;
+      finds = λ name change e. absurd cc;
+      opens = λ mode change e. absurd cc;
+      sends = λ asked bytes change e. absurd cc;
+      lists = λ change e. absurd cc;
+      reports = λ change e. absurd cc;
+      adds = λ known change e. asked (learned known) (_, refl, refl, refl) change e;
+      drops = λ known is change e. asked (forgotten known.id) refl change e;
+      relabels = λ id label is known change e.
+          asked (relabelled id label) (labelled (get state.devices id) id label known) change e;
+    })
+    item
+  where
+    asked : (it : Change) → IsPromised state.devices it → (change : Change) → Some it ≡ Some change
+        → IsPromised state.devices change
+    asked it p change e = subst (IsPromised state.devices) (ap (λ o. unwrap_or o it) e) p
 
 module _ (Before : Devices → Type 0) (it : Change) where
-  -- the sender has the entry, and so it has in all devices that a stop may leave
+  -- what is promised of the sender is so, also in all devices that a stop may leave
   record Kept (left : Left) (devices : Devices) : Type 0 where
-    pub now : get devices it.sender ≡ it.entry
-    pub safe : (d : Devices) → Safe Before left d → get d it.sender ≡ it.entry
+    pub now : Promises it.deed (get devices it.sender)
+    pub safe : (d : Devices) → Safe Before left d → Promises it.deed (get d it.sender)
 
   after_told : (left : Left) (devices : Devices) (o : Option Change) → Agrees it o → Kept left devices
       → Kept (told left devices o) (with_change devices o)
@@ -56,10 +152,11 @@ module _ (Before : Devices → Type 0) (it : Change) where
         now = now;
         safe =
             λ d safe. elim safe [
-              | inl one ↦
-                  elim one [ inl is ↦ ap (λ n. get n it.sender) is ∙ now | inr never ↦ absurd never ]
-              | inr non ↦
-                  absurd (let e = non.0 in cc)
+              | inl one ↦ elim one [
+                | inl is ↦ subst (λ n. Promises it.deed (get n it.sender)) (sym is) now
+                | inr never ↦ absurd never
+              ]
+              | inr non ↦ absurd (let e = non.0 in cc)
             ];
       }
 
@@ -70,8 +167,8 @@ module _ (Before : Devices → Type 0) (it : Change) where
     now = kept.now;
     safe = λ d safe. elim safe [
       | inl one ↦ elim one [
-        | inl is ↦ ap (λ n. get n it.sender) is ∙ get-agreeing devices it change other
-            kept.now
+        | inl is ↦
+            subst (λ n. Promises it.deed (get n it.sender)) (sym is) (get-agreeing devices it change other kept.now)
         | inr more ↦ kept.safe d (inl more)
       ]
       | inr non ↦ kept.safe d (inr non)
@@ -102,16 +199,19 @@ module _ (Before : Devices → Type 0) (it : Change) where
   after_stop left state None spares kept = kept
   after_stop left state (Some item) spares kept = after_pending left state.devices (change_of state item) spares kept
 
--- a life that finds the entry, and spares the sender, leaves it
+-- a life that finds what is promised, and does not break it, leaves it
 life_keeps : (it : Change) (life : Life) → IsLife life → LifeSpares it life
-    → get life.found it.sender ≡ it.entry → get life.left it.sender ≡ it.entry
+    → Promises it.deed (get life.found it.sender) → Promises it.deed (get life.left it.sender)
 life_keeps it life is spares found =
     let Before = λ (d : Devices). d ≡ life.found in
     let start = begun life.base life.found in
     let first : Kept Before it nothing_left life.found =
     record {
       now = found;
-      safe = λ d safe. elim safe [ inl never ↦ absurd never | inr same ↦ ap (λ n. get n it.sender) same.1 ∙ found ];
+      safe = λ d safe. elim safe [
+        | inl never ↦ absurd never
+        | inr same ↦ subst (λ n. Promises it.deed (get n it.sender)) (sym same.1) found
+      ];
     } in
     let all =
     after_all Before it nothing_left start life.last life.items life.fates life.answers is.run spares.0
@@ -121,11 +221,11 @@ life_keeps it life is spares found =
 
 lives_keep_found : (it : Change) (found : Devices) (lives : List Life) (last : Devices)
     → AreLives found lives last → AllByRecursion (LifeSpares it) lives
-    → get found it.sender ≡ it.entry → get last it.sender ≡ it.entry
-lives_keep_found it found [] last are spares has = ap (λ n. get n it.sender) are ∙ has
+    → Promises it.deed (get found it.sender) → Promises it.deed (get last it.sender)
+lives_keep_found it found [] last are spares has = subst (λ n. Promises it.deed (get n it.sender)) (sym are) has
 lives_keep_found it found (life ∷ lives) last are spares has =
     lives_keep_found it life.left lives last are.2 spares.1
-    (life_keeps it life are.1 spares.0 (ap (λ n. get n it.sender) are.0 ∙ has))
+    (life_keeps it life are.1 spares.0 (subst (λ n. Promises it.deed (get n it.sender)) (sym are.0) has))
 
 -- the rest of a run, behind its first items
 run_on : (old mid last : State) (items others : List Item) (fates more : List Fate) (answers all : List Answer)
@@ -140,21 +240,22 @@ run_on old mid last [] others (fate ∷ fates) more answers all run whole = absu
 run_on old mid last (item ∷ items) others [] more answers all run whole = absurd run
 run_on old mid last (item ∷ items) others (fate ∷ fates) more [] all run whole = absurd run
 
--- a change that is told is in all devices that a stop may leave
+-- what a change that is told promises is so in all devices that a stop may leave
 told_kept : (Before : Devices → Type 0) (left : Left) (devices : Devices) (o : Option Change) (change : Change)
-    → o ≡ Some change → Kept Before change (told left devices o) (with_change devices o)
-told_kept Before left devices o change is =
-    let now = get-same devices change in
+    → o ≡ Some change → IsPromised devices change → Kept Before change (told left devices o) (with_change devices o)
+told_kept Before left devices o change is promised =
+    let now = subst (Promises change.deed) (sym (get-same devices change)) promised in
     let kept : Kept Before change (told left devices (Some change))
     (with_change devices (Some change)) =
     record {
       now = now;
       safe =
           λ d safe. elim safe [
-            | inl one ↦
-                elim one [ inl same ↦ ap (λ n. get n change.sender) same ∙ now | inr never ↦ absurd never ]
-            | inr non ↦
-                absurd (let e = non.0 in cc)
+            | inl one ↦ elim one [
+              | inl same ↦ subst (λ n. Promises change.deed (get n change.sender)) (sym same) now
+              | inr never ↦ absurd never
+            ]
+            | inr non ↦ absurd (let e = non.0 in cc)
           ];
     } in
     subst (λ o. Kept Before change (told left devices o) (with_change devices o)) (sym is) kept
@@ -172,7 +273,9 @@ lives_keep life change lives last is tells spares are =
     run_on start tells.at life.last tells.before (tells.item ∷ tells.after) tells.fates
     (Taken ∷ tells.more) tells.answers life.answers tells.run whole in
     let early = left_by nothing_left start tells.before tells.fates in
-    let one = told_kept Before early tells.at.devices (change_of tells.at tells.item) change tells.asks in
+    let one =
+    told_kept Before early tells.at.devices (change_of tells.at tells.item) change tells.asks
+    (item-promises tells.at tells.item change tells.asks) in
     let behind = told_run tells.at life.last tells.item tells.after tells.more rest.0 rest.1 in
     let all =
     after_all Before change _ (state_after tells.at tells.item) life.last tells.after tells.more

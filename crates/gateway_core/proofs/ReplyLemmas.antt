@@ -20,7 +20,7 @@ use Rattle.teach_in.specs.Telegrams.{teach_in_of}
 use Rattle.teach_in.specs.Ute.{wants_reply, ute_reply}
 use Rattle.actuator_commands.specs.declared.orders.Order.{Order}
 use Rattle.actuator_commands.specs.declared.orders.Order.TheVariants.{LearnOn, LearnOnAnswer, LearnOff, Add, Remove}
-use Rattle.actuator_commands.specs.declared.orders.Order.TheVariants.{List as ListAll, Status, Base}
+use Rattle.actuator_commands.specs.declared.orders.Order.TheVariants.{Label, List as ListAll, Status, Base}
 use Rattle.actuator_commands.specs.declared.orders.Order.TheVariants as orders
 use Rattle.actuator_commands.specs.declared.orders.OrderFault.{OrderFault}
 use Rattle.actuator_commands.specs.Orders.{order_of}
@@ -29,8 +29,8 @@ use Rattle.json_lines.specs.Lines.{TeachLine, Teach, Done, text, texts}
 use Rattle.gateway_core.specs.Run.{Taken, Refused, RefusedAtWrite}
 use Rattle.gateway_core.specs.Step.{State, Received, Ordered, Effect, told_of, radio_of, reply_of, line_with}
 use Rattle.gateway_core.specs.Step.{packet_effect, line_effect}
-use Rattle.gateway_core.specs.Step.{order_effect, sending_effect, telegram_sent, removal, if_supported, longest_line}
-use Rattle.gateway_core.specs.Step.{base_query, known_of}
+use Rattle.gateway_core.specs.Step.{order_effect, sending_effect, telegram_sent, forgets, labels, if_known}
+use Rattle.gateway_core.specs.Step.{base_query, known_of, if_supported, longest_line}
 use Rattle.gateway_core.specs.Telling.{IsReply, IsPacketOf, RadioIsTold}
 use Rattle.gateway_core.proofs.EffectLemmas.{of_packet, of_line}
 
@@ -95,8 +95,8 @@ packet-replies state packet bytes =
 -- a line's effect that has bytes tells that it is done
 line-sends : (state : State) (bytes : List ℕ) (line : List ℕ) → (line_effect state line).radio ≡ Some bytes
     → texts (line_effect state line).desk ≡ text Done
-line-sends state bytes =
-    of_line (λ e. e.radio ≡ Some bytes → texts e.desk ≡ text Done) state (record {
+line-sends state bytes line =
+    of_line (λ e. e.radio ≡ Some bytes → texts e.desk ≡ text Done) state line (record {
       denies = λ name e. absurd cc;
       finds = λ name e. absurd cc;
       opens = λ mode e. absurd cc;
@@ -105,6 +105,7 @@ line-sends state bytes =
       reports = λ e. absurd cc;
       adds = λ known e. absurd cc;
       drops = λ known is e. absurd cc;
+      relabels = λ id label is known e. absurd cc;
     })
 
 -- ---- a line
@@ -143,9 +144,10 @@ by-telegram state order bytes e =
     one (Some (Err fault)) is e = absurd cc
     one None is e = absurd cc
 
-removal-silent : (known : Option Device) → (removal known).radio ≡ None
-removal-silent None = refl
-removal-silent (Some known) = refl
+known-silent : (known : Option Device) (effect_of : Device → Effect) → ((it : Device) → (effect_of it).radio ≡ None)
+    → (if_known known effect_of).radio ≡ None
+known-silent None effect_of silent = refl
+known-silent (Some it) effect_of silent = silent it
 
 order-sends : (state : State) (spelled : Result Order OrderFault) (bytes : List ℕ)
     → (order_effect state spelled).radio ≡ Some bytes → Sends state spelled bytes
@@ -160,7 +162,10 @@ order-sends state (Ok (Add id eep)) bytes e =
     no-bytes state (Ok (Add id eep)) bytes
     (supported-silent eep _ (either (λ (x : Effect). x.radio ≡ None) (is_full state.devices id) _ _ refl refl)) e
 order-sends state (Ok (Remove id)) bytes e =
-    no-bytes state (Ok (Remove id)) bytes (removal-silent (device_of state.devices id)) e
+    no-bytes state (Ok (Remove id)) bytes (known-silent (device_of state.devices id) forgets (λ known. refl)) e
+order-sends state (Ok (Label id label)) bytes e =
+    no-bytes state (Ok (Label id label)) bytes
+    (known-silent (device_of state.devices id) (λ known. labels id label) (λ known. refl)) e
 order-sends state (Ok ListAll) bytes e = absurd cc
 order-sends state (Ok Status) bytes e = absurd cc
 order-sends state (Ok Base) bytes e =

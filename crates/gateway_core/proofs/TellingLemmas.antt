@@ -1,9 +1,12 @@
 -- What teach lines tell, and that changes are told.
-use Rattle.std.proofs.Common.{◌≡◌, ℕ, List, [], ◌∷◌, Some, Ok, refl, sym, ap, subst, ◌∙◌, append-nil}
+use Rattle.std.proofs.Common.{◌≡◌, ◌⊎◌, inl, inr, ℕ, Bool, true, false, IsSome, List, [], ◌∷◌, length, Option, Some}
+use Rattle.std.proofs.Common.{None, Result, Ok, refl, sym, ap, subst, ◌∙◌, append-nil, arith}
+use Rattle.std.specs.Prelude.{unwrap_or, nat_lt, slice_index_or, if◌then◌else◌}
+use Rattle.std.proofs.lemmas.Bool.{le-ltb}
 use Rattle.esp3_frames.specs.Packet.{Packet}
 use Rattle.erp1_telegrams.specs.Telegram.{Telegram, telegram_of}
 use Rattle.learned_devices.specs.declared.Device.{Device}
-use Rattle.device_registry.specs.Devices.{Change, all_of}
+use Rattle.device_registry.specs.Devices.{Change, device_of, all_of, relabelled}
 use Rattle.teach_in.specs.declared.outcome.Outcome.{Outcome}
 use Rattle.teach_in.specs.declared.outcome.Outcome.TheVariants.{Accepted, Deleted, Unsupported, General, NoProfile}
 use Rattle.teach_in.specs.declared.outcome.Outcome.TheVariants as outcome
@@ -13,15 +16,20 @@ use Rattle.teach_in.specs.declared.ute.UteQuery.{UteQuery}
 use Rattle.teach_in.specs.Telegrams.{teach_in_of}
 use Rattle.teach_in.specs.Ute.{eep_in, maker_in}
 use Rattle.teach_in.proofs.ForCallers.{AsksDeletion}
+use Rattle.actuator_commands.specs.declared.orders.Order.{Order}
+use Rattle.actuator_commands.specs.declared.orders.Order.TheVariants.{Label}
+use Rattle.actuator_commands.specs.declared.orders.OrderFault.{OrderFault}
+use Rattle.actuator_commands.specs.Orders.{order_of}
+use Rattle.json_lines.specs.declared.fixed.ErrorName.{ErrorName}
 use Rattle.json_lines.specs.declared.fixed.ErrorName.TheVariants as error
 use Rattle.json_lines.specs.Lines.{DeskLine, Reading, Teach, ListEnd, StatusLine, ResponseLine, Done, Error}
 use Rattle.json_lines.specs.Lines.{TeachLine, text, texts, listing}
 use Rattle.json_lines.proofs.ForCallers.{of_teach_lines}
 use Rattle.gateway_core.specs.Step.{State, Received, Ordered, Effect, told_of, tells_sender, accepts, deletes}
-use Rattle.gateway_core.specs.Step.{line_with, learns, forgets, packet_effect, line_effect}
-use Rattle.gateway_core.specs.Step.{Cause, Memory, Store}
-use Rattle.gateway_core.specs.Run.{Taken, Refused, RefusedAtWrite, cause_text}
-use Rattle.gateway_core.specs.Telling.{IsDeleted, Tells, ChangesAreTold, TeachLinesAreTold}
+use Rattle.gateway_core.specs.Step.{line_with, learns, forgets, labels, if_known, denied, packet_effect, line_effect}
+use Rattle.gateway_core.specs.Step.{order_effect, longest_line, change_of, Cause, Memory, Store}
+use Rattle.gateway_core.specs.Run.{Fate, Taken, Refused, RefusedAtWrite, cause_text, answer_with}
+use Rattle.gateway_core.specs.Telling.{IsDeleted, Tells, ChangesAreTold, LabelsAreTold, TeachLinesAreTold}
 use Rattle.gateway_core.proofs.EffectLemmas.{IsRefusal, of_packet, of_line}
 
 -- whether a line is a teach line
@@ -128,7 +136,7 @@ line-tells : (state : State) (line : TeachLine) (ordered : List ℕ)
     → Tells (IsDeleted state (Ordered ordered)) (line_effect state ordered) line line.outcome
 line-tells state line ordered =
     let Gone = IsDeleted state (Ordered ordered) in
-    of_line (λ e. texts e.desk ≡ text (Teach line) → Tells Gone e line line.outcome) state (record {
+    of_line (λ e. texts e.desk ≡ text (Teach line) → Tells Gone e line line.outcome) state ordered (record {
       denies = λ name e. absurd (other-line (Error name) line (λ never. never) e);
       finds = λ name e. absurd (other-line (Error name) line (λ never. never) e);
       opens = λ mode e. absurd (other-line Done line (λ never. never) e);
@@ -137,7 +145,8 @@ line-tells state line ordered =
       reports = λ e. absurd (other-line (StatusLine state.counts state.mode) line (λ never. never) e);
       adds = λ known e. told Gone line (learns known) known Accepted e (λ is. (known, is, refl));
       drops = λ known has e. told Gone line (forgets known) known Deleted e (λ is. (known, is, has, refl));
-    }) ordered
+      relabels = λ id label is known e. absurd (other-line Done line (λ never. never) e);
+    })
 
 pub teach_lines_are_told : TeachLinesAreTold
 teach_lines_are_told state (Received packet) Taken line e = (refl, packet-tells state line packet e)
@@ -147,51 +156,150 @@ teach_lines_are_told state item (RefusedAtWrite cause) line e = absurd (cause-ot
 
 -- ---- a change is told
 
--- what an effect changes, it tells
+-- what an effect changes, it tells by a teach line
 abbrev Answers : (Device → Type 0) → Effect → Type 0
-Answers Gone e = (change : Change) → e.change ≡ Some change
-    → (line : TeachLine) × (texts e.desk ≡ text (Teach line)) × Tells Gone e line line.outcome
+Answers Gone e = (line : TeachLine) × (texts e.desk ≡ text (Teach line)) × Tells Gone e line line.outcome
 
 deleted-answers : (state : State) (packet : Packet) (t : Telegram) → telegram_of packet ≡ Ok t
     → AsksDeletion (teach_in_of t)
     → Answers (IsDeleted state (Received packet)) (deletes state (teach_in_of t) t.sender)
-deleted-answers state packet t carried (query, asked, wants) change e = (
+deleted-answers state packet t carried (query, asked, wants) = (
   told_of (asked_of t.sender query) Deleted,
   append-nil _ ∙ ap (λ l. text (Teach l)) (line-asked t.sender (teach_in_of t) query Deleted asked),
   (asked_of t.sender query, refl, (t, carried, refl, query, asked, wants, refl, refl), refl),
 )
 
-packet-answers : (state : State) (packet : Packet)
+packet-answers : (state : State) (packet : Packet) (change : Change) → (packet_effect state packet).change ≡ Some change
     → Answers (IsDeleted state (Received packet)) (packet_effect state packet)
-packet-answers state packet =
-    of_packet (Answers (IsDeleted state (Received packet))) state packet (record {
+packet-answers state packet change =
+    of_packet (λ e. e.change ≡ Some change → Answers (IsDeleted state (Received packet)) e) state packet (record {
       telegrams = λ t carried. record {
-        ignores = λ change e. absurd cc;
-        looks = λ change e. absurd cc;
-        reads = λ line change e. absurd cc;
-        admits = λ hears eep maker change e.
+        ignores = λ e. absurd cc;
+        looks = λ e. absurd cc;
+        reads = λ line e. absurd cc;
+        admits = λ hears eep maker e.
             let known : Device = record { id = t.sender; eep = eep; maker = maker; label = [] } in
             (told_of known Accepted, append-nil _, (known, refl, refl));
-        deletes = λ learning asks. deleted-answers state packet t carried asks;
-        refuses = λ hears need line is change e. absurd cc;
+        deletes = λ learning asks e. deleted-answers state packet t carried asks;
+        refuses = λ hears need line is e. absurd cc;
       };
-      passes = λ change e. absurd cc;
-      hears = λ response change e. absurd cc;
+      passes = λ e. absurd cc;
+      hears = λ response e. absurd cc;
     })
 
-line-answers : (state : State) (line : List ℕ) → Answers (IsDeleted state (Ordered line)) (line_effect state line)
-line-answers state line =
-    of_line (Answers (IsDeleted state (Ordered line))) state (record {
-      denies = λ name change e. absurd cc;
-      finds = λ name change e. absurd cc;
-      opens = λ mode change e. absurd cc;
-      sends = λ asked bytes change e. absurd cc;
-      lists = λ change e. absurd cc;
-      reports = λ change e. absurd cc;
-      adds = λ known change e. (told_of known Accepted, append-nil _, (known, refl, refl));
-      drops = λ known is change e. (told_of known Deleted, append-nil _, (known, refl, is, refl));
-    }) line
+-- or, of a label, by `ok`
+abbrev Labels : State → List ℕ → Effect → Change → Type 0
+Labels state line e change =
+    (id : ℕ) × (label : List ℕ) × (order_of line ≡ Ok (Label id label)) × IsSome (device_of state.devices id)
+    × (change ≡ relabelled id label) × (texts e.desk ≡ text Done)
+
+line-answers : (state : State) (line : List ℕ) (change : Change) → (line_effect state line).change ≡ Some change
+    → Answers (IsDeleted state (Ordered line)) (line_effect state line)
+    ⊎ Labels state line (line_effect state line) change
+line-answers state line change =
+    let Gone = IsDeleted state (Ordered line) in
+    of_line (λ e. e.change ≡ Some change → Answers Gone e ⊎ Labels state line e change) state line (record {
+      denies = λ name e. absurd cc;
+      finds = λ name e. absurd cc;
+      opens = λ mode e. absurd cc;
+      sends = λ asked bytes e. absurd cc;
+      lists = λ e. absurd cc;
+      reports = λ e. absurd cc;
+      adds = λ known e. inl (told_of known Accepted, append-nil _, (known, refl, refl));
+      drops = λ known is e. inl (told_of known Deleted, append-nil _, (known, refl, is, refl));
+      relabels = λ id label is known e.
+          inr (id, label, is, known, ap (λ o. unwrap_or o change) (sym e), append-nil _);
+    })
 
 pub changes_are_told : ChangesAreTold
-changes_are_told state (Received packet) = packet-answers state packet
-changes_are_told state (Ordered line) = line-answers state line
+changes_are_told state (Received packet) change e = inl (packet-answers state packet change e)
+changes_are_told state (Ordered line) change e =
+    elim (line-answers state line change e) [
+      | inl teaches ↦ inl teaches
+      | inr (id, label, is, known, gives, says) ↦ inr (record {
+        line = line;
+        ordered = refl;
+        id = id;
+        label = label;
+        spelled = is;
+        is_known = known;
+        gives = gives;
+        told = says;
+      })
+    ]
+
+-- ---- a label
+
+-- the texts of errors and of `ok` are told apart by one byte
+not-done : (name : ErrorName) → texts (Error name ∷ []) ≡ text Done → ⊥
+not-done name e = let at : 101 ≡ 116 = ap (λ text. slice_index_or text 2 0) e in absurd (omega (arith, at))
+
+abbrev tenth : List ℕ → ℕ
+tenth text = slice_index_or text 10 0
+
+-- what a line that spells a label is answered, and what it changes
+label-done : (id : ℕ) (label : List ℕ) (long : Bool) (known : Option Device)
+    → let e : Effect = if long then denied error.TooLong else if_known known (λ it. labels id label) in
+    texts e.desk ≡ text Done → IsSome known × (e.change ≡ Some (relabelled id label))
+label-done id label true known e = absurd (not-done error.TooLong e)
+label-done id label false None e = absurd (not-done error.UnknownDevice e)
+label-done id label false (Some it) e = (refl, refl)
+
+label-unknown : (id : ℕ) (label : List ℕ) (long : Bool) (known : Option Device)
+    → let e : Effect = if long then denied error.TooLong else if_known known (λ it. labels id label) in
+    texts e.desk ≡ text (Error error.UnknownDevice) → (known ≡ None) × (e.change ≡ None)
+label-unknown id label true known e = let at : 116 ≡ 117 = ap tenth e in absurd (omega (arith, at))
+label-unknown id label false None e = (refl, refl)
+label-unknown id label false (Some it) e = let at : 107 ≡ 117 = ap tenth e in absurd (omega (arith, at))
+
+label-answers : (id : ℕ) (label : List ℕ) (known : Option Device)
+    → let e = if_known known (λ it. labels id label) in
+    (texts e.desk ≡ text Done) ⊎ (texts e.desk ≡ text (Error error.UnknownDevice))
+label-answers id label None = inr (append-nil _)
+label-answers id label (Some it) = inl (append-nil _)
+
+cause-not-done : (cause : Cause) → cause_text cause ≡ text Done → ⊥
+cause-not-done Memory e = not-done error.Memory (append-nil _ ∙ e)
+cause-not-done Store e = not-done error.Store (append-nil _ ∙ e)
+
+cause-not-unknown : (cause : Cause) → cause_text cause ≡ text (Error error.UnknownDevice) → ⊥
+cause-not-unknown Memory e = let at : 109 ≡ 117 = ap tenth e in absurd (omega (arith, at))
+cause-not-unknown Store e = let at : 115 ≡ 117 = ap tenth e in absurd (omega (arith, at))
+
+pub labels_are_told : LabelsAreTold
+labels_are_told state line id label is = record {
+  done = done;
+  unknown = unknown;
+  answers = λ short.
+      let At = λ (long : Bool) (order : Result Order OrderFault).
+      let e : Effect = if long then denied error.TooLong else order_effect state order in
+      (texts e.desk ≡ text Done) ⊎ (texts e.desk ≡ text (Error error.UnknownDevice)) in
+      let at : At false (Ok (Label id label)) = label-answers id label (device_of state.devices id) in
+      subst (λ b. At b (order_of line)) (sym (le-ltb longest_line (length line) short))
+      (subst (At false) (sym is) at);
+}
+  where
+    long : Bool
+    long = nat_lt longest_line (length line)
+
+    done : (fate : Fate) → (answer_with state (Ordered line) fate).desk ≡ text Done
+        → (fate ≡ Taken) × IsSome (device_of state.devices id)
+        × (change_of state (Ordered line) ≡ Some (relabelled id label))
+    done Taken e =
+        let At = λ (order : Result Order OrderFault).
+        let e : Effect = if long then denied error.TooLong else order_effect state order in
+        texts e.desk ≡ text Done → IsSome (device_of state.devices id) × (e.change ≡ Some (relabelled id label)) in
+        let so = subst At (sym is) (label-done id label long (device_of state.devices id)) e in (refl, so.0, so.1)
+    done (Refused cause) e = absurd (cause-not-done cause e)
+    done (RefusedAtWrite cause) e = absurd (cause-not-done cause e)
+
+    unknown : (fate : Fate) → (answer_with state (Ordered line) fate).desk ≡ text (Error error.UnknownDevice)
+        → (fate ≡ Taken) × (device_of state.devices id ≡ None) × (change_of state (Ordered line) ≡ None)
+    unknown Taken e =
+        let At = λ (order : Result Order OrderFault).
+        let e : Effect = if long then denied error.TooLong else order_effect state order in
+        texts e.desk ≡ text (Error error.UnknownDevice)
+        → (device_of state.devices id ≡ None) × (e.change ≡ None) in
+        let so = subst At (sym is) (label-unknown id label long (device_of state.devices id)) e in (refl, so.0, so.1)
+    unknown (Refused cause) e = absurd (cause-not-unknown cause e)
+    unknown (RefusedAtWrite cause) e = absurd (cause-not-unknown cause e)

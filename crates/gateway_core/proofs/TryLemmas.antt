@@ -6,7 +6,7 @@ use Rattle.std.proofs.Common.{append-nil}
 use Rattle.std.specs.Prelude.{if◌then◌else◌}
 use Rattle.std.specs.Ordering.{nat_cmp}
 use Rattle.std.specs.Cmp.{nat_cmp_total}
-use Rattle.std.specs.FinMap.{len, insert, contains_key, from_entries, len-empty, len-insert, len-remove}
+use Rattle.std.specs.FinMap.{get, len, insert, contains_key, from_entries, len-empty, len-insert, len-remove}
 use Rattle.std.proofs.lemmas.Bool.{leb-true, le-ltb}
 use Rattle.sqlite.specs.State.{State as Stored, HasCleanDisk}
 use Rattle.erp1_telegrams.specs.declared.eep.Eep.{Eep}
@@ -14,6 +14,7 @@ use Rattle.erp1_telegrams.specs.Telegram.{Telegram}
 use Rattle.profiles_rps.specs.Reading.{Entry}
 use Rattle.learned_devices.specs.declared.Device.{Device}
 use Rattle.device_registry.specs.Devices.{most_devices, Learned, Devices, is_full, Change, learned, forgotten}
+use Rattle.device_registry.specs.Devices.{kept_label}
 use Rattle.device_registry.proofs.ForCallers.{few_are_held}
 use Rattle.device_registry.specs.Holding.{HasDevices, MayFind, AreRegistries, Keeps, Pends}
 use Rattle.teach_in.specs.declared.mode.Mode.{Mode}
@@ -35,7 +36,7 @@ use Rattle.json_lines.specs.declared.counts.Counts.{Counts}
 use Rattle.gateway_core.specs.declared.handler.done.Done.{Done}
 use Rattle.json_lines.specs.Counts.{raised}
 use Rattle.json_lines.specs.Lines.{Error, Teach as TeachOf, TeachLine, text}
-use Rattle.gateway_core.specs.Step.{State, Item, Answer, Effect, said, tells, learns, addition, removal}
+use Rattle.gateway_core.specs.Step.{State, Item, Answer, Effect, said, tells, learns, addition, if_known}
 use Rattle.actuator_commands.specs.declared.orders.Order.{Order}
 use Rattle.actuator_commands.specs.declared.orders.OrderFault.{OrderFault}
 use Rattle.actuator_commands.specs.Orders.{order_of}
@@ -114,7 +115,8 @@ keeps-full old new it devices full pends = record {
     | inr is ↦
         let most = few_are_held may.0 left may.2 in
         let same = ap (λ (d : Devices). len d) is in
-        let many = len-full devices it.id (record { eep = it.eep; maker = it.maker }) full in
+        let many = len-full devices it.id (record { eep = it.eep; maker = it.maker; label = kept_label (get devices it.id) })
+        full in
         absurd (omega (arith, most, same, many))
   ];
 }
@@ -160,9 +162,10 @@ telegram-need (Some (Ok t)) = refl
 telegram-need (Some (Err fault)) = refl
 telegram-need None = refl
 
-pub removal-need : (known : Option Device) → (removal known).need ≡ NeedsStore
-removal-need None = refl
-removal-need (Some known) = refl
+pub known-need : (known : Option Device) (effect_of : Device → Effect)
+    → ((it : Device) → (effect_of it).need ≡ NeedsStore) → (if_known known effect_of).need ≡ NeedsStore
+known-need None effect_of needs = refl
+known-need (Some it) effect_of needs = needs it
 
 -- what is told and replied of a sender
 pub taught-answer : (state : State) (kind : Teach) (line : TeachLine) (answer : Answer) (outcome : Outcome)

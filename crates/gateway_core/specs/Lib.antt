@@ -6,6 +6,7 @@ pub mod Stops
 pub mod Handling
 pub mod Refusals
 pub mod Tries
+pub mod Promises
 pub mod Lives
 pub mod Prefixes
 pub mod Telling

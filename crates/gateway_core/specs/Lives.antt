@@ -7,6 +7,7 @@ use Rattle.teach_in.specs.declared.mode.Mode.TheVariants.{Closed}
 use Rattle.json_lines.specs.Counts.{none_counted}
 use Rattle.gateway_core.specs.Step.{State, Item, Answer, change_of, state_after}
 use Rattle.gateway_core.specs.Run.{Fate, Taken, Refused, RefusedAtWrite, state_with, Run}
+use Rattle.gateway_core.specs.Promises.{Promises, Leaves}
 use Rattle.gateway_core.specs.Stops.{Left, nothing_left, pending, left_by, Safe}
 
 -- the base ID, the devices found, the items with their fates and answers, what was known after them, the item in work
@@ -47,12 +48,12 @@ written state item Taken = change_of state item
 written state item (Refused cause) = None
 written state item (RefusedAtWrite cause) = change_of state item
 
--- the change, if any, is of another sender, or it is this one again
+-- the change, if any, is of another sender, or leaves what this one promises
 abbrev pub Agrees : Change → Option Change → Type 0
 Agrees it None = Unit {0}
-Agrees it (Some change) = (change.sender ≢ it.sender) ⊎ (change ≡ it)
+Agrees it (Some change) = (change.sender ≢ it.sender) ⊎ Leaves it.deed change.deed
 
--- each item that learns or forgets the sender asks for this change again, be it taken or refused at its write
+-- each item that changes the sender leaves what this change promises, be it taken or refused at its write
 abbrev pub Spares : Change → State → List Item → List Fate → Type 0
 Spares it state (item ∷ items) (fate ∷ fates) =
     Agrees it (written state item fate) × Spares it (state_with state item fate) items fates
@@ -65,7 +66,7 @@ StopSpares it state (Some item) = Agrees it (change_of state item)
 abbrev pub LifeSpares : Change → Life → Type 0
 LifeSpares it life = Spares it (begun life.base life.found) life.items life.fates × StopSpares it life.last life.stopped
 
--- the life told that the change is made, and then nothing in it learned or forgot the sender otherwise
+-- the life told that the change is made, and then nothing in it broke what that promises
 pub record Tells (life : Life) (change : Change) : Type 0 where
   pub before : List Item
   pub item : Item
@@ -81,9 +82,10 @@ pub record Tells (life : Life) (change : Change) : Type 0 where
   pub spared : Spares change (state_after at item) after more
   pub stop : StopSpares change life.last life.stopped
 
--- what is told learned or forgotten is found so by every later life, until an item learns the sender otherwise, or
--- forgets it where it was told learned
+-- What a change that is told promises is found so by every later life, until an item breaks it: a profile and a maker
+-- until one learns the sender otherwise or forgets it, that it is forgotten until one learns it, and a label until one
+-- labels the sender otherwise or forgets it.
 abbrev pub LivesKeep : Type 0
 LivesKeep = (life : Life) (change : Change) (lives : List Life) (last : Devices) →
     IsLife life → Tells life change → AllByRecursion (LifeSpares change) lives → AreLives life.left lives last
-    → get last change.sender ≡ change.entry
+    → Promises change.deed (get last change.sender)

@@ -1,5 +1,5 @@
 -- For private clauses: what a refusal says.
-use Rattle.std.specs.Prelude.{true, if◌then◌else◌}
+use Rattle.std.specs.Prelude.{if◌then◌else◌}
 use Rattle.device_registry.specs.declared.fault.StoreFault.{StoreFault}
 use Rattle.gateway_core.specs.declared.refusal.Refusal.{Refusal}
 use Rattle.gateway_core.specs.declared.refusal.Refusal.TheVariants.{Before, AtWrite}

@@ -9,7 +9,8 @@ use Rattle.erp1_telegrams.specs.Address.{is_passed_over}
 use Rattle.erp1_telegrams.specs.Telegram.{Telegram, telegram_of, sent}
 use Rattle.profiles_rps.specs.Reading.{Entry}
 use Rattle.learned_devices.specs.declared.Device.{Device}
-use Rattle.device_registry.specs.Devices.{Devices, device_of, all_of, is_full, Change, learned, forgotten, changed}
+use Rattle.device_registry.specs.Devices.{Devices, device_of, all_of, is_full, Change, changed}
+use Rattle.device_registry.specs.Devices.{learned, forgotten, relabelled}
 use Rattle.teach_in.specs.declared.mode.Mode.{Mode}
 use Rattle.teach_in.specs.declared.mode.Mode.TheVariants.{Closed, Learn, LearnAnswer, LearnAs}
 use Rattle.teach_in.specs.declared.outcome.Outcome.{Outcome}
@@ -26,7 +27,7 @@ use Rattle.teach_in.specs.Profiles.{supported}
 use Rattle.teach_in.specs.Telegrams.{teach_in_of}
 use Rattle.teach_in.specs.Plans.{plan_of}
 use Rattle.actuator_commands.specs.declared.orders.Order.{Order}
-use Rattle.actuator_commands.specs.declared.orders.Order.TheVariants.{LearnOn, LearnOnAnswer, LearnOff, Remove}
+use Rattle.actuator_commands.specs.declared.orders.Order.TheVariants.{LearnOn, LearnOnAnswer, LearnOff, Remove, Label}
 use Rattle.actuator_commands.specs.declared.orders.Order.TheVariants.{List as ListAll, Status, Base}
 use Rattle.actuator_commands.specs.declared.orders.Order.TheVariants as order
 use Rattle.actuator_commands.specs.declared.orders.OrderFault.{OrderFault}
@@ -252,15 +253,20 @@ sets mode = record nothing { desk = Done ∷ []; mode = Some mode }
 abbrev pub tells : Need → List DeskLine → Effect
 tells need lines = record nothing { desk = lines; need = need }
 
+-- a device that the desk names is learned, forgotten or labelled
 abbrev pub learns : Device → Effect
 learns known = record (tells NeedsStore (TeachOf (told_of known Accepted) ∷ [])) { change = Some (learned known) }
 
 abbrev pub forgets : Device → Effect
 forgets known = record (tells NeedsStore (TeachOf (told_of known Deleted) ∷ [])) { change = Some (forgotten known.id) }
 
-abbrev pub removal : Option Device → Effect
-removal None = tells NeedsStore (Error error.UnknownDevice ∷ [])
-removal (Some known) = forgets known
+abbrev pub labels : ℕ → List ℕ → Effect
+labels id label = record (tells NeedsStore (Done ∷ [])) { change = Some (relabelled id label) }
+
+-- the effect of an order about a device that has to be learned
+abbrev pub if_known : Option Device → (Device → Effect) → Effect
+if_known None effect_of = tells NeedsStore (Error error.UnknownDevice ∷ [])
+if_known (Some known) effect_of = effect_of known
 
 -- the effect of an order that names a profile, where that is supported
 abbrev pub if_supported : Eep → Effect → Effect
@@ -304,7 +310,8 @@ order_effect state (Ok LearnOff) = sets Closed
 order_effect state (Ok (order.Add id eep)) =
     let known : Device = record { id = id; eep = eep; maker = None; label = [] } in
     if_supported eep (addition state.devices known (tells NeedsStore (Error error.Full ∷ [])) (learns known))
-order_effect state (Ok (Remove id)) = removal (device_of state.devices id)
+order_effect state (Ok (Remove id)) = if_known (device_of state.devices id) forgets
+order_effect state (Ok (Label id label)) = if_known (device_of state.devices id) (λ known. labels id label)
 order_effect state (Ok ListAll) = tells NeedsStore (listing (all_of state.devices))
 order_effect state (Ok Status) = tells NeedsMemory (StatusLine state.counts state.mode ∷ [])
 order_effect state (Ok Base) = sends_packet false (spelling base_query)

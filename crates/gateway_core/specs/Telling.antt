@@ -1,9 +1,9 @@
--- Of what a teach line tells, and what is told where bytes are sent by radio.
-use Rattle.std.specs.Prelude.{◌≡◌, ◌⊎◌, ℕ, true, List, Some, None, Ok}
+-- Of what a teach line tells, what is told of a label, and what is told where bytes are sent by radio.
+use Rattle.std.specs.Prelude.{◌≡◌, ◌⊎◌, ◌≤◌, ℕ, true, IsSome, length, List, Some, None, Ok}
 use Rattle.esp3_frames.specs.Packet.{Packet, spelling}
 use Rattle.erp1_telegrams.specs.Telegram.{Telegram, telegram_of, sent}
 use Rattle.learned_devices.specs.declared.Device.{Device}
-use Rattle.device_registry.specs.Devices.{Change, device_of, learned, forgotten}
+use Rattle.device_registry.specs.Devices.{Change, device_of, learned, forgotten, relabelled}
 use Rattle.teach_in.specs.declared.four_byte.FourByteQuery.{FourByteQuery}
 use Rattle.teach_in.specs.declared.mode.Mode.TheVariants.{Learn, LearnAnswer}
 use Rattle.teach_in.specs.declared.outcome.Outcome.{Outcome}
@@ -14,12 +14,13 @@ use Rattle.teach_in.specs.FourByte.{four_byte_reply}
 use Rattle.teach_in.specs.Telegrams.{teach_in_of}
 use Rattle.teach_in.specs.Ute.{eep_in, maker_in, wants_reply, request_in, deletion, ute_reply}
 use Rattle.actuator_commands.specs.declared.orders.Order.{Order}
-use Rattle.actuator_commands.specs.declared.orders.Order.TheVariants.{Base}
+use Rattle.actuator_commands.specs.declared.orders.Order.TheVariants.{Base, Label}
 use Rattle.actuator_commands.specs.Orders.{order_of}
 use Rattle.actuator_commands.specs.Packets.{order_telegram, recipient}
-use Rattle.json_lines.specs.Lines.{TeachLine, Teach, Done, text}
+use Rattle.json_lines.specs.declared.fixed.ErrorName.TheVariants.{UnknownDevice}
+use Rattle.json_lines.specs.Lines.{TeachLine, Teach, Done, Error, text}
 use Rattle.gateway_core.specs.Step.{State, Item, Received, Ordered, Effect, effect, told_of, answer_to, change_of}
-use Rattle.gateway_core.specs.Step.{base_query, known_of}
+use Rattle.gateway_core.specs.Step.{base_query, known_of, longest_line}
 use Rattle.gateway_core.specs.Run.{Fate, Taken, answer_with}
 
 -- A device that is told deleted: as it stands where the desk has ordered so, and by radio as its query tells it,
@@ -48,11 +49,41 @@ TeachLinesAreTold = (state : State) (item : Item) (fate : Fate) (line : TeachLin
     → (answer_with state item fate).desk ≡ text (Teach line)
     → (fate ≡ Taken) × Tells (IsDeleted state item) (effect state item) line line.outcome
 
--- and an item that is taken and asks for a change is answered with the line that tells it
+-- The item is a line that gives a learned device a label, this is the change, and the desk is told that it is done.
+pub record TellsLabel (state : State) (item : Item) (change : Change) : Type 0 where
+  pub line : List ℕ
+  pub ordered : item ≡ Ordered line
+  pub id : ℕ
+  pub label : List ℕ
+  pub spelled : order_of line ≡ Ok (Label id label)
+  pub is_known : IsSome (device_of state.devices id)
+  pub gives : change ≡ relabelled id label
+  pub told : (answer_to state item).desk ≡ text Done
+
+-- and an item that is taken and asks for a change is answered with the line that tells it, or, where it gives a label,
+-- with `ok`
 abbrev pub ChangesAreTold : Type 0
 ChangesAreTold = (state : State) (item : Item) (change : Change) → change_of state item ≡ Some change
-    → (line : TeachLine) × ((answer_with state item Taken).desk ≡ text (Teach line))
-    × Tells (IsDeleted state item) (effect state item) line line.outcome
+    → ((line : TeachLine) × ((answer_with state item Taken).desk ≡ text (Teach line))
+    × Tells (IsDeleted state item) (effect state item) line line.outcome)
+    ⊎ TellsLabel state item change
+
+-- A line that spells a label and is answered `ok` is taken and gives it to a learned device. One that is answered
+-- `unknown_device` is taken and changes nothing, and no device is learned with its ID. Each that is taken and not too
+-- long is answered so.
+pub record LabelIsTold (state : State) (line : List ℕ) (id : ℕ) (label : List ℕ) : Type 0 where
+  pub done : (fate : Fate) → (answer_with state (Ordered line) fate).desk ≡ text Done
+      → (fate ≡ Taken) × IsSome (device_of state.devices id)
+      × (change_of state (Ordered line) ≡ Some (relabelled id label))
+  pub unknown : (fate : Fate) → (answer_with state (Ordered line) fate).desk ≡ text (Error UnknownDevice)
+      → (fate ≡ Taken) × (device_of state.devices id ≡ None) × (change_of state (Ordered line) ≡ None)
+  pub answers : length line ≤ longest_line
+      → ((answer_to state (Ordered line)).desk ≡ text Done)
+      ⊎ ((answer_to state (Ordered line)).desk ≡ text (Error UnknownDevice))
+
+abbrev pub LabelsAreTold : Type 0
+LabelsAreTold = (state : State) (line : List ℕ) (id : ℕ) (label : List ℕ) → order_of line ≡ Ok (Label id label)
+    → LabelIsTold state line id label
 
 -- the telegram that replies to a query where this came of its sender: to a 4BS query in the mode that answers, and to
 -- one of universal teach-in that waits for a reply, in a window for all senders

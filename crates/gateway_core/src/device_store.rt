@@ -1,7 +1,8 @@
 //! What keeps the learned devices.
-ghost use Rattle.std.specs.Prelude.{◌≡◌, []};
+ghost use Rattle.std.specs.Prelude.{◌≡◌, [], true};
 ghost use Rattle.sqlite.specs.State.{State};
-ghost use Rattle.device_registry.specs.Holding.{LooksUp, Learns, Forgets, ListsAll};
+ghost use Rattle.learned_devices.specs.Labels.{is_label};
+ghost use Rattle.device_registry.specs.Holding.{LooksUp, Learns, Forgets, Relabels, ListsAll};
 
 use device_registry::{Device, LearnFault, Receipt, RegistryOver, SqlConnection, StoreFault};
 
@@ -14,7 +15,7 @@ pub trait DeviceStore {
     fn find(&mut self, id: u32) -> Result<Option<Device>, StoreFault>
         ensures { LooksUp (stored self.old) (stored self.new) id result };
 
-    /// Learns a device, in place of what was known of its sender. Its label is the empty one.
+    /// Learns a device, in place of what was known of its sender but for the label, which a known sender keeps.
     fn learn(&mut self, device: Device) -> Result<Receipt, LearnFault>
         requires { device.label ≡ [] }
         ensures { Learns (stored self.old) (stored self.new) device result };
@@ -22,6 +23,11 @@ pub trait DeviceStore {
     /// Forgets a sender, also one of which nothing is known.
     fn forget(&mut self, id: u32) -> Result<Receipt, StoreFault>
         ensures { Forgets (stored self.old) (stored self.new) id result };
+
+    /// Gives a sender a label, if it is learned; whether it is, is the answer.
+    fn relabel(&mut self, id: u32, text: &str) -> Result<bool, StoreFault>
+        requires { is_label text.now ≡ true }
+        ensures { Relabels (stored self.old) (stored self.new) id text.now result };
 
     /// All devices, by rising ID.
     fn all(&mut self) -> Result<Vec<Device>, StoreFault>
@@ -41,6 +47,10 @@ impl<C: SqlConnection> DeviceStore for RegistryOver<C> {
 
     fn forget(&mut self, id: u32) -> Result<Receipt, StoreFault> {
         RegistryOver::forget(self, id)
+    }
+
+    fn relabel(&mut self, id: u32, text: &str) -> Result<bool, StoreFault> {
+        RegistryOver::relabel(self, id, text)
     }
 
     fn all(&mut self) -> Result<Vec<Device>, StoreFault> {

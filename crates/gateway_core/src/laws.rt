@@ -13,7 +13,7 @@ ghost use Rattle.gateway_core.specs.Prefixes.{LeftIsPrefix, SafeIsPrefix, ToldSt
 ghost use Rattle.gateway_core.specs.Run.{RefusalsAreCounted, SameRefusals};
 ghost use Rattle.gateway_core.specs.Step.{Answer, Item};
 ghost use Rattle.gateway_core.specs.Stops.{IsOneOf, SafeJoins};
-ghost use Rattle.gateway_core.specs.Telling.{ChangesAreTold, RadioIsTold, TeachLinesAreTold};
+ghost use Rattle.gateway_core.specs.Telling.{ChangesAreTold, LabelsAreTold, RadioIsTold, TeachLinesAreTold};
 ghost use Rattle.gateway_core.specs.Windows.{PacketsChangeInWindows};
 
 use crate::device_store::DeviceStore;
@@ -92,8 +92,9 @@ pub fn safe_joins_from_any<M: Maps>()
     ensures { SafeJoins M.are }
 {}
 
-/// What is told learned or forgotten is found so by every later life, until an item learns the sender otherwise, or
-/// forgets it where it was told learned.
+/// What is told of a sender is found so by every later life, until an item breaks it: the profile and the maker that it
+/// is learned with, until one learns it otherwise or forgets it; that it is forgotten, until one learns it; and its
+/// label, until one labels it otherwise or forgets it.
 pub fn lives_keep()
     ensures { LivesKeep }
 {}
@@ -121,9 +122,17 @@ pub fn teach_lines_are_told()
 {}
 
 /// An item that is taken and changes what is learned is answered with the teach line that tells so: `accepted` of the
-/// device that it learns, `deleted` of the one that it forgets.
+/// device that it learns, `deleted` of the one that it forgets. Or it is a line that gives a learned device a label,
+/// which is answered `ok`.
 pub fn changes_are_told()
     ensures { ChangesAreTold }
+{}
+
+/// A line that spells a label gives it to a learned device where it is answered `ok`. Where it is answered
+/// `unknown_device`, no such device is learned, and nothing changes. If it is taken, and not too long, it is answered
+/// with one of these.
+pub fn labels_are_told()
+    ensures { LabelsAreTold }
 {}
 
 /// Bytes are sent by radio only where an item is taken. Those of a packet are the reply to the query that it carries,

@@ -24,7 +24,8 @@ pub(crate) struct Committed {
 }
 
 impl<S: DeviceStore> Handler<S> {
-    // Learns a device, whose label is the empty one. It is `None` where the registry is full, which tells so before it writes.
+    // Learns a device, which comes without a label: a known sender keeps its own. It is `None` where the registry is
+    // full, which tells so before it writes.
     pub(crate) fn learn(&mut self, device: Device) -> Result<Option<Committed>, Refusal>
         requires { device.label ≡ [] }
         ensures { Learns S.stored self.old device result self.new }

@@ -1,5 +1,5 @@
 //! What is done for an item that is taken.
-ghost use Rattle.std.specs.Prelude.{◌≡◌, Bool, None, Some};
+ghost use Rattle.std.specs.Prelude.{◌≡◌, ℕ, Bool, List, None, Some};
 ghost use Rattle.gateway_core.specs.Desks.{desk_bytes};
 ghost use Rattle.gateway_core.specs.Refusals.{cause_in};
 ghost use Rattle.gateway_core.specs.Replies.{answer_of};
@@ -73,6 +73,13 @@ pub(crate) fn sets(mode: Mode) -> Done
         mode: Some(mode),
         reply: reply_with(Desk::Fixed(done_line())),
     }
+}
+
+// A device has the label that it was given.
+pub(crate) fn labelled() -> Done
+    ensures { (id : ℕ) (label : List ℕ) → Gives result (Step.labels id label) }
+{
+    told(Desk::Fixed(done_line()))
 }
 
 pub(crate) fn sends_packet(packet: ArrayVec<u8, 64>) -> Done

@@ -7,7 +7,7 @@ ghost use Rattle.gateway_core.specs.Tries.{Gives, Tries};
 
 use crate::device_store::DeviceStore;
 use crate::handler::Handler;
-use crate::handler::done::{Done, denied, sets, told};
+use crate::handler::done::{Done, denied, labelled, sets, told};
 use crate::handler::sending::{ask_base, error_of};
 use crate::refusal::Refusal;
 use crate::reply::Desk;
@@ -57,6 +57,22 @@ impl<S: DeviceStore> Handler<S> {
         }
     }
 
+    // Labels a device that the desk names, if it is learned. That is asked first, so that what is refused at its write
+    // is a change. What tells that it is done is a fixed text, so nothing is refused behind the write.
+    fn try_label(&mut self, id: u32, label: &Label) -> Result<Done, Refusal>
+        ensures { Tries S.stored self.old (λ state. order_effect state (Ok (Order.Label id label.now)))
+            result self.new }
+    {
+        let Some(_) = self.registry.find(id)? else {
+            return Ok(denied(ErrorName::UnknownDevice));
+        };
+        match self.registry.relabel(id, label.as_str()) {
+            Ok(true) => Ok(labelled()),
+            Ok(false) => Ok(denied(ErrorName::UnknownDevice)),
+            Err(fault) => Err(Refusal::AtWrite(fault)),
+        }
+    }
+
     // Tells all devices.
     fn try_list(&mut self) -> Result<Done, Refusal>
         ensures { Tries S.stored self.old (λ state. order_effect state (Ok Order.List)) result self.new }
@@ -86,6 +102,7 @@ impl<S: DeviceStore> Handler<S> {
             Order::LearnOff => Ok(sets(Mode::Closed)),
             Order::Add(id, eep) => self.try_add(id, eep),
             Order::Remove(id) => self.try_remove(id),
+            Order::Label { id, label } => self.try_label(id, &label),
             Order::List => self.try_list(),
             Order::Status => self.try_status(),
             Order::Base => Ok(ask_base()),

@@ -1,5 +1,5 @@
 use Rattle.std.proofs.Common.{Ok, false, ap}
-use Rattle.actuator_commands.specs.declared.orders.Order.TheVariants.{Add, Remove, List as ListAll, Status}
+use Rattle.actuator_commands.specs.declared.orders.Order.TheVariants.{Add, Remove, Label, List as ListAll, Status}
 use Rattle.teach_in.specs.declared.mode.Mode.TheVariants.{Closed, Learn, LearnAnswer, LearnAs}
 use Rattle.esp3_frames.specs.Packet.{spelling}
 use Rattle.gateway_core.specs.Step.{base_query, if_supported, order_effect, sends_packet, sets}
@@ -45,6 +45,13 @@ returns-in-Remove g c =
     tries-same g.S.DeviceStore.stored _ _ _ (λ state. order_effect state (Ok (Remove c.in-Remove.id))) _
     (λ devices. ap (λ order. order_effect (state_of c.args.self.now devices) (Ok order)) c.in-Remove.is)
     c.try_remove.ensures
+
+pub returns-in-Label : goal.returns-in-Label
+returns-in-Label g c =
+    tries-same g.S.DeviceStore.stored _ _ _
+    (λ state. order_effect state (Ok (Label c.in-Label.id c.in-Label.label))) _
+    (λ devices. ap (λ order. order_effect (state_of c.args.self.now devices) (Ok order)) c.in-Label.is)
+    c.try_label.ensures
 
 pub returns-in-List : goal.returns-in-List
 returns-in-List g c =

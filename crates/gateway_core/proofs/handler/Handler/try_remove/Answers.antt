@@ -1,8 +1,8 @@
 use Rattle.std.proofs.Common.{refl, sym, ap, ◌∙◌}
 use Rattle.std.proofs.lemmas.Result.{err_from_is_err_and}
 use Rattle.device_registry.specs.Devices.{device_of}
-use Rattle.gateway_core.specs.Step.{removal}
-use Rattle.gateway_core.proofs.TryLemmas.{permitted, tries, tries-behind, removal-need}
+use Rattle.gateway_core.specs.Step.{forgets, if_known}
+use Rattle.gateway_core.proofs.TryLemmas.{permitted, tries, tries-behind, known-need}
 use Rattle.gateway_core.proofs.handler.Handler.try_remove.Goals as goal
 
 pub returns-in_err-device : goal.returns-in_err-device
@@ -11,7 +11,7 @@ returns-in_err-device g c =
     rw (← c.self.view_is, error.1, error.2)
     (tries g.S.DeviceStore.stored _ _ _ _ _ _ _ c.find.ensures.clean c.find.ensures.registries
     (λ honest devices has. (
-      permitted _ _ (removal-need (device_of devices c.args.id)),
+      permitted _ _ (known-need (device_of devices c.args.id) forgets (λ known. refl)),
       c.in_err-device.ensures.devices honest devices has,
     )))
 
@@ -21,7 +21,7 @@ returns-in-Some g c =
     c.find.ensures.registries
     (λ honest devices has.
     let found = c.in_ok-device.ensures.devices honest devices has in
-    (ap removal (sym (sym c.in-Some.is ∙ found.0)), found.1))
+    (ap (λ known. if_known known forgets) (sym (sym c.in-Some.is ∙ found.0)), found.1))
     c.forget_named.ensures)
 
 pub returns-in-None : goal.returns-in-None
