@@ -26,6 +26,7 @@ enum {
     SLOT_BITS = 12,
     PERIOD = 127,     /* x has this order modulo the polynomial of the check */
     UNKNOWN = -1,     /* the maker of a device that did not tell it */
+    LABEL = 32,       /* characters of a label at most, from space to `~` */
 };
 
 /* The RORGs of the telegrams that are not always ignored. */
@@ -89,6 +90,15 @@ static void put_maker(int maker) {
         TEXT("null");
     else
         put_number((uint64_t)maker);
+}
+
+/* A text of a JSON string, in which a quotation mark and a backslash want a backslash before them. */
+static void put_escaped(const char *word) {
+    for (; *word; word++) {
+        if (*word == '"' || *word == '\\')
+            TEXT("\\");
+        put(word, 1);
+    }
 }
 
 static void stop(const char *cause) {
@@ -386,6 +396,7 @@ struct device {
     uint32_t id, eep;
     int maker;
     const struct profile *profile;
+    char label[LABEL + 1];
 };
 
 static struct device devices[SLOTS];
@@ -403,15 +414,19 @@ static struct device *find(uint32_t id) {
     return &devices[at];
 }
 
-/* Learns a device, or tells that 1,000 others are learned. */
+/* Learns a device, or tells that 1,000 others are learned. A learned one keeps its label. */
 static bool learn(uint32_t id, uint32_t eep, int maker) {
     struct device *device = find(id);
     if (device->id == ALL) {
         if (learned == DEVICES)
             return false;
         learned++;
+        device->label[0] = '\0';
     }
-    *device = (struct device){id, eep, maker, profile_of(eep)};
+    device->id = id;
+    device->eep = eep;
+    device->maker = maker;
+    device->profile = profile_of(eep);
     return true;
 }
 
@@ -838,6 +853,20 @@ static void remove_device(uint32_t id) {
     forget(device);
 }
 
+/* Gives a learned device a label: so many bytes, of a text that `is_label_text`. */
+static void relabel(uint32_t id, const char *label, size_t size) {
+    struct device *device = find(id);
+    if (id == ALL || size > LABEL) {
+        write_error("range");
+    } else if (device->id == ALL) {
+        write_error("unknown_device");
+    } else {
+        memcpy(device->label, label, size);
+        device->label[size] = '\0';
+        write_ok();
+    }
+}
+
 static void set_mode(enum mode other) {
     mode = other;
     write_ok();
@@ -864,6 +893,8 @@ static void list(void) {
         put_eep(sorted[k]->eep);
         TEXT("\",\"id\":\"");
         put_id(sorted[k]->id);
+        TEXT("\",\"label\":\"");
+        put_escaped(sorted[k]->label);
         TEXT("\",\"maker\":");
         put_maker(sorted[k]->maker);
         TEXT(",\"type\":\"device\"}");
@@ -999,6 +1030,28 @@ static bool has_shape(const char *line, size_t size, const char *shape, struct w
     return line == to;
 }
 
+/* Whether a text of one byte or more is a label, but for its length: characters from space to `~`, of which neither the
+ * first nor the last is a space. */
+static bool is_label_text(const char *from, const char *to) {
+    if (from == to || *from == ' ' || to[-1] == ' ')
+        return false;
+    for (; from < to; from++)
+        if (*from < ' ' || *from > '~')
+            return false;
+    return true;
+}
+
+/* Reads a line as `label`, an ID and, behind a space, a text, and answers it if it is that. */
+static bool label_order(const char *line, size_t size) {
+    static const size_t FRONT = sizeof "label 01800ABC" - 1;
+    struct words words = {0};
+    if (size <= FRONT || !has_shape(line, FRONT, "label #", &words) || line[FRONT] != ' '
+        || !is_label_text(line + FRONT + 1, line + size))
+        return false;
+    relabel(words.id, line + FRONT + 1, size - FRONT - 1);
+    return true;
+}
+
 static void order(const char *line, size_t size) {
     struct words words = {0};
     const uint32_t *n = words.numbers;
@@ -1007,6 +1060,8 @@ static void order(const char *line, size_t size) {
         add(words.id, words.eep);
     else if (IS("remove #"))
         remove_device(words.id);
+    else if (IS("label #"))
+        relabel(words.id, "", 0);
     else if (IS("learn on"))
         set_mode(ON);
     else if (IS("learn on answer"))
@@ -1045,7 +1100,7 @@ static void order(const char *line, size_t size) {
         dim_all(n[0], n[1], n[2]);
     else if (IS("teach %"))
         to_all(n[0], true, PAYLOAD(0xE0, 0x47, 0xFF, 0x80));
-    else
+    else if (!label_order(line, size))
         write_error("syntax");
 #undef IS
 }

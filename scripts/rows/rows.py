@@ -22,11 +22,17 @@ def teach_line(sender, eep, maker, result):
     return line({"eep": eep, "id": f"{sender:08X}", "maker": maker, "result": result, "type": "teach"})
 
 
-def device_lines(devices):
-    """The devices are profiles and makers by sender."""
+# A label, but for its length: characters from space to `~`, of which neither the first nor the last is a space.
+LABEL_TEXT = "[!-~](?:[ -~]*[!-~])?"
+LONGEST_LABEL = 32
+
+
+def device_lines(devices, labels={}):
+    """The devices are profiles and makers by sender; a sender without a label has the empty one."""
     listed = sorted(devices.items())
     return "".join(
-        line({"eep": eep, "id": f"{sender:08X}", "maker": maker, "type": "device"}) for sender, (eep, maker) in listed
+        line({"eep": eep, "id": f"{sender:08X}", "label": labels.get(sender, ""), "maker": maker, "type": "device"})
+        for sender, (eep, maker) in listed
     ) + line({"count": len(listed), "type": "list"})
 
 

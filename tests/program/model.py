@@ -8,7 +8,7 @@ from runs import ROOT, run
 from esp3 import pieces, telegram
 
 TABLE = runpy.run_path(str(ROOT / "scripts/rows/verdict-rows"))
-Gateway, device_lines, error = TABLE["Gateway"], TABLE["device_lines"], TABLE["error"]
+Gateway, error, OK = TABLE["Gateway"], TABLE["error"], TABLE["OK"]
 
 
 def sent(text, sender):
@@ -16,6 +16,20 @@ def sent(text, sender):
     rorg, payload = (bytes.fromhex(word) for word in text.split(" "))
     return pieces(telegram(rorg[0], payload, sender)).strip()
 
+
+# A registry of version 1, its log of a stop, and the devices of the registry by ID: profile and maker. The files are
+# those of an earlier program (version-1.md).
+VERSION_1 = ROOT / "tests/program/version-1.registry"
+VERSION_1_LOG = ROOT / "tests/program/version-1.log"
+VERSION_1_DEVICES = {
+    0x00000000: ("F6-02-01", None),
+    0x01800A00: ("D2-01-12", 70),
+    0x01800A01: ("A5-02-05", 2047),
+    0x01800A02: ("F6-03-02", None),
+    0x01800ABC: ("D5-00-01", None),
+    0x01800ABE: ("A5-10-03", 0),
+    0xFFFFFFFE: ("D2-05-00", None),
+}
 
 CONTACT, QUERY, PRESS, ACTUATOR = "D5 00", "A5 08284680", "F6 50", "D2 0460E4"
 UNSUPPORTED, BARE, REPLY = "A5 50084680", "A5 00000000", "A5 082846F0"
@@ -52,6 +66,11 @@ def new_in(work, name):
     return lambda number: work / f"{name}_{number}.db"
 
 
+def tells_change(line, answer):
+    """Whether the answer to this line says that what is kept of a device is another: learned, forgotten or labelled."""
+    return re.search('"(accepted|deleted)"', answer) or (line.startswith("label ") and answer == OK)
+
+
 def lists_behind(lines, refused):
     """The answers to `list` that a start may give behind a run in which the lines of these numbers were refused. By the
     first all that was told is done, and nothing else. The others are for an end that was not clean: one more change is
@@ -61,10 +80,10 @@ def lists_behind(lines, refused):
         if number in refused:
             other = copy.deepcopy(gateway)
             other.answer(line)
-            others.append(device_lines(other.devices))
-        elif re.search('"(accepted|deleted)"', gateway.answer(line)):
+            others.append(other.listed())
+        elif tells_change(line, gateway.answer(line)):
             others = []
-    return [device_lines(gateway.devices), *others]
+    return [gateway.listed(), *others]
 
 
 def refused_by_store(lines, told):

@@ -79,6 +79,6 @@ def refuse_each(work, name, kind, script, case_of, cases, database=None, is_kept
 
 def devices_in(database):
     connection = sqlite3.connect(database)
-    rows = [row[0] for row in connection.execute("SELECT id FROM enogate_device ORDER BY id")]
+    rows = [row[0] for row in connection.execute("SELECT id FROM enogate_device_v2 ORDER BY id")]
     connection.close()
     return rows

@@ -96,8 +96,8 @@ const SECOND_ACCEPTED: &[u8] =
     b"{\"eep\":\"D5-00-01\",\"id\":\"00000001\",\"maker\":null,\"result\":\"accepted\",\"type\":\"teach\"}\n";
 
 const BOTH_LISTED: &[u8] =
-    b"{\"eep\":\"D5-00-01\",\"id\":\"00000001\",\"maker\":null,\"type\":\"device\"}\n\
-    {\"eep\":\"D5-00-01\",\"id\":\"01800ABC\",\"maker\":null,\"type\":\"device\"}\n\
+    b"{\"eep\":\"D5-00-01\",\"id\":\"00000001\",\"label\":\"\",\"maker\":null,\"type\":\"device\"}\n\
+    {\"eep\":\"D5-00-01\",\"id\":\"01800ABC\",\"label\":\"\",\"maker\":null,\"type\":\"device\"}\n\
     {\"count\":2,\"type\":\"list\"}\n";
 
 /// Whether a gateway lists what another learned over the same database.

@@ -1,5 +1,5 @@
-//! A script with each kind of item, about one sender, and what is to be answered to it. It is written out from the
-//! rules of the gateway, and calls nothing of it.
+//! A script with each kind of item but labels, and one with labels, both about one sender, and what is to be answered
+//! to them. It is written out from the rules of the gateway, and calls nothing of it.
 use anyhow::Result;
 use std::alloc::Global;
 
@@ -22,6 +22,8 @@ pub enum Item {
     Response,
     /// The order that removes the sender.
     Remove,
+    /// The order that gives the sender its label. It is given to a contact alone, or to a stranger.
+    Label,
     /// The order that tells the counts.
     Status,
 }
@@ -40,13 +42,36 @@ pub const ITEMS: [Item; 10] = [
     Item::Status,
 ];
 
+/// The script with labels. With ample memory and a store that refuses nothing its second `Add` keeps the label, and its
+/// second `Label` finds nobody.
+pub const LABELS: [Item; 9] = [
+    Item::Add,
+    Item::Label,
+    Item::Contact,
+    Item::Add,
+    Item::List,
+    Item::Remove,
+    Item::Label,
+    Item::Add,
+    Item::Label,
+];
+
 /// What is known of the sender.
 #[derive(Clone, Copy, PartialEq, Eq)]
 pub enum Known {
     Nothing,
     Contact,
+    /// It is a contact with its label.
+    Labelled,
     Actuator,
     Sensor,
+}
+
+impl Known {
+    // Whether it is a contact, with a label or without.
+    fn is_contact(self) -> bool {
+        self == Known::Contact || self == Known::Labelled
+    }
 }
 
 pub const OK: &[u8] = b"{\"type\":\"ok\"}\n";
@@ -79,6 +104,7 @@ impl Item {
             Item::List => b"list",
             Item::Response => b"S 5500010002650000",
             Item::Remove => b"remove 01800ABC",
+            Item::Label => b"label 01800ABC Door \"A\"",
             Item::Status => b"status",
         }
     }
@@ -96,10 +122,12 @@ impl Item {
         }
     }
 
-    /// What is known of the sender once it is told that this item learned or forgot it, if it does.
+    /// What is known of the sender once it is told that this item learned, forgot or labelled it, if it does.
     pub(crate) fn change(self, known: Known) -> Option<Known> {
         match self {
+            Item::Add if known == Known::Labelled => Some(known),
             Item::Add => Some(Known::Contact),
+            Item::Label if known.is_contact() => Some(Known::Labelled),
             Item::Actuator => Some(Known::Actuator),
             Item::Sensor => Some(Known::Sensor),
             Item::Remove if known != Known::Nothing => Some(Known::Nothing),
@@ -182,9 +210,10 @@ impl State {
     fn take_quietly(&mut self, alloc: Global, item: Item) -> Result<String> {
         match item {
             Item::Add => {
-                self.known = Known::Contact;
+                self.known = item.change(self.known).unwrap_or(Known::Contact);
                 taught(alloc, Known::Contact, "accepted")
             }
+            Item::Label => self.label(alloc),
             Item::Open => {
                 self.is_answering = true;
                 Ok(String::from_utf8_lossy(alloc, OK)?)
@@ -200,7 +229,7 @@ impl State {
     }
 
     fn hear_contact(&mut self, alloc: Global) -> Result<Answer> {
-        let is_read = self.known == Known::Contact;
+        let is_read = self.known.is_contact();
         if is_read {
             self.readings = self.readings.saturating_add(1);
         } else {
@@ -229,12 +258,20 @@ impl State {
         taught(alloc, known, "deleted")
     }
 
+    fn label(&mut self, alloc: Global) -> Result<String> {
+        if self.known == Known::Nothing {
+            return Ok(UNKNOWN.to_string(alloc)?);
+        }
+        self.known = Known::Labelled;
+        Ok(String::from_utf8_lossy(alloc, OK)?)
+    }
+
     /// What `list` is answered.
     pub(crate) fn listed(&self, alloc: Global) -> Result<String> {
         let mut text = String::new(alloc);
         for id in 1..=self.others {
             let line = format!(in alloc;
-                "{{\"eep\":\"D5-00-01\",\"id\":\"{id:08X}\",\"maker\":null,\"type\":\"device\"}}\n"
+                "{{\"eep\":\"D5-00-01\",\"id\":\"{id:08X}\",\"label\":\"\",\"maker\":null,\"type\":\"device\"}}\n"
             )?;
             text.push_str(line.as_str())?;
         }
@@ -242,7 +279,8 @@ impl State {
         if self.known != Known::Nothing {
             let (eep, maker) = eep_and_maker(self.known);
             let line = format!(in alloc;
-                "{{\"eep\":\"{eep}\",\"id\":\"01800ABC\",\"maker\":{maker},\"type\":\"device\"}}\n"
+                "{{\"eep\":\"{eep}\",\"id\":\"01800ABC\",\"label\":\"{}\",\"maker\":{maker},\"type\":\"device\"}}\n",
+                label_of(self.known)
             )?;
             text.push_str(line.as_str())?;
             count = count.saturating_add(1);
@@ -270,9 +308,17 @@ impl State {
 fn eep_and_maker(known: Known) -> (&'static str, &'static str) {
     match known {
         Known::Nothing => ("", ""),
-        Known::Contact => ("D5-00-01", "null"),
+        Known::Contact | Known::Labelled => ("D5-00-01", "null"),
         Known::Actuator => ("D2-01-12", "70"),
         Known::Sensor => ("A5-02-05", "70"),
+    }
+}
+
+// The label of the sender, as a list tells it.
+fn label_of(known: Known) -> &'static str {
+    match known {
+        Known::Labelled => "Door \\\"A\\\"",
+        _ => "",
     }
 }
 

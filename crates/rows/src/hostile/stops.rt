@@ -1,10 +1,10 @@
-//! The script over files of which one stops, at each of its calls in turn. The gateway goes on to the end of the
+//! The scripts over files of which one stops, at each of its calls in turn. The gateway goes on to the end of its
 //! script. Then all stops, and the files are opened again.
 use super::disks::{
     Disks, Stop, Store, Which, closed, connected, empty_files, files_under, fused, is_blown,
     left_by,
 };
-use super::script::{ITEMS, Item, Known, OK, STORE, State};
+use super::script::{ITEMS, Item, Known, LABELS, OK, STORE, State};
 use crate::gateways::{BASE, REMEMBERED, written_by};
 use crate::telling::Telling;
 use anyhow::{Result, bail};
@@ -41,6 +41,8 @@ enum End {
 /// What each run begins with.
 #[derive(Clone, Copy)]
 struct Trial<'a> {
+    /// The script.
+    items: &'a [Item],
     files: &'a Disks,
     /// The file that stops.
     which: Which,
@@ -67,6 +69,7 @@ pub(crate) fn tell(rt: &HostRuntime, telling: &mut Telling) -> Result<()> {
     let alloc = rt.alloc();
     let empty = empty_files(alloc);
     let mut trial = Trial {
+        items: &ITEMS,
         files: &empty,
         which: Which::Log,
         others: 0,
@@ -79,11 +82,15 @@ pub(crate) fn tell(rt: &HostRuntime, telling: &mut Telling) -> Result<()> {
         End::Refused,
     ];
     tell_trial(rt, telling, "a log that stops", &trial, &ends)?;
+    trial.items = &LABELS;
+    tell_trial(rt, telling, "a log that stops amid labels", &trial, &ends)?;
+    trial.items = &ITEMS;
     trial.which = Which::Database;
     let ends = [End::NotConnected];
     tell_trial(rt, telling, "a database that stops", &trial, &ends)?;
     let many = made(alloc, MANY)?;
     let trial = Trial {
+        items: &ITEMS,
         files: &many,
         which: Which::Database,
         others: MANY,
@@ -144,8 +151,8 @@ fn filled<C: SqlConnection + Drop>(alloc: Global, conn: C, others: u32) -> Resul
         bail!("not prepared");
     }
     let sql = format!(in alloc;
-        "INSERT INTO enogate_device WITH RECURSIVE n (i) AS (SELECT 1 UNION ALL SELECT i + 1 FROM n) \
-        SELECT i, 13959169, -1 FROM n LIMIT {others}"
+        "INSERT INTO enogate_device_v2 WITH RECURSIVE n (i) AS (SELECT 1 UNION ALL SELECT i + 1 FROM n) \
+        SELECT i, 13959169, -1, '' FROM n LIMIT {others}"
     )?;
     conn.execute(sql.as_str(), &[])?;
     Ok(conn)
@@ -197,7 +204,7 @@ fn run_over(alloc: Global, trial: &Trial<'_>, conn: Connection<Store>) -> Result
 }
 
 fn run_prepared(alloc: Global, trial: &Trial<'_>, conn: Connection<Store>) -> Result<(End, bool)> {
-    match run_script_over(alloc, conn, trial.others)? {
+    match run_script_over(alloc, trial, conn)? {
         Some((course, conn)) => ended(alloc, trial, &course, files_under(conn)),
         None => Ok((End::NotStarted, true)),
     }
@@ -228,32 +235,32 @@ fn ended(alloc: Global, trial: &Trial<'_>, course: &Course, files: Disks) -> Res
 /// Runs the script by a gateway, and hands the connection back. None: there is no gateway.
 fn run_script_over<C: SqlConnection + Drop>(
     alloc: Global,
+    trial: &Trial<'_>,
     conn: C,
-    others: u32,
 ) -> Result<Option<(Course, C)>> {
     let Some(mut gateway) = started(alloc, conn)? else {
         return Ok(None);
     };
-    let course = run_script(alloc, &mut gateway, others)?;
+    let course = run_script(alloc, trial, &mut gateway)?;
     Ok(Some((course, gateway.close())))
 }
 
 fn run_script<S: DeviceStore>(
     alloc: Global,
+    trial: &Trial<'_>,
     gateway: &mut GatewayOver<S>,
-    others: u32,
 ) -> Result<Course> {
     let mut left = Vec::new(alloc);
     left.push(Known::Nothing)?;
     let mut course = Course {
-        state: State::new(Known::Nothing, others),
+        state: State::new(Known::Nothing, trial.others),
         left,
         is_refused: false,
         is_well: true,
     };
-    for item in ITEMS {
+    for item in trial.items {
         let text = written_by(alloc, gateway, item.line())?;
-        follow(alloc, &mut course, item, text.as_slice())?;
+        follow(alloc, &mut course, *item, text.as_slice())?;
     }
     Ok(course)
 }
