@@ -1,11 +1,12 @@
 //! A framer takes the bytes of a serial line one by one, and hands out the packets that they make.
-ghost use Rattle.std.specs.Prelude.{◌≡◌, ◌+◌, ◌<◌, ◌↔◌, [], ◌∷◌, ◌++◌, length, Some, None, IsTrue, IfOk};
+ghost use Rattle.std.specs.Prelude.{◌≡◌, ◌+◌, ◌<◌, ◌≤◌, ◌↔◌, [], ◌∷◌, ◌++◌, length};
+ghost use Rattle.std.specs.Prelude.{Some, None, IsTrue, IfOk, IfSome};
 ghost use Rattle.std.specs.Bool.{OnTrue, OnFalse};
 ghost use Rattle.std.specs.Option.{option_map};
 ghost use Rattle.esp3_frames.specs.Framing.{MayBecomePacket};
 ghost use Rattle.esp3_frames.specs.Frames.{frames_of};
 ghost use Rattle.esp3_frames.specs.Outcome.{packet_of};
-ghost use Rattle.esp3_frames.specs.Packet.{Packet};
+ghost use Rattle.esp3_frames.specs.Packet.{Packet, longest_data};
 
 use crate::front::{announced_len, is_refused, is_whole, settle, settle_behind};
 use crate::window::Window;
@@ -45,9 +46,10 @@ impl PacketBuf {
         })
     }
 
-    /// The packet that was handed out last. It takes no memory.
+    /// The packet that was handed out last, of which the data has a length of two bytes. It takes no memory.
     pub fn packet(&self) -> Option<PacketRef<'_>>
-        ensures { option_map packet_of result ≡ self.now }
+        ensures packet { option_map packet_of result ≡ self.now }
+        ensures short { IfSome result (λ packet. length packet.body.now ≤ longest_data) }
     {
         let header = self.header?;
         let (body, opt) = self.bytes.split_at(header.data_len as usize);
