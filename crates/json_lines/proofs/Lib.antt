@@ -5,3 +5,4 @@ pub mod PacketTexts
 pub mod Sent
 pub mod TeachLines
 pub mod TeachTexts
+pub mod WhyWords

@@ -1,7 +1,8 @@
 //! Laws of the definitions. Each function does nothing: its contract is the law.
 ghost use Rattle.std.specs.Prelude.{◌≡◌, List, [], ◌∷◌};
 ghost use Rattle.json_lines.specs.Lines.{DeskLine, HasNumbersInRange, Teach, TeachLine, text, texts};
-ghost use Rattle.json_lines.specs.PacketLines.{longest_packet_line};
+ghost use Rattle.json_lines.specs.PacketLines.{longest_packet_line, why_word};
+ghost use Rattle.json_lines.specs.declared.packet.Why.{Why};
 ghost use Rattle.json_lines.specs.declared.pieces.TheConstants.{LONGEST_PACKET_LINE};
 
 /// Lines that together have the text of a teach line are one teach line, with the same outcome.
@@ -14,6 +15,11 @@ pub fn teach_texts_are_of_teach_lines()
 pub fn teach_texts_tell_one_line()
     ensures { (line told : TeachLine) → HasNumbersInRange line → HasNumbersInRange told
         → text (Teach line) ≡ text (Teach told) → line ≡ told }
+{}
+
+/// Each word that says why stands for one reason.
+pub fn words_tell_why()
+    ensures { (why other : Why) → why_word why ≡ why_word other → why ≡ other }
 {}
 
 /// The room of a packet line is the length of the longest.

@@ -1,0 +1,50 @@
+-- Each word that says why stands for one reason.
+use Rattle.std.proofs.Common.{◌≡◌, ℕ, List, [], ◌∷◌, refl, ap, sym, ◌∙◌}
+use Rattle.std.specs.Prelude.{if◌then◌else◌}
+use Rattle.std.specs.Str.{bytes_eq}
+use Rattle.teach_in.specs.declared.outcome.Outcome.TheVariants.{Accepted, Deleted, Unsupported, Full, General}
+use Rattle.teach_in.specs.declared.outcome.Outcome.TheVariants.{NoProfile}
+use Rattle.json_lines.specs.PacketLines.{why_word}
+use Rattle.json_lines.specs.declared.packet.Why.{Why}
+use Rattle.json_lines.specs.declared.packet.Why.TheVariants.{Refused, Response, EmptyResponse, OtherType, NoTelegram}
+use Rattle.json_lines.specs.declared.packet.Why.TheVariants.{FromBroadcast, ForOthers, TeachInReply, Told}
+use Rattle.json_lines.specs.declared.packet.Why.TheVariants.{WindowClosed, OtherMode, Read, UnknownSender, WrongKind}
+use Rattle.json_lines.specs.declared.packet.Why.TheVariants.{WrongLength, OtherMessage}
+
+-- the first of some reasons with this word, or else the last of all
+with-word : List ℕ → List Why → Why
+with-word word [] = OtherMessage
+with-word word (why ∷ others) = if bytes_eq word (why_word why) then why else with-word word others
+
+every : List Why
+every =
+    Refused ∷ Response ∷ EmptyResponse ∷ OtherType ∷ NoTelegram ∷ FromBroadcast ∷ ForOthers ∷ TeachInReply
+    ∷ Told Accepted ∷ Told Deleted ∷ Told Unsupported ∷ Told Full ∷ Told General ∷ Told NoProfile ∷ WindowClosed
+    ∷ OtherMode ∷ Read ∷ UnknownSender ∷ WrongKind ∷ WrongLength ∷ []
+
+back : (why : Why) → with-word (why_word why) every ≡ why
+unfolding with-word every
+back Refused = refl
+back Response = refl
+back EmptyResponse = refl
+back OtherType = refl
+back NoTelegram = refl
+back FromBroadcast = refl
+back ForOthers = refl
+back TeachInReply = refl
+back (Told Accepted) = refl
+back (Told Deleted) = refl
+back (Told Unsupported) = refl
+back (Told Full) = refl
+back (Told General) = refl
+back (Told NoProfile) = refl
+back WindowClosed = refl
+back OtherMode = refl
+back Read = refl
+back UnknownSender = refl
+back WrongKind = refl
+back WrongLength = refl
+back OtherMessage = refl
+
+pub one_why : (why other : Why) → why_word why ≡ why_word other → why ≡ other
+one_why why other same = sym (back why) ∙ ap (λ word. with-word word every) same ∙ back other
