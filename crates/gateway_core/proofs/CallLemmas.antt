@@ -30,7 +30,7 @@ module _ {S : Type 0} (stored : S → Stored) where
 
   stands_after_byte : (stream : List ℕ) (before : List Packet) (old mid : Value S) (byte : ℕ) → Stands stream before old
       → Moves stored old (Byte byte) mid → Stands (stream ++ byte ∷ []) before mid
-  stands_after_byte stream before old mid byte stands (none, same, ready, rest) =
+  stands_after_byte stream before old mid byte stands (none, same, ready, rest, shown) =
       let parts = framing_in_parts stream (byte ∷ []) in
       record {
         packets =
@@ -79,7 +79,8 @@ module _ {S : Type 0} (stored : S → Stored) where
         run = let P : Value S → Type 0 =
             λ v. Handles stored v.handler on.items (answers_of calls) new.handler in subst P same on.run;
       }
-  goes_on stream before old (Next (Some answer) ∷ calls) new stands (mid, (packet, first, rest, handles), moves) =
+  goes_on stream before old (Next (Some answer) ∷ calls) new stands
+      (mid, (packet, first, rest, handles, shown), moves) =
       let from : Stands stream (before ++ packet ∷ []) mid = record {
         packets = stands.packets ∙ ap (λ ps. before ++ ps) first ∙ sym (append_assoc before (packet ∷ []) mid.ready);
         rest = stands.rest ∙ sym rest;
@@ -94,7 +95,7 @@ module _ {S : Type 0} (stored : S → Stored) where
         run = handles-append stored old.handler mid.handler new.handler (Received packet ∷ []) on.items (answer ∷ [])
             (answers_of calls) handles on.run;
       }
-  goes_on stream before old (Order line answer ∷ calls) new stands (mid, (ready, rest, handles), moves) =
+  goes_on stream before old (Order line answer ∷ calls) new stands (mid, (ready, rest, handles, shown), moves) =
       let from : Stands stream before mid =
       record { packets = stands.packets ∙ ap (λ ps. before ++ ps) (sym ready); rest = stands.rest ∙ sym rest } in
       let on = goes_on stream before mid calls new from moves in

@@ -1,16 +1,23 @@
 -- What is counted.
 use Rattle.std.proofs.Common.{◌≡◌, IsSome, ℕ, ◌+◌, ◌^◌, ◌<◌, List, [], ◌∷◌, Some, None, refl, ap}
-use Rattle.std.proofs.Common.{◌∙◌, arith}
+use Rattle.std.proofs.Common.{◌∙◌, arith, subst}
+use Rattle.std.specs.Option.{option_map}
 use Rattle.std.proofs.Common.{append-nil}
 use Rattle.esp3_frames.specs.Packet.{Packet}
 use Rattle.teach_in.specs.declared.outcome.Outcome.TheVariants.{Accepted, Deleted}
 use Rattle.teach_in.specs.Telegrams.{teach_in_of}
 use Rattle.json_lines.specs.declared.counts.Count.TheVariants as count
-use Rattle.json_lines.specs.Counts.{count_with, one_more, raised}
+use Rattle.json_lines.specs.Counts.{count_with, counted, one_more, raised}
+use Rattle.json_lines.specs.declared.packet.Why.{Why}
+use Rattle.json_lines.specs.declared.packet.Why.TheVariants as why
 use Rattle.json_lines.specs.Lines.{Reading, Teach, ResponseLine, TeachLine, text, texts}
-use Rattle.gateway_core.specs.Counting.{TakenAreCounted}
-use Rattle.gateway_core.specs.Step.{State, Item, Received, Ordered, count_of, packet_effect, told_of, line_with}
-use Rattle.gateway_core.specs.Run.{Taken, Refused, RefusedAtWrite, state_with, refusals, RefusalsAreCounted}
+use Rattle.gateway_core.specs.declared.account.Account.{Account}
+use Rattle.gateway_core.specs.Accounts.{because, counted_as, explanation, line_of}
+use Rattle.gateway_core.specs.Counting.{TakenAreCounted, IsExplained, ExplanationsAreCounted, Says, account_with}
+use Rattle.gateway_core.specs.Step.{State, Item, Received, Ordered, count_in, count_of, packet_effect, told_of}
+use Rattle.gateway_core.specs.Step.{Answer, Cause, Effect, line_with}
+use Rattle.gateway_core.specs.Run.{Fate, Taken, Refused, RefusedAtWrite, answer_with, state_with, refusals}
+use Rattle.gateway_core.specs.Run.{RefusalsAreCounted, refusal_of, refused}
 use Rattle.gateway_core.proofs.EffectLemmas.{of_packet, of_line, of_effect}
 use Rattle.gateway_core.proofs.TellingLemmas.{no_line, other-line}
 
@@ -20,18 +27,19 @@ count_on a b c n m is on = omega (arith, is, on)
 -- what is taken is not counted as refused
 unrefused : (state : State) (item : Item) → (raised state.counts (count_of state item)).refused ≡ state.counts.refused
 unrefused state =
-    of_effect (λ e. (raised state.counts e.count).refused ≡ state.counts.refused) state (λ packet. record {
+    of_effect (λ e. (raised state.counts (count_in e.account)).refused ≡ state.counts.refused) state
+    (λ packet. record {
       telegrams = λ t is. record {
-        ignores = refl;
-        looks = refl;
-        reads = λ line. refl;
+        unsays = λ asked account. ignores account;
+        reads = λ known line. refl;
         admits = λ hears eep maker. refl;
         deletes = λ learning asks. refl;
         refuses = λ hears need line is. refl;
       };
-      passes = refl;
+      passes = ignores;
       hears = λ response. refl;
-    }) (λ line. record {
+    })
+    (λ line. record {
       denies = λ name. refl;
       finds = λ name. refl;
       opens = λ mode. refl;
@@ -42,26 +50,29 @@ unrefused state =
       drops = λ known is. refl;
       relabels = λ id label is known. refl;
     })
+  where
+    ignores : (account : Account) → counted_as account.why ≡ count.Ignored
+        → (counted state.counts (counted_as account.why)).refused ≡ state.counts.refused
+    ignores account is = ap (λ c. (counted state.counts c).refused) is
 
 -- a packet that is taken is counted, and a line is not
 packets-counted : (state : State) (packet : Packet) → IsSome (count_of state (Received packet))
 packets-counted state packet =
-    of_packet (λ e. IsSome e.count) state packet (record {
+    of_packet (λ e. IsSome (count_in e.account)) state packet (record {
       telegrams = λ t is. record {
-        ignores = refl;
-        looks = refl;
-        reads = λ line. refl;
+        unsays = λ asked account is. refl;
+        reads = λ known line. refl;
         admits = λ hears eep maker. refl;
         deletes = λ learning asks. refl;
         refuses = λ hears need line is. refl;
       };
-      passes = refl;
+      passes = λ account is. refl;
       hears = λ response. refl;
     })
 
 lines-uncounted : (state : State) (line : List ℕ) → count_of state (Ordered line) ≡ None
 lines-uncounted state line =
-    of_line (λ e. e.count ≡ None) state line (record {
+    of_line (λ e. count_in e.account ≡ None) state line (record {
       denies = λ name. refl;
       finds = λ name. refl;
       opens = λ mode. refl;
@@ -76,36 +87,35 @@ lines-uncounted state line =
 -- where it is answered with a teach line, that is counted, and only there
 teach-counted : (state : State) (line : TeachLine) (packet : Packet)
     → texts (packet_effect state packet).desk ≡ text (Teach line)
-    → (packet_effect state packet).count ≡ Some count.Teach
+    → count_of state (Received packet) ≡ Some count.Teach
 teach-counted state line packet =
-    of_packet (λ e. texts e.desk ≡ text (Teach line) → e.count ≡ Some count.Teach) state packet (record {
+    of_packet (λ e. texts e.desk ≡ text (Teach line) → count_in e.account ≡ Some count.Teach) state packet (record {
       telegrams = λ t is. record {
-        ignores = λ e. absurd (no_line line e);
-        looks = λ e. absurd (no_line line e);
-        reads = λ read e. absurd (other-line (Reading read) line (λ never. never) e);
+        unsays = λ asked account is e. absurd (no_line line e);
+        reads = λ known read e. absurd (other-line (Reading read) line (λ never. never) e);
         admits = λ hears eep maker e. refl;
         deletes = λ learning asks e. refl;
         refuses = λ hears need line is e. refl;
       };
-      passes = λ e. absurd (no_line line e);
+      passes = λ account is e. absurd (no_line line e);
       hears = λ response e. absurd (other-line (ResponseLine response) line (λ never. never) e);
     })
 
-teach-told : (state : State) (packet : Packet) → (packet_effect state packet).count ≡ Some count.Teach
+teach-told : (state : State) (packet : Packet) → count_of state (Received packet) ≡ Some count.Teach
     → (line : TeachLine) × (texts (packet_effect state packet).desk ≡ text (Teach line))
 teach-told state packet =
-    of_packet (λ e. e.count ≡ Some count.Teach → (line : TeachLine) × (texts e.desk ≡ text (Teach line))) state packet
+    of_packet (λ e. count_in e.account ≡ Some count.Teach → (line : TeachLine) × (texts e.desk ≡ text (Teach line)))
+    state packet
     (record {
       telegrams = λ t is. record {
-        ignores = λ e. absurd cc;
-        looks = λ e. absurd cc;
-        reads = λ read e. absurd cc;
+        unsays = λ asked account is e. absurd cc;
+        reads = λ known read e. absurd cc;
         admits = λ hears eep maker e.
             (told_of (record { id = t.sender; eep = eep; maker = maker; label = [] }) Accepted, append-nil _);
         deletes = λ learning asks e. (line_with t.sender (teach_in_of t) Deleted, append-nil _);
         refuses = λ hears need line is e. (line, append-nil _);
       };
-      passes = λ e. absurd cc;
+      passes = λ account is e. absurd cc;
       hears = λ response e. absurd cc;
     })
 
@@ -116,6 +126,86 @@ taken_are_counted = record {
   taught = teach-told;
   lines = lines-uncounted;
 }
+
+-- ---- the line that explains a packet
+
+-- by a word of ignoring the desk is told nothing
+ignoring-says : (why : Why) → counted_as why ≡ count.Ignored → Says why []
+ignoring-says why.Refused is = absurd cc
+ignoring-says why.Response is = absurd cc
+ignoring-says why.EmptyResponse is = refl
+ignoring-says why.OtherType is = refl
+ignoring-says why.NoTelegram is = refl
+ignoring-says why.FromBroadcast is = refl
+ignoring-says why.ForOthers is = refl
+ignoring-says why.TeachInReply is = refl
+ignoring-says (why.Told outcome) is = absurd cc
+ignoring-says why.WindowClosed is = refl
+ignoring-says why.OtherMode is = refl
+ignoring-says why.Read is = absurd cc
+ignoring-says why.UnknownSender is = refl
+ignoring-says why.WrongKind is = refl
+ignoring-says why.WrongLength is = refl
+ignoring-says why.OtherMessage is = refl
+
+-- a packet that is taken has an account, whose word is that of what the desk is told
+abbrev HasAccount : Effect → Type 0
+HasAccount e = (account : Account) × (e.account ≡ Some account) × Says account.why e.desk
+
+has-account : (state : State) (packet : Packet) → HasAccount (packet_effect state packet)
+has-account state packet =
+    of_packet HasAccount state packet
+    (record {
+      telegrams = λ t is. record {
+        unsays = λ asked account is. (account, refl, ignoring-says account.why is);
+        reads = λ known line. (_, refl, (line, refl));
+        admits = λ hears eep maker. (_, refl, (_, refl, refl));
+        deletes = λ learning asks. (_, refl, (_, refl, refl));
+        refuses = λ hears need line is. (_, refl, (line, refl, refl));
+      };
+      passes = λ account is. (account, refl, ignoring-says account.why is);
+      hears = λ response. (_, refl, (response, refl));
+    })
+
+-- what is refused is explained so, whatever its cause
+refused-explained : (state : State) (packet : Packet) (fate : Fate) (cause : Cause)
+    → account_with state packet fate ≡ Some (because why.Refused)
+    → answer_with state (Received packet) fate ≡ refusal_of (Received packet) cause
+    → state_with state (Received packet) fate ≡ refused state → (¬ (fate ≡ Taken)) → IsExplained state packet fate
+refused-explained state packet fate cause is answer counts untaken = record {
+  account = because why.Refused;
+  is = is;
+  explained = ap (λ (a : Answer). a.explained) answer;
+  says = λ taken. absurd (untaken taken);
+  taken = (λ taken. absurd (untaken taken), λ word. absurd (word refl));
+  counts = ap (λ (s : State). s.counts) counts;
+}
+
+explained : (state : State) (packet : Packet) (fate : Fate) → IsExplained state packet fate
+explained state packet Taken =
+    let (account, is, says) = has-account state packet in
+    record {
+      account = account;
+      is = is;
+      explained = ap (λ o. explanation (option_map (line_of packet) o)) is;
+      says = λ taken. says;
+      taken = (λ taken word. subst (λ w. Says w (packet_effect state packet).desk) word says, λ word. refl);
+      counts = ap (λ o. raised state.counts (count_in o)) is;
+    }
+explained state packet (Refused cause) =
+    refused-explained state packet (Refused cause) cause refl refl refl (λ taken. absurd cc)
+explained state packet (RefusedAtWrite cause) =
+    refused-explained state packet (RefusedAtWrite cause) cause refl refl refl (λ taken. absurd cc)
+
+unexplained : (state : State) (line : List ℕ) (fate : Fate) → (answer_with state (Ordered line) fate).explained ≡ []
+unexplained state line Taken = refl
+unexplained state line (Refused cause) = refl
+unexplained state line (RefusedAtWrite cause) = refl
+
+pub explanations_are_counted : ExplanationsAreCounted
+explanations_are_counted = record { packets = explained; lines = unexplained }
+
+-- ---- refusals
 
 capped : (count : ℕ) → one_more count < 2 ^ 64
 capped count = omega arith

@@ -1,18 +1,21 @@
 -- What holds of the effect of every item.
 use Rattle.std.proofs.Common.{◌≡◌, ◌≢◌, ◌⊎◌, inl, inr, ℕ, Bool, true, false, List, [], ◌∷◌, Option}
 use Rattle.std.proofs.Common.{Some, None, refl, sym, ap, subst, IsSome}
-use Rattle.std.specs.Prelude.{Result, Ok, Err, nat_lt, length, if◌then◌else◌}
+use Rattle.std.specs.Prelude.{Result, Ok, Err, nat_lt, length, ◌==◌, if◌then◌else◌}
 use Rattle.esp3_frames.specs.Packet.{Packet}
 use Rattle.erp1_telegrams.specs.declared.eep.Eep.{Eep}
 use Rattle.erp1_telegrams.specs.declared.telegram.TelegramFault.{TelegramFault}
 use Rattle.erp1_telegrams.specs.Address.{is_passed_over}
 use Rattle.erp1_telegrams.specs.Telegram.{Telegram, telegram_of}
 use Rattle.profiles_rps.specs.Reading.{Entry}
+use Rattle.profiles_rps.specs.declared.unreadable.Unreadable.{Unreadable}
+use Rattle.profiles_rps.specs.declared.unreadable.Unreadable.TheVariants as unreadable
 use Rattle.learned_devices.specs.declared.Device.{Device}
 use Rattle.device_registry.specs.Devices.{device_of, all_of, is_full}
 use Rattle.teach_in.specs.declared.four_byte.FourByteQuery.{FourByteQuery}
 use Rattle.teach_in.specs.declared.ute.UteQuery.{UteQuery}
 use Rattle.teach_in.specs.declared.mode.Mode.{Mode}
+use Rattle.teach_in.specs.declared.mode.Mode.TheVariants as mode
 use Rattle.teach_in.specs.declared.outcome.Outcome.{Outcome}
 use Rattle.teach_in.specs.declared.outcome.Outcome.TheVariants.{Accepted, Deleted, Unsupported, General, NoProfile}
 use Rattle.teach_in.specs.declared.telegrams.Teach.{Teach}
@@ -22,6 +25,8 @@ use Rattle.teach_in.specs.Telegrams.{teach_in_of}
 use Rattle.teach_in.specs.Plans.{plan_of}
 use Rattle.teach_in.proofs.ForCallers.{either, LearnsByTold, Hears, AsksDeletion, Refuses, of_plan}
 use Rattle.json_lines.specs.declared.counts.Count.TheVariants as count
+use Rattle.json_lines.specs.declared.packet.Why.{Why}
+use Rattle.json_lines.specs.declared.packet.Why.TheVariants as why
 use Rattle.json_lines.specs.declared.fixed.ErrorName.{ErrorName}
 use Rattle.json_lines.specs.declared.fixed.ErrorName.TheVariants as error
 use Rattle.actuator_commands.specs.declared.orders.Order.{Order}
@@ -33,17 +38,21 @@ use Rattle.actuator_commands.specs.declared.orders.OrderFault.{OrderFault}
 use Rattle.actuator_commands.specs.Packets.{sends}
 use Rattle.actuator_commands.specs.Orders.{order_of}
 use Rattle.json_lines.specs.Lines.{Reading, StatusLine, ResponseLine, Error, ReadingLine, TeachLine, Response, listing}
-use Rattle.gateway_core.specs.Profiles.{readings_of}
+use Rattle.gateway_core.specs.declared.account.Account.{Account}
+use Rattle.gateway_core.specs.Accounts.{because, counted_as, of_device}
+use Rattle.gateway_core.specs.Accounts.{why_passed_over, why_silent, why_other, why_unread}
+use Rattle.gateway_core.specs.Profiles.{read_by}
 use Rattle.gateway_core.specs.Responses.{response_in}
-use Rattle.gateway_core.specs.Step.{State, Item, Received, Ordered, Effect, ignored, unread, unsaid}
+use Rattle.gateway_core.specs.Step.{State, Item, Received, Ordered, Effect, unsaid}
 use Rattle.gateway_core.specs.Step.{Need, NeedsMemory, NeedsStore}
-use Rattle.gateway_core.specs.Step.{counted_line, denied, sends_packet, telegram_sent, error_of}
+use Rattle.gateway_core.specs.Step.{tells_of_packet, denied, sends_packet, telegram_sent, error_of}
 use Rattle.gateway_core.specs.Step.{sending_effect}
 use Rattle.gateway_core.specs.Step.{tells, sets, learns, forgets, labels, tells_sender, accepts, deletes, line_with}
 use Rattle.gateway_core.specs.Step.{plan_effect}
 use Rattle.gateway_core.specs.Step.{PassedOver, Teaches, data_case, kind_case, reading_effect, case_effect}
 use Rattle.gateway_core.specs.Step.{telegram_effect, packet_effect, line_effect}
-use Rattle.gateway_core.specs.Step.{packet_by, if_known, if_supported, order_effect, longest_line, effect}
+use Rattle.gateway_core.specs.Step.{packet_by, other_effect, if_known, if_supported, order_effect, longest_line}
+use Rattle.gateway_core.specs.Step.{effect}
 use Rattle.gateway_core.proofs.DeviceLemmas.{device_of-known}
 
 -- ---- a telegram of teach-in is one, whatever it tells
@@ -83,13 +92,36 @@ is-refusal id (teach.Ute query) Unsupported is = tt
 is-refusal id (teach.Ute query) General is = tt
 is-refusal id kind outcome is = absurd is
 
+-- ---- what is ignored, for whatever reason, is counted as that
+
+other-ignores : (packet : Packet) → counted_as (why_other packet) ≡ count.Ignored
+other-ignores packet =
+    let Ignores = λ (why : Why). counted_as why ≡ count.Ignored in
+    either Ignores (packet.kind == 1) _ _ refl (either Ignores (packet.kind == 2) _ _ refl refl)
+
+passed-ignores : (t : Telegram) → counted_as (why_passed_over t) ≡ count.Ignored
+passed-ignores t = either (λ (why : Why). counted_as why ≡ count.Ignored) (t.sender == 0xFFFF_FFFF) _ _ refl refl
+
+silent-ignores : (asked : Bool) (mode : Mode) → counted_as (why_silent asked mode) ≡ count.Ignored
+silent-ignores true mode = refl
+silent-ignores false mode.Closed = refl
+silent-ignores false mode.Learn = refl
+silent-ignores false mode.LearnAnswer = refl
+silent-ignores false (mode.LearnAs eep) = refl
+
+unread-ignores : (fault : Unreadable) → counted_as (why_unread fault) ≡ count.Ignored
+unread-ignores unreadable.NotSupported = refl
+unread-ignores unreadable.WrongKind = refl
+unread-ignores unreadable.WrongLength = refl
+unread-ignores unreadable.OtherMessage = refl
+
 -- ---- all effects
 
 -- it holds of each effect that a telegram may have
 pub record OfTelegram (P : Effect → Type 0) (state : State) (t : Telegram) : Type 0 where
-  pub ignores : P ignored
-  pub looks : P unread
-  pub reads : (line : ReadingLine) → P (counted_line NeedsStore count.Reading (Reading line))
+  pub unsays : (asked : Bool) (account : Account) → counted_as account.why ≡ count.Ignored → P (unsaid asked account)
+  pub reads : (known : Device) (line : ReadingLine)
+      → P (tells_of_packet NeedsStore (of_device known why.Read) (Reading line))
   pub admits : Hears state.mode (teach_in_of t) → (eep : Eep) (maker : Option ℕ)
       → P (accepts state (teach_in_of t) (record { id = t.sender; eep = eep; maker = maker; label = [] }))
   pub deletes : LearnsByTold state.mode → AsksDeletion (teach_in_of t) → P (deletes state (teach_in_of t) t.sender)
@@ -97,14 +129,14 @@ pub record OfTelegram (P : Effect → Type 0) (state : State) (t : Telegram) : T
       → P (record (tells_sender state (teach_in_of t) line) { need = need })
 
 module _ (P : Effect → Type 0) (state : State) (t : Telegram) (each : OfTelegram P state t) where
-  of-reading : (eep : Eep) (readings : Option (List Entry)) → P (reading_effect t eep readings)
-  of-reading eep None = each.looks
-  of-reading eep (Some readings) = each.reads _
+  of-reading : (known : Device) (readings : Result (List Entry) Unreadable) → P (reading_effect t known readings)
+  of-reading known (Err fault) = each.unsays true _ (unread-ignores fault)
+  of-reading known (Ok readings) = each.reads known _
 
-  of-plan : (asked known : Bool) → P (unsaid asked) → P (plan_effect state t asked (plan_of t state.mode known))
-  of-plan asked known holds =
+  of-plan : (asked known : Bool) → P (plan_effect state t asked (plan_of t state.mode known))
+  of-plan asked known =
       of_plan (λ plan. P (plan_effect state t asked plan)) t state.mode known (record {
-        silent = holds;
+        silent = each.unsays asked _ (silent-ignores asked state.mode);
         adds = λ hears eep maker.
             either P (is_full state.devices t.sender) _ _ (each.refuses hears NeedsStore _ tt)
             (each.admits hears eep maker);
@@ -115,21 +147,21 @@ module _ (P : Effect → Type 0) (state : State) (t : Telegram) (each : OfTelegr
       })
 
   of-data : (known : Option Device) → P (case_effect state t (data_case known))
-  of-data None = of-plan true false each.looks
-  of-data (Some known) = of-reading known.eep (readings_of known.eep t)
+  of-data None = of-plan true false
+  of-data (Some known) = of-reading known (read_by known.eep t)
 
   of-kind : (kind : Teach) (known : Option Device) → P (case_effect state t (kind_case kind known))
-  of-kind teach.Answer known = each.ignores
-  of-kind teach.Contact known = of-plan false _ each.ignores
-  of-kind teach.Bare known = of-plan false _ each.ignores
-  of-kind (teach.FourByte query) known = of-plan false _ each.ignores
-  of-kind (teach.Ute query) known = of-plan false _ each.ignores
+  of-kind teach.Answer known = each.unsays false _ refl
+  of-kind teach.Contact known = of-plan false _
+  of-kind teach.Bare known = of-plan false _
+  of-kind (teach.FourByte query) known = of-plan false _
+  of-kind (teach.Ute query) known = of-plan false _
   of-kind teach.Plain known = of-data known
 
   of-case : (over : Bool)
       → P (case_effect state t
       (if over then PassedOver else kind_case (teach_in_of t) (device_of state.devices t.sender)))
-  of-case true = each.ignores
+  of-case true = each.unsays false _ (passed-ignores t)
   of-case false = of-kind (teach_in_of t) (device_of state.devices t.sender)
 
   -- so it holds of the effect of this one
@@ -139,8 +171,8 @@ module _ (P : Effect → Type 0) (state : State) (t : Telegram) (each : OfTelegr
 -- it holds of each effect that a packet may have
 pub record OfPacket (P : Effect → Type 0) (state : State) (packet : Packet) : Type 0 where
   pub telegrams : (t : Telegram) → telegram_of packet ≡ Ok t → OfTelegram P state t
-  pub passes : P ignored
-  pub hears : (response : Response) → P (counted_line NeedsMemory count.Response (ResponseLine response))
+  pub passes : (account : Account) → counted_as account.why ≡ count.Ignored → P (unsaid false account)
+  pub hears : (response : Response) → P (tells_of_packet NeedsMemory (because why.Response) (ResponseLine response))
 
 -- an order that goes to devices has no other effect
 pub sends-effect : (state : State) (order : Order) → sends order ≡ true
@@ -170,22 +202,27 @@ pub record OfLine (P : Effect → Type 0) (state : State) (spelled : Result Orde
       → P (labels id label)
 
 module _ (P : Effect → Type 0) (state : State) where
-  of-packet : (packet : Packet) → OfPacket P state packet → (response : Option Response)
-      (telegram : Result Telegram TelegramFault) → telegram_of packet ≡ telegram → P (packet_by state response telegram)
-  of-packet packet each (Some response) telegram is = each.hears response
-  of-packet packet each None (Ok t) is = of_telegram P state t (each.telegrams t is)
-  of-packet packet each None (Err fault) is = each.passes
+  of-other : (packet : Packet) → OfPacket P state packet → (response : Option Response)
+      → P (other_effect packet response)
+  of-other packet each None = each.passes _ (other-ignores packet)
+  of-other packet each (Some response) = each.hears response
+
+  of-packet : (packet : Packet) → OfPacket P state packet → (telegram : Result Telegram TelegramFault)
+      → telegram_of packet ≡ telegram → P (packet_by state packet telegram)
+  of-packet packet each (Ok t) is = of_telegram P state t (each.telegrams t is)
+  of-packet packet each (Err fault) is = of-other packet each (response_in packet)
 
   -- so it holds of the effect of this packet
   pub of_packet : (packet : Packet) → OfPacket P state packet → P (packet_effect state packet)
-  of_packet packet each = of-packet packet each (response_in packet) (telegram_of packet) refl
+  of_packet packet each = of-packet packet each (telegram_of packet) refl
 
   of-supported : {spelled : Result Order OrderFault} → OfLine P state spelled → (eep : Eep) (effect : Effect)
       → P effect → P (if_supported eep effect)
   of-supported each eep effect holds = either P (supported eep) _ _ holds (each.denies error.UnsupportedProfile)
 
   of-known : {spelled : Result Order OrderFault} → OfLine P state spelled → (known : Option Device)
-      (effect_of : Device → Effect) → ((it : Device) → known ≡ Some it → P (effect_of it)) → P (if_known known effect_of)
+      (effect_of : Device → Effect) → ((it : Device) → known ≡ Some it → P (effect_of it))
+      → P (if_known known effect_of)
   of-known each None effect_of holds = each.finds error.UnknownDevice
   of-known each (Some it) effect_of holds = holds it refl
 

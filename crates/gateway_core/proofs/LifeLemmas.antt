@@ -109,14 +109,13 @@ item-promises state item =
     of_effect (λ e. (change : Change) → e.change ≡ Some change → IsPromised state.devices change) state
     (λ packet. record {
       telegrams = λ t carried. record {
-        ignores = λ change e. absurd cc;
-        looks = λ change e. absurd cc;
-        reads = λ line change e. absurd cc;
+        unsays = λ asked account is change e. absurd cc;
+        reads = λ known line change e. absurd cc;
         admits = λ hears eep maker change e. asked _ (_, refl, refl, refl) change e;
         deletes = λ learning asks change e. asked (forgotten t.sender) refl change e;
         refuses = λ hears need line is change e. absurd cc;
       };
-      passes = λ change e. absurd cc;
+      passes = λ account is change e. absurd cc;
       hears = λ response change e. absurd cc;
     })
     (λ line. record {

@@ -8,7 +8,7 @@ use Rattle.json_lines.specs.Counts.{raised}
 use Rattle.json_lines.specs.declared.fixed.ErrorName.TheVariants.{TooLong}
 use Rattle.actuator_commands.specs.Orders.{order_of}
 use Rattle.gateway_core.specs.Step.{State, Item, Ordered, Answer, said, Effect, denied, order_effect, longest_line}
-use Rattle.gateway_core.specs.Step.{Permits, line_effect, effect, answer_by, with_change, with_mode}
+use Rattle.gateway_core.specs.Step.{Permits, line_effect, effect, answer_by, count_in, with_change, with_mode}
 use Rattle.gateway_core.specs.Run.{Fate, Taken, Refused, RefusedAtWrite, Run, cause_text, refused}
 use Rattle.gateway_core.specs.Stops.{Left, nothing_left, told, pending, left_by, Safe}
 use Rattle.gateway_core.specs.Handling.{HandlerValue, Went, Handles}
@@ -19,27 +19,27 @@ effect-long start line h =
     ap (λ b. if b then denied TooLong else order_effect start (order_of line))
     (lt-ltb longest_line (length line) h)
 
--- a run on one item hangs on its effect alone
-run_alike : (old new : State) (item other : Item) (fates : List Fate) (answers : List Answer)
-    → effect old item ≡ effect old other → Run old (item ∷ []) fates answers new
-    → Run old (other ∷ []) fates answers new
-run_alike old new item other (Taken ∷ fates) (answer ∷ answers) e run =
+-- a run on one line hangs on its effect alone
+run_alike : (old new : State) (line other : List ℕ) (fates : List Fate) (answers : List Answer)
+    → line_effect old line ≡ line_effect old other → Run old (Ordered line ∷ []) fates answers new
+    → Run old (Ordered other ∷ []) fates answers new
+run_alike old new line other (Taken ∷ fates) (answer ∷ answers) e run =
     let P : Effect → Type 0 = λ d. Unit {0} × (answer ≡ answer_by d)
     × Run (record {
       base = old.base;
       mode = with_mode old.mode d.mode;
-      counts = raised old.counts d.count;
+      counts = raised old.counts (count_in d.account);
       devices = with_change old.devices d.change;
     }) [] fates answers new in subst P e run
-run_alike old new item other (Refused cause ∷ fates) (answer ∷ answers) e run =
+run_alike old new line other (Refused cause ∷ fates) (answer ∷ answers) e run =
     let P : Effect → Type 0 = λ d. Permits d.need cause × (answer ≡ said (cause_text cause))
     × Run (refused old) [] fates answers new in subst P e run
-run_alike old new item other (RefusedAtWrite cause ∷ fates) (answer ∷ answers) e run =
+run_alike old new line other (RefusedAtWrite cause ∷ fates) (answer ∷ answers) e run =
     let P : Effect → Type 0 = λ d. IsSome d.change × (answer ≡ said (cause_text cause))
     × Run (refused old) [] fates answers new in subst P e run
-run_alike old new item other [] [] e run = absurd run
-run_alike old new item other [] (answer ∷ answers) e run = absurd run
-run_alike old new item other (fate ∷ fates) [] e run = absurd run
+run_alike old new line other [] [] e run = absurd run
+run_alike old new line other [] (answer ∷ answers) e run = absurd run
+run_alike old new line other (fate ∷ fates) [] e run = absurd run
 
 -- and so does what a stop may leave
 left_alike : (old : State) (item other : Item) (fates : List Fate) → effect old item ≡ effect old other
@@ -51,16 +51,16 @@ left_alike old item other (RefusedAtWrite cause ∷ fates) e =
     ap (λ (d : Effect). pending nothing_left old.devices d.change) e
 
 module _ {S : Type 0} (stored : S → Stored) where
-  went_alike : (old new : HandlerValue S) (start : State) (item other : Item) (answers : List Answer)
-      → effect start item ≡ effect start other → Went stored old start (item ∷ []) answers new
-      → Went stored old start (other ∷ []) answers new
-  went_alike old new start item other answers e went = record {
+  went_alike : (old new : HandlerValue S) (start : State) (line other : List ℕ) (answers : List Answer)
+      → line_effect start line ≡ line_effect start other → Went stored old start (Ordered line ∷ []) answers new
+      → Went stored old start (Ordered other ∷ []) answers new
+  went_alike old new start line other answers e went = record {
     fates = went.fates;
     last = went.last;
-    run = run_alike start went.last item other went.fates answers e went.run;
+    run = run_alike start went.last line other went.fates answers e went.run;
     at = went.at;
     stop = λ left may. let P : Left → Type 0 = λ l. Safe (MayFind (stored old.registry)) l left in
-        subst P (left_alike start item other went.fates e) (went.stop left may);
+        subst P (left_alike start (Ordered line) (Ordered other) went.fates e) (went.stop left may);
   }
 
   -- two lines that are too long are handled alike
@@ -73,6 +73,6 @@ module _ {S : Type 0} (stored : S → Stored) where
     clean = handled.clean;
     registries = handled.registries;
     went = λ clean start at.
-        went_alike old new start (Ordered short) (Ordered long) answers
+        went_alike old new start short long answers
         (effect-long start short a ∙ sym (effect-long start long b)) (handled.went clean start at);
   }

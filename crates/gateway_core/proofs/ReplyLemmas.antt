@@ -1,6 +1,6 @@
 -- What is sent by radio is told.
-use Rattle.std.proofs.Common.{◌≡◌, inl, inr, ℕ, Bool, true, false, List, [], Option, Some, None, Result, Ok, Err, refl, sym}
-use Rattle.std.proofs.Common.{ap, subst, append-nil}
+use Rattle.std.proofs.Common.{◌≡◌, inl, inr, ℕ, Bool, true, false, List, [], Option, Some, None, Result, Ok, Err, refl}
+use Rattle.std.proofs.Common.{sym, ap, subst, append-nil}
 use Rattle.std.specs.Prelude.{unwrap_or, is_some, nat_lt, length, if◌then◌else◌}
 use Rattle.esp3_frames.specs.Packet.{Packet, spelling}
 use Rattle.erp1_telegrams.specs.Telegram.{Telegram, telegram_of, sent}
@@ -76,9 +76,8 @@ packet-replies state packet bytes =
       telegrams = λ t carried.
           let replies = λ (outcome : Outcome).
           reply-is state t state.mode (teach_in_of t) outcome bytes refl refl in record {
-            ignores = λ e. absurd cc;
-            looks = λ e. absurd cc;
-            reads = λ line e. absurd cc;
+            unsays = λ asked account is e. absurd cc;
+            reads = λ known line e. absurd cc;
             admits = λ hears eep maker e.
                 let known : Device = record { id = t.sender; eep = eep; maker = maker; label = [] } in
                 (t, carried, told_of known Accepted, append-nil _, replies Accepted hears e);
@@ -88,7 +87,7 @@ packet-replies state packet bytes =
                 (t, carried, line, append-nil _, replies line.outcome hears e);
             refuses = λ hears need line is e. (t, carried, line, append-nil _, replies line.outcome hears e);
           };
-      passes = λ e. absurd cc;
+      passes = λ account is e. absurd cc;
       hears = λ response e. absurd cc;
     })
 

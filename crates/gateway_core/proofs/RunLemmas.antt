@@ -2,8 +2,8 @@
 use Rattle.std.proofs.Common.{◌≡◌, inr, List, [], ◌∷◌, ◌++◌, refl, sym, ap, subst, ◌∙◌}
 use Rattle.sqlite.specs.State.{State as Stored}
 use Rattle.device_registry.specs.Holding.{MayFind}
-use Rattle.gateway_core.specs.Step.{State, Item, Answer, said}
-use Rattle.gateway_core.specs.Run.{Fate, Taken, Refused, RefusedAtWrite, Run, refused_for, cause_text, answer_with}
+use Rattle.gateway_core.specs.Step.{State, Item, Answer}
+use Rattle.gateway_core.specs.Run.{Fate, Taken, Refused, RefusedAtWrite, Run, refused_for, refusal_of, answer_with}
 use Rattle.gateway_core.specs.Run.{state_with, SameRefusals}
 use Rattle.gateway_core.specs.Stops.{nothing_left, left_by, Safe}
 use Rattle.gateway_core.specs.Handling.{HandlerValue, Handles}
@@ -63,10 +63,10 @@ module _ {S : Type 0} (stored : S → Stored) where
 answer-alike : (state : State) (item : Item) (fate other : Fate) → refused_for fate ≡ refused_for other
     → answer_with state item fate ≡ answer_with state item other
 answer-alike state item Taken Taken e = refl
-answer-alike state item (Refused a) (Refused b) e = ap (λ c. said (cause_text c)) (cc)
-answer-alike state item (Refused a) (RefusedAtWrite b) e = ap (λ c. said (cause_text c)) (cc)
-answer-alike state item (RefusedAtWrite a) (Refused b) e = ap (λ c. said (cause_text c)) (cc)
-answer-alike state item (RefusedAtWrite a) (RefusedAtWrite b) e = ap (λ c. said (cause_text c)) (cc)
+answer-alike state item (Refused a) (Refused b) e = ap (refusal_of item) (cc)
+answer-alike state item (Refused a) (RefusedAtWrite b) e = ap (refusal_of item) (cc)
+answer-alike state item (RefusedAtWrite a) (Refused b) e = ap (refusal_of item) (cc)
+answer-alike state item (RefusedAtWrite a) (RefusedAtWrite b) e = ap (refusal_of item) (cc)
 answer-alike state item Taken (Refused b) e = absurd cc
 answer-alike state item Taken (RefusedAtWrite b) e = absurd cc
 answer-alike state item (Refused a) Taken e = absurd cc

@@ -116,9 +116,8 @@ packet-tells state line packet =
     let Gone = IsDeleted state (Received packet) in
     of_packet (λ e. texts e.desk ≡ text (Teach line) → Tells Gone e line line.outcome) state packet (record {
       telegrams = λ t carried. record {
-        ignores = λ e. absurd (no_line line e);
-        looks = λ e. absurd (no_line line e);
-        reads = λ read e. absurd (other-line (Reading read) line (λ never. never) e);
+        unsays = λ asked account is e. absurd (no_line line e);
+        reads = λ known read e. absurd (other-line (Reading read) line (λ never. never) e);
         admits = λ hears eep maker e.
             let known : Device = record { id = t.sender; eep = eep; maker = maker; label = [] } in
             told Gone line (accepts state (teach_in_of t) known) known Accepted e (λ is. (known, is, refl));
@@ -127,7 +126,7 @@ packet-tells state line packet =
             subst (Tells Gone (tells_sender state (teach_in_of t) other) line) (same-outcome other line e)
             (refused-tells Gone state (teach_in_of t) other line other.outcome is);
       };
-      passes = λ e. absurd (no_line line e);
+      passes = λ account is e. absurd (no_line line e);
       hears = λ response e. absurd (other-line (ResponseLine response) line (λ never. never) e);
     })
 
@@ -174,16 +173,15 @@ packet-answers : (state : State) (packet : Packet) (change : Change) → (packet
 packet-answers state packet change =
     of_packet (λ e. e.change ≡ Some change → Answers (IsDeleted state (Received packet)) e) state packet (record {
       telegrams = λ t carried. record {
-        ignores = λ e. absurd cc;
-        looks = λ e. absurd cc;
-        reads = λ line e. absurd cc;
+        unsays = λ asked account is e. absurd cc;
+        reads = λ known line e. absurd cc;
         admits = λ hears eep maker e.
             let known : Device = record { id = t.sender; eep = eep; maker = maker; label = [] } in
             (told_of known Accepted, append-nil _, (known, refl, refl));
         deletes = λ learning asks e. deleted-answers state packet t carried asks;
         refuses = λ hears need line is e. absurd cc;
       };
-      passes = λ e. absurd cc;
+      passes = λ account is e. absurd cc;
       hears = λ response e. absurd cc;
     })
 

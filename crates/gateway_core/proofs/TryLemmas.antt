@@ -12,6 +12,7 @@ use Rattle.sqlite.specs.State.{State as Stored, HasCleanDisk}
 use Rattle.erp1_telegrams.specs.declared.eep.Eep.{Eep}
 use Rattle.erp1_telegrams.specs.Telegram.{Telegram}
 use Rattle.profiles_rps.specs.Reading.{Entry}
+use Rattle.profiles_rps.specs.declared.unreadable.Unreadable.{Unreadable}
 use Rattle.learned_devices.specs.declared.Device.{Device}
 use Rattle.device_registry.specs.Devices.{most_devices, Learned, Devices, is_full, Change, learned, forgotten}
 use Rattle.device_registry.specs.Devices.{kept_label}
@@ -36,7 +37,8 @@ use Rattle.json_lines.specs.declared.counts.Counts.{Counts}
 use Rattle.gateway_core.specs.declared.handler.done.Done.{Done}
 use Rattle.json_lines.specs.Counts.{raised}
 use Rattle.json_lines.specs.Lines.{Error, Teach as TeachOf, TeachLine, text}
-use Rattle.gateway_core.specs.Step.{State, Item, Answer, Effect, said, tells, learns, addition, if_known}
+use Rattle.gateway_core.specs.Step.{State, Item, Answer, Effect, explaining, line_for, count_in, tells, learns}
+use Rattle.gateway_core.specs.Step.{addition, if_known}
 use Rattle.actuator_commands.specs.declared.orders.Order.{Order}
 use Rattle.actuator_commands.specs.declared.orders.OrderFault.{OrderFault}
 use Rattle.actuator_commands.specs.Orders.{order_of}
@@ -45,14 +47,16 @@ use Rattle.gateway_core.specs.Step.{reading_effect, case_effect, data_case, effe
 use Rattle.gateway_core.specs.Step.{state_after, with_mode, plan_effect, tells_sender, radio_of, reply_of, line_with}
 use Rattle.gateway_core.specs.Step.{if_supported, sets, denied, accepts, told_of}
 use Rattle.gateway_core.specs.Step.{answer_by, telegram_sent}
-use Rattle.gateway_core.specs.Profiles.{readings_of}
+use Rattle.gateway_core.specs.Accounts.{eep_told, maker_told}
+use Rattle.gateway_core.specs.Profiles.{read_by}
+use Rattle.gateway_core.specs.Replies.{answer_of}
 use Rattle.gateway_core.specs.Refusals.{cause_of}
 use Rattle.gateway_core.specs.Step.{Cause, Memory, Need, NeedsMemory, NeedsStore, Permits}
-use Rattle.gateway_core.specs.Run.{cause_text, Taken, Refused, RefusedAtWrite, refused}
+use Rattle.gateway_core.specs.Run.{refusal_of, Taken, Refused, RefusedAtWrite, refused}
 use Rattle.gateway_core.specs.Stops.{nothing_left, told, pending, Safe}
 use Rattle.gateway_core.specs.Handling.{HandlerValue, Went, Handles}
-use Rattle.gateway_core.specs.Tries.{state_of, Gives, IsMade, IsPending, Comes, Tries, answer_from, counts_from}
-use Rattle.gateway_core.specs.Tries.{mode_from}
+use Rattle.gateway_core.specs.Tries.{state_of, Gives, IsMade, IsPending, Comes, Tries, counts_from}
+use Rattle.gateway_core.specs.Tries.{answered, mode_from}
 use Rattle.gateway_core.specs.Tries.{IsRefused, RegistryAlone, Learns, Forgets}
 
 -- what is known, of its parts
@@ -115,7 +119,8 @@ keeps-full old new it devices full pends = record {
     | inr is ↦
         let most = few_are_held may.0 left may.2 in
         let same = ap (λ (d : Devices). len d) is in
-        let many = len-full devices it.id (record { eep = it.eep; maker = it.maker; label = kept_label (get devices it.id) })
+        let many = len-full devices it.id
+        (record { eep = it.eep; maker = it.maker; label = kept_label (get devices it.id) })
         full in
         absurd (omega (arith, most, same, many))
   ];
@@ -150,11 +155,11 @@ plan-need state t =
 pub data-need : (state : State) (t : Telegram) (known : Option Device)
     → (case_effect state t (data_case known)).need ≡ NeedsStore
 data-need state t None = plan-need state t
-data-need state t (Some known) = one (readings_of known.eep t)
+data-need state t (Some known) = one (read_by known.eep t)
   where
-    one : (readings : Option (List Entry)) → (reading_effect t known.eep readings).need ≡ NeedsStore
-    one None = refl
-    one (Some readings) = refl
+    one : (readings : Result (List Entry) Unreadable) → (reading_effect t known readings).need ≡ NeedsStore
+    one (Err fault) = refl
+    one (Ok readings) = refl
 
 pub telegram-need : (telegram : Option (Result Telegram OrderFault))
     → (telegram_sent true telegram).need ≡ NeedsStore
@@ -171,15 +176,21 @@ known-need (Some it) effect_of needs = needs it
 pub taught-answer : (state : State) (kind : Teach) (line : TeachLine) (answer : Answer) (outcome : Outcome)
     (desk : List ℕ)
     → outcome ≡ line.outcome → desk ≡ text (TeachOf line)
-    → answer ≡ record { radio = radio_of (reply_of state.base state.mode kind outcome); desk = desk }
+    → answer ≡ record { radio = radio_of (reply_of state.base state.mode kind outcome); explained = []; desk = desk }
     → answer ≡ answer_by (tells_sender state kind line)
 taught-answer state kind line answer outcome desk is says e =
     e
     ∙ ap (λ o. let a : Answer =
-    record { radio = radio_of (reply_of state.base state.mode kind o); desk = desk } in a) is
+    record { radio = radio_of (reply_of state.base state.mode kind o); explained = []; desk = desk } in a) is
     ∙ ap (λ d. let a : Answer =
-    record { radio = radio_of (reply_of state.base state.mode kind line.outcome); desk = d } in a)
+    record { radio = radio_of (reply_of state.base state.mode kind line.outcome); explained = []; desk = d } in a)
     (says ∙ sym (append-nil _))
+
+-- the line of what came of a sender, by what its telegram tells
+pub line_told : (id : ℕ) (kind : Teach) (outcome : Outcome) (eep : Option Eep) (maker : Option ℕ)
+    → eep ≡ eep_told kind → maker ≡ maker_told kind
+    → line_with id kind outcome ≡ record { eep = eep; id = id; maker = maker; outcome = outcome }
+line_told id kind outcome eep maker first second = rw (first, second) refl
 
 -- a sender is refused with the line of its telegram
 pub refused-gives : (done : Done) (state : State) (t : Telegram) (kind : Teach) (id : ℕ) (line : TeachLine)
@@ -318,12 +329,12 @@ module _ {S : Type 0} (stored : S → Stored) where
       }
 
   -- a telegram that is read gives a line or none, and changes nothing
-  pub reading-comes : (old new : S) (devices : Devices) (t : Telegram) (eep : Eep)
-      (readings : Option (List Entry)) (done : Done) → Gives done (reading_effect t eep readings)
+  pub reading-comes : (old new : S) (devices : Devices) (t : Telegram) (known : Device)
+      (readings : Result (List Entry) Unreadable) (done : Done) → Gives done (reading_effect t known readings)
       → Keeps (stored old) (stored new) devices
-      → Comes (stored old) (stored new) devices (reading_effect t eep readings) (Ok done)
-  reading-comes old new devices t eep None done gives keeps = (gives, keeps)
-  reading-comes old new devices t eep (Some readings) done gives keeps = (gives, keeps)
+      → Comes (stored old) (stored new) devices (reading_effect t known readings) (Ok done)
+  reading-comes old new devices t known (Err fault) done gives keeps = (gives, keeps)
+  reading-comes old new devices t known (Ok readings) done gives keeps = (gives, keeps)
 
   -- ---- a device that is learned or forgotten
 
@@ -514,7 +525,7 @@ module _ {S : Type 0} (stored : S → Stored) where
       → change_of start item ≡ change → new.base ≡ start.base → new.mode ≡ start.mode
       → new.counts ≡ (refused start).counts
       → IsPending (stored old.registry) (stored new.registry) start.devices (needs start item) cause change
-      → Went stored old start (item ∷ []) (said (cause_text cause) ∷ []) new
+      → Went stored old start (item ∷ []) (refusal_of item cause ∷ []) new
   at_write-went old new start item cause None asks base mode counts (need, keeps) = record {
     fates = Refused cause ∷ [];
     last = refused start;
@@ -537,17 +548,22 @@ module _ {S : Type 0} (stored : S → Stored) where
       → new.mode ≡ mode_from start.mode r
       → new.counts ≡ counts_from start.counts r
       → Comes (stored old.registry) (stored new.registry) start.devices (effect start item) r
-      → Went stored old start (item ∷ []) (answer_from r ∷ []) new
+      → Went stored old start (item ∷ []) (answered item r ∷ []) new
   comes-went old new start item (Ok done) base mode counts ((says, counted, sets), made) = record {
     fates = Taken ∷ [];
     last = state_after start item;
-    run = (tt, says, refl);
+    run = (
+      tt,
+      ap (λ a. explaining (line_for item a) (answer_of done.reply)) counted
+          ∙ ap (explaining (line_for item (effect start item).account)) says,
+      refl,
+    );
     at = (
       base,
       mode ∙ ap (with_mode start.mode) sets,
       made-now old.registry new.registry start.devices (change_of start item) made,
       counts
-          ∙ ap (raised start.counts) counted,
+          ∙ ap (λ a. raised start.counts (count_in a)) counted,
     );
     stop = made-safe old.registry new.registry start.devices (change_of start item) made;
   }
@@ -562,16 +578,16 @@ module _ {S : Type 0} (stored : S → Stored) where
       at_write-went old new start item (cause_of fault) (change_of start item) refl base mode counts pending
 
   -- what was tried is settled: it is counted
-  pub record Settles (mid : HandlerValue S) (r : Result Done Refusal) (answer : Answer)
+  pub record Settles (mid : HandlerValue S) (item : Item) (r : Result Done Refusal) (answer : Answer)
       (new : HandlerValue S) : Type 0 where
-    pub answer_is : answer ≡ answer_from r
+    pub answer_is : answer ≡ answered item r
     pub base : new.base ≡ mid.base
     pub mode : new.mode ≡ mode_from mid.mode r
     pub counts : new.counts ≡ counts_from mid.counts r
     pub registry : new.registry ≡ mid.registry
 
   pub tries-handles : (old mid new : HandlerValue S) (item : Item) (r : Result Done Refusal) (answer : Answer)
-      → Settles mid r answer new
+      → Settles mid item r answer new
       → Tries stored old (λ state. effect state item) r mid
       → Handles stored old (item ∷ []) (answer ∷ []) new
   tries-handles old mid new item r answer settles tried =

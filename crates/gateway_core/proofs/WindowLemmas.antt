@@ -49,9 +49,8 @@ packet-changes : (state : State) (packet : Packet)
 packet-changes state packet =
     of_packet (λ e. Learns state packet e ⊎ (Forgets state packet e ⊎ Stays e)) state packet (record {
       telegrams = λ t carried. record {
-        ignores = inr (inr (refl, refl));
-        looks = inr (inr (refl, refl));
-        reads = λ line. inr (inr (refl, refl));
+        unsays = λ asked account is. inr (inr (refl, refl));
+        reads = λ known line. inr (inr (refl, refl));
         admits = λ hears eep maker.
             let known : Device = record { id = t.sender; eep = eep; maker = maker; label = [] } in
             let learning = hears-open state.mode (teach_in_of t) hears in
@@ -59,7 +58,7 @@ packet-changes state packet =
         deletes = λ learning asks. inr (inl (t, carried, asks, refl, learning, refl));
         refuses = λ hears need line is. inr (inr (refl, refl));
       };
-      passes = inr (inr (refl, refl));
+      passes = λ account is. inr (inr (refl, refl));
       hears = λ response. inr (inr (refl, refl));
     })
 

@@ -5,11 +5,13 @@ pub mod Run
 pub mod Stops
 pub mod Handling
 pub mod Refusals
+pub mod Handled
 pub mod Tries
 pub mod Promises
 pub mod Lives
 pub mod Prefixes
 pub mod Telling
+pub mod Accounts
 pub mod Beginnings
 pub mod Events
 pub mod Calls

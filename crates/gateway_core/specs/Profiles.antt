@@ -1,7 +1,6 @@
 -- What telegrams say by the profiles that are read (EnOcean Equipment Profiles 2.6). Which are read is an own choice:
 -- those of the three crates of profiles.
-use Rattle.std.specs.Prelude.{◌==◌, List, Option, Result, if◌then◌else◌}
-use Rattle.std.specs.Result.{result_ok}
+use Rattle.std.specs.Prelude.{◌==◌, List, Result, if◌then◌else◌}
 use Rattle.erp1_telegrams.specs.declared.eep.Eep.{Eep}
 use Rattle.erp1_telegrams.specs.Telegram.{Telegram}
 use Rattle.profiles_rps.specs.Profiles as rps
@@ -16,7 +15,3 @@ read_by eep t =
     if eep.rorg == 0xA5 then four_byte.readings_of eep t
     else if eep.rorg == 0xD2 then variable_length.readings_of eep t
     else rps.readings_of eep t
-
--- what the telegram of a sender with this profile tells, if the profile can read it
-abbrev pub readings_of : Eep → Telegram → Option (List Entry)
-readings_of eep t = result_ok (read_by eep t)

@@ -2,9 +2,12 @@
 use Rattle.std.specs.Prelude.{◌≡◌, IsSome, ℕ, ◌+◌, ◌^◌, ◌<◌, List, [], ◌∷◌, map, Option, Some, None}
 use Rattle.json_lines.specs.declared.counts.Count.TheVariants as count
 use Rattle.json_lines.specs.declared.fixed.ErrorName.TheVariants as error
+use Rattle.json_lines.specs.declared.packet.Why.TheVariants as why
 use Rattle.json_lines.specs.Counts.{counted, count_with}
 use Rattle.json_lines.specs.Lines.{Error, text}
-use Rattle.gateway_core.specs.Step.{State, Item, Answer, said, answer_to, change_of, needs, state_after}
+use Rattle.gateway_core.specs.Accounts.{because}
+use Rattle.gateway_core.specs.Step.{State, Item, Answer, explaining, line_for, said, answer_to, change_of, needs}
+use Rattle.gateway_core.specs.Step.{state_after}
 use Rattle.gateway_core.specs.Step.{Cause, Memory, Store, Permits}
 
 -- an item is taken, or it is refused before its write to the registry, or at that write
@@ -23,11 +26,15 @@ abbrev pub cause_text : Cause → List ℕ
 cause_text Memory = text (Error error.Memory)
 cause_text Store = text (Error error.Store)
 
+-- the answer to an item that is refused: of its sender no more is told than its telegram tells
+abbrev pub refusal_of : Item → Cause → Answer
+refusal_of item cause = explaining (line_for item (Some (because why.Refused))) (said (cause_text cause))
+
 -- the answer to an item with this fate
 abbrev pub answer_with : State → Item → Fate → Answer
 answer_with state item Taken = answer_to state item
-answer_with state item (Refused cause) = said (cause_text cause)
-answer_with state item (RefusedAtWrite cause) = said (cause_text cause)
+answer_with state item (Refused cause) = refusal_of item cause
+answer_with state item (RefusedAtWrite cause) = refusal_of item cause
 
 -- what is known after an item that is refused: no more than that it was
 abbrev pub refused : State → State

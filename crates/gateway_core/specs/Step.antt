@@ -8,6 +8,7 @@ use Rattle.erp1_telegrams.specs.declared.telegram.TelegramFault.{TelegramFault}
 use Rattle.erp1_telegrams.specs.Address.{is_passed_over}
 use Rattle.erp1_telegrams.specs.Telegram.{Telegram, telegram_of, sent}
 use Rattle.profiles_rps.specs.Reading.{Entry}
+use Rattle.profiles_rps.specs.declared.unreadable.Unreadable.{Unreadable}
 use Rattle.learned_devices.specs.declared.Device.{Device}
 use Rattle.device_registry.specs.Devices.{Devices, device_of, all_of, is_full, Change, changed}
 use Rattle.device_registry.specs.Devices.{learned, forgotten, relabelled}
@@ -20,8 +21,7 @@ use Rattle.teach_in.specs.declared.plans.Plan.{Plan}
 use Rattle.teach_in.specs.declared.plans.Plan.TheVariants.{Silent, Add, Forget, Refuse}
 use Rattle.teach_in.specs.declared.telegrams.Teach.{Teach}
 use Rattle.teach_in.specs.declared.telegrams.Teach.TheVariants as teach
-use Rattle.teach_in.specs.FourByte.{eep_in, maker_in, four_byte_reply}
-use Rattle.teach_in.specs.Ute as ute
+use Rattle.teach_in.specs.FourByte.{four_byte_reply}
 use Rattle.teach_in.specs.Ute.{ute_reply, wants_reply}
 use Rattle.teach_in.specs.Profiles.{supported}
 use Rattle.teach_in.specs.Telegrams.{teach_in_of}
@@ -35,14 +35,19 @@ use Rattle.actuator_commands.specs.declared.orders.OrderFault.TheVariants.{Synta
 use Rattle.actuator_commands.specs.Orders.{order_of}
 use Rattle.actuator_commands.specs.Packets.{order_telegram, recipient}
 use Rattle.json_lines.specs.declared.counts.Count.{Count}
-use Rattle.json_lines.specs.declared.counts.Count.TheVariants as count
 use Rattle.json_lines.specs.declared.counts.Counts.{Counts}
 use Rattle.json_lines.specs.declared.fixed.ErrorName.{ErrorName}
 use Rattle.json_lines.specs.declared.fixed.ErrorName.TheVariants as error
 use Rattle.json_lines.specs.Counts.{raised}
+use Rattle.json_lines.specs.declared.packet.PacketLine.{PacketLine}
+use Rattle.json_lines.specs.declared.packet.Why.{Why}
+use Rattle.json_lines.specs.declared.packet.Why.TheVariants as why
 use Rattle.json_lines.specs.Lines.{DeskLine, Reading, Teach as TeachOf, StatusLine, ResponseLine, Done, Error}
 use Rattle.json_lines.specs.Lines.{TeachLine, Response, listing, texts}
-use Rattle.gateway_core.specs.Profiles.{readings_of}
+use Rattle.gateway_core.specs.declared.account.Account.{Account}
+use Rattle.gateway_core.specs.Accounts.{because, counted_as, eep_told, explanation, line_of, maker_told, of_device}
+use Rattle.gateway_core.specs.Accounts.{why_passed_over, why_silent, why_other, why_unread}
+use Rattle.gateway_core.specs.Profiles.{read_by}
 use Rattle.gateway_core.specs.Responses.{response_in}
 
 -- what the gateway knows: the base ID of its radio module, which no item changes, the mode in which it learns, what it
@@ -75,19 +80,19 @@ Permits NeedsStore cause = Unit {0}
 Permits NeedsMemory Memory = Unit {0}
 Permits need cause = ⊥
 
--- what comes of an item that is taken: what is sent by radio, if anything, the lines that the desk is told, the count
--- that is raised, the change of what is learned and the mode that is set, if any, and what it needs
+-- what comes of an item that is taken: what is sent by radio, if anything, the lines that the desk is told, the account
+-- of a packet, the change of what is learned and the mode that is set, if any, and what it needs
 pub record Effect : Type 0 where
   pub radio : Option (List ℕ)
   pub desk : List DeskLine
-  pub count : Option Count
+  pub account : Option Account
   pub change : Option Change
   pub mode : Option Mode
   pub need : Need
 
 -- nothing comes of it
 abbrev pub nothing : Effect
-nothing = record { radio = None; desk = []; count = None; change = None; mode = None; need = NeedsNothing }
+nothing = record { radio = None; desk = []; account = None; change = None; mode = None; need = NeedsNothing }
 
 -- what comes of a device that is to be learned: the first, where as many others are learned as can be, and else the
 -- second
@@ -104,20 +109,17 @@ told_of known outcome = record { eep = Some known.eep; id = known.id; maker = kn
 abbrev pub need_if : Bool → Need
 need_if asked = if asked then NeedsStore else NeedsNothing
 
--- A packet of which the desk is told nothing. The counts are own choice: each packet raises just one. The store was
--- asked for its sender, or it was not.
-abbrev pub unsaid : Bool → Effect
-unsaid asked = record nothing { count = Some count.Ignored; need = need_if asked }
+-- A packet of which the desk is told nothing. The store was asked for its sender, or it was not.
+abbrev pub unsaid : Bool → Account → Effect
+unsaid asked account = record nothing { account = Some account; need = need_if asked }
 
-abbrev pub ignored : Effect
-ignored = unsaid false
+-- it is ignored for this
+abbrev pub ignored : Why → Effect
+ignored why = unsaid false (because why)
 
-abbrev pub unread : Effect
-unread = unsaid true
-
--- the desk is told a line
-abbrev pub counted_line : Need → Count → DeskLine → Effect
-counted_line need count line = record nothing { desk = line ∷ []; count = Some count; need = need }
+-- the desk is told a line of a packet
+abbrev pub tells_of_packet : Need → Account → DeskLine → Effect
+tells_of_packet need account line = record nothing { desk = line ∷ []; account = Some account; need = need }
 
 -- what a telegram is: the first of these five cases. Own choice
 pub data Case : Type 0 where
@@ -148,12 +150,12 @@ abbrev pub case_of : State → Telegram → Case
 case_of state t =
     if is_passed_over state.base t then PassedOver else kind_case (teach_in_of t) (device_of state.devices t.sender)
 
--- the line of what a telegram tells, if its sender's profile can read it
-abbrev pub reading_effect : Telegram → Eep → Option (List Entry) → Effect
-reading_effect t eep None = unread
-reading_effect t eep (Some readings) =
-    counted_line NeedsStore count.Reading
-    (Reading (record { dbm = t.dbm; eep = eep; id = t.sender; readings = readings }))
+-- the line of what the telegram of this device tells, if its profile reads it
+abbrev pub reading_effect : Telegram → Device → Result (List Entry) Unreadable → Effect
+reading_effect t known (Err fault) = unsaid true (of_device known (why_unread fault))
+reading_effect t known (Ok readings) =
+    tells_of_packet NeedsStore (of_device known why.Read)
+    (Reading (record { dbm = t.dbm; eep = known.eep; id = t.sender; readings = readings }))
 
 -- the reply that is sent by radio where this comes of a telegram's sender, if it gets one: a query of universal
 -- teach-in does that waits for one, and a 4BS query in the mode that answers. For 4BS, the mode is own choice
@@ -169,7 +171,7 @@ radio_of = option_map (λ t. spelling (sent t))
 -- what came of a telegram's sender, for which the store was asked, is told to the desk, and replied to it
 abbrev pub tells_sender : State → Teach → TeachLine → Effect
 tells_sender state kind line =
-    record (counted_line NeedsStore count.Teach (TeachOf line)) {
+    record (tells_of_packet NeedsStore (because (why.Told line.outcome)) (TeachOf line)) {
       radio = radio_of (reply_of state.base state.mode kind line.outcome);
     }
 
@@ -182,6 +184,7 @@ mode_after_one mode = None
 abbrev pub accepts : State → Teach → Device → Effect
 accepts state kind known =
     record (tells_sender state kind (told_of known Accepted)) {
+      account = Some (of_device known (why.Told Accepted));
       change = Some (learned known);
       mode = mode_after_one state.mode;
     }
@@ -189,11 +192,7 @@ accepts state kind known =
 -- the line of what came of a sender that this telegram does not teach: with the profile and the maker of its query, if
 -- it told them
 abbrev pub line_with : ℕ → Teach → Outcome → TeachLine
-line_with id (teach.FourByte query) outcome =
-    record { eep = Some (eep_in query); id = id; maker = Some (maker_in query); outcome = outcome }
-line_with id (teach.Ute query) outcome =
-    record { eep = Some (ute.eep_in query); id = id; maker = Some (ute.maker_in query); outcome = outcome }
-line_with id kind outcome = record { eep = None; id = id; maker = None; outcome = outcome }
+line_with id kind outcome = record { eep = eep_told kind; id = id; maker = maker_told kind; outcome = outcome }
 
 -- the sender is forgotten, whether it is learned or not
 abbrev pub deletes : State → Teach → ℕ → Effect
@@ -202,7 +201,7 @@ deletes state kind id =
 
 -- what comes of what is planned about the sender of a telegram, for which the store was asked or not
 abbrev pub plan_effect : State → Telegram → Bool → Plan → Effect
-plan_effect state t asked Silent = unsaid asked
+plan_effect state t asked Silent = unsaid asked (because (why_silent asked state.mode))
 plan_effect state t asked (Add known) =
     addition state.devices known (tells_sender state (teach_in_of t) (told_of known outcome.Full))
     (accepts state (teach_in_of t) known)
@@ -217,23 +216,26 @@ abbrev pub is_learned : Devices → ℕ → Bool
 is_learned devices id = is_some (device_of devices id)
 
 abbrev pub case_effect : State → Telegram → Case → Effect
-case_effect state t PassedOver = ignored
-case_effect state t Replies = ignored
+case_effect state t PassedOver = ignored (why_passed_over t)
+case_effect state t Replies = ignored why.TeachInReply
 case_effect state t Teaches = plan_effect state t false (plan_of t state.mode (is_learned state.devices t.sender))
-case_effect state t (OfLearned known) = reading_effect t known.eep (readings_of known.eep t)
+case_effect state t (OfLearned known) = reading_effect t known (read_by known.eep t)
 case_effect state t OfOther = plan_effect state t true (plan_of t state.mode false)
 
 abbrev pub telegram_effect : State → Telegram → Effect
 telegram_effect state t = case_effect state t (case_of state t)
 
--- a packet is a response, or has a telegram, or is ignored. Own choice
-abbrev pub packet_by : State → Option Response → Result Telegram TelegramFault → Effect
-packet_by state (Some response) telegram = counted_line NeedsMemory count.Response (ResponseLine response)
-packet_by state None (Ok t) = telegram_effect state t
-packet_by state None (Err fault) = ignored
+-- a packet without a telegram is a response, or is ignored. Own choice
+abbrev pub other_effect : Packet → Option Response → Effect
+other_effect packet None = ignored (why_other packet)
+other_effect packet (Some response) = tells_of_packet NeedsMemory (because why.Response) (ResponseLine response)
+
+abbrev pub packet_by : State → Packet → Result Telegram TelegramFault → Effect
+packet_by state packet (Ok t) = telegram_effect state t
+packet_by state packet (Err fault) = other_effect packet (response_in packet)
 
 abbrev pub packet_effect : State → Packet → Effect
-packet_effect state packet = packet_by state (response_in packet) (telegram_of packet)
+packet_effect state packet = packet_by state packet (telegram_of packet)
 
 -- ---- a line
 
@@ -331,24 +333,43 @@ abbrev pub effect : State → Item → Effect
 effect state (Received packet) = packet_effect state packet
 effect state (Ordered line) = line_effect state line
 
--- what is sent by radio, if anything, and what the desk is told
+-- what is sent by radio, if anything, the line that explains a packet, and what the desk is told
 pub record Answer : Type 0 where
   pub radio : Option (List ℕ)
+  pub explained : List ℕ
   pub desk : List ℕ
 
+-- what is told of an item that is no packet, or before its packet is explained
 abbrev pub said : List ℕ → Answer
-said text = record { radio = None; desk = text }
+said text = record { radio = None; explained = []; desk = text }
 
 abbrev pub answer_by : Effect → Answer
-answer_by effect = record { radio = effect.radio; desk = texts effect.desk }
+answer_by effect = record { radio = effect.radio; explained = []; desk = texts effect.desk }
+
+-- the line that explains an item, by its account: a packet has one, and no order does
+abbrev pub line_for : Item → Option Account → Option PacketLine
+line_for (Received packet) account = option_map (line_of packet) account
+line_for (Ordered line) account = None
+
+-- the answer with this text that explains the item, and with the line that does
+abbrev pub explained_by : List ℕ → Answer → Answer
+explained_by text answer = record answer { explained = text }
+
+abbrev pub explaining : Option PacketLine → Answer → Answer
+explaining line = explained_by (explanation line)
 
 -- the answer to an item that is taken
 abbrev pub answer_to : State → Item → Answer
-answer_to state item = answer_by (effect state item)
+answer_to state item =
+    explaining (line_for item (effect state item).account) (answer_by (effect state item))
 
--- the count that an item raises that is taken: each packet raises one, and no order does
+-- the count that an account raises
+abbrev pub count_in : Option Account → Option Count
+count_in = option_map (λ account. counted_as account.why)
+
+-- the count that an item raises that is taken: each packet raises one, and no order does. Own choice
 abbrev pub count_of : State → Item → Option Count
-count_of state item = (effect state item).count
+count_of state item = count_in (effect state item).account
 
 -- the change that an item asks for: of what is known of one sender
 abbrev pub change_of : State → Item → Option Change

@@ -13,22 +13,26 @@ use Rattle.teach_in.specs.FourByte.{four_byte_code}
 use Rattle.teach_in.specs.Ute.{ute_code}
 use Rattle.json_lines.specs.declared.counts.Count.TheVariants as count
 use Rattle.json_lines.specs.declared.counts.Counts.{Counts}
+use Rattle.json_lines.specs.declared.packet.Why.TheVariants as why
 use Rattle.gateway_core.specs.declared.handler.done.Done.{Done}
 use Rattle.gateway_core.specs.declared.handler.changes.Committed.{Committed}
 use Rattle.gateway_core.specs.declared.refusal.Refusal.{Refusal}
 use Rattle.gateway_core.specs.declared.refusal.Refusal.TheVariants.{Before, AtWrite}
 use Rattle.json_lines.specs.Counts.{counted, raised}
 use Rattle.json_lines.specs.Lines.{Teach as TeachOf, TeachLine, text}
-use Rattle.gateway_core.specs.Step.{State, Answer, said, Effect, answer_by, told_of, with_mode, Cause, Need, Permits}
+use Rattle.gateway_core.specs.declared.account.Account.{Account}
+use Rattle.gateway_core.specs.Accounts.{because}
+use Rattle.gateway_core.specs.Step.{State, Item, Answer, explaining, line_for, said, Effect, answer_by, count_in}
+use Rattle.gateway_core.specs.Step.{told_of, with_mode, Cause, Need, Permits}
 use Rattle.gateway_core.specs.Refusals.{cause_in, cause_of}
 use Rattle.gateway_core.specs.Run.{cause_text}
 use Rattle.gateway_core.specs.Replies.{answer_of}
 use Rattle.gateway_core.specs.Handling.{HandlerValue}
 
--- what is done gives the answer of the effect, raises its count, and sets its mode
+-- what is done gives the answer of the effect, has its account, and sets its mode
 abbrev pub Gives : Done → Effect → Type 0
 Gives done effect =
-    (answer_of done.reply ≡ answer_by effect) × (done.count ≡ effect.count) × (done.mode ≡ effect.mode)
+    (answer_of done.reply ≡ answer_by effect) × (done.account ≡ effect.account) × (done.mode ≡ effect.mode)
 
 -- what the handler knows, where these are the devices
 abbrev pub state_of : {S : Type 0} → HandlerValue S → Devices → State
@@ -129,14 +133,23 @@ pub record Forgets {S : Type 0} (stored : S → Stored) (old : HandlerValue S) (
 
 -- ---- what is answered and known
 
--- the answer to what is done, or refused
+-- the answer to what is done, or refused, before its packet is explained
 abbrev pub answer_from : Result Done Refusal → Answer
 answer_from (Ok done) = answer_of done.reply
 answer_from (Err refusal) = said (cause_text (cause_in refusal))
 
+-- the account of what is done, or refused
+abbrev pub account_from : Result Done Refusal → Option Account
+account_from (Ok done) = done.account
+account_from (Err refusal) = Some (because why.Refused)
+
+-- the answer to an item, with the line that explains it
+abbrev pub answered : Item → Result Done Refusal → Answer
+answered item tried = explaining (line_for item (account_from tried)) (answer_from tried)
+
 -- the counts after what is done, or refused
 abbrev pub counts_from : Counts → Result Done Refusal → Counts
-counts_from counts (Ok done) = raised counts done.count
+counts_from counts (Ok done) = raised counts (count_in done.account)
 counts_from counts (Err refusal) = counted counts count.Refused
 
 -- the mode after what is done, or refused

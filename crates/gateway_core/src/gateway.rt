@@ -1,13 +1,16 @@
 //! The gateway.
 ghost use Rattle.std.specs.Prelude.{◌≡◌, ◌≢◌, ◌↔◌, [], IfOk, MatchBool, false};
-ghost use Rattle.std.specs.Option.{option_map};
+ghost use Rattle.std.specs.Option.{option_copied, option_map};
 ghost use Rattle.esp3_frames.specs.Framing.{MayBecomePacket};
 ghost use Rattle.device_registry.specs.Holding.{HandsOn};
 ghost use Rattle.erp1_telegrams.specs.Address;
+ghost use Rattle.gateway_core.specs.Accounts.{explanation};
 ghost use Rattle.gateway_core.specs.Calls.{Byte as ByteCall, Moves, Next as NextCall, Order as OrderCall, new_value};
 ghost use Rattle.gateway_core.specs.Replies.{answer_of};
+ghost use Rattle.gateway_core.specs.Step.{explained_by};
 
 use crate::device_store::DeviceStore;
+use crate::handled::HandledPacket;
 use crate::handler::Handler;
 use crate::reply::Reply;
 use device_registry::{Registry, RegistryOver, SqlConnection};
@@ -45,10 +48,12 @@ pub struct GatewayOver<S> {
     pub(crate) handler: Handler<S>,
     framer: Framer,
     packet: PacketBuf,
+    last: Option<HandledPacket>,
 }
 
 impl<S> Model for GatewayOver<S> {
     ghost use Rattle.gateway_core.specs.Calls.{Value as GatewayValue};
+    ghost use Rattle.gateway_core.specs.Accounts.{explanation};
     ghost use Rattle.gateway_core.specs.Codes.{value_code};
 
     ghost Value = { GatewayValue S };
@@ -56,7 +61,12 @@ impl<S> Model for GatewayOver<S> {
     ghost coded = { value_code S.code };
 
     ghost view = { λ gateway.
-        record { handler = gateway.handler; ready = gateway.framer.ready; rest = gateway.framer.rest } };
+        record {
+          handler = gateway.handler;
+          ready = gateway.framer.ready;
+          rest = gateway.framer.rest;
+          explained = explanation gateway.last;
+        } };
 }
 
 /// A gateway over a registry.
@@ -76,6 +86,7 @@ impl<S: DeviceStore + Drop> GatewayOver<S> {
             handler: Handler::new(alloc, registry, base),
             framer: Framer::new(alloc)?,
             packet: PacketBuf::new(alloc)?,
+            last: None,
         })
     }
 }
@@ -97,15 +108,26 @@ impl<S: DeviceStore> GatewayOver<S> {
         self.framer.push(b);
     }
 
-    /// Handles the first packet that waits. `None` says that none does.
+    /// Handles the first packet that waits. `None` says that none does. What explains the packet, `last_packet` tells.
     pub fn next(&mut self) -> Option<Reply>
-        ensures { Moves S.stored self.old (NextCall (option_map answer_of result)) self.new }
+        ensures { Moves S.stored self.old
+            (NextCall (option_map (λ reply. explained_by self.new.explained (answer_of reply)) result)) self.new }
     {
         if !self.framer.take(&mut self.packet) {
             return None;
         }
         let packet = self.packet.packet()?;
-        Some(self.handler.packet(&packet))
+        let (reply, handled) = self.handler.packet(&packet);
+        self.last = handled;
+        Some(reply)
+    }
+
+    /// The packet that was handled last, which tells why what was done with it was done. `None` says that none was. It
+    /// takes no memory.
+    pub fn last_packet(&self) -> Option<&HandledPacket>
+        ensures { explanation (option_copied result) ≡ self.now.explained }
+    {
+        self.last.as_ref()
     }
 
     /// Handles a line of the desk, without its line end.

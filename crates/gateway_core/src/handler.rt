@@ -1,12 +1,13 @@
 //! What the gateway knows, and how it handles one item.
-ghost use Rattle.std.specs.Prelude.{◌≡◌, true, [], ◌∷◌};
+ghost use Rattle.std.specs.Prelude.{◌≡◌, ◌≤◌, true, [], ◌∷◌, length};
 ghost use Rattle.erp1_telegrams.specs.Address.{is_base};
 ghost use Rattle.esp3_frames.specs.Outcome.{packet_of};
+ghost use Rattle.esp3_frames.specs.Packet.{longest_data};
 ghost use Rattle.gateway_core.specs.Calls.{new_handler};
 ghost use Rattle.gateway_core.specs.Handling.{Handles};
 ghost use Rattle.gateway_core.specs.Replies.{answer_of};
-ghost use Rattle.gateway_core.specs.Step.{Ordered, Received};
-ghost use Rattle.gateway_core.specs.Tries.{answer_from, counts_from, mode_from};
+ghost use Rattle.gateway_core.specs.Step.{Ordered, Received, explaining};
+ghost use Rattle.gateway_core.specs.Tries.{account_from, answer_from, counts_from, mode_from};
 
 mod changes;
 mod done;
@@ -15,15 +16,18 @@ mod packets;
 mod sending;
 mod teaching;
 
+use crate::account::Account;
 use crate::device_store::DeviceStore;
+use crate::handled::HandledPacket;
 use crate::handler::done::{Done, refused};
 use crate::refusal::Refusal;
 use crate::reply::Reply;
+use erp1_telegrams::read;
 use esp3_frames::PacketRef;
-use json_lines::{Count, Counts};
+use json_lines::{Count, Counts, Why};
 use std::alloc::Global;
 use std::marker::Model;
-use teach_in::Mode;
+use teach_in::{Mode, classify};
 
 /// What the gateway knows: the base ID of its radio module, the mode in which it learns, what it has counted, and the
 /// registry of the learned devices.
@@ -79,37 +83,53 @@ impl<S: DeviceStore> Handler<S> {
         registry
     }
 
-    // Counts what is done or refused, sets its mode, and answers it.
-    fn reply_to(&mut self, tried: Result<Done, Refusal>) -> Reply
-        ensures answer { answer_of result ≡ answer_from tried }
+    // Counts what is done or refused, sets its mode, and answers it. It hands on the account of a packet.
+    fn reply_to(&mut self, tried: Result<Done, Refusal>) -> (Reply, Option<Account>)
+        ensures answer { answer_of result.0 ≡ answer_from tried }
+        ensures account { result.1 ≡ account_from tried }
         ensures base { self.new.base ≡ self.old.base }
         ensures mode { self.new.mode ≡ mode_from self.old.mode tried }
         ensures counts { self.new.counts ≡ counts_from self.old.counts tried }
         ensures registry { self.new.registry ≡ self.old.registry }
     {
         match tried {
-            Ok(Done { count, mode, reply }) => {
-                if let Some(count) = count {
-                    self.counts.raise(count);
+            Ok(
+                Done {
+                    account,
+                    mode,
+                    reply,
+                },
+            ) => {
+                if let Some(account) = &account {
+                    self.counts.raise(account.count());
                 }
                 if let Some(mode) = mode {
                     self.mode = mode;
                 }
-                reply
+                (reply, account)
             }
             Err(refusal) => {
                 self.counts.raise(Count::Refused);
-                refused(refusal)
+                (refused(refusal), Some(Account::because(Why::Refused)))
             }
         }
     }
 
-    /// Handles a packet of the serial line.
-    pub fn packet(&mut self, packet: &PacketRef<'_>) -> Reply
-        ensures { Handles S.stored self.old (Received (packet_of packet.now) ∷ []) (answer_of result ∷ []) self.new }
+    /// Handles a packet of the serial line, and hands out what explains it.
+    pub fn packet(&mut self, packet: &PacketRef<'_>) -> (Reply, Option<HandledPacket>)
+        requires { length packet.now.body.now ≤ longest_data }
+        ensures { Handles S.stored self.old (Received (packet_of packet.now) ∷ [])
+            (explaining result.1 (answer_of result.0) ∷ []) self.new }
     {
-        let tried = self.try_packet(packet);
-        self.reply_to(tried)
+        let Ok(telegram) = read(packet) else {
+            let tried = self.try_other(packet);
+            let (reply, account) = self.reply_to(tried);
+            return (reply, HandledPacket::of_other(packet, account));
+        };
+        let teach = classify(&telegram);
+        let tried = self.try_telegram(&telegram, &teach);
+        let (reply, account) = self.reply_to(tried);
+        (reply, HandledPacket::of_telegram(telegram, teach, account))
     }
 
     /// Handles a line of the desk.
@@ -117,6 +137,7 @@ impl<S: DeviceStore> Handler<S> {
         ensures { Handles S.stored self.old (Ordered line.now ∷ []) (answer_of result ∷ []) self.new }
     {
         let tried = self.try_line(line);
-        self.reply_to(tried)
+        let (reply, _) = self.reply_to(tried);
+        reply
     }
 }

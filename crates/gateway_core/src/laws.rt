@@ -5,7 +5,7 @@ ghost use Rattle.device_registry.specs.Devices.{Devices};
 ghost use Rattle.device_registry.specs.Holding.{MayFind};
 ghost use Rattle.gateway_core.specs.Beginnings.{CallsLeaveALife, ClosesLeaveALife, EndsLeaveALife, StopsLeaveALife};
 ghost use Rattle.gateway_core.specs.Calls.{CallsAreARun};
-ghost use Rattle.gateway_core.specs.Counting.{TakenAreCounted};
+ghost use Rattle.gateway_core.specs.Counting.{ExplanationsAreCounted, TakenAreCounted};
 ghost use Rattle.gateway_core.specs.Events.{CutsAreAnsweredAlike, CutsDoNotMatter, Event, brought, bytes_in, items_of};
 ghost use Rattle.gateway_core.specs.Handling.{Handles, KnowsState, HandlerValue};
 ghost use Rattle.gateway_core.specs.Lives.{LivesKeep};
@@ -63,6 +63,15 @@ pub fn refusals_are_counted()
 /// none, also where it is answered with one.
 pub fn taken_are_counted()
     ensures { TakenAreCounted }
+{}
+
+/// Each packet is explained by one line, which says why in one word, whatever its fate. The word is `read` just where
+/// the desk is told a reading, `response` where it is told a response, the outcome of the teach line where it is told
+/// one, and `refused` where the packet is refused; by each other word it is told nothing. The packet raises the count
+/// that this word is counted as, and no other one: `readings`, `responses`, `teach` and `refused` by these words in
+/// turn, and `ignored` by each other one. No order is explained.
+pub fn explanations_are_counted()
+    ensures { ExplanationsAreCounted }
 {}
 
 /// Whatever is called of a new gateway, in whatever order: the packets handled, and behind them those that wait, are

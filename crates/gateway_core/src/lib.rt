@@ -3,8 +3,10 @@
 //! registry, and what becomes of one is told once it is committed.
 #![tactic(auto)]
 
+mod account;
 mod device_store;
 mod gateway;
+mod handled;
 mod handler;
 pub mod laws;
 mod profiles;
@@ -16,5 +18,6 @@ pub use actuator_commands::id_of;
 pub use device_store::DeviceStore;
 pub use erp1_telegrams::is_base;
 pub use gateway::{Gateway, GatewayOver, StartFault};
+pub use handled::HandledPacket;
 pub use handler::orders::LONGEST_LINE;
 pub use reply::{Desk, Reply};

@@ -1,5 +1,5 @@
 //! What a telegram says by the profile of its sender.
-ghost use Rattle.std.specs.Prelude.{◌≡◌, option_map};
+ghost use Rattle.std.specs.Prelude.{◌≡◌, MatchResult, Ok, Err};
 ghost use Rattle.gateway_core.specs.Profiles;
 ghost use Rattle.profiles_rps.specs.Answer.{told};
 ghost use Rattle.profiles_rps.specs.Reading.{entries};
@@ -19,11 +19,12 @@ fn read_into(eep: Eep, telegram: &Telegram, readings: &mut Readings) -> Result<(
     }
 }
 
-/// What the telegram of a sender with this profile tells, if the profile can read it.
-pub fn read(eep: Eep, telegram: &Telegram) -> Option<Readings>
-    ensures { option_map (λ readings. entries readings.items) result ≡ Profiles.readings_of eep telegram.now }
+/// What the telegram of a sender with this profile tells, or why the profile does not read it.
+pub fn read(eep: Eep, telegram: &Telegram) -> Result<Readings, Unreadable>
+    ensures { MatchResult result (λ readings. Profiles.read_by eep telegram.now ≡ Ok (entries readings.items))
+        (λ fault. Profiles.read_by eep telegram.now ≡ Err fault) }
 {
     let mut readings = ArrayVec::new();
-    read_into(eep, telegram, &mut readings).ok()?;
-    Some(readings)
+    read_into(eep, telegram, &mut readings)?;
+    Ok(readings)
 }

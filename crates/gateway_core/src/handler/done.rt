@@ -1,5 +1,6 @@
 //! What is done for an item that is taken.
 ghost use Rattle.std.specs.Prelude.{◌≡◌, ℕ, Bool, List, None, Some};
+ghost use Rattle.gateway_core.specs.Accounts.{because};
 ghost use Rattle.gateway_core.specs.Desks.{desk_bytes};
 ghost use Rattle.gateway_core.specs.Refusals.{cause_in};
 ghost use Rattle.gateway_core.specs.Replies.{answer_of};
@@ -8,16 +9,17 @@ ghost use Rattle.gateway_core.specs.Step;
 ghost use Rattle.gateway_core.specs.Step.{said};
 ghost use Rattle.gateway_core.specs.Tries.{Gives};
 
+use crate::account::Account;
 use crate::refusal::Refusal;
 use crate::reply::{Desk, Reply};
 use arrayvec::ArrayVec;
-use json_lines::{Count, ErrorName, done_line};
+use json_lines::{ErrorName, Why, done_line};
 use teach_in::Mode;
 
-// What the item is counted as, if it is counted, the mode that is set, if any, and the answer to it.
+// The account of a packet, the mode that is set, if any, and the answer to the item.
 #[derive(Drop)]
 pub(crate) struct Done {
-    pub(crate) count: Option<Count>,
+    pub(crate) account: Option<Account>,
     pub(crate) mode: Option<Mode>,
     pub(crate) reply: Reply,
 }
@@ -30,33 +32,35 @@ fn reply_with(desk: Desk) -> Reply
 }
 
 pub(crate) fn told(desk: Desk) -> Done
-    ensures count { result.count ≡ None }
+    ensures account { result.account ≡ None }
     ensures mode { result.mode ≡ None }
     ensures answer { answer_of result.reply ≡ said (desk_bytes desk) }
 {
     Done {
-        count: None,
+        account: None,
         mode: None,
         reply: reply_with(desk),
     }
 }
 
-pub(crate) fn counted(count: Count, desk: Desk) -> Done
-    ensures count { result.count ≡ Some count }
+// Of a packet this is told.
+pub(crate) fn accounted(account: Account, desk: Desk) -> Done
+    ensures account { result.account ≡ Some account }
     ensures mode { result.mode ≡ None }
     ensures answer { answer_of result.reply ≡ said (desk_bytes desk) }
 {
     Done {
-        count: Some(count),
+        account: Some(account),
         mode: None,
         reply: reply_with(desk),
     }
 }
 
-pub(crate) fn ignored() -> Done
-    ensures { Gives result Step.ignored }
+// Of a packet nothing is told, be it that its sender was looked up or not.
+pub(crate) fn ignored(why: Why) -> Done
+    ensures { (asked : Bool) → Gives result (Step.unsaid asked (because why)) }
 {
-    counted(Count::Ignored, Desk::Nothing)
+    accounted(Account::because(why), Desk::Nothing)
 }
 
 pub(crate) fn denied(name: ErrorName) -> Done
@@ -69,7 +73,7 @@ pub(crate) fn sets(mode: Mode) -> Done
     ensures { Gives result (Step.sets mode) }
 {
     Done {
-        count: None,
+        account: None,
         mode: Some(mode),
         reply: reply_with(Desk::Fixed(done_line())),
     }
@@ -86,7 +90,7 @@ pub(crate) fn sends_packet(packet: ArrayVec<u8, 64>) -> Done
     ensures { (asked : Bool) → Gives result (Step.sends_packet asked packet.items) }
 {
     Done {
-        count: None,
+        account: None,
         mode: None,
         reply: Reply {
             radio: Some(packet),

@@ -3,34 +3,42 @@ ghost use Rattle.std.specs.Prelude.{◌≡◌, IfOk, Some};
 ghost use Rattle.esp3_frames.specs.Outcome.{packet_of};
 ghost use Rattle.device_registry.specs.Devices.{device_of};
 ghost use Rattle.teach_in.specs.Telegrams.{teach_in_of};
-ghost use Rattle.gateway_core.specs.Profiles.{readings_of};
-ghost use Rattle.gateway_core.specs.Step.{case_effect, data_case, packet_effect, reading_effect, telegram_effect};
+ghost use Rattle.gateway_core.specs.Profiles.{read_by};
+ghost use Rattle.gateway_core.specs.Responses;
+ghost use Rattle.gateway_core.specs.Step.{case_effect, data_case, reading_effect, telegram_effect, other_effect};
 ghost use Rattle.gateway_core.specs.Tries.{Gives, Tries};
 
+use crate::account::{Account, why_other, why_passed_over, why_unread};
 use crate::device_store::DeviceStore;
 use crate::handler::Handler;
-use crate::handler::done::{Done, counted, ignored};
+use crate::handler::done::{Done, accounted, ignored};
 use crate::profiles;
 use crate::refusal::Refusal;
 use crate::reply::Desk;
 use crate::response::response_in;
 use device_registry::Device;
-use erp1_telegrams::{Telegram, is_passed_over, read};
+use erp1_telegrams::{Telegram, is_passed_over};
 use esp3_frames::PacketRef;
-use json_lines::{Count, reading_line, response_line};
+use json_lines::{Why, reading_line, response_line};
 use std::alloc::{AllocError, Global};
-use teach_in::{Teach, classify};
+use teach_in::Teach;
 
-// The line of what a telegram tells, if the profile of its sender can read it.
-fn reading(alloc: Global, telegram: &Telegram, device: Device) -> Result<Done, AllocError>
-    ensures { IfOk result (λ done. Gives done (reading_effect telegram.now device.eep
-        (readings_of device.eep telegram.now))) }
+// The line of what the telegram of this device tells, if its profile reads it.
+fn reading(alloc: Global, telegram: &Telegram, device: &Device) -> Result<Done, AllocError>
+    ensures { IfOk result (λ done. Gives done (reading_effect telegram.now device.now
+        (read_by device.now.eep telegram.now))) }
 {
-    let Some(readings) = profiles::read(device.eep, telegram) else {
-        return Ok(ignored());
-    };
-    let line = reading_line(alloc, telegram, device.eep, &readings)?;
-    Ok(counted(Count::Reading, Desk::Owned(line)))
+    match profiles::read(device.eep, telegram) {
+        Ok(readings) => {
+            let line = reading_line(alloc, telegram, device.eep, &readings)?;
+            let account = Account::of_device(device, Why::Read);
+            Ok(accounted(account, Desk::Owned(line)))
+        }
+        Err(fault) => {
+            let account = Account::of_device(device, why_unread(fault));
+            Ok(accounted(account, Desk::Nothing))
+        }
+    }
 }
 
 impl<S: DeviceStore> Handler<S> {
@@ -41,41 +49,44 @@ impl<S: DeviceStore> Handler<S> {
             (data_case (device_of state.devices telegram.now.sender))) result self.new }
     {
         let Some(device) = self.registry.find(telegram.sender())? else {
-            return self.try_plan(telegram, teach);
+            return self.try_plan(telegram, teach, true);
         };
-        let done = reading(self.alloc, telegram, device)?;
+        let done = reading(self.alloc, telegram, &device)?;
         Ok(done)
     }
 
     // Handles a telegram by the first of its five cases: it is passed over, it is a reply to a telegram of teach-in or
     // such a telegram itself, or it is data, of a learned sender or of another.
-    fn try_telegram(&mut self, telegram: &Telegram) -> Result<Done, Refusal>
+    pub(crate) fn try_telegram(
+        &mut self,
+        telegram: &Telegram,
+        teach: &Teach,
+    ) -> Result<Done, Refusal>
+        requires { teach.now ≡ teach_in_of telegram.now }
         ensures { Tries S.stored self.old (λ state. telegram_effect state telegram.now) result self.new }
     {
         if is_passed_over(self.base, telegram) {
-            return Ok(ignored());
+            return Ok(ignored(why_passed_over(telegram)));
         }
-        let teach = classify(telegram);
         match teach {
-            Teach::Answer => Ok(ignored()),
+            Teach::Answer => Ok(ignored(Why::TeachInReply)),
             Teach::Contact | Teach::Bare | Teach::FourByte(_) | Teach::Ute(_) => {
-                self.try_plan(telegram, &teach)
+                self.try_plan(telegram, teach, false)
             }
-            Teach::Plain => self.try_data(telegram, &teach),
+            Teach::Plain => self.try_data(telegram, teach),
         }
     }
 
-    // Handles a packet, or refuses it.
-    pub(crate) fn try_packet(&mut self, packet: &PacketRef<'_>) -> Result<Done, Refusal>
-        ensures { Tries S.stored self.old (λ state. packet_effect state (packet_of packet.now)) result self.new }
+    // Handles a packet without a telegram, or refuses it.
+    pub(crate) fn try_other(&self, packet: &PacketRef<'_>) -> Result<Done, Refusal>
+        ensures { Tries S.stored self.now (λ _. other_effect (packet_of packet.now)
+            (Responses.response_in (packet_of packet.now))) result self.now }
     {
-        if let Some(response) = response_in(packet) {
-            let line = response_line(self.alloc, response.code, response.bytes)?;
-            return Ok(counted(Count::Response, Desk::Owned(line)));
-        }
-        match read(packet) {
-            Ok(telegram) => self.try_telegram(&telegram),
-            Err(_) => Ok(ignored()),
-        }
+        let Some(response) = response_in(packet) else {
+            return Ok(ignored(why_other(packet)));
+        };
+        let line = response_line(self.alloc, response.code, response.bytes)?;
+        let account = Account::because(Why::Response);
+        Ok(accounted(account, Desk::Owned(line)))
     }
 }

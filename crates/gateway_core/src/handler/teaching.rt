@@ -6,11 +6,14 @@ ghost use Rattle.teach_in.specs.declared.outcome.Outcome.TheVariants as outcome;
 ghost use Rattle.teach_in.specs.Plans.{plan_of};
 ghost use Rattle.teach_in.specs.Telegrams.{teach_in_of};
 ghost use Rattle.gateway_core.specs.Replies.{answer_of};
+ghost use Rattle.json_lines.specs.declared.packet.Why.TheVariants as why;
+ghost use Rattle.gateway_core.specs.Accounts.{because};
 ghost use Rattle.gateway_core.specs.Step;
 ghost use Rattle.gateway_core.specs.Step.{accepts, addition, deletes, line_with, plan_effect, radio_of, reply_of};
 ghost use Rattle.gateway_core.specs.Step.{told_of};
 ghost use Rattle.gateway_core.specs.Tries.{Gives, MayReply, Tries, state_of};
 
+use crate::account::{Account, told_by, why_silent};
 use crate::device_store::DeviceStore;
 use crate::handler::Handler;
 use crate::handler::changes::Committed;
@@ -21,21 +24,9 @@ use crate::reply::{Desk, Reply};
 use arrayvec::ArrayVec;
 use device_registry::Device;
 use erp1_telegrams::{Eep, Telegram};
-use json_lines::{Count, Line, teach_line};
+use json_lines::{Line, Why, teach_line};
 use std::alloc::AllocError;
 use teach_in::{Mode, Outcome, Plan, Teach, Verdict, four_byte_reply, plan, ute_reply};
-
-// The profile and the maker that a telegram of teach-in tells, if it does.
-fn told_by(teach: &Teach) -> (Option<Eep>, Option<u16>)
-    ensures { (id : ℕ) (outcome : spec.Outcome) → line_with id teach.now outcome
-        ≡ record { eep = result.0; id = id; maker = result.1; outcome = outcome } }
-{
-    match teach {
-        Teach::FourByte(query) => (Some(query.eep()), Some(query.maker())),
-        Teach::Ute(query) => (Some(query.eep()), Some(query.maker())),
-        _ => (None, None),
-    }
-}
 
 // The mode that learns with the desk's profile is for one sender.
 fn mode_after_one(mode: Mode) -> Option<Mode>
@@ -69,15 +60,16 @@ impl<S: DeviceStore> Handler<S> {
     // Tells what came of a sender, and replies to it.
     fn tell_sender(&self, teach: &Teach, verdict: &Verdict, line: Line) -> Done
         requires { MayReply teach.now verdict.now.id verdict.now.outcome }
-        ensures count { result.count ≡ Some Count.Teach }
+        ensures account { result.account ≡ Some (because (why.Told verdict.now.outcome)) }
         ensures mode { result.mode ≡ None }
         ensures answer { answer_of result.reply ≡ record {
           radio = radio_of (reply_of self.now.base self.now.mode teach.now verdict.now.outcome);
+          explained = [];
           desk = line;
         } }
     {
         Done {
-            count: Some(Count::Teach),
+            account: Some(Account::because(Why::Told(verdict.outcome()))),
             mode: None,
             reply: Reply {
                 radio: self.reply_packet(teach, verdict),
@@ -117,11 +109,13 @@ impl<S: DeviceStore> Handler<S> {
             result self.new }
     {
         let (id, eep, maker) = (device.id, device.eep, device.maker);
+        let account = Account::of_device(&device, Why::Told(Outcome::Accepted));
         let Some(Committed { verdict, line }) = self.learn(device)? else {
             let full = self.refuse(teach, id, Some(eep), maker, Outcome::Full)?;
             return Ok(full);
         };
         let mut done = self.tell_sender(teach, &verdict, line);
+        done.account = Some(account);
         done.mode = mode_after_one(self.mode);
         Ok(done)
     }
@@ -136,15 +130,21 @@ impl<S: DeviceStore> Handler<S> {
         Ok(self.tell_sender(teach, &verdict, line))
     }
 
-    // Does what is planned about the sender of a telegram of teach-in, or of data whose sender is not learned.
-    pub(crate) fn try_plan(&mut self, telegram: &Telegram, teach: &Teach) -> Result<Done, Refusal>
+    // Does what is planned about the sender of a telegram: of one of teach-in, or of data, for which the store was
+    // asked and has told that the sender is not learned.
+    pub(crate) fn try_plan(
+        &mut self,
+        telegram: &Telegram,
+        teach: &Teach,
+        asked: bool,
+    ) -> Result<Done, Refusal>
         requires { teach.now ≡ teach_in_of telegram.now }
-        ensures { (asked : Bool) → Tries S.stored self.old (λ state. plan_effect state telegram.now asked
+        ensures { Tries S.stored self.old (λ state. plan_effect state telegram.now asked
             (plan_of telegram.now state.mode false)) result self.new }
     {
         // whether the sender is known is asked for data alone, and data of a known sender does not come here
         match plan(telegram, self.mode, false) {
-            Plan::Silent => Ok(ignored()),
+            Plan::Silent => Ok(ignored(why_silent(asked, self.mode))),
             Plan::Add(device) => self.try_accept(teach, device),
             Plan::Forget(id) => self.try_forget(teach, id),
             Plan::Refuse(outcome) => {

@@ -18,6 +18,6 @@ returns g c =
     (λ devices. record { needs = refl; forgets = refl }) c.in_ok-committed.committed _ c.in_ok-committed.ensures
     (λ devices. (
       c.told.ensures.answer ∙ ap said (c.in_ok-committed.ensures.told.2 ∙ sym (append-nil _)),
-      c.told.ensures.count,
+      c.told.ensures.account,
       c.told.ensures.mode,
     ))

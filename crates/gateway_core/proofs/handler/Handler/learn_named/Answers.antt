@@ -27,7 +27,7 @@ returns-in-Some g c =
     c.in-Some.committed _ learned
     (λ devices. (
       c.told.ensures.answer ∙ ap said (learned.told.2 ∙ sym (append-nil _)),
-      c.told.ensures.count,
+      c.told.ensures.account,
       c.told.ensures.mode,
     ))
 

@@ -3,6 +3,3 @@ use Rattle.gateway_core.proofs.handler.Handler.reply_to.Goals as goal
 
 pub returns-in-Err-clause-counts : goal.returns-in-Err-clause-counts
 returns-in-Err-clause-counts g c = search rules
-
-pub returns-in-Some-mode-clause-mode : goal.returns-in-Some-mode-clause-mode
-returns-in-Some-mode-clause-mode g c = search rules

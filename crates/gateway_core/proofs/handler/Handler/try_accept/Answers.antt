@@ -1,4 +1,4 @@
-use Rattle.std.proofs.Common.{Ok, sym, ap, subst, ◌∙◌}
+use Rattle.std.proofs.Common.{Ok, Some, sym, ap, subst, ◌∙◌}
 use Rattle.std.proofs.lemmas.Result.{err_from_is_err_and}
 use Rattle.teach_in.specs.declared.outcome.Outcome.TheVariants.{Accepted, Full}
 use Rattle.gateway_core.specs.declared.handler.changes.Committed.{Committed}
@@ -57,6 +57,6 @@ returns g c =
           (ap (λ (e : Committed). e.verdict.outcome) (sym c.in-Some.field-0-is) ∙ learned.told.1)
           (ap (λ (e : Committed). e.line) (sym c.in-Some.field-0-is) ∙ learned.told.2)
           c.tell_sender-done.ensures.answer,
-      c.tell_sender-done.ensures.count,
+      ap Some c.of_device-account.ensures,
       c.mode_after_one-done.ensures ∙ ap (λ (v : HandlerValue _). mode_after_one v.mode) c.self.view_is,
     ))

@@ -1,7 +1,7 @@
-use Rattle.std.proofs.Common.{true, refl, sym, ap, ◌∙◌}
+use Rattle.std.proofs.Common.{refl, sym, ap, ◌∙◌}
 use Rattle.std.proofs.lemmas.Result.{err_from_is_err_and}
 use Rattle.device_registry.specs.Devices.{device_of}
-use Rattle.gateway_core.specs.Profiles.{readings_of}
+use Rattle.gateway_core.specs.Profiles.{read_by}
 use Rattle.gateway_core.specs.Step.{case_effect, data_case}
 use Rattle.gateway_core.proofs.TryLemmas.{known_with, permitted, tries, tries-behind, data-need, reading-comes}
 use Rattle.gateway_core.proofs.handler.Handler.try_data.Goals as goal
@@ -26,7 +26,7 @@ returns-in_default g c =
     let known = sym c.in_default.is ∙ found.0 ∙ ap (device_of devices) c.sender.ensures in
     let now = known_with c.self.inside.base c.self.inside.mode c.self.inside.counts devices in
     (ap (λ k. case_effect now c.args.telegram.now (data_case k)) (sym known), found.1))
-    (c.try_plan.ensures true))
+    c.try_plan.ensures)
 
 pub returns-in_err-done : goal.returns-in_err-done
 returns-in_err-done g c =
@@ -47,5 +47,5 @@ returns g c =
     let known = sym c.in-Some.is ∙ found.0 ∙ ap (device_of devices) c.sender.ensures in
     rw (← known)
     (reading-comes g.S.DeviceStore.stored c.self.inside.registry c.find.new.self devices c.args.telegram.now
-    c.in-Some.device.eep (readings_of c.in-Some.device.eep c.args.telegram.now) c.in_ok-done.done c.in_ok-done.ensures
+    c.in-Some.device (read_by c.in-Some.device.eep c.args.telegram.now) c.in_ok-done.done c.in_ok-done.ensures
     found.1)))

@@ -1,10 +1,12 @@
-use Rattle.std.proofs.Common.{refl, sym, ap, ◌∙◌}
+use Rattle.std.proofs.Common.{refl, sym, ap, ◌∙◌, Some}
 use Rattle.std.proofs.lemmas.Result.{err_from_is_err_and}
 use Rattle.teach_in.specs.declared.outcome.Outcome.TheVariants.{Deleted}
+use Rattle.json_lines.specs.declared.packet.Why.TheVariants.{Told}
 use Rattle.json_lines.specs.Lines.{Teach, TeachLine, text}
+use Rattle.gateway_core.specs.Accounts.{because}
 use Rattle.gateway_core.specs.Step.{deletes, line_with}
 use Rattle.gateway_core.specs.Tries.{state_of}
-use Rattle.gateway_core.proofs.TryLemmas.{taught-answer, tries-forgotten, tries-unforgotten}
+use Rattle.gateway_core.proofs.TryLemmas.{line_told, taught-answer, tries-forgotten, tries-unforgotten}
 use Rattle.gateway_core.proofs.handler.Handler.try_forget.Goals as goal
 
 pub returns-in_err-verdict : goal.returns-in_err-verdict
@@ -17,7 +19,8 @@ returns-in_err-verdict g c =
 pub returns : goal.returns
 returns g c =
     let forgotten = c.in_ok-verdict.ensures in
-    let line = sym (c.told_by-eep.ensures c.args.id Deleted) in
+    let line =
+    sym (line_told c.args.id c.args.teach.now Deleted _ _ c.told_by-eep.ensures.eep c.told_by-eep.ensures.maker) in
     tries-forgotten g.S.DeviceStore.stored _ _ _ (λ state. deletes state c.args.teach.now c.args.id)
     (λ devices. record { needs = refl; forgets = refl }) _ _ forgotten
     (λ devices. (
@@ -25,6 +28,7 @@ returns g c =
           (line_with c.args.id c.args.teach.now Deleted) _ _ _
           (forgotten.told.1 ∙ ap (λ (l : TeachLine). l.outcome) line)
           (forgotten.told.2 ∙ ap (λ l. text (Teach l)) line) c.tell_sender.ensures.answer,
-      c.tell_sender.ensures.count,
+      c.tell_sender.ensures.account
+          ∙ ap (λ o. Some (because (Told o))) (forgotten.told.1 ∙ ap (λ (l : TeachLine). l.outcome) line),
       c.tell_sender.ensures.mode,
     ))

@@ -25,6 +25,6 @@ returns g c =
     (λ honest devices has.
     let found = c.in_ok-all.ensures.devices honest devices has in
     let lines = ap (λ known. texts (listing known)) (c.as_slice.ensures.value ∙ found.0) in (
-      (c.told.ensures.answer ∙ ap said (c.in_ok-lines.ensures ∙ lines), c.told.ensures.count, c.told.ensures.mode),
+      (c.told.ensures.answer ∙ ap said (c.in_ok-lines.ensures ∙ lines), c.told.ensures.account, c.told.ensures.mode),
       found.1,
     )))

@@ -15,7 +15,7 @@ returns g c =
     (λ devices keeps. (
       (
         c.told.ensures.answer ∙ ap said (c.in_ok-line.ensures ∙ sym (append-nil _)),
-        c.told.ensures.count,
+        c.told.ensures.account,
         c.told.ensures.mode,
       ),
       keeps,

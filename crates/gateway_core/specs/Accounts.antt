@@ -1,0 +1,127 @@
+-- Why what is done with a packet is done, and what the line says that explains it. Own choice.
+use Rattle.std.specs.Prelude.{ℕ, ◌==◌, Bool, true, false, List, [], length, Option, Some, None, if◌then◌else◌}
+use Rattle.std.specs.Prelude.{Result, Ok, Err}
+use Rattle.std.specs.Option.{option_or}
+use Rattle.esp3_frames.specs.Packet.{Packet}
+use Rattle.erp1_telegrams.specs.declared.eep.Eep.{Eep}
+use Rattle.erp1_telegrams.specs.declared.telegram.TelegramFault.{TelegramFault}
+use Rattle.erp1_telegrams.specs.Telegram.{Telegram, telegram_of}
+use Rattle.profiles_rps.specs.declared.unreadable.Unreadable.{Unreadable}
+use Rattle.profiles_rps.specs.declared.unreadable.Unreadable.TheVariants as unreadable
+use Rattle.learned_devices.specs.declared.Device.{Device}
+use Rattle.teach_in.specs.declared.mode.Mode.{Mode}
+use Rattle.teach_in.specs.declared.mode.Mode.TheVariants.{Closed}
+use Rattle.teach_in.specs.declared.telegrams.Teach.{Teach}
+use Rattle.teach_in.specs.declared.telegrams.Teach.TheVariants.{FourByte, Ute}
+use Rattle.teach_in.specs.FourByte.{eep_in, maker_in}
+use Rattle.teach_in.specs.Telegrams.{teach_in_of}
+use Rattle.teach_in.specs.Ute as ute
+use Rattle.json_lines.specs.declared.counts.Count.{Count}
+use Rattle.json_lines.specs.declared.counts.Count.TheVariants as count
+use Rattle.json_lines.specs.declared.packet.PacketLine.{PacketLine}
+use Rattle.json_lines.specs.declared.packet.ToldPacket.{ToldPacket}
+use Rattle.json_lines.specs.declared.packet.ToldPacket.TheVariants as told
+use Rattle.json_lines.specs.declared.packet.Why.{Why}
+use Rattle.json_lines.specs.declared.packet.Why.TheVariants.{Refused, Response, EmptyResponse, OtherType, NoTelegram}
+use Rattle.json_lines.specs.declared.packet.Why.TheVariants.{FromBroadcast, ForOthers, TeachInReply, Told, Read}
+use Rattle.json_lines.specs.declared.packet.Why.TheVariants.{WindowClosed, OtherMode, UnknownSender}
+use Rattle.json_lines.specs.declared.packet.Why.TheVariants.{WrongKind, WrongLength, OtherMessage}
+use Rattle.json_lines.specs.PacketLines.{packet_text}
+use Rattle.json_lines.specs.ToldTelegram.{ToldTelegram}
+use Rattle.gateway_core.specs.declared.account.Account.{Account}
+
+-- ---- why
+
+-- of a packet that is no response and carries no telegram
+abbrev pub why_other : Packet → Why
+why_other packet = if packet.kind == 1 then NoTelegram else if packet.kind == 2 then EmptyResponse else OtherType
+
+-- of a telegram that is passed over
+abbrev pub why_passed_over : Telegram → Why
+why_passed_over t = if t.sender == 0xFFFF_FFFF then FromBroadcast else ForOthers
+
+-- Of a telegram of which the plan is to do nothing: of data, whose sender is looked up, and is not learned; or of one
+-- of teach-in, by the mode. So data of a stranger are the same in every mode that does not learn by them.
+abbrev pub why_silent : Bool → Mode → Why
+why_silent true mode = UnknownSender
+why_silent false Closed = WindowClosed
+why_silent false mode = OtherMode
+
+-- of data that the profile of its sender does not read; a profile that is not supported reads nothing
+abbrev pub why_unread : Unreadable → Why
+why_unread unreadable.NotSupported = OtherMessage
+why_unread unreadable.WrongKind = WrongKind
+why_unread unreadable.WrongLength = WrongLength
+why_unread unreadable.OtherMessage = OtherMessage
+
+-- what a packet is counted as
+abbrev pub counted_as : Why → Count
+counted_as Refused = count.Refused
+counted_as Response = count.Response
+counted_as (Told outcome) = count.Teach
+counted_as Read = count.Reading
+counted_as EmptyResponse = count.Ignored
+counted_as OtherType = count.Ignored
+counted_as NoTelegram = count.Ignored
+counted_as FromBroadcast = count.Ignored
+counted_as ForOthers = count.Ignored
+counted_as TeachInReply = count.Ignored
+counted_as WindowClosed = count.Ignored
+counted_as OtherMode = count.Ignored
+counted_as UnknownSender = count.Ignored
+counted_as WrongKind = count.Ignored
+counted_as WrongLength = count.Ignored
+counted_as OtherMessage = count.Ignored
+
+-- ---- the account of a packet: why, and what is known of its sender
+
+-- nothing is known of its sender, or it has none
+abbrev pub because : Why → Account
+because why = record { why = why; eep = None; maker = None }
+
+-- its sender is this device
+abbrev pub of_device : Device → Why → Account
+of_device known why = record { why = why; eep = Some known.eep; maker = known.maker }
+
+-- ---- the line that explains a packet
+
+-- the profile and the maker that a telegram of teach-in tells, if it does
+abbrev pub eep_told : Teach → Option Eep
+eep_told (FourByte query) = Some (eep_in query)
+eep_told (Ute query) = Some (ute.eep_in query)
+eep_told kind = None
+
+abbrev pub maker_told : Teach → Option ℕ
+maker_told (FourByte query) = Some (maker_in query)
+maker_told (Ute query) = Some (ute.maker_in query)
+maker_told kind = None
+
+-- the ID of the device that a telegram is for, where it is not for all
+abbrev pub destination_told : ℕ → Option ℕ
+destination_told dest = if dest == 0xFFFF_FFFF then None else Some dest
+
+-- what is told of a telegram, which at teach-in is this: of its sender what a query tells, and else what is known
+abbrev pub told_with : Telegram → Teach → Account → ToldTelegram
+told_with t kind account = record {
+  dbm = t.dbm;
+  dest = destination_told t.dest;
+  eep = option_or (eep_told kind) account.eep;
+  id = t.sender;
+  maker = option_or (maker_told kind) account.maker;
+  payload = t.payload;
+  rorg = t.rorg;
+  status = t.status;
+}
+
+-- what a packet was, by the telegram that it carries, if it carries one
+abbrev pub told_packet : Packet → Result Telegram TelegramFault → Account → ToldPacket
+told_packet packet (Ok t) account = told.Telegram (told_with t (teach_in_of t) account)
+told_packet packet (Err fault) account = told.Other packet.kind (length packet.body)
+
+abbrev pub line_of : Packet → Account → PacketLine
+line_of packet account = record { packet = told_packet packet (telegram_of packet) account; why = account.why }
+
+-- the text of such a line, if there is one
+abbrev pub explanation : Option PacketLine → List ℕ
+explanation None = []
+explanation (Some line) = packet_text line

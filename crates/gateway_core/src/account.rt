@@ -1,0 +1,131 @@
+//! The account of a packet: why what was done with it was done, and what is known of its sender.
+ghost use Rattle.std.specs.Prelude.{◌≡◌};
+ghost use Rattle.esp3_frames.specs.Outcome.{packet_of};
+ghost use Rattle.gateway_core.specs.Accounts;
+ghost use Rattle.gateway_core.specs.Accounts.{because, eep_told, maker_told};
+
+use device_registry::Device;
+use erp1_telegrams::{BROADCAST, Eep, Telegram};
+use esp3_frames::PacketRef;
+use json_lines::{Count, Why};
+use profiles_rps::Unreadable;
+use teach_in::{Mode, Teach};
+
+/// The packet type RADIO_ERP1 (EnOcean Serial Protocol 3, "Packet types").
+const RADIO_ERP1: u8 = 1;
+
+/// The packet type RESPONSE (EnOcean Serial Protocol 3, "Packet types").
+const RESPONSE: u8 = 2;
+
+/// Why what was done with a packet was done, and what is known of its sender: the profile and the maker of the device
+/// that it is.
+#[derive(Clone, Copy, Debug, PartialEq, Eq)]
+pub(crate) struct Account {
+    pub(crate) why: Why,
+    pub(crate) eep: Option<Eep>,
+    pub(crate) maker: Option<u16>,
+}
+
+impl Account {
+    // Nothing is known of the sender, or there is none.
+    pub(crate) fn because(why: Why) -> Account
+        ensures { result ≡ because why }
+    {
+        Account {
+            why,
+            eep: None,
+            maker: None,
+        }
+    }
+
+    // The sender is this device.
+    pub(crate) fn of_device(device: &Device, why: Why) -> Account
+        ensures { result ≡ Accounts.of_device device.now why }
+    {
+        Account {
+            why,
+            eep: Some(device.eep),
+            maker: device.maker,
+        }
+    }
+
+    // What the packet is counted as.
+    pub(crate) fn count(&self) -> Count
+        ensures { result ≡ Accounts.counted_as self.now.why }
+    {
+        match self.why {
+            Why::Refused => Count::Refused,
+            Why::Response => Count::Response,
+            Why::Told(_) => Count::Teach,
+            Why::Read => Count::Reading,
+            Why::EmptyResponse
+            | Why::OtherType
+            | Why::NoTelegram
+            | Why::FromBroadcast
+            | Why::ForOthers
+            | Why::TeachInReply
+            | Why::WindowClosed
+            | Why::OtherMode
+            | Why::UnknownSender
+            | Why::WrongKind
+            | Why::WrongLength
+            | Why::OtherMessage => Count::Ignored,
+        }
+    }
+}
+
+// Why a packet that is no response and carries no telegram is ignored.
+pub(crate) fn why_other(packet: &PacketRef<'_>) -> Why
+    ensures { result ≡ Accounts.why_other (packet_of packet.now) }
+{
+    match packet.kind {
+        RADIO_ERP1 => Why::NoTelegram,
+        RESPONSE => Why::EmptyResponse,
+        _ => Why::OtherType,
+    }
+}
+
+// Why a telegram is passed over.
+pub(crate) fn why_passed_over(telegram: &Telegram) -> Why
+    ensures { result ≡ Accounts.why_passed_over telegram.now }
+{
+    if telegram.sender() == BROADCAST {
+        Why::FromBroadcast
+    } else {
+        Why::ForOthers
+    }
+}
+
+// Why nothing is done about the sender of a telegram: of data, or else of one of teach-in.
+pub(crate) fn why_silent(is_data: bool, mode: Mode) -> Why
+    ensures { result ≡ Accounts.why_silent is_data mode }
+{
+    match (is_data, mode) {
+        (true, _) => Why::UnknownSender,
+        (false, Mode::Closed) => Why::WindowClosed,
+        (false, Mode::Learn | Mode::LearnAnswer | Mode::LearnAs(_)) => Why::OtherMode,
+    }
+}
+
+// Why data is not read.
+pub(crate) fn why_unread(fault: Unreadable) -> Why
+    ensures { result ≡ Accounts.why_unread fault }
+{
+    match fault {
+        Unreadable::WrongKind => Why::WrongKind,
+        Unreadable::WrongLength => Why::WrongLength,
+        Unreadable::NotSupported | Unreadable::OtherMessage => Why::OtherMessage,
+    }
+}
+
+// The profile and the maker that a telegram of teach-in tells, if it does.
+pub(crate) fn told_by(teach: &Teach) -> (Option<Eep>, Option<u16>)
+    ensures eep { result.0 ≡ eep_told teach.now }
+    ensures maker { result.1 ≡ maker_told teach.now }
+{
+    match teach {
+        Teach::FourByte(query) => (Some(query.eep()), Some(query.maker())),
+        Teach::Ute(query) => (Some(query.eep()), Some(query.maker())),
+        _ => (None, None),
+    }
+}
