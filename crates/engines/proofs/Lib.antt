@@ -6,6 +6,7 @@ pub mod TextWayLemmas
 pub mod AnswerLemmas
 pub mod PlayLemmas
 pub mod EngineStepLemmas
+pub mod ExplainedLemmas
 pub mod LineLemmas
 pub mod LongLineLemmas
 pub mod SearchLemmas

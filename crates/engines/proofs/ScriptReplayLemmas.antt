@@ -27,16 +27,17 @@ module _ {W S : Type 0} (stored : S → Stored) (sink : sinks.Ghosts W) where
   module _ (entry now : Engine (ReplayText W) S) (gateway : Value S) (writer : W) (e : gateway ≡ now.gateway.now)
       (f : writer ≡ now.outlet.sink.now) where
     pub plays_written : (events : List Event) → EnginePlays stored way entry now events
-        → Plays stored entry.gateway.now gateway events (WritesAll (sink.held entry.outlet.sink.now) (sink.held writer))
+        → Plays stored entry.gateway.now gateway events
+        (WritesAll entry.outlet.explains (sink.held entry.outlet.sink.now) (sink.held writer))
     plays_written events p = rw (e, f) (record {
-      answered = record { answers = p.answered.answers; handled = p.answered.handled; out = p.answered.out.text };
+      answered = record { answers = p.answered.answers; handled = p.answered.handled; out = p.answered.out.1.text };
       rest = p.rest;
       idle = p.idle;
     })
 
     broken : (events : List Event) (event : Event) → EngineBreaks stored way entry now events event
         → Breaks stored entry.gateway.now gateway events event
-        (WritesPart (sink.held entry.outlet.sink.now) (sink.held writer))
+        (WritesPart entry.outlet.explains (sink.held entry.outlet.sink.now) (sink.held writer))
     broken events event p = rw (e, f) (record {
       begun = p.begun;
       begins = p.begins;
@@ -50,7 +51,7 @@ module _ {W S : Type 0} (stored : S → Stored) (sink : sinks.Ghosts W) where
         answers = p.answered.answers;
         last = p.answered.last;
         handled = p.answered.handled;
-        out = p.answered.out.text;
+        out = p.answered.out.1.text;
       };
     })
 
@@ -59,7 +60,7 @@ module _ {W S : Type 0} (stored : S → Stored) (sink : sinks.Ghosts W) where
         → script input ≡ events ++ more → EnginePlays stored way entry old events
         → PlaysPartAtEnd stored old.gateway.now now.gateway.now more (way.breaks old.outlet now.outlet)
         → PlaysPartAtEnd stored entry.gateway.now gateway (script input)
-        (WritesPart (sink.held entry.outlet.sink.now) (sink.held writer))
+        (WritesPart entry.outlet.explains (sink.held entry.outlet.sink.now) (sink.held writer))
     part_at_end old input events more is p q = record {
       events = events ++ q.events;
       event = q.event;
@@ -88,7 +89,7 @@ module _ {W S : Type 0} (stored : S → Stored) (sink : sinks.Ghosts W) where
       -- a stop before the end of a script
       pub plays_ended : TakesBytes stored way OfScript entry now input
           → PlaysEnded stored entry.engine.gateway.now gateway input
-          (WritesAll (sink.held entry.engine.outlet.sink.now) (sink.held writer))
+          (WritesAll entry.engine.outlet.explains (sink.held entry.engine.outlet.sink.now) (sink.held writer))
       plays_ended p =
           let ended = flat_map with_end p.ended in
           let is : script ended ≡ events_by OfScript p.ended =
@@ -105,7 +106,7 @@ module _ {W S : Type 0} (stored : S → Stored) (sink : sinks.Ghosts W) where
       -- and a stop at one of its lines
       pub part_at_line : StopsAtLine stored way OfScript entry now input
           → PlaysPartAtLine stored entry.engine.gateway.now gateway input
-          (WritesPart (sink.held entry.engine.outlet.sink.now) (sink.held writer))
+          (WritesPart entry.engine.outlet.explains (sink.held entry.engine.outlet.sink.now) (sink.held writer))
       part_at_line s =
           let ended = flat_map with_end s.ended in
           record {

@@ -1,10 +1,11 @@
--- An answer whose text is written to a sink is put out.
-use Rattle.std.proofs.Common.{ℕ, List, [], ◌∷◌, sym, append-nil, subst, Ok, Err}
+-- An answer whose text is written to a sink is put out, also where the text hangs on a flag.
+use Rattle.std.proofs.Common.{◌≡◌, ℕ, Bool, List, [], ◌∷◌, sym, append-nil, subst, Ok, Err}
 use Rattle.std.specs.Prelude.{Result, MatchResult}
 use Rattle.std.specs.Io.KnownBytes.{Appends}
 use Rattle.gateway_core.specs.Step.{Answer}
 use Rattle.byte_streams.specs.Counts.{Went}
 use Rattle.byte_streams.specs.Writes.{Writes}
+use Rattle.engines.specs.Outlets.{Puts, Way, flagged}
 use Rattle.engines.specs.Streams.{SinkValue}
 use Rattle.engines.specs.TextWay.{PutsText, BreaksText}
 
@@ -16,3 +17,9 @@ puts_one (Ok done) says old new answer text went = record {
   went = went;
 }
 puts_one (Err failed) says old new answer text went = record { text = text; went = went }
+
+-- the flag stays
+pub puts_by : {V A E : Type 0} (way : Bool → Way V) (r : Result A E) (old new : Bool × V) (answer : Answer)
+    → new.0 ≡ old.0 → Puts (way old.0) r old.1 new.1 answer → Puts (flagged way) r old new answer
+puts_by way (Ok done) old new answer same out = (same, out)
+puts_by way (Err failed) old new answer same out = (same, out)

@@ -29,24 +29,55 @@ module _ {R D S : Type 0} (stored : S → Stored) (serials : sinks.Ghosts R) (de
   abbrev new_sinks : SinkValue × SinkValue
   new_sinks = (sink_value serials serial, sink_value desks desk)
 
+  abbrev ways : Way (SinkValue × SinkValue)
+  ways = wires entry.outlet.explains
+
   pub plays_at : (events : List Event) → EnginePlays stored way entry now events
-      → Plays stored entry.gateway.now gateway events (wires.puts old_sinks new_sinks)
-  plays_at events p = rw (e, f, h) p
+      → Plays stored entry.gateway.now gateway events (ways.puts old_sinks new_sinks)
+  plays_at events p = rw (e, f, h) (record {
+    answered = record { answers = p.answered.answers; handled = p.answered.handled; out = p.answered.out.1 };
+    rest = p.rest;
+    idle = p.idle;
+  })
 
   pub breaks_at : (events : List Event) (event : Event) → EngineBreaks stored way entry now events event
-      → Breaks stored entry.gateway.now gateway events event (wires.breaks old_sinks new_sinks)
-  breaks_at events event p = rw (e, f, h) p
+      → Breaks stored entry.gateway.now gateway events event (ways.breaks old_sinks new_sinks)
+  breaks_at events event p = rw (e, f, h) (record {
+    begun = p.begun;
+    begins = p.begins;
+    items = p.items;
+    own = p.own;
+    behind = p.behind;
+    some = p.some;
+    stand = p.stand;
+    rest = p.rest;
+    answered = record {
+      answers = p.answered.answers;
+      last = p.answered.last;
+      handled = p.answered.handled;
+      out = p.answered.out.1;
+    };
+  })
 
   pub breaks_at_order : (turns : List Turn)
       → BreaksAtOrder stored entry.gateway.now now.gateway.now turns (way.breaks entry.outlet now.outlet)
-      → BreaksAtOrder stored entry.gateway.now gateway turns (wires.breaks old_sinks new_sinks)
-  breaks_at_order turns p = rw (e, f, h) p
+      → BreaksAtOrder stored entry.gateway.now gateway turns (ways.breaks old_sinks new_sinks)
+  breaks_at_order turns p = record {
+    before = p.before;
+    last = p.last;
+    is_last = p.is_last;
+    done = p.done;
+    order = p.order;
+    later = p.later;
+    whole = p.whole;
+    broken = breaks_at _ _ p.broken;
+  }
 
   -- where a break is out, not all writes went well
   pub not_all_well : (answers : List Answer) (last : Answer) → way.breaks entry.outlet now.outlet answers last
       → HasRoom old_sinks.0.counts 0 → HasRoom old_sinks.1.counts 0
       → WentWell old_sinks.0.counts new_sinks.0.counts → WentWell old_sinks.1.counts new_sinks.1.counts → ⊥
-  not_all_well answers last (inl broken) room others well wells =
+  not_all_well answers last (same, inl broken) room others well wells =
       not_well old_sinks.0.counts (serials.counts now.outlet.serial.now) room broken.0.went (rw f at well)
-  not_all_well answers last (inr broken) room others well wells =
+  not_all_well answers last (same, inr broken) room others well wells =
       not_well old_sinks.1.counts (desks.counts now.outlet.desk.now) others broken.1.went (rw h at wells)

@@ -5,6 +5,7 @@ pub mod Streams
 pub mod TextWay
 pub mod Written
 pub mod Wires
+pub mod Explained
 pub mod Played
 pub mod Reads
 pub mod ScriptReplay

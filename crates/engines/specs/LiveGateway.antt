@@ -1,5 +1,5 @@
 -- What a live gateway reads, handles and writes.
-use Rattle.std.specs.Prelude.{◌≡◌, ◌↔◌, ◌+◌, ◌-◌, ◌^◌, min, ℕ, List, [], ◌∷◌, ◌++◌, length}
+use Rattle.std.specs.Prelude.{◌≡◌, ◌↔◌, ◌+◌, ◌-◌, ◌^◌, min, ℕ, Bool, List, [], ◌∷◌, ◌++◌, length}
 use Rattle.std.specs.Prelude.{Option, None, Some, Result, IsOk}
 use Rattle.sqlite.specs.State.{State as Stored}
 use Rattle.gateway_core.specs.Step.{Answer}
@@ -84,8 +84,9 @@ module _ {S : Type 0} (stored : S → Stored) where
   BreaksTurn old new turns (Some piece) breaks = Breaks stored old new (events_of_turns turns) (Piece piece) breaks
   BreaksTurn old new turns None breaks = BreaksAtOrder old new turns breaks
 
--- Below, `at` says what is known of the live gateway before the call and behind it.
-module _ {S T : Type 0} (stored : S → Stored) (at : T → LiveValue S) where
+-- Below, `at` says what is known of the live gateway before the call and behind it, and `explains` whether each packet
+-- is explained.
+module _ {S T : Type 0} (stored : S → Stored) (at : T → LiveValue S) (explains : Bool) where
   -- so many turns were read, the items of their events, and nothing else, were handled and counted, and what their
   -- answers send and tell was written
   pub record Serves (old new : T) (turns : ℕ) (summary : Summary) : Type 0 where
@@ -94,7 +95,7 @@ module _ {S T : Type 0} (stored : S → Stored) (at : T → LiveValue S) where
     pub serial : ReadsWell (at old).serial (at new).serial (pieces read)
     pub desk : ReadsWell (at old).desk (at new).desk (desks read)
     pub played : Plays stored (at old).gateway (at new).gateway (events_of_turns read)
-        (wires.puts (at old).sinks (at new).sinks)
+        ((wires explains).puts (at old).sinks (at new).sinks)
     pub counted : summary.items ≡ min (length (items_of (at old).gateway.rest (events_of_turns read))) (2 ^ 64 - 1)
 
   -- a read failed, and all that was read before it was handled and answered
@@ -103,7 +104,7 @@ module _ {S T : Type 0} (stored : S → Stored) (at : T → LiveValue S) where
     pub piece : Option (List ℕ)
     pub fails : NextReadFails (at old) (at new) read piece
     pub played : Plays stored (at old).gateway (at new).gateway (events_with read piece)
-        (wires.puts (at old).sinks (at new).sinks)
+        ((wires explains).puts (at old).sinks (at new).sinks)
 
   -- no read failed, and an answer did not get out
   pub record ServesUntilWrite (old new : T) : Type 0 where
@@ -112,7 +113,7 @@ module _ {S T : Type 0} (stored : S → Stored) (at : T → LiveValue S) where
     pub serial : ReadsWell (at old).serial (at new).serial (pieces_with read piece)
     pub desk : ReadsWell (at old).desk (at new).desk (desks read)
     pub broken : BreaksTurn stored (at old).gateway (at new).gateway read piece
-        (wires.breaks (at old).sinks (at new).sinks)
+        ((wires explains).breaks (at old).sinks (at new).sinks)
 
   -- what is done before a fault; `TooManyTurns` never comes
   abbrev pub ServesUntil : T → T → RunFault → Type 0

@@ -1,7 +1,7 @@
 -- The ways out for answers, and how it is known what was put out. The lemmas stand here, since the ghost members of an
 -- `impl` cite them, which cite nothing outside `specs`.
-use Rattle.std.specs.Prelude.{◌⊎◌, List, [], ◌∷◌, ◌++◌}
-use Rattle.std.proofs.Common.{append_assoc, inl, inr, subst, sym}
+use Rattle.std.specs.Prelude.{◌≡◌, ◌⊎◌, Bool, List, [], ◌∷◌, ◌++◌, Result, MatchResult}
+use Rattle.std.proofs.Common.{append_assoc, inl, inr, refl, subst, sym, ◌∙◌}
 use Rattle.gateway_core.specs.Step.{Answer}
 
 -- puts: just these answers were put out from the first state to the second. breaks: these answers were put out, but of
@@ -15,6 +15,11 @@ pub record Way (O : Type 0) : Type 1 where
   pub broken : (old mid new : O) (first second : List Answer) (last : Answer) → puts old mid first
       → breaks mid new second last → breaks old new (first ++ second) last
 
+-- one answer was put out, or it broke off
+abbrev pub Puts : {O A E : Type 0} → Way O → Result A E → O → O → Answer → Type 0
+Puts way result old new answer =
+    MatchResult result (λ _. way.puts old new (answer ∷ [])) (λ _. way.breaks old new [] answer)
+
 -- what an outlet puts out, by what it shows
 abbrev pub way_by : {O V : Type 0} → (O → V) → Way V → Way O
 way_by view way = record {
@@ -24,6 +29,38 @@ way_by view way = record {
   more = λ old mid new. way.more (view old) (view mid) (view new);
   broken = λ old mid new. way.broken (view old) (view mid) (view new);
 }
+
+-- An outlet has a flag, which stays as it is: by it the answers go out by one of two ways.
+module _ {V : Type 0} (way : Bool → Way V) where
+  abbrev pub PutsBy : Bool × V → Bool × V → List Answer → Type 0
+  PutsBy old new answers = (new.0 ≡ old.0) × (way old.0).puts old.1 new.1 answers
+
+  abbrev pub BreaksBy : Bool × V → Bool × V → List Answer → Answer → Type 0
+  BreaksBy old new answers last = (new.0 ≡ old.0) × (way old.0).breaks old.1 new.1 answers last
+
+  pub more_by : (old mid new : Bool × V) (first second : List Answer) → PutsBy old mid first → PutsBy mid new second
+      → PutsBy old new (first ++ second)
+  more_by old mid new first second (same, a) (still, b) = (
+    still ∙ same,
+    (way old.0).more old.1 mid.1 new.1 first second a (subst (λ flag. (way flag).puts mid.1 new.1 second) same b),
+  )
+
+  pub broken_by : (old mid new : Bool × V) (first second : List Answer) (last : Answer) → PutsBy old mid first
+      → BreaksBy mid new second last → BreaksBy old new (first ++ second) last
+  broken_by old mid new first second last (same, a) (still, b) = (
+    still ∙ same,
+    (way old.0).broken old.1 mid.1 new.1 first second last a
+        (subst (λ flag. (way flag).breaks mid.1 new.1 second last) same b),
+  )
+
+  abbrev pub flagged : Way (Bool × V)
+  flagged = record {
+    puts = PutsBy;
+    breaks = BreaksBy;
+    nothing = λ old. (refl, (way old.0).nothing old.1);
+    more = more_by;
+    broken = broken_by;
+  }
 
 -- Each answer goes out by two ways, by the second behind the first.
 module _ {A B : Type 0} (one : Way A) (other : Way B) where

@@ -1,5 +1,5 @@
 -- What a replay reads, handles and writes.
-use Rattle.std.specs.Prelude.{◌≡◌, ◌↔◌, ◌⊎◌, ◌+◌, ◌-◌, ◌^◌, min, ℕ, List, length, Result, Err}
+use Rattle.std.specs.Prelude.{◌≡◌, ◌↔◌, ◌⊎◌, ◌+◌, ◌-◌, ◌^◌, min, ℕ, Bool, List, length, Result, Err}
 use Rattle.std.specs.Io.KnownBytes.{Consumes, IsAtEnd}
 use Rattle.sqlite.specs.State.{State as Stored}
 use Rattle.gateway_core.specs.Calls.{Value}
@@ -25,8 +25,9 @@ abbrev pub replay_at : {R W S : Type 0} → sources.Ghosts R → sinks.Ghosts W 
 replay_at source sink now =
     record { gateway = now.0; source = source_value source now.1; sink = sink_value sink now.2 }
 
--- Below, `at` says what is known of the replay before the call and behind it.
-module _ {S T : Type 0} (stored : S → Stored) (at : T → ReplayValue S) where
+-- Below, `at` says what is known of the replay before the call and behind it, and `explains` whether each packet is
+-- explained.
+module _ {S T : Type 0} (stored : S → Stored) (at : T → ReplayValue S) (explains : Bool) where
   -- the source was read to its end, the items of the script, and nothing else, were handled and counted, and the text
   -- of their answers was written
   pub record Replays (old new : T) (summary : Summary) : Type 0 where
@@ -34,7 +35,7 @@ module _ {S T : Type 0} (stored : S → Stored) (at : T → ReplayValue S) where
     pub read : Consumes (at old).source.left (at new).source.left input
     pub at_end : IsAtEnd (at new).source.left
     pub played : Plays stored (at old).gateway (at new).gateway (script input)
-        (WritesAll (at old).sink.held (at new).sink.held)
+        (WritesAll explains (at old).sink.held (at new).sink.held)
     pub counted : summary.items ≡ min (length (items_of (at old).gateway.rest (script input))) (2 ^ 64 - 1)
 
   -- the lines that LF ends in what was read were replayed
@@ -42,20 +43,20 @@ module _ {S T : Type 0} (stored : S → Stored) (at : T → ReplayValue S) where
     pub input : List ℕ
     pub read : Consumes (at old).source.left (at new).source.left input
     pub played : PlaysEnded stored (at old).gateway (at new).gateway input
-        (WritesAll (at old).sink.held (at new).sink.held)
+        (WritesAll explains (at old).sink.held (at new).sink.held)
 
   -- a write failed at a line that LF ends in what was read, and all reads gave something
   pub record BreaksAtLine (old new : T) (input : List ℕ) : Type 0 where
     pub reads : WentWell (at old).source.counts (at new).source.counts
     pub broken : PlaysPartAtLine stored (at old).gateway (at new).gateway input
-        (WritesPart (at old).sink.held (at new).sink.held)
+        (WritesPart explains (at old).sink.held (at new).sink.held)
 
   -- a write failed at the last event of the script, and one read gave nothing
   pub record BreaksAtEnd (old new : T) (input : List ℕ) : Type 0 where
     pub reads : OneEmpty (at old).source.counts (at new).source.counts
     pub at_end : IsAtEnd (at new).source.left
     pub broken : PlaysPartAtEnd stored (at old).gateway (at new).gateway (script input)
-        (WritesPart (at old).sink.held (at new).sink.held)
+        (WritesPart explains (at old).sink.held (at new).sink.held)
 
   -- a write failed
   pub record ReplaysUntilWrite (old new : T) : Type 0 where

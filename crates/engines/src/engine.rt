@@ -5,8 +5,9 @@ ghost use Rattle.hex.specs.Hex.{decode_of};
 ghost use Rattle.json_lines.specs.Counts.{one_more};
 ghost use Rattle.gateway_core.specs.Events.{Line as LineEvent, Piece as PieceEvent};
 ghost use Rattle.gateway_core.specs.Replies.{answer_of};
-ghost use Rattle.gateway_core.specs.Step.{longest_line};
+ghost use Rattle.gateway_core.specs.Step.{explained_by, longest_line};
 ghost use Rattle.engines.specs.EngineSteps.{Drains, DrainsPart, TakesOrBreaks};
+ghost use Rattle.engines.specs.Outlets.{Puts};
 ghost use Rattle.engines.specs.Played.{IsIdle};
 ghost use Rattle.engines.specs.Script.{event_of, spelled};
 
@@ -58,7 +59,7 @@ impl<O: Outlet, S: DeviceStore> Engine<'_, O, S> {
         // It tells the proof that the count is a `u64`.
         let _start = self.items;
         while let Some(reply) = self.gateway.next() {
-            self.answer(&reply)?;
+            self.answer_packet(&reply)?;
         }
         Ok(())
     }
@@ -71,7 +72,7 @@ impl<O: Outlet, S: DeviceStore> Engine<'_, O, S> {
         ensures taken { TakesOrBreaks S.stored O.way result self.old self.new (LineEvent line.now) }
     {
         let reply = self.gateway.order(line);
-        self.answer(&reply)
+        self.answer_order(&reply)
     }
 
     /// Takes a line of a script, without its end.
@@ -108,16 +109,35 @@ impl<O: Outlet, S: DeviceStore> Engine<'_, O, S> {
         }
     }
 
-    /// Counts an item that was handled, and puts out its reply.
-    fn answer(&mut self, reply: &Reply) -> Result<(), Failed>
+    /// Counts an item that was handled.
+    fn count_item(&mut self)
+        ensures { self.new ≡ record self.old { items = one_more self.old.items } }
+    {
+        self.items = self.items.saturating_add(1);
+    }
+
+    /// Counts the packet that was handled last, and puts out its reply, with the line that explains it.
+    fn answer_packet(&mut self, reply: &Reply) -> Result<(), Failed>
         ensures gateway { self.new.gateway.ghost_name ≡ self.old.gateway.ghost_name }
         ensures kept { self.new.gateway.now ≡ self.old.gateway.now }
         ensures loans { O.loans self.new.outlet ≡ O.loans self.old.outlet }
         ensures counted { self.new.items ≡ one_more self.old.items }
-        ensures put { MatchResult result (λ _. O.way.puts self.old.outlet self.new.outlet (answer_of reply.now ∷ []))
-            (λ _. O.way.breaks self.old.outlet self.new.outlet [] (answer_of reply.now)) }
+        ensures put { Puts O.way result self.old.outlet self.new.outlet
+            (explained_by self.old.gateway.now.explained (answer_of reply.now)) }
     {
-        self.items = self.items.saturating_add(1);
-        self.outlet.put(reply)
+        self.count_item();
+        self.outlet.put(self.gateway.last_packet(), reply)
+    }
+
+    /// Counts an order that was handled, and puts out its reply.
+    fn answer_order(&mut self, reply: &Reply) -> Result<(), Failed>
+        ensures gateway { self.new.gateway.ghost_name ≡ self.old.gateway.ghost_name }
+        ensures kept { self.new.gateway.now ≡ self.old.gateway.now }
+        ensures loans { O.loans self.new.outlet ≡ O.loans self.old.outlet }
+        ensures counted { self.new.items ≡ one_more self.old.items }
+        ensures put { Puts O.way result self.old.outlet self.new.outlet (answer_of reply.now) }
+    {
+        self.count_item();
+        self.outlet.put(None, reply)
     }
 }

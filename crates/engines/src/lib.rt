@@ -2,6 +2,7 @@
 //! that runs them comes to.
 #![tactic(auto)]
 
+mod desk_text;
 pub mod ending;
 mod engine;
 pub mod fault;

@@ -16,7 +16,7 @@ use gateway_core::{DeviceStore, GatewayOver};
 /// A turn is one read of at most `LONGEST_READ` bytes from the serial line, which are a piece of its stream, and then
 /// one of the desk. Each line that LF ends in the desk's bytes is an order, and one CR before LF is dropped. A read of
 /// 0 bytes brings nothing. For each packet and each order the radio bytes go to `serial_out`, and then the desk's text
-/// to `desk_out`.
+/// to `desk_out`. Where packets are explained, the line that explains a packet stands before that text.
 ///
 /// It ends well after `turns` turns. A line of the desk that is not ended then is dropped. After `Read` all packets and
 /// lines that came are done. After `Write` no read was made any more, and the output breaks off within what one packet
@@ -28,14 +28,15 @@ pub fn live<P: Source, Q: Source, R: Sink, D: Sink, S: DeviceStore>(
     serial_out: &mut R,
     desk_out: &mut D,
     gateway: &mut GatewayOver<S>,
+    explains: bool,
     turns: u64,
 ) -> Result<Summary, RunFault>
     requires { gateway.old.ready ≡ [] }
     // What is read, handled and written.
-    ensures ok { IfOk result (Serves S.stored (live_at P.Source Q.Source R.Sink D.Sink)
+    ensures ok { IfOk result (Serves S.stored (live_at P.Source Q.Source R.Sink D.Sink) explains
         (gateway.old, serial_in.old, desk_in.old, serial_out.old, desk_out.old)
         (gateway.new, serial_in.new, desk_in.new, serial_out.new, desk_out.new) turns) }
-    ensures err { IfErr result (ServesUntil S.stored (live_at P.Source Q.Source R.Sink D.Sink)
+    ensures err { IfErr result (ServesUntil S.stored (live_at P.Source Q.Source R.Sink D.Sink) explains
         (gateway.old, serial_in.old, desk_in.old, serial_out.old, desk_out.old)
         (gateway.new, serial_in.new, desk_in.new, serial_out.new, desk_out.new)) }
 
@@ -54,6 +55,7 @@ pub fn live<P: Source, Q: Source, R: Sink, D: Sink, S: DeviceStore>(
             outlet: Wires {
                 serial: serial_out,
                 desk: desk_out,
+                explains,
             },
             gateway,
             items: 0,

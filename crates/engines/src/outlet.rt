@@ -1,10 +1,12 @@
 //! Where replies go.
-ghost use Rattle.std.specs.Prelude.{◌≡◌, ℕ, List, [], ◌∷◌, MatchResult};
+ghost use Rattle.std.specs.Prelude.{◌≡◌, ℕ, List};
+ghost use Rattle.std.specs.Option.{option_copied};
 ghost use Rattle.gateway_core.specs.Replies.{answer_of};
-ghost use Rattle.engines.specs.Outlets.{Way};
+ghost use Rattle.gateway_core.specs.Step.{explaining};
+ghost use Rattle.engines.specs.Outlets.{Puts, Way};
 
 use byte_streams::Failed;
-use gateway_core::Reply;
+use gateway_core::{HandledPacket, Reply};
 
 /// Where replies go.
 pub trait Outlet {
@@ -14,9 +16,10 @@ pub trait Outlet {
     /// The names of what it borrows.
     ghost loans: { Self → List ℕ };
 
-    /// Puts out a reply. After `Failed` a first part of it at most is out, and not all.
-    fn put(&mut self, reply: &Reply) -> Result<(), Failed>
+    /// Puts out a reply, and before what the desk is told by it the line that explains its packet, if there is one and
+    /// it is wanted. After `Failed` a first part of it at most is out, and not all.
+    fn put(&mut self, packet: Option<&HandledPacket>, reply: &Reply) -> Result<(), Failed>
         ensures loans { loans self.new ≡ loans self.old }
-        ensures put { MatchResult result (λ _. way.puts self.old self.new (answer_of reply.now ∷ []))
-            (λ _. way.breaks self.old self.new [] (answer_of reply.now)) };
+        ensures put { Puts way result self.old self.new
+            (explaining (option_copied packet.entry) (answer_of reply.now)) };
 }

@@ -4,14 +4,18 @@ ghost use Rattle.byte_streams.specs.Counts.{Went};
 ghost use Rattle.byte_streams.specs.Writes.{Writes};
 ghost use Rattle.engines.specs.Written.{radio_text, way_of_text};
 
+use crate::desk_text::write_desk_text;
 use crate::outlet::Outlet;
 use byte_streams::{Failed, Sink, write_text};
-use gateway_core::Reply;
+use gateway_core::{HandledPacket, Reply};
 
-/// The text of a replay: of each reply its radio bytes as a serial piece, if there are any, and then the desk's text.
+/// The text of a replay: of each reply its radio bytes as a serial piece, if there are any, and then the desk's text,
+/// behind the line that explains its packet where that is wanted.
 #[derive(Drop)]
 pub struct ReplayText<'w, W> {
     pub sink: &'w mut W,
+    /// Whether each packet is explained.
+    pub explains: bool,
 }
 
 impl<W: Sink> Outlet for ReplayText<'_, W> {
@@ -19,11 +23,11 @@ impl<W: Sink> Outlet for ReplayText<'_, W> {
 
     ghost loans = { λ text. text.sink.ghost_name ∷ [] };
 
-    fn put(&mut self, reply: &Reply) -> Result<(), Failed> {
+    fn put(&mut self, packet: Option<&HandledPacket>, reply: &Reply) -> Result<(), Failed> {
         if let Some(bytes) = &reply.radio {
             write_piece(self.sink, bytes.as_slice())?;
         }
-        write_text(self.sink, reply.desk.as_bytes())
+        write_desk_text(self.sink, self.explains, packet, reply)
     }
 }
 

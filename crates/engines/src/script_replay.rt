@@ -19,7 +19,8 @@ use gateway_core::{DeviceStore, GatewayOver};
 /// A line ends with LF or with the end of the input, and one CR before LF is dropped; behind the last LF stands no line
 /// where nothing follows. A line of at most `LONGEST_LINE` bytes that is `S`, one space and an even number of
 /// hexadecimal digits is a piece of the serial stream. Each other line is an order of the desk. For each packet and
-/// each order the radio bytes are written as such a piece, in lower case and with LF, and then the desk's text.
+/// each order the radio bytes are written as such a piece, in lower case and with LF, and then the desk's text. Where
+/// packets are explained, the line that explains a packet stands before the desk's text of it.
 ///
 /// A turn is one read of at most `LONGEST_READ` bytes, and `turns` reads are made at most. A read of 0 bytes ends the
 /// input. After `Read` and `TooManyTurns` the lines that LF ended are done, and of a line that did not end nothing.
@@ -29,13 +30,14 @@ pub fn replay<R: Source, W: Sink, S: DeviceStore>(
     reader: &mut R,
     writer: &mut W,
     gateway: &mut GatewayOver<S>,
+    explains: bool,
     turns: u64,
 ) -> Result<Summary, RunFault>
     requires { gateway.old.ready ≡ [] }
     // What is read, handled and written.
-    ensures ok { IfOk result (Replays S.stored (replay_at R.Source W.Sink) (gateway.old, reader.old, writer.old)
-        (gateway.new, reader.new, writer.new)) }
-    ensures err { IfErr result (ReplaysUntil S.stored (replay_at R.Source W.Sink)
+    ensures ok { IfOk result (Replays S.stored (replay_at R.Source W.Sink) explains
+        (gateway.old, reader.old, writer.old) (gateway.new, reader.new, writer.new)) }
+    ensures err { IfErr result (ReplaysUntil S.stored (replay_at R.Source W.Sink) explains
         (gateway.old, reader.old, writer.old) (gateway.new, reader.new, writer.new)) }
 
     // How the reads and the writes went.
@@ -53,7 +55,10 @@ pub fn replay<R: Source, W: Sink, S: DeviceStore>(
     prove!(!is_ready);
     let mut player = Player {
         engine: Engine {
-            outlet: ReplayText { sink: writer },
+            outlet: ReplayText {
+                sink: writer,
+                explains,
+            },
             gateway,
             items: 0,
         },

@@ -2,16 +2,19 @@
 ghost use Rattle.std.specs.Prelude.{[], ◌∷◌};
 ghost use Rattle.engines.specs.Wires.{way_of_wires};
 
+use crate::desk_text::write_desk_text;
 use crate::outlet::Outlet;
 use byte_streams::{Failed, Sink, write_text};
-use gateway_core::Reply;
+use gateway_core::{HandledPacket, Reply};
 
 /// The two ways out of a live gateway: of each reply its radio bytes go to the serial line, if there are any, and then
-/// its text goes to the desk.
+/// its text goes to the desk, behind the line that explains its packet where that is wanted.
 #[derive(Drop)]
 pub struct Wires<'r, 'd, R, D> {
     pub serial: &'r mut R,
     pub desk: &'d mut D,
+    /// Whether each packet is explained.
+    pub explains: bool,
 }
 
 impl<R: Sink, D: Sink> Outlet for Wires<'_, '_, R, D> {
@@ -19,10 +22,10 @@ impl<R: Sink, D: Sink> Outlet for Wires<'_, '_, R, D> {
 
     ghost loans = { λ out. out.serial.ghost_name ∷ out.desk.ghost_name ∷ [] };
 
-    fn put(&mut self, reply: &Reply) -> Result<(), Failed> {
+    fn put(&mut self, packet: Option<&HandledPacket>, reply: &Reply) -> Result<(), Failed> {
         if let Some(bytes) = &reply.radio {
             write_text(self.serial, bytes.as_slice())?;
         }
-        write_text(self.desk, reply.desk.as_bytes())
+        write_desk_text(self.desk, self.explains, packet, reply)
     }
 }

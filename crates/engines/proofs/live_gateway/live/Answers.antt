@@ -310,7 +310,7 @@ returns-clause-whole g c =
     let now = c.loop-turn.player.engine.outlet in
     let before = c.loop-turn.invariant in
     let (read, count, serial, desk, taken) = before.progress in
-    let out = taken.taken.played.answered.out in
+    let out = taken.taken.played.answered.out.1 in
     let done = c.loop-turn-test.false in
     let last = c.loop-turn.auto._turn-end in
     λ room. (

@@ -88,7 +88,7 @@ returns-then-length-eq0-clause-ended g c =
     let done =
     script_taken g.S.DeviceStore.stored g.W.Sink _ c.loop-turn.player input c.take_last.new.self.engine taken
     (c.in-Ok-take_last.ensures.taken taken.rest taken.keeps) in
-    let went = done.played.answered.out.went in
+    let went = done.played.answered.out.1.went in
     let reads = c.loop-turn.invariant.reads in search rules
 
 pub returns-in_default-clause-err : goal.returns-in_default-clause-err
@@ -122,8 +122,8 @@ returns-in_default-clause-write g c =
       search rules,
       wrong_at counts c.args.writer.now c.take_last.new.self.engine.outlet.sink.now _ (search rules)
           (wrong_behind (counts c.args.writer.now) (counts c.loop-turn.player.engine.outlet.sink.now)
-          (counts c.take_last.new.self.engine.outlet.sink.now) taken.taken.played.answered.out.went
-          last.broken.answered.out.went),
+          (counts c.take_last.new.self.engine.outlet.sink.now) taken.taken.played.answered.out.1.went
+          last.broken.answered.out.1.went),
     )
 
 pub returns-in_default-take_bytes-clause-err : goal.returns-in_default-take_bytes-clause-err
@@ -161,7 +161,7 @@ returns-in_default-take_bytes-clause-write g c =
     λ _. (
       search rules,
       wrong_at g.W.Sink.counts c.args.writer.now c.take_bytes.new.self.engine.outlet.sink.now _ (search rules)
-          stop.broken.answered.out.went,
+          stop.broken.answered.out.1.went,
     )
 
 pub returns-in_default-take_bytes-clause-too_many : goal.returns-in_default-take_bytes-clause-too_many
@@ -172,7 +172,7 @@ returns-in_default-take_bytes-clause-too_many g c =
     stops_behind g.S.DeviceStore.stored (way_of_text g.W.Sink) OfScript _ c.loop-turn.player c.take_bytes.new.self input
     _ taken (c.in_default-take_bytes.ensures.stopped taken.rest taken.keeps) in
     let wrong : OneWrong (counts c.args.writer.now) (counts c.take_bytes.new.self.engine.outlet.sink.now) =
-    stop.broken.answered.out.went in search rules
+    stop.broken.answered.out.1.went in search rules
 
 pub loop-turn-preserved : goal.loop-turn-preserved
 loop-turn-preserved g c =
@@ -195,7 +195,7 @@ loop-turn-preserved g c =
             c.in-Ok.ensures.bytes.0,
         now,
       );
-      writes = now.taken.played.answered.out.went;
+      writes = now.taken.played.answered.out.1.went;
       reads =
           went_well Failed (reads c.args.reader.now) (reads c.loop-turn.reader) (reads c.read.new.self) c.in-Ok.length
           before.reads c.in-Ok.ensures.told c.if-length-eq0.false;

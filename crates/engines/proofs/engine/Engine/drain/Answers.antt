@@ -3,6 +3,7 @@ use Rattle.std.proofs.lemmas.Result.{err_from_is_err_and}
 use Rattle.gateway_core.specs.declared.reply.Reply.{Reply}
 use Rattle.gateway_core.specs.Calls.{Value, Moves, Next}
 use Rattle.gateway_core.specs.Replies.{answer_of}
+use Rattle.gateway_core.specs.Step.{explained_by}
 use Rattle.json_lines.specs.Counts.{count_with}
 use Rattle.engines.specs.declared.engine.Engine.{Engine}
 use Rattle.engines.specs.EngineSteps.{Drains}
@@ -23,18 +24,19 @@ loop-reply-init g c =
           (search rules);
     }
 
-pub returns-in_err-answer-clause-broken : goal.returns-in_err-answer-clause-broken
-returns-in_err-answer-clause-broken g c =
+pub returns-in_err-answer_packet-clause-broken : goal.returns-in_err-answer_packet-clause-broken
+returns-in_err-answer_packet-clause-broken g c =
     let o = g.O.Outlet in
     let old = c.args.self.now in
     let now = c.loop-reply.self in
-    let new = c.answer.new.self in
+    let new = c.answer_packet.new.self in
     let exit = err_from_is_err_and c.from_residual.result c.from_residual.ensures.1 in
     rw exit.1
     (drains_part g.S.DeviceStore.stored o.way old.gateway.now now.gateway.now
     new.gateway.now
-    (answer_of c.in-Some.reply) old.outlet now.outlet new.outlet old.items now.items c.loop-reply.invariant.drains
-    (rw c.answer.ensures.kept c.in-Some.ensures) c.in_err-answer.ensures.put)
+    (explained_by c.next.new.self.explained (answer_of c.in-Some.reply)) old.outlet now.outlet new.outlet old.items
+    now.items c.loop-reply.invariant.drains
+    (rw c.answer_packet.ensures.kept c.in-Some.ensures) c.in_err-answer_packet.ensures.put)
 
 -- what the loop keeps, from its first state to the state now
 abbrev Kept : (g : Over) → Engine g.row.O.Denot g.row.S.Denot → Engine g.row.O.Denot g.row.S.Denot → Type 0
@@ -53,12 +55,13 @@ Answered g now new next reply = record {
   kept : new.gateway.now ≡ next;
   loans : g.O.Outlet.loans new.outlet ≡ g.O.Outlet.loans now.outlet;
   counted : new.items ≡ count_with now.items 1;
-  put : g.O.Outlet.way.puts now.outlet new.outlet (answer_of reply ∷ []);
+  put : g.O.Outlet.way.puts now.outlet new.outlet (explained_by next.explained (answer_of reply) ∷ []);
 }
 
 -- one reply more went out, so what the loop keeps holds again
 one_more_out : (g : Over) (old now new : Engine g.row.O.Denot g.row.S.Denot) (next : Value g.row.S.Denot)
-    (reply : Reply) → Kept g old now → Moves g.S.DeviceStore.stored now.gateway.now (Next (Some (answer_of reply))) next
+    (reply : Reply) → Kept g old now
+    → Moves g.S.DeviceStore.stored now.gateway.now (Next (Some (explained_by next.explained (answer_of reply)))) next
     → Answered g now new next reply → Kept g old new
 one_more_out g old now new next reply before moved out =
     let o = g.O.Outlet in
@@ -68,16 +71,17 @@ one_more_out g old now new next reply before moved out =
       drains =
           drains_one g.S.DeviceStore.stored o.way old.gateway.now now.gateway.now
           new.gateway.now
-          (answer_of reply) old.outlet now.outlet new.outlet old.items now.items new.items before.drains
+          (explained_by next.explained (answer_of reply)) old.outlet now.outlet new.outlet old.items now.items
+          new.items before.drains
           (rw out.kept moved) out.put out.counted;
     }
 
-pub loop-reply-preserved-in_ok-answer : goal.loop-reply-preserved-in_ok-answer
-loop-reply-preserved-in_ok-answer g c =
-    one_more_out g c.args.self.now c.loop-reply.self c.answer.new.self c.next.new.self c.in-Some.reply
-    c.loop-reply.invariant c.in-Some.ensures c.in_ok-answer.ensures
+pub loop-reply-preserved-in_ok-answer_packet : goal.loop-reply-preserved-in_ok-answer_packet
+loop-reply-preserved-in_ok-answer_packet g c =
+    one_more_out g c.args.self.now c.loop-reply.self c.answer_packet.new.self c.next.new.self c.in-Some.reply
+    c.loop-reply.invariant c.in-Some.ensures c.in_ok-answer_packet.ensures
 
 pub loop-reply-preserved : goal.loop-reply-preserved
 loop-reply-preserved g c =
-    one_more_out g c.args.self.now c.loop-reply.self c.answer.new.self c.next.new.self c.in-Some.reply
-    c.loop-reply.invariant c.in-Some.ensures c.in_ok-answer.ensures
+    one_more_out g c.args.self.now c.loop-reply.self c.answer_packet.new.self c.next.new.self c.in-Some.reply
+    c.loop-reply.invariant c.in-Some.ensures c.in_ok-answer_packet.ensures

@@ -8,11 +8,11 @@ returns-clause-taken g c =
     let stored = g.S.DeviceStore.stored in
     let way = g.O.Outlet.way in
     let old = c.args.self.now in
-    let new = c.answer.new.self in
+    let new = c.answer_order.new.self in
     let line = c.args.line.now in
     let answer = answer_of c.order-reply.result in
-    MatchResult-weaker c.answer.result c.answer.ensures.put
+    MatchResult-weaker c.answer_order.result c.answer_order.ensures.put
     (λ _ out. takes_order stored way old new line answer c.requires
-    (rw c.answer.ensures.kept c.order-reply.ensures) out c.answer.ensures.counted)
+    (rw c.answer_order.ensures.kept c.order-reply.ensures) out c.answer_order.ensures.counted)
     (λ _ out. breaks_at_order stored way old new line answer c.requires
-    (rw c.answer.ensures.kept c.order-reply.ensures) out)
+    (rw c.answer_order.ensures.kept c.order-reply.ensures) out)
