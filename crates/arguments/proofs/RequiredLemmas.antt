@@ -1,5 +1,5 @@
--- Where `clap` takes the words of a command whose options have one value each, what is found of each option is one
--- value that its parser lets through, and each option that is required is found.
+-- Where `clap` takes the words of a command whose options have one value each, or are flags, what is found of each
+-- option is one value that its parser lets through, and each option that is required, or has a default, is found.
 use Rattle.std.proofs.Common.{◌≡◌, ◌∙◌, ◌⊎◌, ◌++◌, ◌&&◌, ◌||◌, ◌==◌}
 use Rattle.std.proofs.Common.{ℕ, Bool, cond, true, false, not, zero, suc}
 use Rattle.std.proofs.Common.{refl, sym, ap, subst, arith, inl, inr, List, [], ◌∷◌, length, drop, Option, Some, None}
@@ -9,22 +9,23 @@ use Rattle.std.specs.List.{All, list_any}
 use Rattle.std.specs.Option.{option_map_or}
 use Rattle.std.specs.Str.{bytes_eq, chars}
 use Rattle.std.proofs.lemmas.List.{append-nil}
+use Rattle.std.proofs.lemmas.List.Folds.{list_any-append}
 use Rattle.std.proofs.lemmas.List.Elements.{All-cons, All-drop, All-get_or, All-nil, All-push}
 use Rattle.std.proofs.lemmas.Slice.Eq.{bytes_eq-Decides}
 use Rattle.clap.specs.Facts.{explicit_source, parser_of_value, unwrap_or_range}
-use Rattle.clap.specs.Faults.{action_fault, bundle_fault, bundle_step_fault, check_fault, defaults_fault}
-use Rattle.clap.specs.Faults.{flag_word_fault}
+use Rattle.clap.specs.Faults.{action_fault, bundle_fault, bundle_step_fault, check_fault, default_fault, defaults_fault}
+use Rattle.clap.specs.Faults.{flag_word_fault, given_default_fault}
 use Rattle.clap.specs.Faults.{flags_fault, level_fault, long_fault, option_fault, other_fault, react_fault}
 use Rattle.clap.specs.Faults.{repeat_fault}
 use Rattle.clap.specs.Faults.{set_fault, settle_fault, short_fault, step_fault, turn_fault, use_fault, values_fault}
 use Rattle.clap.specs.Faults.{walk_fault, word_fault}
-use Rattle.clap.specs.Kinds.{Kinds, check_kinds, or_else, range_kinds, value_kinds, values_kinds}
+use Rattle.clap.specs.Kinds.{Kinds, check_kinds, or_else, range_kinds, request_kinds, value_kinds, values_kinds}
 use Rattle.clap.specs.Simple.{Shape}
 use Rattle.clap.specs.Takes.{is_given}
 use Rattle.clap.specs.ValueTests.{accepts}
 use Rattle.clap.specs.Walk.{Held, Outcome, Row, Rule, Step, Text, Waiting, Walk, action_of, after_flag, after_step}
 use Rattle.clap.specs.Walk.{arg_by_id, arg_by_index, arg_by_long, arg_by_short, at_row, bundle_met, bundle_step}
-use Rattle.clap.specs.Walk.{attached_value, default_rows, done, flag_met, has_row, idle, long_met}
+use Rattle.clap.specs.Walk.{attached_value, default_rows, done, flag_met, has_row, idle, is_empty, long_met}
 use Rattle.clap.specs.Walk.{long_or_other, more_values}
 use Rattle.clap.specs.Walk.{most_values, next, nothing_held, option, option_met, option_word, plain, plain_word}
 use Rattle.clap.specs.Walk.{positional, reacted, reading_by, refused, rows_after, settled, settled_rows, short_met}
@@ -34,10 +35,11 @@ use Rattle.clap.specs.Walk.{trailing, used, used_as, used_by_id, value, values_o
 use Rattle.clap.specs.Walk.{walked}
 use Rattle.clap.specs.Walk.{walked_from, with_default, with_values, without, word_met}
 use Rattle.clap.specs.Lexer.{long_of, short_of}
-use Rattle.clap.specs.declared.builder.action.ArgAction.TheVariants.{Help, Set}
+use Rattle.clap.specs.declared.builder.action.ArgAction.TheVariants.{Help, Set, SetTrue}
 use Rattle.clap.specs.declared.error.kind.ErrorKind.{ErrorKind}
 use Rattle.clap.specs.declared.error.kind.ErrorKind.TheVariants as kind
-use Rattle.clap.specs.declared.parser.matches.ValueSource.TheVariants.{CommandLine}
+use Rattle.clap.specs.declared.parser.matches.ValueSource.{ValueSource}
+use Rattle.clap.specs.declared.parser.matches.ValueSource.TheVariants.{CommandLine, DefaultValue}
 
 -- ---- of lists and tests
 
@@ -78,6 +80,18 @@ at_no_row id change missing (r ∷ rs) e = go (bytes_eq r.id id) e (at_no_row id
     go true e rest = cc
     go false e rest = ap (λ xs. r ∷ xs) (rest e)
 
+-- what is found by its id has a row, and what has a row is found by its id
+row_found : (id : Text) (rows : List Row) → has_row id rows ≡ true
+    → (r : Row) × (find (λ x. bytes_eq x.id id) rows ≡ Some r)
+row_found id [] e = cc
+row_found id (r ∷ rs) e = go (bytes_eq r.id id) e (row_found id rs)
+  where
+    go : (b : Bool) → (b || has_row id rs) ≡ true
+        → (has_row id rs ≡ true → (x : Row) × (find (λ y. bytes_eq y.id id) rs ≡ Some x))
+        → (x : Row) × (cond b (Some r) (find (λ y. bytes_eq y.id id) rs) ≡ Some x)
+    go true e rest = (r, refl)
+    go false e rest = rest e
+
 no_repeat : (b again : Bool) → again ≡ false → cond (b && not again) (kind.ArgumentConflict ∷ []) [] ≡ [] → b ≡ false
 no_repeat true true once e = cc
 no_repeat true false once e = cc
@@ -86,6 +100,13 @@ no_repeat false again once e = refl
 accepted : (b : Bool) (k : ErrorKind) → cond b [] (k ∷ []) ≡ [] → b ≡ true
 accepted true k e = refl
 accepted false k e = cc
+
+none_long : (n : ℕ) → range_kinds 0 0 n ≡ [] → n ≡ 0
+none_long n e = go (0 == n) refl e
+  where
+    go : (z : Bool) → (0 == n) ≡ z → cond z [] (kind.WrongNumberOfValues ∷ []) ≡ [] → n ≡ 0
+    go true is e = grind arith
+    go false is e = cc
 
 one_long : (n : ℕ) → range_kinds 1 1 n ≡ [] → n ≡ 1
 one_long n e = go (n == 0) (1 == n) refl e
@@ -102,9 +123,18 @@ one_long n e = go (n == 0) (1 == n) refl e
 abbrev pub TakesOne : Rule → Type 0
 TakesOne a = (action_of a ≡ Set) × ((unwrap_or_range a.range).start_inclusive ≡ 1) × (most_values a ≡ 1)
 
--- the option is the first of its id, and takes one value or asks for help
+-- the option takes no value a use, and this one stands for a use
+abbrev pub IsFlag : Rule → Type 0
+IsFlag a = (action_of a ≡ SetTrue) × ((unwrap_or_range a.range).start_inclusive ≡ 0) × (most_values a ≡ 0)
+    × (text : Text) × (a.missing ≡ text ∷ [])
+
+-- the option is the first of its id, and takes one value, is a flag or asks for help
 abbrev pub RuleFits : List Rule → Rule → Type 0
-RuleFits c a = (arg_by_id c a.id ≡ Some a) × (TakesOne a ⊎ (action_of a ≡ Help))
+RuleFits c a = (arg_by_id c a.id ≡ Some a) × (TakesOne a ⊎ (IsFlag a ⊎ (action_of a ≡ Help)))
+
+-- at most one value stands for the option where it is not given
+abbrev pub DefaultFits : Rule → Type 0
+DefaultFits a = (a.defaults ≡ []) ⊎ ((text : Text) × (a.defaults ≡ text ∷ []))
 
 -- one value was found, which the option's parser lets through
 abbrev pub HasOne : Rule → Row → Type 0
@@ -114,29 +144,44 @@ HasOne a r = (text : Text) × (r.values ≡ text ∷ []) × (accepts a.ignore_ca
 abbrev pub RowFits : List Rule → Row → Type 0
 RowFits c r = (a : Rule) → arg_by_id c r.id ≡ Some a → HasOne a r
 
+-- the row of an option that has none yet
+abbrev pub new_row : Rule → ValueSource → List Text → Row
+new_row a source values = record {
+  id = a.id;
+  values = values;
+  count = None;
+  source = Some source;
+  reading = reading_by a;
+}
+
+new_values : (a : Rule) (source : ValueSource) (values : List Text) (rows : List Row) → has_row a.id rows ≡ false
+    → with_values a.id (reading_by a) source values rows ≡ rows ++ new_row a source values ∷ []
+new_values a source values rows free =
+    at_no_row a.id (more_values source values) (new_row a source values ∷ []) rows free
+
+-- a value that passes fits, in the row of an option that had none
+new_fits : (c : List Rule) (a : Rule) (source : ValueSource) (v : Text) (rows : List Row) → RuleFits c a
+    → All (RowFits c) rows → has_row a.id rows ≡ false → values_fault a (v ∷ []) ≡ []
+    → All (RowFits c) (with_values a.id (reading_by a) source (v ∷ []) rows)
+new_fits c a source v rows fits all free e =
+    let one = or_else_none (value_kinds a.ignore_case (parser_of_value a.parser) v)
+    (values_kinds a.ignore_case (parser_of_value a.parser) []) e in
+    let passes = accepted (accepts a.ignore_case (parser_of_value a.parser) v) _ one.0 in
+    let row = new_row a source (v ∷ []) in
+    let fits_row : RowFits c row = λ b found.
+    let same : a ≡ b = ap (λ (o : Option Rule). unwrap_or o b) (sym fits.0 ∙ found) in
+    subst (λ z. HasOne z row) same (v, refl, passes, refl) in
+    subst (All (RowFits c)) (sym (new_values a source (v ∷ []) rows free)) (All-push (RowFits c) rows row all fits_row)
+
 module _ (c : List Rule) (again : Bool) (once : again ≡ false) where
   set_fits : (a : Rule) (v : Text) (rows : List Row) → RuleFits c a → All (RowFits c) rows
       → set_fault again a (v ∷ []) rows ≡ [] → All (RowFits c) (used_as Set a.id (reading_by a) (v ∷ []) rows)
   set_fits a v rows fits all e =
       let parts = or_else_none (repeat_fault again a.id rows) (values_fault a (v ∷ [])) e in
       let free = no_repeat (has_row a.id rows) again once parts.0 in
-      let one = or_else_none (value_kinds a.ignore_case (parser_of_value a.parser) v)
-      (values_kinds a.ignore_case (parser_of_value a.parser) []) parts.1 in
-      let passes = accepted (accepts a.ignore_case (parser_of_value a.parser) v) _ one.0 in
-      let row : Row = record {
-        id = a.id;
-        values = v ∷ [];
-        count = None;
-        source = Some CommandLine;
-        reading = reading_by a;
-      } in
       let first : without a.id rows ≡ rows = at_no_row a.id (λ _. []) [] rows free ∙ append-nil rows in
-      let is : used_as Set a.id (reading_by a) (v ∷ []) rows ≡ rows ++ row ∷ [] =
-      ap (with_values a.id (reading_by a) CommandLine (v ∷ [])) first
-      ∙ at_no_row a.id (more_values CommandLine (v ∷ [])) (row ∷ []) rows free in
-      subst (All (RowFits c)) (sym is) (All-push (RowFits c) rows row all (λ b found.
-      let same : a ≡ b = ap (λ (o : Option Rule). unwrap_or o b) (sym fits.0 ∙ found) in
-      subst (λ z. HasOne z row) same (v, refl, passes, refl)))
+      subst (λ kept. All (RowFits c) (with_values a.id (reading_by a) CommandLine (v ∷ []) kept)) (sym first)
+      (new_fits c a CommandLine v rows fits all free parts.1)
 
   one_fits : (a : Rule) (values : List Text) (rows : List Row) → RuleFits c a → action_of a ≡ Set → length values ≡ 1
       → All (RowFits c) rows → action_fault (action_of a) again a (values_or_missing a values) rows ≡ []
@@ -149,6 +194,20 @@ module _ (c : List Rule) (again : Bool) (once : again ≡ false) where
       (set_fits a v rows fits all fault)
   one_fits a (v ∷ w ∷ more) rows fits set one all e = absurd (omega arith)
 
+  flag_met_fits : (a : Rule) (values : List Text) (rows : List Row) → RuleFits c a → IsFlag a → length values ≡ 0
+      → All (RowFits c) rows → action_fault (action_of a) again a (values_or_missing a values) rows ≡ []
+      → All (RowFits c) (used a values rows)
+  flag_met_fits a [] rows fits flag none all e =
+      let text = flag.3 in
+      let fault : set_fault again a (text ∷ []) rows ≡ [] =
+      subst (λ x. set_fault again a x rows ≡ []) flag.4
+      (subst (λ x. action_fault x again a a.missing rows ≡ []) flag.0 e) in
+      let fits_so : All (RowFits c) (used_as SetTrue a.id (reading_by a) (text ∷ []) rows) =
+      set_fits a text rows fits all fault in
+      subst (λ x. All (RowFits c) (used_as x a.id (reading_by a) a.missing rows)) (sym flag.0)
+      (subst (λ x. All (RowFits c) (used_as SetTrue a.id (reading_by a) x rows)) (sym flag.4) fits_so)
+  flag_met_fits a (v ∷ more) rows fits flag none all e = absurd (omega arith)
+
   used_fits : (a : Rule) (values : List Text) (rows : List Row) → RuleFits c a → All (RowFits c) rows
       → use_fault again a values rows ≡ [] → All (RowFits c) (used a values rows)
   used_fits a values rows fits all e =
@@ -159,7 +218,10 @@ module _ (c : List Rule) (again : Bool) (once : again ≡ false) where
         | inl one ↦
             let range : range_kinds 1 1 (length values) ≡ [] = rw (one.1, one.2) at parts.0 in
             one_fits a values rows fits one.0 (one_long (length values) range) all parts.1
-        | inr help ↦
+        | inr (inl flag) ↦
+            let range : range_kinds 0 0 (length values) ≡ [] = rw (flag.1, flag.2) at parts.0 in
+            flag_met_fits a values rows fits flag (none_long (length values) range) all parts.1
+        | inr (inr help) ↦
             let bad : kind.DisplayHelp ∷ [] ≡ [] =
             subst (λ x. action_fault x again a (values_or_missing a values) rows ≡ []) help parts.1 in
             cc
@@ -344,34 +406,105 @@ module _ (s : Shape) (once : s.args_override_self ≡ false) (rules : All (RuleF
       let parts = or_else_none (turn_fault s [] w word) (walk_fault s [] (walked s.rules [] w word) rest) e in
       walk_fits rest (walked s.rules [] w word) (turn_fits w word all parts.0) parts.1
 
-same_both : {X : Type 0} (b : Bool) (x : X) → cond b x x ≡ x
-same_both true x = refl
-same_both false x = refl
+-- ---- defaults
 
-no_defaults : (rows : List Row) (rules : List Rule) → All (λ a. a.defaults ≡ []) rules
-    → fold with_default rows rules ≡ rows
-no_defaults rows [] none = refl
-no_defaults rows (a ∷ rest) none =
-    let first : with_default rows a ≡ rows =
-    ap (λ values. cond (has_row a.id rows) rows (default_rows a.id (reading_by a) values rows))
-    (All-get_or (λ b. b.defaults ≡ []) (a ∷ rest) 0 a (omega arith) none)
-    ∙ same_both (has_row a.id rows) rows in
-    ap (λ now. fold with_default now rest) first
-    ∙ no_defaults rows rest (All-drop (λ b. b.defaults ≡ []) 1 (a ∷ rest) none)
+default_fits : (c : List Rule) (rows : List Row) (a : Rule) → RuleFits c a → DefaultFits a → All (RowFits c) rows
+    → default_fault rows a ≡ [] → All (RowFits c) (with_default rows a)
+default_fits c rows a fits one all e = go (has_row a.id rows) refl a.defaults one e
+  where
+    go : (met : Bool) → has_row a.id rows ≡ met → (values : List Text)
+        → (values ≡ []) ⊎ ((text : Text) × (values ≡ text ∷ []))
+        → cond (met || is_empty values) [] (given_default_fault a values) ≡ []
+        → All (RowFits c) (cond met rows (default_rows a.id (reading_by a) values rows))
+    go true is values one e = all
+    go false is [] one e = all
+    go false is (v ∷ []) one e =
+        let parts = or_else_none (request_kinds (action_of a)) (values_fault a (v ∷ [])) e in
+        new_fits c a DefaultValue v rows fits all is parts.1
+    go false is (v ∷ w ∷ more) one e = elim one [
+      | inl none ↦ cc
+      | inr some ↦ cc
+    ]
+
+defaults_fit : (c : List Rule) (rows : List Row) (rules : List Rule) → All (RuleFits c) rules → All DefaultFits rules
+    → All (RowFits c) rows → defaults_fault rows rules ≡ [] → All (RowFits c) (fold with_default rows rules)
+unfolding defaults_fault
+defaults_fit c rows [] fits one all e = all
+defaults_fit c rows (a ∷ rest) fits one all e =
+    let parts = or_else_none (default_fault rows a) (defaults_fault (with_default rows a) rest) e in
+    let first = default_fits c rows a (All-get_or (RuleFits c) (a ∷ rest) 0 a (omega arith) fits)
+    (All-get_or DefaultFits (a ∷ rest) 0 a (omega arith) one) all parts.0 in
+    defaults_fit c (with_default rows a) rest (All-drop (RuleFits c) 1 (a ∷ rest) fits)
+    (All-drop DefaultFits 1 (a ∷ rest) one) first parts.1
+
+has_more : (id : Text) (rows more : List Row) → has_row id rows ≡ true → has_row id (rows ++ more) ≡ true
+has_more id rows more e =
+    list_any-append (λ r. bytes_eq r.id id) rows more ∙ ap (λ b. b || has_row id more) e
+
+or_true : (b : Bool) → (b || true) ≡ true
+or_true true = refl
+or_true false = refl
+
+has_last : (id : Text) (rows : List Row) (row : Row) → row.id ≡ id → has_row id (rows ++ row ∷ []) ≡ true
+has_last id rows row is =
+    list_any-append (λ r. bytes_eq r.id id) rows (row ∷ [])
+    ∙ ap (λ b. has_row id rows || (b || false)) ((bytes_eq-Decides row.id id).1 is) ∙ or_true (has_row id rows)
+
+default_kept : (id : Text) (rows : List Row) (a : Rule) → has_row id rows ≡ true
+    → has_row id (with_default rows a) ≡ true
+default_kept id rows a e = go (has_row a.id rows) refl a.defaults
+  where
+    go : (met : Bool) → has_row a.id rows ≡ met → (values : List Text)
+        → has_row id (cond met rows (default_rows a.id (reading_by a) values rows)) ≡ true
+    go true is values = e
+    go false is [] = e
+    go false is (v ∷ vs) =
+        ap (has_row id) (new_values a DefaultValue (v ∷ vs) rows is) ∙ has_more id rows _ e
+
+defaults_kept : (id : Text) (rows : List Row) (rules : List Rule) → has_row id rows ≡ true
+    → has_row id (fold with_default rows rules) ≡ true
+defaults_kept id rows [] e = e
+defaults_kept id rows (a ∷ rest) e = defaults_kept id (with_default rows a) rest (default_kept id rows a e)
+
+default_met : (rows : List Row) (a : Rule) (v : Text) → a.defaults ≡ v ∷ []
+    → has_row a.id (with_default rows a) ≡ true
+default_met rows a v one = go (has_row a.id rows) refl a.defaults one
+  where
+    go : (met : Bool) → has_row a.id rows ≡ met → (values : List Text) → values ≡ v ∷ []
+        → has_row a.id (cond met rows (default_rows a.id (reading_by a) values rows)) ≡ true
+    go true is values e = is
+    go false is [] e = cc
+    go false is (w ∷ ws) e =
+        ap (has_row a.id) (new_values a DefaultValue (w ∷ ws) rows is) ∙ has_last a.id rows _ refl
+
+defaults_met : (rows : List Row) (rules : List Rule) (a : Rule) (v : Text) → arg_by_id rules a.id ≡ Some a
+    → a.defaults ≡ v ∷ [] → has_row a.id (fold with_default rows rules) ≡ true
+defaults_met rows [] a v own one = cc
+defaults_met rows (b ∷ rest) a v own one = go (bytes_eq b.id a.id) own
+    (λ own. defaults_met (with_default rows b) rest a v own one)
+  where
+    go : (is : Bool) → cond is (Some b) (arg_by_id rest a.id) ≡ Some a
+        → (arg_by_id rest a.id ≡ Some a → has_row a.id (fold with_default (with_default rows b) rest) ≡ true)
+        → has_row a.id (fold with_default (with_default rows b) rest) ≡ true
+    go true own later =
+        let same : b ≡ a = ap (λ (o : Option Rule). unwrap_or o b) own in
+        defaults_kept a.id (with_default rows b) rest
+        (subst (λ x. has_row a.id (with_default rows x) ≡ true) (sym same) (default_met rows a v one))
+    go false own later = later own
 
 -- a level that passes found one value of each option that it found
 pub level_fits : (s : Shape) → s.args_override_self ≡ false → All (RuleFits s.rules) s.rules
-    → ((n : ℕ) → arg_by_index s.rules n ≡ None) → All (λ a. a.defaults ≡ []) s.rules → (words : List Text)
+    → ((n : ℕ) → arg_by_index s.rules n ≡ None) → All DefaultFits s.rules → (words : List Text)
     → level_fault s [] nothing_held words false [] ≡ []
     → All (RowFits s.rules) (rows_after s.rules [] words) × (check_fault s (rows_after s.rules [] words) false ≡ [])
-level_fits s once rules options none words e =
+level_fits s once rules options one words e =
     let end = (walk s.rules [] nothing_held words).held in
     let parts = or_else_none (walk_fault s [] (walk_from nothing_held) words) _ e in
     let later = or_else_none (settle_fault s.rules s.args_override_self end) _ parts.1 in
     let last = or_else_none (defaults_fault (settled s.rules end).rows s.rules) _ later.1 in
     let all = walk_fits s once rules options words (walk_from nothing_held) (All-nil (RowFits s.rules)) parts.0 in
     let rows = settled_fits s.rules s.args_override_self once rules end all later.0 in
-    (subst (All (RowFits s.rules)) (sym (no_defaults (settled s.rules end).rows s.rules none)) rows, last.1)
+    (defaults_fit s.rules (settled s.rules end).rows s.rules rules one rows last.0, last.1)
 
 check_none : (x y z : Bool) → check_kinds x y z ≡ [] → z ≡ false
 check_none true y z e = cc
@@ -393,16 +526,33 @@ none_missing s rows e =
     go true e = e
     go false e = e
 
--- an option that was given has one value, in its row
+-- what is found of an option: its row, which has one value
+abbrev pub Found : List Row → Rule → Type 0
+Found rows a = (r : Row) × (find (λ x. bytes_eq x.id a.id) rows ≡ Some r) × HasOne a r
+
+row_fits : (c : List Rule) (rows : List Row) (a : Rule) → All (RowFits c) rows → arg_by_id c a.id ≡ Some a
+    → (r : Row) → find (λ x. bytes_eq x.id a.id) rows ≡ Some r → Found rows a
+row_fits c rows a all own r is =
+    let found = found_in (RowFits c) (λ x. bytes_eq x.id a.id) rows r all is in
+    let same : r.id ≡ a.id = (bytes_eq-Decides r.id a.id).0 found.1 in
+    (r, is, found.0 a (ap (arg_by_id c) same ∙ own))
+
+-- an option that was given is found
 pub given_one : (c : List Rule) (rows : List Row) (a : Rule) → All (RowFits c) rows → arg_by_id c a.id ≡ Some a
-    → is_given a.id rows ≡ true → (r : Row) × (find (λ x. bytes_eq x.id a.id) rows ≡ Some r) × HasOne a r
+    → is_given a.id rows ≡ true → Found rows a
 given_one c rows a all own e = go (find (λ x. bytes_eq x.id a.id) rows) refl e
   where
     go : (o : Option Row) → find (λ x. bytes_eq x.id a.id) rows ≡ o
-        → option_map_or (λ r. explicit_source r.source) o false ≡ true
-        → (r : Row) × (find (λ x. bytes_eq x.id a.id) rows ≡ Some r) × HasOne a r
+        → option_map_or (λ r. explicit_source r.source) o false ≡ true → Found rows a
     go None is e = cc
-    go (Some r) is e =
-        let found = found_in (RowFits c) (λ x. bytes_eq x.id a.id) rows r all is in
-        let same : r.id ≡ a.id = (bytes_eq-Decides r.id a.id).0 found.1 in
-        (r, is, found.0 a (ap (arg_by_id c) same ∙ own))
+    go (Some r) is e = row_fits c rows a all own r is
+
+-- an option with a default is found, given or not
+pub default_one : (s : Shape) (words : List Text) (a : Rule) (v : Text)
+    → All (RowFits s.rules) (rows_after s.rules [] words) → arg_by_id s.rules a.id ≡ Some a → a.defaults ≡ v ∷ []
+    → Found (rows_after s.rules [] words) a
+default_one s words a v all own one =
+    let rows = rows_after s.rules [] words in
+    let met = defaults_met (settled s.rules (walk s.rules [] nothing_held words).held).rows s.rules a v own one in
+    let row = row_found a.id rows met in
+    row_fits s.rules rows a all own row.0 row.1

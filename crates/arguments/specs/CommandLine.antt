@@ -1,12 +1,13 @@
 -- What the words of the command line say, in the words of `clap`. Own choice.
-use Rattle.std.specs.Prelude.{◌≡◌, ◌≤◌, ◌⊎◌, ◌||◌, ℕ, List, [], codes, true, if◌then◌else◌, is_some}
-use Rattle.std.specs.Prelude.{Option, Some, None, option_and_then}
+use Rattle.std.specs.Prelude.{◌≡◌, ◌≤◌, ◌⊎◌, ◌||◌, ℕ, Bool, List, [], codes, true, false, if◌then◌else◌}
+use Rattle.std.specs.Prelude.{Option, Some, None, is_some, option_and_then}
+use Rattle.std.specs.Option.{option_map_or}
 use Rattle.std.specs.Str.{bytes_eq}
 use Rattle.std.specs.Str.Parse.{IsNumeral, digits_value, without_leading_plus}
 use Rattle.clap.specs.Values.{IsUnsignedIn}
 use Rattle.clap.specs.Words.{App, HasKind, Row, Rule, Text, fault_of, first_of, kind_of, new_app, new_rule, one_of}
 use Rattle.clap.specs.Words.{subcommand_of, with_rule, with_subcommand}
-use Rattle.clap.specs.declared.builder.ArgAction.TheVariants.{Set}
+use Rattle.clap.specs.declared.builder.ArgAction.TheVariants.{Set, SetTrue}
 use Rattle.clap.specs.declared.builder.value_parser.ValueParser.TheVariants.{Unsigned}
 use Rattle.clap.specs.declared.error.ErrorKind.TheVariants.{OutOfMemory}
 use Rattle.arguments.specs.Bases.{base_in}
@@ -32,8 +33,12 @@ turns_rule = record (required_rule (codes "turns")) { parser = Some (Unsigned 1 
 abbrev pub db_rule : Rule
 db_rule = record (new_rule (codes "db")) { long = Some (codes "db"); action = Some Set; value_names = 1 }
 
+-- `--explain`, a flag, which has no value
+abbrev pub explain_rule : Rule
+explain_rule = record (new_rule (codes "explain")) { long = Some (codes "explain"); action = Some SetTrue }
+
 abbrev pub replay_app : App
-replay_app = with_rule (with_rule (new_app (codes "replay")) base_rule) db_rule
+replay_app = with_rule (with_rule (with_rule (new_app (codes "replay")) base_rule) db_rule) explain_rule
 
 -- `live` with its base, and with the paths too
 abbrev pub live_app_of_base : App
@@ -45,7 +50,7 @@ live_app_of_paths =
     (required_rule (codes "out"))
 
 abbrev pub live_app : App
-live_app = with_rule (with_rule live_app_of_paths turns_rule) db_rule
+live_app = with_rule (with_rule (with_rule live_app_of_paths turns_rule) db_rule) explain_rule
 
 -- a command that tells its version
 abbrev pub with_version : App → App
@@ -69,6 +74,10 @@ given_to (name, rows) = if bytes_eq name (codes "replay") || bytes_eq name (code
 abbrev pub text_found : Text → Option (Text × List Row) → Option Text
 text_found name found = option_and_then (first_of name) (option_and_then given_to found)
 
+-- its flag of this name was given: `clap` then finds the text `true` for it, and else `false`
+abbrev pub flag_found : Text → Option (Text × List Row) → Bool
+flag_found name found = option_map_or (λ text. bytes_eq text (codes "true")) (text_found name found) false
+
 -- the base ID of a command line that `clap` takes
 abbrev pub base_of_line : List Text → Option ℕ
 base_of_line words = option_and_then base_in (text_found (codes "base") (subcommand_of enogate_app words))
@@ -76,6 +85,10 @@ base_of_line words = option_and_then base_in (text_found (codes "base") (subcomm
 -- the path of its registry, if it names one
 abbrev pub db_of_line : List Text → Option Text
 db_of_line words = text_found (codes "db") (subcommand_of enogate_app words)
+
+-- whether it asks for explanations
+abbrev pub explain_of_line : List Text → Bool
+explain_of_line words = flag_found (codes "explain") (subcommand_of enogate_app words)
 
 -- the text spells this number in decimal digits, before which one `+` may stand
 abbrev pub Spells : Text → ℕ → Type 0
@@ -113,6 +126,13 @@ pub record HasTurns (rows : List Row) : Type 0 where
   pub read : one_of (codes "turns") rows ≡ Some text
   pub passes : IsUnsignedIn 1 4294967295 text
 
+-- `true` or `false` was found for `--explain`
+pub record HasExplain (rows : List Row) : Type 0 where
+  pub text : Text
+  pub found : first_of (codes "explain") rows ≡ Some text
+  pub read : one_of (codes "explain") rows ≡ Some text
+  pub is : (text ≡ codes "true") ⊎ (text ≡ codes "false")
+
 -- each option that `live` has to have was given
 pub record IsWhole (rows : List Row) : Type 0 where
   pub serial : is_some (first_of (codes "serial") rows) ≡ true
@@ -120,10 +140,11 @@ pub record IsWhole (rows : List Row) : Type 0 where
   pub out : is_some (first_of (codes "out") rows) ≡ true
   pub turns : HasTurns rows
 
--- a subcommand is `replay`, or `live` with all that it has to have
+-- a subcommand is `replay`, or `live` with all that it has to have, and `--explain` was given or not
 abbrev pub IsComplete : Option (Text × List Row) → Type 0
 IsComplete None = ⊥
-IsComplete (Some (name, rows)) = (name ≡ codes "replay") ⊎ ((name ≡ codes "live") × IsWhole rows)
+IsComplete (Some (name, rows)) =
+    HasExplain rows × ((name ≡ codes "replay") ⊎ ((name ≡ codes "live") × IsWhole rows))
 
 -- it was refused for want of memory
 abbrev pub IsMemory : Refused → Type 0

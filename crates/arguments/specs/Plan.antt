@@ -24,5 +24,10 @@ service_of (task.Live options) =
 
 -- as many senders are remembered as devices can be learned, and 24 more
 abbrev pub plan_of : Options → Plan
-plan_of options =
-    record { db = options.db; remembered = 1024; base = options.base; service = service_of options.task }
+plan_of options = record {
+  db = options.db;
+  remembered = 1024;
+  base = options.base;
+  explain = options.explain;
+  service = service_of options.task;
+}

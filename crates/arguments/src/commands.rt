@@ -1,7 +1,7 @@
 //! The commands and their options, as `clap` reads them.
 ghost use Rattle.std.specs.Prelude.{◌≡◌, IfOk, false};
 ghost use Rattle.clap.specs.Words.{app_of, rule_of};
-ghost use Rattle.arguments.specs.CommandLine.{base_rule, db_rule, enogate_app, live_app, replay_app};
+ghost use Rattle.arguments.specs.CommandLine.{base_rule, db_rule, enogate_app, explain_rule, live_app, replay_app};
 ghost use Rattle.arguments.specs.CommandLine.{required_rule, turns_rule};
 
 use clap::builder::ValueParser;
@@ -33,7 +33,8 @@ fn replay_command<'a>(alloc: Global) -> Result<Command<'a>, AllocError>
     Command::new(alloc, "replay")
         .about("Runs a script from standard input to standard output")
         .arg(base_option(alloc))?
-        .arg(db_option(alloc))
+        .arg(db_option(alloc))?
+        .arg(explain_option(alloc))
 }
 
 fn live_command<'a>(alloc: Global) -> Result<Command<'a>, AllocError>
@@ -50,7 +51,8 @@ fn live_command<'a>(alloc: Global) -> Result<Command<'a>, AllocError>
             "File of the answers to the desk, which is made or emptied",
         ))?
         .arg(turns_option(alloc))?
-        .arg(db_option(alloc))
+        .arg(db_option(alloc))?
+        .arg(explain_option(alloc))
 }
 
 fn base_option<'a>(alloc: Global) -> Arg<'a>
@@ -74,6 +76,16 @@ fn db_option<'a>(alloc: Global) -> Arg<'a>
         .action(ArgAction::Set)
         .value_name("PATH")
         .help("SQLite file of the learned devices, which else stay in memory alone")
+}
+
+fn explain_option<'a>(alloc: Global) -> Arg<'a>
+    ensures rule { rule_of result ≡ explain_rule }
+    ensures local { result.global ≡ false }
+{
+    Arg::new(alloc, "explain")
+        .long("explain")
+        .action(ArgAction::SetTrue)
+        .help("Tells of each packet what it was, what became of it, and why")
 }
 
 fn turns_option<'a>(alloc: Global) -> Arg<'a>

@@ -3,7 +3,7 @@ ghost use Rattle.std.specs.Prelude.{◌≡◌, Some, codes, is_some, option_and_
 ghost use Rattle.clap.specs.Words.{first_of, found_of, rows_of, subcommand_rows_of};
 ghost use Rattle.arguments.specs.Bases.{base_in};
 ghost use Rattle.arguments.specs.CommandLine.{AreLive, AreTurns, Asks, HasTurns, IsComplete, IsWhole, given_to};
-ghost use Rattle.arguments.specs.CommandLine.{text_found};
+ghost use Rattle.arguments.specs.CommandLine.{flag_found, text_found};
 
 use super::{LiveOptions, Task};
 use actuator_commands::id_of;
@@ -42,6 +42,17 @@ fn base_of(text: &str) -> Option<u32>
 {
     let base = id_of(text.as_bytes())?;
     if is_base(base) { Some(base) } else { None }
+}
+
+/// Whether the flag `--explain` was given.
+pub(super) fn explain_given(matches: &ArgMatches<'_>) -> bool
+    requires { IsComplete (subcommand_rows_of matches.now) }
+    ensures { result ≡ flag_found (codes "explain") (subcommand_rows_of matches.now) }
+{
+    match given(matches) {
+        Some(given) => given.get_flag("explain"),
+        None => false,
+    }
 }
 
 /// What the subcommand asks for.

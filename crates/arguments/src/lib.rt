@@ -11,11 +11,11 @@ ghost use Rattle.std.specs.String.{string_bytes};
 ghost use Rattle.clap.specs.Words.{takes};
 ghost use Rattle.erp1_telegrams.specs.Address;
 ghost use Rattle.arguments.specs.CommandLine.{AsksFor, IsMemory, IsTaken, RefusesLine, base_of_line, db_of_line};
-ghost use Rattle.arguments.specs.CommandLine.{enogate_app};
+ghost use Rattle.arguments.specs.CommandLine.{enogate_app, explain_of_line};
 
 use clap::Error;
 use commands::command;
-use given::{base_given, task_given, text_given};
+use given::{base_given, explain_given, task_given, text_given};
 pub use plan::{Access, Opened, Plan, Service};
 use std::alloc::{AllocError, Global};
 
@@ -26,6 +26,8 @@ pub struct Options<'a> {
     pub base: u32,
     /// The path of the file with the learned devices, if they are not to stay in memory alone.
     pub db: Option<&'a str>,
+    /// Whether the desk is told of each packet what it was, what became of it, and why.
+    pub explain: bool,
     /// What the gateway is for.
     pub task: Task<'a>,
 }
@@ -85,8 +87,8 @@ impl From<AllocError> for Refused {
 
 /// Reads a command line, whose first word is the program's name. It is one of
 ///
-/// - `enogate replay --base ID [--db PATH]`
-/// - `enogate live --base ID --serial PATH --desk PATH --out PATH --turns N [--db PATH]`
+/// - `enogate replay --base ID [--db PATH] [--explain]`
+/// - `enogate live --base ID --serial PATH --desk PATH --out PATH --turns N [--db PATH] [--explain]`
 ///
 /// where ID is eight hexadecimal digits of either case and a base ID, and N is 1 to 4294967295. The options may stand
 /// in any order, and in the spellings that `clap` has for them. Each other line is refused, and so is one that asks for
@@ -96,6 +98,7 @@ pub fn read<'a>(alloc: Global, words: &'a [String]) -> Result<Options<'a>, Refus
     ensures base { IfOk result (λ options. base_of_line (map string_bytes words.now) ≡ Some options.base) }
     ensures db { IfOk result (λ options.
         option_map (λ path. path.now) options.db ≡ db_of_line (map string_bytes words.now)) }
+    ensures explain { IfOk result (λ options. options.explain ≡ explain_of_line (map string_bytes words.now)) }
     ensures task { IfOk result (λ options. AsksFor (map string_bytes words.now) options.task) }
     ensures is_base { IfOk result (λ options. Address.is_base options.base ≡ true) }
     ensures refused { IfErr result (RefusesLine (map string_bytes words.now)) }
@@ -107,6 +110,7 @@ pub fn read<'a>(alloc: Global, words: &'a [String]) -> Result<Options<'a>, Refus
         Some(base) => Ok(Options {
             base,
             db: text_given(&matches, "db"),
+            explain: explain_given(&matches),
             task: task_given(&matches),
         }),
         None => Err(Refused::BadBase),

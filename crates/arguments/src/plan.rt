@@ -19,6 +19,8 @@ pub struct Plan<'a> {
     pub remembered: usize,
     /// The base ID of the radio module.
     pub base: u32,
+    /// Whether the desk is told of each packet what it was, what became of it, and why.
+    pub explain: bool,
     /// What the gateway is for.
     pub service: Service<'a>,
 }
@@ -70,6 +72,7 @@ impl<'a> Options<'a> {
             db: self.db,
             remembered: REMEMBERED,
             base: self.base,
+            explain: self.explain,
             service: service_of(self.task),
         }
     }

@@ -68,13 +68,16 @@ fn serve<C: SqlConnection + Drop>(
 {
     let mut gateway = start(rt.alloc(), conn, plan.base, plan.remembered)?;
     let served = match plan.service {
-        Service::Replay { reads } => Ok(replay_standard(rt, &mut gateway, reads)),
+        Service::Replay { reads } => Ok(replay_standard(rt, &mut gateway, plan.explain, reads)),
         Service::Live {
             serial,
             desk,
             out,
             turns,
-        } => live_on_files(rt, serial, desk, out, &mut gateway, turns),
+        } => {
+            let files = (serial, desk, out);
+            live_on_files(rt, files, &mut gateway, plan.explain, turns)
+        }
     };
     Ok((gateway.close(), served))
 }
@@ -83,26 +86,27 @@ fn serve<C: SqlConnection + Drop>(
 fn replay_standard<S: DeviceStore>(
     rt: &HostRuntime,
     gateway: &mut GatewayOver<S>,
+    explains: bool,
     reads: u64,
 ) -> Result<Summary, RunFault>
     requires { IsIdle gateway.old }
 {
     let mut reader = OverRead::new(rt.stdin());
     let mut writer = OverWrite::new(rt.stdout());
-    replay(&mut reader, &mut writer, gateway, reads)
+    replay(&mut reader, &mut writer, gateway, explains, reads)
 }
 
 /// Opens the serial line, then the desk's file and then the file of the answers, and serves them.
 fn live_on_files<S: DeviceStore>(
     rt: &HostRuntime,
-    serial: Opened<'_>,
-    desk: Opened<'_>,
-    out: Opened<'_>,
+    files: (Opened<'_>, Opened<'_>, Opened<'_>),
     gateway: &mut GatewayOver<S>,
+    explains: bool,
     turns: u64,
 ) -> Served
     requires { IsIdle gateway.old }
 {
+    let (serial, desk, out) = files;
     let serial = open(rt, serial)?;
     let desk = open(rt, desk)?;
     let out = open(rt, out)?;
@@ -112,6 +116,7 @@ fn live_on_files<S: DeviceStore>(
         &mut OverWrite::new(&serial),
         &mut OverWrite::new(&out),
         gateway,
+        explains,
         turns,
     ))
 }

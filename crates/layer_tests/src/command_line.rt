@@ -40,53 +40,95 @@ fn told(rt: &HostRuntime, line: &str) -> Result<String, Fail> {
 
 #[test]
 fn lines_of_replay(rt: HostRuntime) -> Result<(), Fail> {
-    for (line, base, db) in [
-        ("enogate replay --base FF800000", 0xFF80_0000, None),
-        ("enogate replay --base=ffffff80", 0xFFFF_FF80, None),
+    for (line, base, db, explain) in [
+        ("enogate replay --base FF800000", 0xFF80_0000, None, false),
+        ("enogate replay --base=ffffff80", 0xFFFF_FF80, None, false),
         (
             "enogate replay --db x.db --base FF800000",
             0xFF80_0000,
             Some("x.db"),
+            false,
         ),
         (
             "enogate replay --base FF800000 --db=a/b",
             0xFF80_0000,
             Some("a/b"),
+            false,
+        ),
+        (
+            "enogate replay --base FF800000 --explain",
+            0xFF80_0000,
+            None,
+            true,
+        ),
+        (
+            "enogate replay --explain --db x.db --base FF800000",
+            0xFF80_0000,
+            Some("x.db"),
+            true,
+        ),
+        (
+            "enogate replay --base FF800000 --db=--explain",
+            0xFF80_0000,
+            Some("--explain"),
+            false,
         ),
     ] {
-        let task = Task::Replay;
-        taken(&rt, line, Options { base, db, task })?;
+        let wanted = Options {
+            base,
+            db,
+            explain,
+            task: Task::Replay,
+        };
+        taken(&rt, line, wanted)?;
     }
     Ok(())
 }
 
 #[test]
 fn lines_of_live(rt: HostRuntime) -> Result<(), Fail> {
-    for (line, db, turns) in [
+    for (line, db, explain, turns) in [
         (
             "enogate live --base FF800000 --serial /dev/s --desk in/d --out o --turns 20",
             None,
+            false,
             20,
         ),
         (
             "enogate live --turns=20 --out=o --desk=in/d --serial=/dev/s --base=FF800000",
             None,
+            false,
             20,
         ),
         (
             "enogate live --db x.db --turns 1 --base ff800000 --out o --serial /dev/s --desk in/d",
             Some("x.db"),
+            false,
             1,
         ),
         (
             "enogate live --turns 4294967295 --base FF800000 --serial /dev/s --desk in/d --out o --db a/b",
             Some("a/b"),
+            false,
             4_294_967_295,
         ),
         (
             "enogate live --turns +0020 --base FF800000 --serial /dev/s --desk in/d --out o",
             None,
+            false,
             20,
+        ),
+        (
+            "enogate live --base FF800000 --serial /dev/s --desk in/d --out o --turns 20 --explain",
+            None,
+            true,
+            20,
+        ),
+        (
+            "enogate live --explain --turns 1 --db x.db --base FF800000 --out o --serial /dev/s --desk in/d",
+            Some("x.db"),
+            true,
+            1,
         ),
     ] {
         let task = Task::Live(LiveOptions {
@@ -95,8 +137,13 @@ fn lines_of_live(rt: HostRuntime) -> Result<(), Fail> {
             out: "o",
             turns,
         });
-        let base = 0xFF80_0000;
-        taken(&rt, line, Options { base, db, task })?;
+        let wanted = Options {
+            base: 0xFF80_0000,
+            db,
+            explain,
+            task,
+        };
+        taken(&rt, line, wanted)?;
     }
     Ok(())
 }
@@ -169,6 +216,28 @@ fn options_of_live(rt: HostRuntime) -> Result<(), Fail> {
     Ok(())
 }
 
+// A flag has no value, and is given once.
+#[test]
+fn bad_explains(rt: HostRuntime) -> Result<(), Fail> {
+    for command in [
+        "replay --base FF800000",
+        "live --base FF800000 --serial s --desk d --out o --turns 1",
+    ] {
+        for (flag, kind) in [
+            ("--explain --explain", ErrorKind::ArgumentConflict),
+            ("--explain=yes", ErrorKind::TooManyValues),
+            ("--explain=", ErrorKind::TooManyValues),
+            ("--explain yes", ErrorKind::UnknownArgument),
+            ("--explains", ErrorKind::UnknownArgument),
+            ("-e", ErrorKind::UnknownArgument),
+        ] {
+            let line = format!(in rt.alloc(); "enogate {command} {flag}")?;
+            refused(&rt, line.as_str(), kind)?;
+        }
+    }
+    refused(&rt, "enogate --explain", ErrorKind::UnknownArgument)
+}
+
 #[test]
 fn bad_turns(rt: HostRuntime) -> Result<(), Fail> {
     for turns in [
@@ -197,7 +266,8 @@ fn help_of_replay(rt: HostRuntime) -> Result<(), Fail> {
         Usage: enogate replay [OPTIONS] --base <ID>\n\n\
         Options:\n      \
         --base <ID>  Base ID of the radio module, 8 hexadecimal digits\n      \
-        --db <PATH>  SQLite file of the learned devices, which else stay in memory alone\n  \
+        --db <PATH>  SQLite file of the learned devices, which else stay in memory alone\n      \
+        --explain    Tells of each packet what it was, what became of it, and why\n  \
         -h, --help       Print help\n"
     );
     Ok(())
@@ -215,7 +285,8 @@ fn help_of_live(rt: HostRuntime) -> Result<(), Fail> {
         --desk <PATH>    File of the orders, which is read\n      \
         --out <PATH>     File of the answers to the desk, which is made or emptied\n      \
         --turns <N>      How many turns it serves, 1 to 4294967295\n      \
-        --db <PATH>      SQLite file of the learned devices, which else stay in memory alone\n  \
+        --db <PATH>      SQLite file of the learned devices, which else stay in memory alone\n      \
+        --explain        Tells of each packet what it was, what became of it, and why\n  \
         -h, --help           Print help\n"
     );
     Ok(())
@@ -249,12 +320,14 @@ fn the_plan_of_a_replay(rt: HostRuntime) {
     let options = Options {
         base: 0xFFA1_B280,
         db: Some("x.db"),
+        explain: true,
         task: Task::Replay,
     };
     let wanted = Plan {
         db: Some("x.db"),
         remembered: 1024,
         base: 0xFFA1_B280,
+        explain: true,
         service: Service::Replay {
             reads: 4_000_000_000,
         },
@@ -271,6 +344,7 @@ fn the_plan_of_a_live_gateway(rt: HostRuntime) {
     let options = Options {
         base: 0xFF80_0000,
         db: None,
+        explain: false,
         task: Task::Live(LiveOptions {
             serial: "/dev/s",
             desk: "in/d",
@@ -282,6 +356,7 @@ fn the_plan_of_a_live_gateway(rt: HostRuntime) {
         db: None,
         remembered: 1024,
         base: 0xFF80_0000,
+        explain: false,
         service: Service::Live {
             serial: opened("/dev/s", Access::ReadAndWrite),
             desk: opened("in/d", Access::Read),

@@ -1,8 +1,8 @@
 use Rattle.std.proofs.Common.{rules, codes, ◌≡◌, ◌∙◌}
 use Rattle.std.proofs.lemmas.Result.{IfOk-weaker}
 use Rattle.clap.specs.Words.{app_of, new_app, with_rule}
-use Rattle.arguments.specs.CommandLine.{base_rule, db_rule, live_app_of_base, live_app_of_paths, required_rule}
-use Rattle.arguments.specs.CommandLine.{turns_rule}
+use Rattle.arguments.specs.CommandLine.{base_rule, db_rule, explain_rule, live_app_of_base, live_app_of_paths}
+use Rattle.arguments.specs.CommandLine.{required_rule, turns_rule}
 use Rattle.arguments.proofs.CommandLemmas.{more_rules}
 use Rattle.arguments.proofs.commands.live_command.Goals as goal
 
@@ -19,5 +19,7 @@ returns c =
     c.path_option-3.ensures.rule in
     let turns = more_rules _ _ _ live_app_of_paths turns_rule c.in_ok-arg-5.ensures c.turns_option.ensures.local out
     c.turns_option.ensures.rule in
-    IfOk-weaker c.arg-6.result _ _ (λ r added. more_rules _ r _ (with_rule live_app_of_paths turns_rule) db_rule added
-    c.db_option.ensures.local turns c.db_option.ensures.rule) c.arg-6.ensures
+    let db = more_rules _ _ _ (with_rule live_app_of_paths turns_rule) db_rule c.in_ok-arg-6.ensures
+    c.db_option.ensures.local turns c.db_option.ensures.rule in
+    IfOk-weaker c.arg-7.result _ _ (λ r added. more_rules _ r _ (with_rule (with_rule live_app_of_paths turns_rule)
+    db_rule) explain_rule added c.explain_option.ensures.local db c.explain_option.ensures.rule) c.arg-7.ensures
