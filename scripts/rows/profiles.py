@@ -225,3 +225,13 @@ def says(eep, rorg, payload, status):
         return readings(BLIND, payload, status) if len(payload) == 4 and payload[3] & 15 == 4 else None
     size, rows = MESSAGES.get(payload[0] & 15, (None, None))
     return readings(rows, payload, status) if len(payload) == size else None
+
+
+def unsaid(eep, rorg, payload):
+    """Why the profile cannot read data of this RORG, in a word: the first of the kind of the telegram, the command of
+    its message for D2-01, its length, and the command for D2-05-00."""
+    if rorg != int(eep[:2], 16):
+        return "wrong_kind"
+    if eep == "D2-05-00":
+        return "other_message" if len(payload) == 4 else "wrong_length"
+    return "wrong_length" if payload[0] & 15 in MESSAGES else "other_message"

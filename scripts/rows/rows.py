@@ -1,5 +1,6 @@
 """The files of crates/rows/data that the scripts beside this file write: a row NAME is a script, NAME.in, and what has
-to be written for it, NAME.out. With them, the lines of the desk that more than one of these scripts tells."""
+to be written for it: NAME.out, and NAME.explained where it is replayed with `--explain` too. With them, the lines of
+the desk that more than one of these scripts tells."""
 import json
 import pathlib
 import sys
@@ -66,12 +67,12 @@ def worked(script, example):
     return lines, wanted
 
 
-def write_or_check(makers):
-    """Writes the rows that these calls make, by name; with `--check` it tells which files are not as they would be
-    written. The answer is the status of the program."""
+def write_or_check(makers, suffixes=(".in", ".out")):
+    """Writes the rows that these calls make, by name: each makes the texts of its files with these suffixes. With
+    `--check` it tells which files are not as they would be written. The answer is the status of the program."""
     differ = []
     for name, make in makers.items():
-        for suffix, text in zip((".in", ".out"), make()):
+        for suffix, text in zip(suffixes, make()):
             path, written = DATA / (name + suffix), text.encode()
             if "--check" not in sys.argv:
                 path.write_bytes(written)

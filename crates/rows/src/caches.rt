@@ -26,7 +26,7 @@ fn tell_of(rt: &HostRuntime, telling: &mut Telling, name: &str, cache: usize) ->
     requires { (1 ≤ cache) × (cache ≤ 1024) }
 {
     let alloc = rt.alloc();
-    let (script, wanted) = row(rt, name)?;
+    let (script, wanted) = row(rt, name, false)?;
     let conn = Connection::open_in_memory(alloc)?;
     let Ok(registry) = Registry::open_with(alloc, conn, cache) else {
         return telling.tell(rt, name, false);
@@ -52,6 +52,7 @@ fn is_written<S: DeviceStore + Drop>(
         &mut reader,
         &mut OverWrite::new(&mut written),
         &mut gateway,
+        false,
         TURNS,
     );
     done.is_ok() && written.as_slice() == wanted

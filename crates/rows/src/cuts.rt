@@ -100,7 +100,8 @@ fn written(alloc: Global, bytes: &[u8], longest: usize, chance: &mut Chance) -> 
     let script = script(alloc, bytes, longest, chance)?;
     let mut out = Vec::new(alloc);
     let mut reader = OverRead::new(script.as_slice());
-    let done = replay_new(alloc, &mut reader, &mut OverWrite::new(&mut out), TURNS)?;
+    let mut writer = OverWrite::new(&mut out);
+    let done = replay_new(alloc, &mut reader, &mut writer, false, TURNS)?;
     if done.is_err() {
         out.clear();
     }

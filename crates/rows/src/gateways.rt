@@ -22,16 +22,17 @@ pub(crate) fn fresh(
     start(alloc, conn, BASE, REMEMBERED)
 }
 
-/// Replays a script by a new gateway.
+/// Replays a script by a new gateway, with explanations or without.
 pub(crate) fn replay_new<R: Source, W: Sink>(
     alloc: Global,
     reader: &mut R,
     writer: &mut W,
+    explains: bool,
     turns: u64,
 ) -> Result<Result<Summary, RunFault>, Fault> {
     let conn = Connection::open_in_memory(alloc)?;
     let mut gateway = start(alloc, conn, BASE, REMEMBERED)?;
-    Ok(replay(reader, writer, &mut gateway, turns))
+    Ok(replay(reader, writer, &mut gateway, explains, turns))
 }
 
 /// More reads than a script takes that is replayed by a gateway which has others too.
@@ -49,7 +50,7 @@ pub(crate) fn written_by<S: DeviceStore>(
     let mut written = Vec::new(alloc);
     let mut reader = OverRead::new(script);
     let mut writer = OverWrite::new(&mut written);
-    if replay(&mut reader, &mut writer, gateway, TURNS).is_err() {
+    if replay(&mut reader, &mut writer, gateway, false, TURNS).is_err() {
         bail!("a replay broke off");
     }
     Ok(written)
@@ -72,6 +73,7 @@ pub(crate) fn serve_new<P: Source, Q: Source, R: Sink, D: Sink>(
         serial_out,
         desk_out,
         &mut gateway,
+        false,
         turns,
     ))
 }

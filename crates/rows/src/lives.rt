@@ -17,9 +17,13 @@ const STATUS: &[u8] =
     b"{\"ignored\":1,\"mode\":\"closed\",\"readings\":0,\"refused\":0,\"responses\":0,\"teach\":0,\
     \"type\":\"status\"}\n";
 
-/// A contact telegram, what is told where it is learned, and its reading.
+/// A contact telegram, how it is explained where it is not learned, what is told where it is, and its reading.
 const CONTACT: &[u8] =
     b"\x55\x00\x07\x07\x01\x7A\xD5\x09\x01\x80\x0A\xBC\x00\x01\xFF\xFF\xFF\xFF\x2D\x00\x1F";
+
+const CONTACT_EXPLAINED: &[u8] =
+    b"{\"dbm\":-45,\"dest\":null,\"eep\":null,\"id\":\"01800ABC\",\"maker\":null,\
+    \"payload\":\"09\",\"rorg\":\"D5\",\"status\":\"00\",\"type\":\"packet\",\"why\":\"unknown_sender\"}\n";
 
 const KNOWN: &[u8] =
     b"{\"eep\":\"D5-00-01\",\"id\":\"01800ABC\",\"maker\":null,\"result\":\"accepted\",\"type\":\"teach\"}\n";
@@ -27,7 +31,7 @@ const KNOWN: &[u8] =
 const READING: &[u8] = b"{\"dbm\":-45,\"eep\":\"D5-00-01\",\"id\":\"01800ABC\",\
     \"readings\":[{\"name\":\"CO\",\"word\":\"closed\"}],\"type\":\"reading\"}\n";
 
-/// A query of universal teach-in, the reply to it, and what the desk is told.
+/// A query of universal teach-in, the reply to it, how it is explained, and what the desk is told.
 const QUERY: &[u8] =
     b"\x55\x00\x0D\x07\x01\xFD\xD4\xA0\x01\x46\x00\x12\x01\xD2\x01\x80\x0A\xBC\x00\x01\
     \xFF\xFF\xFF\xFF\x2D\x00\x8A";
@@ -35,6 +39,10 @@ const QUERY: &[u8] =
 const REPLY: &[u8] =
     b"\x55\x00\x0D\x07\x01\xFD\xD4\x91\x01\x46\x00\x12\x01\xD2\xFF\x80\x00\x00\x00\x03\
     \x01\x80\x0A\xBC\xFF\x00\xF3";
+
+const QUERY_EXPLAINED: &[u8] =
+    b"{\"dbm\":-45,\"dest\":null,\"eep\":\"D2-01-12\",\"id\":\"01800ABC\",\"maker\":70,\
+    \"payload\":\"A00146001201D2\",\"rorg\":\"D4\",\"status\":\"00\",\"type\":\"packet\",\"why\":\"accepted\"}\n";
 
 const TAUGHT: &[u8] =
     b"{\"eep\":\"D2-01-12\",\"id\":\"01800ABC\",\"maker\":70,\"result\":\"accepted\",\"type\":\"teach\"}\n";
@@ -48,6 +56,7 @@ pub const NEVER: usize = usize::MAX;
 pub(crate) fn tell(rt: &HostRuntime, telling: &mut Telling) -> Result<()> {
     tell_order_of_sides(rt, telling)?;
     tell_both_outputs(rt, telling)?;
+    tell_explanations(rt, telling)?;
     tell_lines(rt, telling)?;
     tell_lengths(rt, telling)?;
     tell_reads_that_fail(rt, telling)?;
@@ -91,14 +100,24 @@ fn serve(
     fails_at: (usize, usize),
 ) -> Result<Served> {
     let mut gateway = fresh(alloc)?;
-    serve_by(alloc, &mut gateway, (serial, desk), turns, 7, fails_at)
+    let inputs = (serial, desk);
+    serve_by(alloc, &mut gateway, inputs, false, turns, 7, fails_at)
 }
 
-/// Serves turns by this gateway, with writers that take so many bytes at a call and fail at these calls.
+/// Serves turns that read these parts, with explanations, and with writers that do not fail.
+fn explain_parts(alloc: Global, serial: &[&[u8]], desk: &[&[u8]], turns: u64) -> Result<Served> {
+    let mut gateway = fresh(alloc)?;
+    let inputs = (Parts::new(serial, 0), Parts::new(desk, 0));
+    serve_by(alloc, &mut gateway, inputs, true, turns, 7, (NEVER, NEVER))
+}
+
+/// Serves turns by this gateway, with explanations or without, and with writers that take so many bytes at a call and
+/// fail at these calls.
 pub(crate) fn serve_by<S: DeviceStore>(
     alloc: Global,
     gateway: &mut GatewayOver<S>,
     inputs: (Parts<'_>, Parts<'_>),
+    explains: bool,
     turns: u64,
     most: usize,
     fails_at: (usize, usize),
@@ -116,6 +135,7 @@ pub(crate) fn serve_by<S: DeviceStore>(
         &mut OverWrite::new(Sips::new(&mut radio, most, radio_fails_at)),
         &mut OverWrite::new(Sips::new(&mut told, most, desk_fails_at)),
         gateway,
+        explains,
         turns,
     );
     Ok(Served {
@@ -169,6 +189,17 @@ fn tell_both_outputs(rt: &HostRuntime, telling: &mut Telling) -> Result<()> {
     telling.tell(rt, "no turns", served.is(items(0), &[], &[]))
 }
 
+// A packet is explained before its own line. What goes out by radio is as without explanations, and so is what an order
+// comes to.
+fn tell_explanations(rt: &HostRuntime, telling: &mut Telling) -> Result<()> {
+    let serial = [CONTACT, QUERY];
+    let desk = [b"learn on\nbase\n".as_slice()];
+    let served = explain_parts(rt.alloc(), &serial, &desk, 2)?;
+    let told = [CONTACT_EXPLAINED, OK, OK, QUERY_EXPLAINED, TAUGHT];
+    let is_well = served.is(items(4), &[BASE_QUESTION, REPLY], &told);
+    telling.tell(rt, "packets that are explained", is_well)
+}
+
 // A packet may come in pieces, and bytes that are LF or digits are bytes like others on the serial line. A line of the
 // desk is always an order, and counts at its LF, without one CR. What is no line at the end of the turns is dropped.
 fn tell_lines(rt: &HostRuntime, telling: &mut Telling) -> Result<()> {
@@ -204,6 +235,7 @@ fn desk_after<S: DeviceStore>(
         &mut OverWrite::new(Vec::new(alloc)),
         &mut OverWrite::new(&mut told),
         gateway,
+        false,
         1,
     );
     if ended.is_err() {

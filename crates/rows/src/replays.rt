@@ -30,7 +30,8 @@ fn comes_to<R: Source>(
     text: &[u8],
 ) -> Result<bool> {
     let mut out = Vec::new(alloc);
-    let done = replay_new(alloc, reader, &mut OverWrite::new(&mut out), turns)?;
+    let mut writer = OverWrite::new(&mut out);
+    let done = replay_new(alloc, reader, &mut writer, false, turns)?;
     Ok(done == wanted && out.as_slice() == text)
 }
 
@@ -38,7 +39,8 @@ fn comes_to<R: Source>(
 pub(crate) fn is_written(alloc: Global, script: &[u8], text: &[u8]) -> Result<bool> {
     let mut out = Vec::new(alloc);
     let mut reader = OverRead::new(script);
-    let done = replay_new(alloc, &mut reader, &mut OverWrite::new(&mut out), 9)?;
+    let mut writer = OverWrite::new(&mut out);
+    let done = replay_new(alloc, &mut reader, &mut writer, false, 9)?;
     Ok(done.is_ok() && out.as_slice() == text)
 }
 
@@ -134,12 +136,12 @@ fn tell_writes(rt: &HostRuntime, telling: &mut Telling) -> Result<()> {
     let script = b"\n\n".as_slice();
     let mut taken = Vec::new(alloc);
     let mut writer = OverWrite::new(Sips::new(&mut taken, 1, 16));
-    let done = replay_new(alloc, &mut OverRead::new(script), &mut writer, 9)?;
+    let done = replay_new(alloc, &mut OverRead::new(script), &mut writer, false, 9)?;
     let is_well = done == Err(RunFault::Write)
         && taken.as_slice() == b"{\"error\":\"synta".as_slice();
     telling.tell(rt, "a write that fails", is_well)?;
     let mut writer = OverWrite::new(TakesNothing);
-    let done = replay_new(alloc, &mut OverRead::new(script), &mut writer, 9)?;
+    let done = replay_new(alloc, &mut OverRead::new(script), &mut writer, false, 9)?;
     telling.tell(
         rt,
         "a writer that takes nothing",

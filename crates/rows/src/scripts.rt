@@ -1,4 +1,5 @@
-//! The worked rows: of each a script, `NAME.in`, and what has to be written for it, `NAME.out`.
+//! The worked rows: of each a script, `NAME.in`, and what has to be written for it: `NAME.out`, and `NAME.explained`
+//! with explanations.
 use crate::gateways::replay_new;
 use crate::telling::Telling;
 use anyhow::Result;
@@ -9,26 +10,32 @@ use std::fs;
 const TURNS: u64 = 100_000;
 
 pub(crate) fn tell(rt: &HostRuntime, telling: &mut Telling) -> Result<()> {
-    for name in fs::read_to_string(rt, "rows.txt")?.lines() {
-        telling.tell(rt, name, is_well(rt, name)?)?;
+    for line in fs::read_to_string(rt, "rows.txt")?.lines() {
+        let is_well = match line.strip_suffix(" --explain") {
+            Some(name) => is_replayed(rt, name, true)?,
+            None => is_replayed(rt, line, false)?,
+        };
+        telling.tell(rt, line, is_well)?;
     }
     Ok(())
 }
 
-/// Whether the script is replayed to its end, and what is written for it is wanted.
-fn is_well(rt: &HostRuntime, name: &str) -> Result<bool> {
+/// Whether the row's script is replayed to its end, with explanations or without, and what is written for it is wanted.
+fn is_replayed(rt: &HostRuntime, name: &str, explains: bool) -> Result<bool> {
     let alloc = rt.alloc();
-    let (script, wanted) = row(rt, name)?;
+    let (script, wanted) = row(rt, name, explains)?;
     let mut written = Vec::new(alloc);
     let mut reader = OverRead::new(script.as_slice());
-    let done = replay_new(alloc, &mut reader, &mut OverWrite::new(&mut written), TURNS)?;
+    let mut writer = OverWrite::new(&mut written);
+    let done = replay_new(alloc, &mut reader, &mut writer, explains, TURNS)?;
     Ok(done.is_ok() && written.as_slice() == wanted.as_slice())
 }
 
-/// A row's script, and what is wanted for it.
-pub(crate) fn row(rt: &HostRuntime, name: &str) -> Result<(Vec<u8>, Vec<u8>)> {
+/// A row's script, and what is wanted for it, with explanations or without.
+pub(crate) fn row(rt: &HostRuntime, name: &str, explains: bool) -> Result<(Vec<u8>, Vec<u8>)> {
     let alloc = rt.alloc();
+    let ending = if explains { "explained" } else { "out" };
     let script = fs::read(rt, format!(in alloc; "{name}.in")?)?;
-    let wanted = fs::read(rt, format!(in alloc; "{name}.out")?)?;
+    let wanted = fs::read(rt, format!(in alloc; "{name}.{ending}")?)?;
     Ok((script, wanted))
 }

@@ -47,7 +47,7 @@ fn replay_parts<S: DeviceStore>(
     let mut written = Vec::new(alloc);
     let mut reader = OverRead::new(Parts::new(parts, read_fails_at));
     let mut writer = OverWrite::new(Sips::new(&mut written, 1, write_fails_at));
-    let ended = replay(&mut reader, &mut writer, gateway, TURNS);
+    let ended = replay(&mut reader, &mut writer, gateway, false, TURNS);
     Ok(Replayed { ended, written })
 }
 

@@ -111,7 +111,7 @@ pub(crate) fn serve<S: DeviceStore>(
         Parts::new(desk.as_slice(), desk_fails_at),
     );
     let count = turns.serial.len() as u64;
-    serve_by(alloc, gateway, inputs, count, 1, write_fails_at)
+    serve_by(alloc, gateway, inputs, false, count, 1, write_fails_at)
 }
 
 fn views(alloc: Global, parts: &[Vec<u8>]) -> Result<Vec<&[u8]>> {
