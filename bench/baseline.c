@@ -1,5 +1,5 @@
-/* What `enogate replay --base ID` does, in plain C: a yardstick for speed, of which nothing is proved. The devices lie
- * in memory, and each line of output is one write(). `bench/same` compares what the two write.
+/* What `enogate replay --base ID [--explain]` does, in plain C: a yardstick for speed, of which nothing is proved. The
+ * devices lie in memory, and each line of output is one write(). `bench/same` compares what the two write.
  *
  * Left out: `--db` and with it the answers `store` and `memory`, other ways to write the command line and the texts of
  * usage, `bad base` instead of `an argument is not text`, and the end after 4,000,000,000 reads. The table of devices
@@ -106,16 +106,21 @@ static void stop(const char *cause) {
     exit(1);
 }
 
-static void write_line(void) {
+/* Writes the line that begins there, behind one that is not whole yet. */
+static void write_from(size_t begin) {
     TEXT("\n");
-    for (size_t done = 0; done < length;) {
+    for (size_t done = begin; done < length;) {
         ssize_t count = write(STDOUT_FILENO, text + done, length - done);
         if (count > 0)
             done += (size_t)count;
         else if (count == 0 || errno != EINTR)
             stop("write");
     }
-    length = 0;
+    length = begin;
+}
+
+static void write_line(void) {
+    write_from(0);
 }
 
 static void write_error(const char *name) {
@@ -505,11 +510,40 @@ static void send_telegram(uint8_t rorg, const uint8_t *payload, uint8_t size, ui
 
 /* The packets of the radio module. */
 
-/* Tells what a telegram of a learned device says, if its profile can read it. */
-static bool reading(const struct device *device, const uint8_t *data, size_t size, int dbm) {
-    if (data[0] != device->eep >> 16)
-        return false;
-    TEXT("{\"dbm\":");
+/* The lines that explain packets. They do not count as what tells a line about the packet, so they return false. */
+
+enum { NONE = 0 }; /* the profile of a sender of which none is known; no profile that is read has this number */
+
+static bool explains;
+
+static struct {
+    const uint8_t *data;
+    size_t size;
+    int dbm; /* or -1 */
+    uint32_t destination;
+    bool asks; /* it is a query, with these two */
+    uint32_t eep;
+    int maker;
+} heard; /* the telegram in hand */
+
+/* Whether it is a query, and what it tells. Of a 4BS query: 6 bits of FUNC, 7 of TYPE and 11 of the maker. Of a UTE
+ * query: behind two bytes 11 bits of the maker and the profile, each with the low byte first. */
+static void hear_query(void) {
+    const uint8_t *query = heard.data + 1;
+    heard.asks = true;
+    if (heard.data[0] == FOUR_BYTE && (query[3] & 0x98) == 0x80) {
+        uint32_t func = query[0] >> 2, type = (query[0] & 3u) << 5 | query[1] >> 3;
+        heard.eep = (uint32_t)FOUR_BYTE << 16 | func << 8 | type;
+        heard.maker = (query[1] & 7) << 8 | query[2];
+    } else if (heard.data[0] == UTE && (query[0] & 0x0F) == 0) {
+        heard.eep = (uint32_t)query[6] << 16 | (uint32_t)query[5] << 8 | query[4];
+        heard.maker = (query[3] & 7) << 8 | query[2];
+    } else {
+        heard.asks = false;
+    }
+}
+
+static void put_dbm(int dbm) {
     if (dbm < 0) {
         TEXT("null");
     } else {
@@ -517,6 +551,87 @@ static bool reading(const struct device *device, const uint8_t *data, size_t siz
             TEXT("-");
         put_number((uint64_t)dbm);
     }
+}
+
+/* Explains a telegram. If it is no query, what is known of its sender is told. */
+static bool explain(const char *why, uint32_t eep, int maker) {
+    if (!explains)
+        return false;
+    bool known = heard.asks || eep != NONE;
+    if (heard.asks) {
+        eep = heard.eep;
+        maker = heard.maker;
+    }
+    size_t begin = length;
+    TEXT("{\"dbm\":");
+    put_dbm(heard.dbm);
+    TEXT(",\"dest\":");
+    if (heard.destination == ALL) {
+        TEXT("null");
+    } else {
+        TEXT("\"");
+        put_id(heard.destination);
+        TEXT("\"");
+    }
+    TEXT(",\"eep\":");
+    if (!known) {
+        TEXT("null");
+    } else {
+        TEXT("\"");
+        put_eep(eep);
+        TEXT("\"");
+    }
+    TEXT(",\"id\":\"");
+    put_id(number(heard.data + heard.size - 5));
+    TEXT("\",\"maker\":");
+    put_maker(maker);
+    TEXT(",\"payload\":\"");
+    for (size_t k = 1; k < heard.size - 5; k++)
+        put_byte(heard.data[k]);
+    TEXT("\",\"rorg\":\"");
+    put_byte(heard.data[0]);
+    TEXT("\",\"status\":\"");
+    put_byte(heard.data[heard.size - 1]);
+    TEXT("\",\"type\":\"packet\",\"why\":\"");
+    put_word(why);
+    TEXT("\"}");
+    write_from(begin);
+    return false;
+}
+
+/* Explains a telegram of a sender of which nothing is known. */
+static bool explain_stranger(const char *why) {
+    return explain(why, NONE, UNKNOWN);
+}
+
+/* Explains a packet that has no telegram. */
+static bool explain_other(uint8_t type, size_t size, const char *why) {
+    if (!explains)
+        return false;
+    TEXT("{\"kind\":");
+    put_number(type);
+    TEXT(",\"size\":");
+    put_number(size);
+    TEXT(",\"type\":\"packet\",\"why\":\"");
+    put_word(why);
+    TEXT("\"}");
+    write_line();
+    return false;
+}
+
+/* Why the profile of a device reads nothing in a payload: those of VLD have messages, each with its length. */
+static const char *unread(const struct device *device, const uint8_t *payload, size_t size) {
+    unsigned command = payload[0] & 15;
+    bool of_length = device->profile->tell == actuator ? command != 4 && command != 7 : size == 4;
+    return of_length ? "other_message" : "wrong_length";
+}
+
+/* Tells what a telegram of a learned device says, if its profile can read it. */
+static bool reading(const struct device *device, const uint8_t *data, size_t size, int dbm) {
+    if (data[0] != device->eep >> 16)
+        return explain("wrong_kind", device->eep, device->maker);
+    TEXT("{\"dbm\":");
+    put_dbm(dbm);
     TEXT(",\"eep\":\"");
     put_eep(device->eep);
     TEXT("\",\"id\":\"");
@@ -526,10 +641,11 @@ static bool reading(const struct device *device, const uint8_t *data, size_t siz
     device->profile->tell(device->eep, data + 1, size - 6, data[size - 1]);
     if (length == before) {
         length = 0;
-        return false;
+        return explain(unread(device, data + 1, size - 6), device->eep, device->maker);
     }
     length--;
     TEXT("],\"type\":\"reading\"}");
+    explain("read", device->eep, device->maker);
     write_line();
     readings++;
     return true;
@@ -575,6 +691,10 @@ static enum result forget_sender(uint32_t id) {
 
 /* Tells what came of a telegram. The mode AS ends with the first one that is accepted. */
 static bool finish(uint32_t id, uint32_t eep, int maker, enum result result) {
+    if (result == ACCEPTED)
+        explain(RESULTS[result].word, eep, maker);
+    else
+        explain_stranger(RESULTS[result].word);
     write_teach(id, eep, maker, RESULTS[result].word);
     if (mode == AS && result == ACCEPTED)
         mode = CLOSED;
@@ -587,31 +707,34 @@ static bool teach(uint32_t id, uint32_t eep, int maker) {
     return finish(id, eep, maker, learn_sender(id, eep, maker));
 }
 
-/* The same, if the mode takes telegrams of this RORG. */
-static bool teach_wanted(uint8_t rorg, uint32_t id, int maker) {
-    return mode == AS && wanted_eep >> 16 == rorg && teach(id, wanted_eep, maker);
+/* The same, if the mode takes telegrams of this RORG. Else this is why it does not. */
+static bool teach_wanted(uint8_t rorg, uint32_t id, int maker, const char *why) {
+    if (mode == AS && wanted_eep >> 16 == rorg)
+        return teach(id, wanted_eep, maker);
+    return explain_stranger(why);
 }
 
-/* A 4BS query: 6 bits of FUNC, 7 of TYPE and 11 of the maker. */
+/* Why a telegram of teach-in is not taken. */
+static const char *untaken(void) {
+    return mode == CLOSED ? "window_closed" : "other_mode";
+}
+
 static bool four_byte_query(uint32_t id, const uint8_t *query) {
-    uint32_t func = query[0] >> 2, type = (query[0] & 3u) << 5 | query[1] >> 3;
-    uint32_t eep = (uint32_t)FOUR_BYTE << 16 | func << 8 | type;
-    int maker = (query[1] & 7) << 8 | query[2];
     if (mode == CLOSED || mode == AS)
-        return teach_wanted(FOUR_BYTE, id, maker);
-    enum result result = learn_sender(id, eep, maker);
+        return teach_wanted(FOUR_BYTE, id, heard.maker, untaken());
+    enum result result = learn_sender(id, heard.eep, heard.maker);
     if (mode == ANSWER)
         send_telegram(FOUR_BYTE, (uint8_t[]){query[0], query[1], query[2], RESULTS[result].last}, 4, base, id);
-    return finish(id, eep, maker, result);
+    return finish(id, heard.eep, heard.maker, result);
 }
 
-/* A UTE query: what is asked for, the channels, 11 bits of the maker, and the profile, each with the low byte first. */
+/* A UTE query: its first byte says what is asked for. */
 static bool universal_query(uint32_t id, const uint8_t *query) {
-    uint32_t eep = (uint32_t)query[6] << 16 | (uint32_t)query[5] << 8 | query[4];
-    int maker = (query[3] & 7) << 8 | query[2];
+    uint32_t eep = heard.eep;
+    int maker = heard.maker;
     bool deletion = (query[0] & 0x30) == 0x10, not_in_use = (query[0] & 0x30) == 0x30;
     if (mode == CLOSED || mode == AS)
-        return false;
+        return explain_stranger(untaken());
     enum result result = deletion ? forget_sender(id) : not_in_use ? GENERAL : learn_sender(id, eep, maker);
     if (!(query[0] & 0x40)) {
         uint8_t reply[7];
@@ -624,10 +747,13 @@ static bool universal_query(uint32_t id, const uint8_t *query) {
 
 /* A 4BS telegram of teach-in: a reply to another gateway, a query, or one without a profile. */
 static bool four_byte_teach(uint32_t id, const uint8_t *payload) {
+    if (heard.asks)
+        return four_byte_query(id, payload);
     if (payload[3] & 0x80)
-        return !(payload[3] & 0x10) && four_byte_query(id, payload);
+        return explain_stranger("teach_in_reply");
     if (mode == CLOSED || mode == AS)
-        return teach_wanted(FOUR_BYTE, id, UNKNOWN);
+        return teach_wanted(FOUR_BYTE, id, UNKNOWN, untaken());
+    explain_stranger("no_profile");
     TEXT("{\"eep\":null,\"id\":\"");
     put_id(id);
     TEXT("\",\"maker\":null,\"result\":\"no_profile\",\"type\":\"teach\"}");
@@ -638,57 +764,56 @@ static bool four_byte_teach(uint32_t id, const uint8_t *payload) {
 
 static bool contact_teach(uint32_t id) {
     if (mode == CLOSED || mode == AS)
-        return teach_wanted(ONE_BYTE, id, UNKNOWN);
+        return teach_wanted(ONE_BYTE, id, UNKNOWN, untaken());
     return teach(id, CONTACT, UNKNOWN);
 }
 
-/* Tells a telegram: RORG, payload, sender and status. The first seven bytes of the optional data, where there are so
- * many, are the number of subtelegrams, the destination, the signal strength and the security. */
-static bool telegram(const uint8_t *data, size_t size, const uint8_t *optional, size_t more) {
-    int dbm = -1;
+/* Whether the data are a telegram: RORG, payload, sender and status. */
+static bool is_telegram(const uint8_t *data, size_t size) {
     if (size < 7)
         return false;
-    if (more >= 7) {
-        uint32_t destination = number(optional + 1);
-        if (destination != ALL && (destination & ~(uint32_t)127) != base)
-            return false;
-        dbm = optional[5];
-    }
-    uint32_t sender = number(data + size - 5);
-    if (sender == ALL)
-        return false;
-    const struct device *device = find(sender);
-    bool known = device->id != ALL;
     switch (data[0]) {
     case RPS:
-        if (size != 7)
-            return false;
-        if (known)
-            return reading(device, data, size, dbm);
-        return data[1] & 0x10 && teach_wanted(RPS, sender, UNKNOWN);
     case ONE_BYTE:
-        if (size != 7)
-            return false;
-        if (data[1] & 0x08)
-            return known && reading(device, data, size, dbm);
-        return contact_teach(sender);
+        return size == 7;
     case FOUR_BYTE:
-        if (size != 10)
-            return false;
-        if (data[4] & 0x08)
-            return known && reading(device, data, size, dbm);
-        return four_byte_teach(sender, data + 1);
+        return size == 10;
     case VLD:
-        if (size > 20)
-            return false;
-        if (known)
-            return reading(device, data, size, dbm);
-        return teach_wanted(VLD, sender, UNKNOWN);
+        return size <= 20;
     case UTE:
-        return size == 13 && (data[1] & 0x0F) == 0 && universal_query(sender, data + 1);
+        return size == 13;
     default:
         return false;
     }
+}
+
+/* Tells a telegram. The first seven bytes of the optional data, where there are so many, are the number of
+ * subtelegrams, the destination, the signal strength and the security. */
+static bool telegram(const uint8_t *data, size_t size, const uint8_t *optional, size_t more) {
+    if (!is_telegram(data, size))
+        return explain_other(RADIO, size, "no_telegram");
+    heard.data = data;
+    heard.size = size;
+    heard.dbm = more >= 7 ? optional[5] : -1;
+    heard.destination = more >= 7 ? number(optional + 1) : ALL;
+    hear_query();
+    uint32_t sender = number(data + size - 5);
+    if (sender == ALL)
+        return explain_stranger("from_broadcast");
+    if (heard.destination != ALL && (heard.destination & ~(uint32_t)127) != base)
+        return explain_stranger("for_others");
+    if (data[0] == UTE)
+        return heard.asks ? universal_query(sender, data + 1) : explain_stranger("teach_in_reply");
+    if (data[0] == ONE_BYTE && !(data[1] & 0x08))
+        return contact_teach(sender);
+    if (data[0] == FOUR_BYTE && !(data[4] & 0x08))
+        return four_byte_teach(sender, data + 1);
+    const struct device *device = find(sender);
+    if (device->id != ALL)
+        return reading(device, data, size, heard.dbm);
+    if (data[0] == VLD || (data[0] == RPS && data[1] & 0x10))
+        return teach_wanted(data[0], sender, UNKNOWN, "unknown_sender");
+    return explain_stranger("unknown_sender");
 }
 
 static bool response(const uint8_t *data, size_t size) {
@@ -696,7 +821,8 @@ static bool response(const uint8_t *data, size_t size) {
         "OK", "ERROR", "NOT_SUPPORTED", "WRONG_PARAM", "OPERATION_DENIED",
     };
     if (size == 0)
-        return false;
+        return explain_other(RESPONSE, size, "empty_response");
+    explain_other(RESPONSE, size, "response");
     TEXT("{\"code\":");
     put_number(data[0]);
     TEXT(",\"data\":\"");
@@ -715,7 +841,14 @@ static bool response(const uint8_t *data, size_t size) {
 }
 
 static void handle(uint8_t type, const uint8_t *data, size_t size, size_t more) {
-    if (!(type == RADIO && telegram(data, size, data + size, more)) && !(type == RESPONSE && response(data, size)))
+    bool told;
+    if (type == RADIO)
+        told = telegram(data, size, data + size, more);
+    else if (type == RESPONSE)
+        told = response(data, size);
+    else
+        told = explain_other(type, size, "other_type");
+    if (!told)
         ignored++;
 }
 
@@ -1162,8 +1295,9 @@ static void replay(void) {
 }
 
 int main(int count, char **arguments) {
-    if (count != 4 || strcmp(arguments[1], "replay") != 0 || strcmp(arguments[2], "--base") != 0) {
-        fputs("usage: baseline replay --base ID\n", stderr);
+    explains = count == 5 && strcmp(arguments[4], "--explain") == 0;
+    if (count != 4 + explains || strcmp(arguments[1], "replay") != 0 || strcmp(arguments[2], "--base") != 0) {
+        fputs("usage: baseline replay --base ID [--explain]\n", stderr);
         return 2;
     }
     make_tables();

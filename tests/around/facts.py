@@ -33,8 +33,10 @@ def of_page(text):
     words = parts["ORDERS"].split(".TP")[0]
     for word, said in re.findall(r"^(CH|VAL|OFF|RAMP)\n([^;]*)", words, re.MULTILINE):
         yield "range", word, *numbers(said)
-    for error in re.findall(r"\w+", parts["LINES"].split("An error is")[1].replace("\nor\n", " ")):
-        yield "error", error
+    reasons, errors = re.search(r"\nIts\nwhy\nis\n(.*)\nAn error is\n(.*)", parts["LINES"], re.DOTALL).groups()
+    for name, listed in (("why", reasons), ("error", errors)):
+        for word in re.findall(r"\w+", listed.replace("\nor\n", " ")):
+            yield name, word
     for case in parts["EXIT STATUS"].split(".TP\n")[1:]:
         for fault in re.findall(r"enogate: [a-z ]+", case):
             yield "fault", case.split()[0], fault
@@ -49,8 +51,9 @@ def of_guide(text):
     yield "turns", *re.search(r"After N turns, (\d+) to (\d+)", text).groups()
     for word, said in re.findall(r"^\| `(CH|VAL|OFF|RAMP)` \|[^|]*\|([^|]*)\|$", text, re.MULTILINE):
         yield "range", word, *numbers(said)
-    for error in re.findall(r"^\| `(\w+)` \|", text.split("| Error | When |")[1].split("\n\n")[0], re.MULTILINE):
-        yield "error", error
+    for name, head in (("why", "| `why` | Means | Do |"), ("error", "| Error | When |")):
+        for word in re.findall(r"^\| `(\w+)` \|", text.split(head)[1].split("\n\n")[0], re.MULTILINE):
+            yield name, word
     for status, fault in re.findall(r"^\| (\d) \| `(enogate: [a-z ]+)` \|", text, re.MULTILINE):
         yield "fault", status, fault
 
