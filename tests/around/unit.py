@@ -1,5 +1,6 @@
 """The commands that systemd runs for a unit, as a script for sh: with ROOT before each folder, NAME for the instance,
-and its variables as the environment has them. Those of ExecStopPost are run at its end, whatever ended it.
+and its variables as the environment has them. Those of ExecStopPost are run at its end, whatever ended it, and hear
+how it ended.
 
     tests/around/unit.py UNIT ROOT NAME
 """
@@ -18,8 +19,11 @@ def commands(setting):
         yield re.sub(r"%.|\$\$", lambda found: words[found[0]], command)
 
 
-print("trap", shlex.quote("\n".join(commands("ExecStopPost"))), "EXIT")
+# systemd's own words for an end, of which a unit may ask
+ends = "export EXIT_STATUS=${signal:-$?} SERVICE_RESULT=success\n"
+ends += "case $EXIT_STATUS in 0 | TERM) ;; *) SERVICE_RESULT=exit-code ;; esac\n"
+print("trap", shlex.quote(ends + "\n".join(commands("ExecStopPost"))), "EXIT")
 # a signal to all its processes, as systemd sends it, ends those of the start first
-print("trap exit TERM")
+print("trap 'signal=TERM; exit' TERM")
 for command in commands("ExecStart(?:Pre)?"):
     print(command, "|| exit")

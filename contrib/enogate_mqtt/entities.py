@@ -1,0 +1,124 @@
+"""The table `entities` beside this file: which entity of Home Assistant shows a reading."""
+import fnmatch
+import pathlib
+import re
+import shlex
+from dataclasses import dataclass, field
+from typing import Iterable, Optional
+
+from .lines import Reading, Telegram
+
+TABLE = pathlib.Path(__file__).with_name("entities")
+# the greatest channel that takes orders, by the kind of entity
+GREATEST_CHANNEL = {"switch": 29, "light": 29, "cover": 0}
+
+
+class WrongTable(ValueError):
+    """A line of the table has not the shape that the table tells."""
+
+
+@dataclass(frozen=True)
+class Row:
+    """A line of the table."""
+    profiles: str
+    reading: str
+    unit: str
+    topic: str
+    # the reading that tells the number of an entity, how many numbers the profile has, and whether they are shown
+    # before they are told
+    by: str
+    count: int
+    from_the_start: bool
+    entity: str
+    name: str
+    more: dict[str, str] = field(compare=False)
+
+    def place(self, number: Optional[int]) -> str:
+        """The topic of the entity with this number, below the topic of the device."""
+        return self.topic if number is None else f"{self.topic}/{number}"
+
+    def title(self, number: Optional[int]) -> Optional[str]:
+        """The name of the entity with this number; without one it bears that of the device."""
+        if number is None or (self.count == 1 and number == 0):
+            return self.name or None
+        return f"{self.name} {number}".strip()
+
+    def words(self, key: str) -> list[str]:
+        return self.more[key].split("|") if key in self.more else []
+
+    def numbers(self, told: Iterable[str]) -> list[Optional[int]]:
+        """The numbers of its entities, where a device has told these topics."""
+        if not self.by:
+            return [None]
+        start = set(range(self.count)) if self.from_the_start else set()
+        ends = (place.removeprefix(self.topic + "/") for place in told if place.startswith(self.topic + "/"))
+        every = sorted(start | set(map(int, ends)))
+        return [number for number in every if number <= GREATEST_CHANNEL.get(self.entity, number)]
+
+
+def row_of(line: str) -> Row:
+    """The row of a line."""
+    try:
+        words = ["" if word == "-" else word for word in shlex.split(line)]
+        profiles, reading, unit, topic, by, entity, name = words[:7]
+        more = dict(word.partition("=")[::2] for word in words[7:])
+    except ValueError as error:
+        raise WrongTable(line) from error
+    sign = "?" if "?" in by else ":"
+    by, _, count = by.partition(sign)
+    return Row(profiles, reading, unit, topic, by, int(count or 0), sign == ":", entity, name, more)
+
+
+class Table:
+    """The rows of the table."""
+
+    def __init__(self, path: pathlib.Path = TABLE):
+        lines = (line.strip() for line in path.read_text("utf-8").splitlines())
+        self.rows = [row_of(line) for line in lines if line and not line.startswith("#")]
+        self.found: dict[str, dict[tuple[str, str], Row]] = {}
+
+    def of_profile(self, eep: str) -> dict[tuple[str, str], Row]:
+        """The rows of a profile, by reading and unit: of each the first that fits."""
+        if eep not in self.found:
+            rows = self.found[eep] = {}
+            for row in self.rows:
+                if fnmatch.fnmatchcase(eep, row.profiles):
+                    rows.setdefault((row.reading, row.unit), row)
+        return self.found[eep]
+
+    def of_reading(self, eep: str, reading: Reading) -> Optional[Row]:
+        """The row of a reading. A word in place of a value has no unit: it has the row of the value."""
+        rows = self.of_profile(eep)
+        if (reading.name, reading.unit) in rows or reading.unit:
+            return rows.get((reading.name, reading.unit))
+        named = [row for row in rows.values() if row.reading == reading.name]
+        return named[0] if len(named) == 1 else None
+
+    def tells(self, eep: str, place: str) -> bool:
+        """Whether a device of this profile tells something at this place."""
+        rows = self.of_profile(eep).values()
+        names = {"dbm", *(row.reading for row in rows), *(row.topic for row in rows if row.entity not in ("", "event"))}
+        name, _, number = place.partition("/")
+        return name in names and bool(re.fullmatch("([0-9]{1,2})?", number))
+
+    def told_by(self, telegram: Telegram) -> dict[str, str]:
+        """The topics that a telegram tells, below that of its device, and what it tells there."""
+        told = {}
+        numbers = {reading.name: reading.number for reading in telegram.readings}
+        for reading in telegram.readings:
+            told[reading.name] = reading.text
+            row = self.of_reading(telegram.eep, reading)
+            if row and row.topic and row.entity != "event" and (not row.by or numbers.get(row.by) is not None):
+                told[row.place(numbers.get(row.by))] = reading.text
+        if telegram.dbm is not None:
+            told["dbm"] = str(telegram.dbm)
+        return told
+
+    def events_of(self, telegram: Telegram) -> list[tuple[str, str]]:
+        """The events that a telegram is: each by the topic of its entity, and its type. A release is one alone."""
+        events = []
+        for reading in telegram.readings:
+            row = self.of_reading(telegram.eep, reading)
+            if row and row.entity == "event" and reading.text in row.words("types"):
+                events.append((row.topic, reading.text))
+        return [event for event in events if event[1] == "released"] or events

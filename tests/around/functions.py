@@ -1,0 +1,19 @@
+"""Tells the functions of these Python files that are longer than 40 lines, and files with a line that is too long.
+
+    tests/around/functions.py FILE..
+"""
+import ast
+import sys
+
+MOST, WIDEST = 40, 120
+
+wrong = []
+for path in sys.argv[1:]:
+    with open(path, encoding="utf-8") as file:
+        text = file.read()
+    for node in ast.walk(ast.parse(text)):
+        if isinstance(node, ast.FunctionDef) and node.end_lineno - node.lineno >= MOST:
+            wrong.append(f"{path}: {node.name} has {node.end_lineno - node.lineno + 1} lines")
+    wrong += [f"{path}: {line[:40]}.." for line in text.split("\n") if len(line) > WIDEST]
+print(*wrong, sep="\n", end="\n" if wrong else "")
+sys.exit(bool(wrong))
