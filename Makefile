@@ -4,21 +4,22 @@
 #                    is there
 #   make test        the whole gate: every proof, edit, test and program; then the shell tests
 #   make build       proves and builds the program
-#   make install     puts the program that was built, its manual page, the words for bash, and
-#                    scripts/backup as enogate-backup, under $(DESTDIR)$(PREFIX)
-#   make uninstall   takes them away from there
+#   make package     makes the Debian package of the program that was built, in $(PACKAGES)
+#   make install     puts the program that was built, and what belongs to it, under
+#                    $(DESTDIR)$(PREFIX); packaging/files lists it
+#   make install-system   puts the units there, and what else a system wants of them; their
+#                    settings go to $(DESTDIR)/etc, if they are not there already
+#   make uninstall   takes all away from $(DESTDIR)$(PREFIX)
 #   make clean       removes all that was made
 #
-# The kit's command `rt` has to be on the PATH, but for `install`, `uninstall` and `clean`.
+# The kit's command `rt` has to be on the PATH for `demo`, `test` and `build`.
 
 PREFIX ?= /usr/local
+PACKAGES ?= .
 PROGRAM = crates/enogate/out/enogate
-BIN = $(DESTDIR)$(PREFIX)/bin
-MAN = $(DESTDIR)$(PREFIX)/share/man/man1
-WORDS = $(DESTDIR)$(PREFIX)/share/bash-completion/completions
 SOURCES = crates.txt $(shell find crates -name out -prune -o -name '*.rt' -print -o -name '*.antt' -print)
 
-.PHONY: demo build test install uninstall clean
+.PHONY: demo build test package install install-system uninstall clean
 
 demo:
 	@echo '$$ enogate replay --base FF800000 <examples/contact.txt'
@@ -39,17 +40,20 @@ $(PROGRAM): $(SOURCES)
 test:
 	tests/gate
 
-# It builds nothing, since root may run it.
-install: INSTALLS = yes
+# These build nothing: root may run them, and a package has the program that is proved.
+package install: INSTALLS = yes
+package: $(PROGRAM)
+	@packaging/debian/build "$(PACKAGES)"
+
 install: $(PROGRAM)
-	install -d "$(BIN)" "$(MAN)" "$(WORDS)"
-	install -m 755 $(PROGRAM) "$(BIN)/enogate"
-	install -m 755 scripts/backup "$(BIN)/enogate-backup"
-	install -m 644 contrib/enogate.1 "$(MAN)/enogate.1"
-	install -m 644 contrib/enogate.bash-completion "$(WORDS)/enogate"
+	packaging/place put program "$(DESTDIR)" "$(PREFIX)"
+
+install-system:
+	packaging/place put system "$(DESTDIR)" "$(PREFIX)"
 
 uninstall:
-	rm -f "$(BIN)/enogate" "$(BIN)/enogate-backup" "$(MAN)/enogate.1" "$(WORDS)/enogate"
+	packaging/place away "$(DESTDIR)" "$(PREFIX)"
 
 clean:
-	rm -rf crates/*/out target scripts/rows/__pycache__ tests/program/__pycache__ bench/__pycache__
+	rm -rf crates/*/out target */__pycache__ */*/__pycache__
+	rm -f enogate_*.deb
