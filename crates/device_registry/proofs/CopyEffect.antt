@@ -29,7 +29,7 @@ use Rattle.device_registry.proofs.StatementTexts.{program_of, copy_query}
 use Rattle.device_registry.proofs.SenderTests.{overlay_is}
 use Rattle.device_registry.proofs.ListDevicesAnswer.{envs}
 use Rattle.device_registry.proofs.TablesAlone.{StandsAlone}
-use Rattle.device_registry.proofs.RowWrites.{went, same_value, cast_int, cast_none, cast_label, SparesOthers, spares}
+use Rattle.device_registry.proofs.RowWrites.{went, same_value, cast_int, cast_none, cast_label, SparesOthers, spares, spares_as}
 
 -- ---- the rows that are copied
 
@@ -128,6 +128,6 @@ copies schema to n d limit mode db text tally after there stands none all does =
     let rows : after.trees n ≡ put_all [] given.0 =
     ap (λ (s : Trees). s n) trees ∙ step.rows ∙ ap (put_all (db n)) as_given ∙ ap (λ rs. put_all rs given.0) none in (
       ap (λ (db : Database). db.schema) now,
-      λ i t is other. ap (λ (s : Trees). s t.tree) trees ∙ spares schema mode.keys db edits.0 edit step i t is other,
+      spares_as schema n db edits.0 after.trees trees (spares schema mode.keys db edits.0 edit step),
       (given.0, turned, rows),
     )

@@ -1,7 +1,7 @@
 -- What a database holds is one thing, and how it changes where rows are written.
 use Rattle.std.proofs.Common.{is_some, ◌<◌, ℤ}
-use Rattle.std.proofs.Common.{◌≡◌, ℕ, ◌≤◌, ◌+◌, ◌-◌, Bool, true, false, cond, nat_le, refl, List, [], ◌∷◌}
-use Rattle.std.proofs.Common.{length, Some, Option, slice_get, sym, ap, subst, ◌∙◌, arith}
+use Rattle.std.proofs.Common.{◌≡◌, ◌≢◌, ℕ, ◌≤◌, ◌+◌, ◌-◌, Bool, true, false, cond, nat_le, refl, List, [], ◌∷◌}
+use Rattle.std.proofs.Common.{length, map, Some, Option, slice_get, sym, ap, subst, ◌∙◌, arith}
 use Rattle.std.proofs.lemmas.Bool.Decides.{nat_tests}
 use Rattle.std.proofs.lemmas.Cmp.{nat_cmp_total}
 use Rattle.std.specs.List.{AllByRecursion}
@@ -9,16 +9,22 @@ use Rattle.std.specs.FinMap.{get, insert, remove, len, contains_key, len-insert,
 use Rattle.sqlite.specs.Order.{Row}
 use Rattle.sqlite.specs.Schema.{Schema}
 use Rattle.sqlite.specs.Table.{Table}
-use Rattle.sqlite.specs.Effect.{Database}
+use Rattle.sqlite.specs.Effect.{Database, IsDatabase}
+use Rattle.sqlite.specs.Listing.{shown}
 use Rattle.sqlite_trees.specs.Tree.{Trees, without_rowid}
 use Rattle.sqlite_trees.specs.Objects.{catalog_tree}
-use Rattle.sqlite_rules.specs.Edit.{without_all}
+use Rattle.sqlite_rules.specs.Edit.{without_all, put_all, IsNoIndex}
+use Rattle.sqlite_rules.specs.Lists.{Has}
+use Rattle.sqlite_rules.proofs.ListLemmas.{all_from, has_got}
+use Rattle.sqlite_catalog.specs.Listing.{IsSound, IsTableRow, IsIndexRow}
+use Rattle.sqlite_catalog.proofs.LayoutLemmas.{zipped_left}
 use Rattle.sqlite_catalog.proofs.ReadLemmas.{lists_once}
 use Rattle.device_registry.specs.declared.table.Version.{Version}
 use Rattle.device_registry.specs.declared.table.Version.TheVariants.{Second}
-use Rattle.device_registry.specs.Table.{device_name, device_table, meta_table}
+use Rattle.device_registry.specs.Table.{device_name, device_text, device_table, meta_name, meta_text, meta_table}
 use Rattle.device_registry.specs.Devices.{Devices, Learned, is_full, most_devices}
 use Rattle.device_registry.specs.Stored.{IsRegistry, RegistersAs, HoldsAs, Registers, Holds, Stands}
+use Rattle.device_registry.specs.Stored.{AreListed, IsListedAs}
 use Rattle.device_registry.specs.Table.Rows.{RowidsDiffer, IsDevice, IsVersion, devices_in, rows_of, stored}
 use Rattle.device_registry.specs.Opening.{FewAreHeld}
 use Rattle.device_registry.proofs.RowsAsMap.{IsShort, devices_replaced, put_are_devices, all_without_are_devices}
@@ -72,21 +78,50 @@ held_once = held_by Second
 
 -- ---- after a write
 
+-- where the list of the objects is as it was, they are listed as they were
+pub listed_still : (version : Version) (before after : Trees) → after catalog_tree ≡ before catalog_tree
+    → AreListed version before → AreListed version after
+listed_still version before after same listed =
+    (still meta_name meta_text listed.0, still (device_name version) (device_text version) listed.1)
+  where
+    still : (name text : List ℕ) → IsListedAs before name text → IsListedAs after name text
+    still name text it = record {
+      row = it.row;
+      listed = subst (λ rows. Has (put_all [] (map shown rows)) it.row) (sym same) it.listed;
+      name_is = it.name_is;
+      sql = it.sql;
+    }
+
+-- no table and no index lies in the tree of the list
+beside : (tree : ℕ) → tree < 65536 → tree ≢ catalog_tree
+beside tree low same = omega (arith, low, same)
+
+no_index_there : (schema : Schema) (trees : Trees) → IsSound schema trees → IsNoIndex schema catalog_tree
+no_index_there schema trees sound = all_from _ schema.indexes (λ i has.
+    beside i.tree (zipped_left (IsIndexRow schema.tables) _ schema.indexes i sound.lists.listed.indexes has).2.described.low)
+
+table_beside : (schema : Schema) (trees : Trees) (t : Table) → IsSound schema trees → Has schema.tables t
+    → t.tree ≢ catalog_tree
+table_beside schema trees t sound has =
+    beside t.tree (zipped_left IsTableRow _ schema.tables t sound.lists.listed.tables has).2.described.low
+
 module _ (before : Database) (registry : IsRegistry Second before) where
   -- the tables stand as they did
-  pub registers_after : (after : Database) (devices : Devices) → after.schema ≡ before.schema → (row : Row)
+  pub registers_after : (after : Database) (devices : Devices) → after.schema ≡ before.schema
+      → after.trees catalog_tree ≡ before.trees catalog_tree → (row : Row)
       → after.trees registry.tables.meta ≡ row ∷ [] → IsVersion Second row
       → AllByRecursion IsDevice (after.trees registry.tables.devices)
       → RowidsDiffer (after.trees registry.tables.devices) → length (after.trees registry.tables.devices) ≤ most_devices
       → devices_in (after.trees registry.tables.devices) ≡ devices
       → Registers after devices
-  registers_after after devices schema row one version rows once few is =
+  registers_after after devices schema objects row one version rows once few is =
       let then : Database = record { schema = before.schema; trees = after.trees } in
       let same : then ≡ after = λ i. record { schema = sym schema i; trees = after.trees } in
       subst (λ db. Registers db devices) same (record {
         registry = record {
           tables = registry.tables;
           whole = record { row = row; one = one; numbered = version; rows = rows; once = once; few = few };
+          listed = listed_still Second before.trees after.trees objects registry.listed;
         };
         is = is;
       })
@@ -125,7 +160,17 @@ room_for_known db devices id it had known =
     one_less (len devices) (len (remove devices id)) (len-remove nat_cmp_total devices id
     ∙ ap (λ (o : Option Learned). cond (is_some o) (len devices - 1) (len devices)) known) (few_devices db devices had)
 
-module _ (before after : Database) (devices : Devices) (had : Registers before devices) where
+module _ (before after : Database) (devices : Devices) (had : Registers before devices) (sound : IsDatabase before) where
+  meta_beside : had.registry.tables.meta ≢ catalog_tree
+  meta_beside = table_beside before.schema before.trees (meta_table had.registry.tables.meta) sound (has_got
+      before.schema.tables had.registry.tables.meta_at (meta_table had.registry.tables.meta)
+      had.registry.tables.meta_stands.there)
+
+  devices_beside : had.registry.tables.devices ≢ catalog_tree
+  devices_beside = table_beside before.schema before.trees (device_table Second had.registry.tables.devices) sound
+      (has_got before.schema.tables had.registry.tables.devices_at (device_table Second had.registry.tables.devices)
+      had.registry.tables.devices_stand.there)
+
   pub put_registers : (id : ℕ) (it : Learned) → IsShort it.eep → is_full devices id ≡ false
       → after.schema ≡ before.schema → IsPut before.schema had.registry.tables.devices id it before.trees after.trees
       → Registers after (insert devices id it)
@@ -145,8 +190,9 @@ module _ (before after : Database) (devices : Devices) (had : Registers before d
       let few : len (insert devices id it) ≤ 1000 =
       one_more (contains_key devices id) (len devices) _ _ (len-insert nat_cmp_total devices id it)
       (len-remove nat_cmp_total devices id) room (few_devices before devices had) in
-      registers_after before r after (insert devices id it) schema r.whole.row
-      (put.others r.tables.meta_at (meta_table r.tables.meta) r.tables.meta_stands.there r.tables.apart ∙ r.whole.one)
+      registers_after before r after (insert devices id it) schema
+      (put.others.objects devices_beside (no_index_there before.schema before.trees sound)) r.whole.row
+      (put.others.tables r.tables.meta_at (meta_table r.tables.meta) r.tables.meta_stands.there r.tables.apart ∙ r.whole.one)
       r.whole.numbered all once (subst (λ n. n ≤ 1000) (sym size) few) is
 
   pub forgotten_registers : (id : ℕ) → after.schema ≡ before.schema
@@ -160,16 +206,18 @@ module _ (before after : Database) (devices : Devices) (had : Registers before d
       let size : length (after.trees r.tables.devices) ≡ len (remove devices id) =
       sym (len_is (after.trees r.tables.devices) gone.rows gone.once) ∙ ap len is in
       let few : len (remove devices id) ≤ 1000 = omega (arith, fewer devices id, few_devices before devices had) in
-      registers_after before r after (remove devices id) schema r.whole.row
-      (others r.tables.meta_at (meta_table r.tables.meta) r.tables.meta_stands.there r.tables.apart ∙ r.whole.one)
+      registers_after before r after (remove devices id) schema
+      (others.objects devices_beside (no_index_there before.schema before.trees sound)) r.whole.row
+      (others.tables r.tables.meta_at (meta_table r.tables.meta) r.tables.meta_stands.there r.tables.apart ∙ r.whole.one)
       r.whole.numbered gone.rows gone.once (subst (λ n. n ≤ 1000) (sym size) few) is
 
   pub renewed_registers : after.schema ≡ before.schema → after.trees had.registry.tables.meta ≡ version_row ∷ []
       → SparesOthers before.schema had.registry.tables.meta before.trees after.trees → Registers after devices
   renewed_registers schema version others =
       let r = had.registry in
-      let same : after.trees r.tables.devices ≡ before.trees r.tables.devices = others r.tables.devices_at
+      let same : after.trees r.tables.devices ≡ before.trees r.tables.devices = others.tables r.tables.devices_at
       (device_table Second r.tables.devices) r.tables.devices_stand.there (λ e. r.tables.apart (sym e)) in
-      registers_after before r after devices schema version_row version (record { key = refl; number = refl })
+      registers_after before r after devices schema
+      (others.objects meta_beside (no_index_there before.schema before.trees sound)) version_row version (record { key = refl; number = refl })
       (subst (AllByRecursion IsDevice) (sym same) r.whole.rows) (subst RowidsDiffer (sym same) r.whole.once)
       (subst (λ rows. length rows ≤ most_devices) (sym same) r.whole.few) (ap devices_in same ∙ had.is)

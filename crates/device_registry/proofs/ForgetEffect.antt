@@ -31,7 +31,7 @@ use Rattle.device_registry.proofs.StatementTexts.{program_of, forget_query}
 use Rattle.device_registry.proofs.TablesAlone.{StandsAlone}
 use Rattle.device_registry.proofs.RowsAsMap.{seen, devices_without, without_are_devices}
 use Rattle.device_registry.proofs.SenderTests.{asked, hits, found, no_rows, overlay_is}
-use Rattle.device_registry.proofs.RowWrites.{went, same_value, SparesOthers, spares, without_once}
+use Rattle.device_registry.proofs.RowWrites.{went, same_value, SparesOthers, spares, spares_as, without_once}
 
 -- the rows are without that of the sender
 pub record IsForgotten (id : ℕ) (before after : List Row) : Type 0 where
@@ -115,5 +115,5 @@ forgets schema at d limit mode id db text tally after there stands all once does
       ap (λ (db : Database). db.schema) now,
       subst (IsForgotten id (db d)) (sym rows)
           (left id (db d) queried.0 all once (taken d id db queried.0 all once (queried.1.answer Null))),
-      λ i t is other. ap (λ (s : Trees). s t.tree) trees ∙ spares schema mode.keys db edited.0 edit step i t is other,
+      spares_as schema d db edited.0 after.trees trees (spares schema mode.keys db edited.0 edit step),
     )

@@ -10,7 +10,7 @@ use Rattle.sqlite_trees.specs.declared.store.Store.{Ghosts}
 use Rattle.device_registry.specs.declared.table.Version.{Version}
 use Rattle.device_registry.specs.Table.{list_objects_text}
 use Rattle.device_registry.specs.Listing.{are_ours}
-use Rattle.device_registry.specs.Opening.{AreListed}
+use Rattle.device_registry.specs.Stored.{AreListed}
 use Rattle.device_registry.specs.Transaction.{IsUncommitted, IsInside, IsListedInside}
 use Rattle.device_registry.proofs.ListObjectsAnswer.{listing_plain}
 use Rattle.device_registry.proofs.RefusalKeeps.{spared_commit}

@@ -24,13 +24,14 @@ use Rattle.sqlite.proofs.Callers.{runs_as, statement_of}
 use Rattle.device_registry.specs.declared.table.Version.TheVariants.{Second}
 use Rattle.device_registry.specs.Table.{meta_text, device_text, write_version_text}
 use Rattle.device_registry.specs.Table.{device_name, meta_table, device_table}
-use Rattle.device_registry.specs.Stored.{HasTables, Registers, Holds}
+use Rattle.device_registry.specs.Stored.{HasTables, AreListed, Registers, Holds}
 use Rattle.device_registry.specs.Table.Rows.{RowidsDiffer, IsDevice, devices_in}
-use Rattle.device_registry.specs.Ready.{Shows}
+use Rattle.device_registry.specs.Ready.{Shows, KeepsOthers}
 use Rattle.device_registry.specs.Devices.{Devices, most_devices}
-use Rattle.device_registry.specs.Opening.{IsClear, Remains}
+use Rattle.device_registry.specs.Stored.{IsClear}
+use Rattle.device_registry.specs.Opening.{Remains}
 use Rattle.device_registry.specs.Places.{is_clear}
-use Rattle.device_registry.specs.Transaction.{IsInside}
+use Rattle.device_registry.specs.Transaction.{IsInside, IsListedInside}
 use Rattle.device_registry.proofs.TableTexts.{meta_is, device_is}
 use Rattle.device_registry.proofs.RowWrites.{went, same_value}
 use Rattle.device_registry.proofs.CreateTablesMeaning.{meta_makes, device_makes}
@@ -41,7 +42,11 @@ use Rattle.device_registry.proofs.TablesAlone.{meta_alone}
 use Rattle.device_registry.proofs.RenewEffect.{version_row}
 use Rattle.device_registry.proofs.SchemaTests.{cleared}
 use Rattle.device_registry.proofs.TransactionSteps.{since, leaves, uncommitted_remains}
-use Rattle.device_registry.proofs.VersionWrites.{numbers}
+use Rattle.device_registry.proofs.VersionWrites.{numbers, has_at}
+use Rattle.device_registry.proofs.TablesMigrated.{has_before}
+use Rattle.sqlite_catalog.proofs.StepLemmas.{table_below}
+use Rattle.sqlite_rules.specs.Lists.{Has}
+use Rattle.sqlite_rules.proofs.ListLemmas.{all_has}
 
 -- a table is made, empty, and the tables that were there keep their rows
 pub creates : (limit : Option ℕ) (mode : Mode) (old after : Database) (text : List ℕ) (tally : Tally) (table : Table)
@@ -71,9 +76,9 @@ record StandIn (schema : Schema) (meta devices : ℕ) : Type 0 where
 
 -- the two tables hold the version row and nothing else
 registers : (db : Database) (t : HasTables Second db.schema) → db.trees t.meta ≡ version_row ∷ []
-    → db.trees t.devices ≡ []
+    → db.trees t.devices ≡ [] → AreListed Second db.trees
     → Registers db empty
-registers db t one none = record {
+registers db t one none listed = record {
   registry = record {
     tables = t;
     whole = record {
@@ -84,6 +89,7 @@ registers db t one none = record {
       once = subst RowidsDiffer (sym none) tt;
       few = subst (λ rows. length rows ≤ most_devices) (sym none) (omega arith);
     };
+    listed = listed;
   };
   is = ap (λ rows. devices_in rows) none;
 }
@@ -96,16 +102,18 @@ module _ (a b c : State) (i j : ℕ) (clear : IsClear a.now.schema) (sound : IsD
   half_counted = still_counted a.now.schema (meta_table 0) refl clear.counted
 
   half : (b.now.schema ≡ with_meta a.now.schema) × (b.now.trees (next_tree a.now.schema) ≡ []) × IsDatabase b.now
+      × KeepsRows a.now.schema.tables a.now.trees b.now.trees
   half =
       let makes = meta_makes a.now.schema clear.free_meta in
       let one = runs_as meta_text [] a b a.now.schema refl CreateTable makes.means.is makes.means.plain i first.0 in
       let made = creates a.step_limit (mode_of a) a.now b.now meta_text one.tally (meta_table 0) meta_is half_counted
       (subst (λ t. Does a.step_limit (mode_of a) [] a.now t None CreateTable (Ok (one.tally, b.now))) makes.alone
       one.changed) in
-      (made.0, made.1, one.sound)
+      (made.0, made.1, one.sound, made.2)
 
   whole : (c.now.schema ≡ with_both a.now.schema) × (c.now.trees (next_tree (with_meta a.now.schema)) ≡ [])
       × (c.now.trees (next_tree a.now.schema) ≡ []) × IsDatabase c.now
+      × KeepsRows b.now.schema.tables b.now.trees c.now.trees
   whole =
       let before = half in
       let makes =
@@ -127,6 +135,20 @@ module _ (a b c : State) (i j : ℕ) (clear : IsClear a.now.schema) (sound : IsD
         subst (λ s. c.now.trees (next_tree s) ≡ []) before.0 made.1,
         kept ∙ before.1,
         two.sound,
+        made.2,
+      )
+
+  -- each table that was there is there, with its rows
+  kept_all : (table : Table) → Has a.now.schema.tables table
+      → Has c.now.schema.tables table × (c.now.trees table.tree ≡ a.now.trees table.tree)
+  kept_all table has =
+      let in_half = has_before a.now.schema.tables (meta_table (next_tree a.now.schema) ∷ []) table has in
+      let in_b : Has b.now.schema.tables table = subst (λ (s : Schema). Has s.tables table) (sym half.0) in_half in
+      let in_both = has_before (with_meta a.now.schema).tables
+      (device_table Second (next_tree (with_meta a.now.schema)) ∷ []) table in_half in (
+        subst (λ (s : Schema). Has s.tables table) (sym whole.0) in_both,
+        all_has (λ (t : Table). c.now.trees t.tree ≡ b.now.trees t.tree) b.now.schema.tables table whole.4 in_b
+            ∙ all_has (λ (t : Table). b.now.trees t.tree ≡ a.now.trees t.tree) a.now.schema.tables table half.3 has,
       )
 
   stand : StandIn c.now.schema (next_tree a.now.schema) (next_tree (with_meta a.now.schema))
@@ -145,11 +167,19 @@ module _ (a b c : State) (i j : ℕ) (clear : IsClear a.now.schema) (sound : IsD
       subst (λ s. StandIn s (next_tree a.now.schema) (next_tree (with_meta a.now.schema))) (sym after.0)
       (record { tables = t.0; meta_is = t.1; devices_is = t.2 })
 
+-- each table that was there is there still, with the rows that it had
+abbrev KeepsAll : Database → Database → Type 0
+KeepsAll old new = (table : Table) → Has old.schema.tables table
+    → Has new.schema.tables table × (new.trees table.tree ≡ old.trees table.tree)
+
+apart_from : (a b : ℕ) → a < b → a ≡ b → ⊥
+apart_from a b low same = omega (arith, low, same)
+
 -- and the version row is written
 makes : (a b c d : State) (i j k : ℕ) → IsClear a.now.schema → IsDatabase a.now
     → ExecutesInside 0 meta_text [] a b (Ok i) → ExecutesInside 0 (device_text Second) [] b c (Ok j)
     → ExecutesInside 0 write_version_text [] c d (Ok k)
-    → Registers d.now empty × IsDatabase d.now
+    → (AreListed Second d.now.trees → Registers d.now empty) × IsDatabase d.now × KeepsAll a.now d.now
 makes a b c d i j k clear sound first second third =
     let after = whole a b c i j clear sound first second in
     let it = stand a b c i j clear sound first second in
@@ -162,12 +192,20 @@ makes a b c d i j k clear sound first second third =
     numbers c.now.schema t.meta_at t.meta c.step_limit (mode_of c) c.now.trees
     (statement_of write_version_text (understood c.now.schema write_version_text)) three.tally d.now t.meta_stands.there
     (meta_alone c.now.schema t) none three.changed in
-    let kept : d.now.trees t.devices ≡ [] = put.2 t.devices_at (device_table Second t.devices) t.devices_stand.there
+    let kept : d.now.trees t.devices ≡ [] = put.2.tables t.devices_at (device_table Second t.devices) t.devices_stand.there
     (λ e. t.apart (sym e)) ∙ ap c.now.trees it.devices_is ∙ after.1 in
     let now = subst (λ s. StandIn s t.meta t.devices) (sym put.0)
     (record { tables = t; meta_is = refl; devices_is = refl }) in (
       registers d.now now.tables (ap d.now.trees now.meta_is ∙ put.1) (ap d.now.trees now.devices_is ∙ kept),
       three.sound,
+      λ table has.
+          let low = table_below a.now.schema table has in
+          let was = kept_all a b c i j clear sound first second table has in
+          let at = has_at c.now.schema.tables table was.0 in (
+            subst (λ (s : Schema). Has s.tables table) (sym put.0) was.0,
+            put.2.tables at.0 table at.1 (λ e. apart_from table.tree (next_tree a.now.schema) low (e ∙ it.meta_is))
+                ∙ was.1,
+          ),
     )
 
 -- ---- the transaction
@@ -193,21 +231,45 @@ pub ok_committed : {V : Type 0} (d e : State) (r : Result V Error) (P : Type 0) 
 ok_committed d e (Ok v) P so ends = so ends
 ok_committed d e (Err x) P so ends = tt
 
-module _ {S : Type 0} (g : Ghosts S) (old start last : Held S) (is : start ≡ record old { in_transaction = true })
-    (it : IsInside g (meta_text ∷ device_text Second ∷ write_version_text ∷ []) start last)
+abbrev pub making : List (List ℕ)
+making = meta_text ∷ device_text Second ∷ write_version_text ∷ []
+
+-- where the two tables are listed with our texts, it is a registry of no devices
+abbrev IsMade : Database → Database → Type 0
+IsMade old db = (AreListed Second db.trees → Registers db empty) × IsDatabase db × KeepsAll old db
+
+module _ {S : Type 0} (g : Ghosts S) (old start : Held S) (is : start ≡ record old { in_transaction = true })
     (free : HasCleanDisk (state g old) → IsTrue (is_clear (state g old).now.schema)
     × IsDatabase (state g old).now) where
   -- what it shows behind the three texts
-  shows : HasCleanDisk (state g last) → Registers (state g last).now empty × IsDatabase (state g last).now
-  shows clean =
-      let at = subst (λ h. IsInside g (meta_text ∷ device_text Second ∷ write_version_text ∷ []) h last) is it in
-      let was = free (omega (arith, clean, (since g old start (state g last) is it.uncommitted).stop.clean)) in
+  ran : (mid : Held S) → IsInside g making start mid → HasCleanDisk (state g mid)
+      → IsMade (state g old).now (state g mid).now
+  ran mid it clean =
+      let at = subst (λ h. IsInside g making h mid) is it in
+      let was = free (omega (arith, clean, (since g old start (state g mid) is it.uncommitted).stop.clean)) in
       let first = at.ran clean in
       let second = first.3 in
       let third = second.3 in
-      subst (λ h. Registers (state g h).now empty × IsDatabase (state g h).now) third.3
+      subst (λ h. IsMade (state g old).now (state g h).now) third.3
       (makes (state g (record old { in_transaction = true })) (state g first.0) (state g second.0) (state g third.0)
       first.1 second.1 third.1 (cleared (state g old).now.schema was.0) was.1 first.2 second.2 third.2)
+
+  -- it is a database
+  pub sound_inside : (mid : Held S) → HasCleanDisk (state g mid) → IsInside g making start mid
+      → IsDatabase (state g mid).now
+  sound_inside mid clean it = (ran mid it clean).1
+
+module _ {S : Type 0} (g : Ghosts S) (old start last : Held S) (is : start ≡ record old { in_transaction = true })
+    (it : IsListedInside g Second making start last)
+    (free : HasCleanDisk (state g old) → IsTrue (is_clear (state g old).now.schema)
+    × IsDatabase (state g old).now) where
+  -- what it shows before the commit
+  shows : HasCleanDisk (state g last) → Registers (state g last).now empty × IsDatabase (state g last).now
+      × KeepsAll (state g old).now (state g last).now
+  shows clean =
+      let done = ran g old start is free it.mid it.made (it.clean clean) in
+      let here = subst (IsMade (state g old).now) (sym (it.same clean)) done in
+      (here.0 (it.listed clean here.1), here.1, here.2)
 
   module _ {V : Type 0} (r : Result V Error) (e : State)
       (commits : Survives (state g last) e (λ trees. trees ≡ (state g last).now.trees)) where
@@ -215,6 +277,14 @@ module _ {S : Type 0} (g : Ghosts S) (old start last : Held S) (is : start ≡ r
     made ends clean =
         let db = shows (omega (arith, clean, commits.clean)) in
         ok_committed (state g last) e r (Shows e empty) (shows_committed (state g last) e empty db.0 db.1) (ends clean)
+
+    pub made_others : (HasCleanDisk e → OnOk r (Commits (state g last) e)) → HasCleanDisk e
+        → OnOk r (KeepsOthers (state g old).now e.now)
+    made_others ends clean =
+        let db = shows (omega (arith, clean, commits.clean)) in
+        ok_committed (state g last) e r (KeepsOthers (state g old).now e.now)
+        (λ done table has _ _. subst (λ (db : Database). Has db.schema.tables table
+        × (db.trees table.tree ≡ (state g old).now.trees table.tree)) (sym done.1.now_is) (db.2 table has)) (ends clean)
 
     pub made_stop : Survives (state g old) e (λ trees. Holds trees empty)
     made_stop =

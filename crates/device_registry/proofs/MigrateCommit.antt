@@ -1,5 +1,6 @@
 -- The transaction of the migration, from its begin to its end.
-use Rattle.std.proofs.Common.{◌≡◌, ℕ, List, [], ◌∷◌, Result, OnOk, IfErr, OnErr, true, refl, sym, subst}
+use Rattle.std.proofs.Common.{◌≡◌, ◌≢◌, ◌∙◌, false, ℕ, List, [], ◌∷◌, Result, OnOk, IfErr, OnErr, true, refl, sym}
+use Rattle.std.proofs.Common.{subst}
 use Rattle.std.proofs.Common.{arith}
 use Rattle.sqlite.specs.declared.error.Error.{Error}
 use Rattle.sqlite.specs.Effect.{Database, IsDatabase}
@@ -9,26 +10,29 @@ use Rattle.sqlite.specs.Held.{Held, state}
 use Rattle.sqlite_trees.specs.declared.store.Store.{Ghosts}
 use Rattle.device_registry.specs.declared.table.Version.TheVariants.{First, Second}
 use Rattle.device_registry.specs.Devices.{Devices}
-use Rattle.device_registry.specs.Table.{device_text, copy_text, drop_text, renew_text}
+use Rattle.device_registry.specs.Table.{meta_name, device_name, device_text, copy_text, drop_text, renew_text}
 use Rattle.device_registry.specs.Table.Rows.{devices_in, rows_of}
-use Rattle.device_registry.specs.Stored.{IsRegistry, RegistersAs, Registers, Holds}
-use Rattle.device_registry.specs.Ready.{Shows}
-use Rattle.device_registry.specs.Opening.{AreListed, IsOwn, Remains}
+use Rattle.device_registry.specs.Stored.{KeepsTree, IsRegistry, AreListed, RegistersAs, Registers, Holds}
+use Rattle.sqlite.specs.Table.{Table}
+use Rattle.sqlite_schema.specs.Names.{same_name}
+use Rattle.sqlite_rules.proofs.ListLemmas.{all_has}
+use Rattle.device_registry.specs.Ready.{Shows, KeepsOthers}
+use Rattle.device_registry.specs.Opening.{Remains}
 use Rattle.device_registry.specs.Transaction.{IsUncommitted, IsInside, IsListedInside}
 use Rattle.device_registry.proofs.DevicesHeld.{registers_by}
 use Rattle.device_registry.proofs.MakeEffect.{Commits, shows_committed, ok_committed}
-use Rattle.device_registry.proofs.MigrateEffect.{migrates}
+use Rattle.device_registry.proofs.MigrateEffect.{migrates, others_kept}
 use Rattle.device_registry.proofs.TransactionSteps.{since, leaves, uncommitted_remains}
 
 abbrev pub migration : List (List ℕ)
 migration = device_text Second ∷ copy_text ∷ drop_text ∷ renew_text ∷ []
 
--- a database that shows a registry of the second version with the devices of a first, listed as this program lists it
+-- a database that shows a registry of the second version with the devices of a first
 record IsMigrated (old : Database) (new : Database) : Type 0 where
   registry : IsRegistry First old
   registers : Registers new (devices_in (rows_of First (old.trees registry.tables.devices)))
   sound : IsDatabase new
-  listed : AreListed Second new.trees
+  others : KeepsOthers old new
 
 -- it registers whatever the first did
 same_devices : (old new : Database) → IsMigrated old new → (devices : Devices) → RegistersAs First old devices
@@ -36,26 +40,40 @@ same_devices : (old new : Database) → IsMigrated old new → (devices : Device
 same_devices old new it devices were = subst (Registers new)
     (registers_by First old _ devices (record { registry = it.registry; is = refl }) were) it.registers
 
-owned : (old new : Database) → IsMigrated old new → IsOwn Second new.trees
-owned old new it =
-    record { db = new; same = refl; sound = it.sound; registry = it.registers.registry; listed = it.listed }
+-- where the tables are listed with our texts, the database is a registry of those devices
+abbrev IsMade : (old : Database) → IsRegistry First old → Database → Type 0
+IsMade old was db =
+    (AreListed Second db.trees → Registers db (devices_in (rows_of First (old.trees was.tables.devices))))
+    × IsDatabase db × KeepsOthers old db
+
+-- a table with none of our names lies in none of our trees
+apart_by_name : (name : List ℕ) (tree : ℕ) (table : Table) → KeepsTree name tree table
+    → same_name table.name name ≡ false → table.tree ≢ tree
+apart_by_name name tree table keeps other same = absurd (let e = sym (keeps same) ∙ other in cc)
 
 -- what the texts make of a first version
 module _ {S : Type 0} (g : Ghosts S) (old start mid : Held S) (is : start ≡ record old { in_transaction = true })
     (it : IsInside g migration start mid) (was : IsRegistry First (state g old).now)
     (was_sound : IsDatabase (state g old).now) (clean : HasCleanDisk (state g mid)) where
-  pub ran : Registers (state g mid).now (devices_in (rows_of First ((state g old).now.trees was.tables.devices)))
-      × IsDatabase (state g mid).now
+  pub ran : IsMade (state g old).now was (state g mid).now
   ran =
       let at = subst (λ h. IsInside g migration h mid) is it in
       let one = at.ran clean in
       let two = one.3 in
       let three = two.3 in
       let four = three.3 in
-      subst (λ h. Registers (state g h).now
-      (devices_in (rows_of First ((state g old).now.trees was.tables.devices))) × IsDatabase (state g h).now) four.3
-      (migrates (state g (record old { in_transaction = true })) (state g one.0) (state g two.0) (state g three.0)
-      (state g four.0) one.1 two.1 three.1 four.1 was was_sound one.2 two.2 three.2 four.2)
+      let done = migrates (state g (record old { in_transaction = true })) (state g one.0) (state g two.0)
+      (state g three.0) (state g four.0) one.1 two.1 three.1 four.1 was was_sound one.2 two.2 three.2 four.2 in
+      subst (λ h. IsMade (state g old).now was (state g h).now) four.3 (
+        done.0,
+        done.1,
+        λ table has not_meta not_devices.
+            let alone = all_has _ (state g old).now.schema.tables table was.tables.alone has in
+            others_kept (state g (record old { in_transaction = true })) (state g one.0) (state g two.0) (state g three.0)
+            (state g four.0) one.1 two.1 three.1 four.1 was was_sound one.2 two.2 three.2 four.2 table has
+            (apart_by_name meta_name was.tables.meta table alone.0 not_meta)
+            (apart_by_name (device_name First) was.tables.devices table alone.1 (not_devices First)),
+      )
 
 module _ {S : Type 0} (g : Ghosts S) (old start : Held S) (is : start ≡ record old { in_transaction = true })
     (first : HasCleanDisk (state g old) → IsRegistry First (state g old).now × IsDatabase (state g old).now) where
@@ -77,43 +95,39 @@ module _ {S : Type 0} (g : Ghosts S) (old start last : Held S) (is : start ≡ r
   shows clean =
       let was = before g old start is first (state g last) it.uncommitted clean in
       let done = ran g old start it.mid is it.made was.0 was.1 (it.clean clean) in
-      let P = λ (db : Database).
-      Registers db (devices_in (rows_of First ((state g old).now.trees was.0.tables.devices))) × IsDatabase db in
-      let here = subst P (sym (it.same clean)) done in
-      record { registry = was.0; registers = here.0; sound = here.1; listed = it.listed clean here.1 }
+      let here = subst (IsMade (state g old).now was.0) (sym (it.same clean)) done in
+      record { registry = was.0; registers = here.0 (it.listed clean here.1); sound = here.1; others = here.2 }
 
   module _ {V : Type 0} (r : Result V Error) (e : State)
       (commits : Survives (state g last) e (λ trees. trees ≡ (state g last).now.trees)) where
-    pub made : (HasCleanDisk e → OnOk r (Commits (state g last) e)) → HasCleanDisk e → OnOk r (IsOwn Second e.now.trees
-        × ((devices : Devices) → RegistersAs First (state g old).now devices → Shows e devices))
+    pub made : (HasCleanDisk e → OnOk r (Commits (state g last) e)) → HasCleanDisk e
+        → OnOk r ((devices : Devices) → RegistersAs First (state g old).now devices → Shows e devices)
     made ends clean =
         let db = shows (omega (arith, clean, commits.clean)) in
         ok_committed (state g last) e r
-        (IsOwn Second e.now.trees
-        × ((devices : Devices) → RegistersAs First (state g old).now devices → Shows e devices))
-        (λ done. (
-          subst (λ (db : Database). IsOwn Second db.trees) (sym done.1.now_is)
-              (owned (state g old).now (state g last).now db),
-          λ devices were. shows_committed (state g last) e devices
-              (same_devices (state g old).now (state g last).now db devices were) db.sound done,
-        ))
+        ((devices : Devices) → RegistersAs First (state g old).now devices → Shows e devices)
+        (λ done devices were. shows_committed (state g last) e devices
+        (same_devices (state g old).now (state g last).now db devices were) db.sound done)
         (ends clean)
 
-    pub made_stop : Survives (state g old) e (λ trees. IsOwn Second trees
-        × ((devices : Devices) → RegistersAs First (state g old).now devices → Holds trees devices))
+    pub made_others : (HasCleanDisk e → OnOk r (Commits (state g last) e)) → HasCleanDisk e
+        → OnOk r (KeepsOthers (state g old).now e.now)
+    made_others ends clean =
+        let db = shows (omega (arith, clean, commits.clean)) in
+        ok_committed (state g last) e r (KeepsOthers (state g old).now e.now)
+        (λ done. subst (KeepsOthers (state g old).now) (sym done.1.now_is) db.others) (ends clean)
+
+    pub made_stop : Survives (state g old) e
+        (λ trees. (devices : Devices) → RegistersAs First (state g old).now devices → Holds trees devices)
     made_stop =
         leaves (state g old) (state g last) e (since g old start (state g last) is it.uncommitted) commits
-        (λ trees. IsOwn Second trees
-        × ((devices : Devices) → RegistersAs First (state g old).now devices → Holds trees devices))
-        (λ clean. let db = shows clean in (
-          owned (state g old).now (state g last).now db,
-          λ devices were. record {
-            db = (state g last).now;
-            same = refl;
-            sound = db.sound;
-            registers = same_devices (state g old).now (state g last).now db devices were;
-          },
-        ))
+        (λ trees. (devices : Devices) → RegistersAs First (state g old).now devices → Holds trees devices)
+        (λ clean. let db = shows clean in λ devices were. record {
+          db = (state g last).now;
+          same = refl;
+          sound = db.sound;
+          registers = same_devices (state g old).now (state g last).now db devices were;
+        })
 
     pub made_not : (HasCleanDisk e → IfErr r (FailsToCommit (state g last) e)) → HasCleanDisk e
         → OnErr r (Remains (state g old) e)

@@ -1,5 +1,5 @@
 -- From the statements of the migration to a registry of the second version with the same devices.
-use Rattle.std.proofs.Common.{◌≡◌, ◌≤◌, ℕ, List, [], ◌∷◌, length, None, Ok}
+use Rattle.std.proofs.Common.{◌≡◌, ◌≢◌, ◌≤◌, ◌<◌, ◌==◌, not, ℕ, List, [], ◌∷◌, length, None, Ok}
 use Rattle.std.proofs.Common.{refl, sym, ap, subst, ◌∙◌, arith}
 use Rattle.std.specs.List.{AllByRecursion}
 use Rattle.std.specs.List.Sorted.{IsPermutation}
@@ -25,7 +25,7 @@ use Rattle.device_registry.specs.Devices.{most_devices}
 use Rattle.device_registry.specs.Table.{device_text, copy_text, drop_text, renew_text, device_name, meta_name}
 use Rattle.device_registry.specs.Table.{device_table, meta_table}
 use Rattle.device_registry.specs.Table.Rows.{IsDevice, RowidsDiffer, devices_in, rows_of}
-use Rattle.device_registry.specs.Stored.{HasTables, IsRegistry, Registers}
+use Rattle.device_registry.specs.Stored.{HasTables, IsRegistry, AreListed, Registers}
 use Rattle.device_registry.proofs.StatementTexts.{program_of, copy_query, renew_query}
 use Rattle.device_registry.proofs.TableTexts.{device_is}
 use Rattle.device_registry.proofs.CreateTablesMeaning.{device_makes}
@@ -41,6 +41,8 @@ use Rattle.device_registry.proofs.DistinctRows.{apart_turned}
 use Rattle.device_registry.proofs.TablesAdded.{still_counted, none_at}
 use Rattle.device_registry.proofs.TablesRecognized.{no_view}
 use Rattle.device_registry.proofs.TablesMigrated.{IsLone, lone_stands, lone_alone, added, fresh, dropped, first_lone}
+use Rattle.sqlite_catalog.proofs.StepLemmas.{table_below}
+use Rattle.device_registry.proofs.TablesMigrated.{is_kept, apart_trees}
 use Rattle.device_registry.proofs.TablesMigrated.{new_lone, has_added, meta_apart, meta_lone, left_lone, migrated}
 use Rattle.device_registry.proofs.RowWrites.{SparesOthers}
 
@@ -48,8 +50,8 @@ use Rattle.device_registry.proofs.RowWrites.{SparesOthers}
 registers : (db : Database) (t : HasTables Second db.schema) (devices rows : List Row)
     → db.trees t.meta ≡ version_row ∷ [] → db.trees t.devices ≡ put_all [] rows → IsPermutation devices rows
     → AllByRecursion IsDevice devices → RowidsDiffer devices → length devices ≤ most_devices
-    → Registers db (devices_in devices)
-registers db t devices rows version put turned all once few =
+    → AreListed Second db.trees → Registers db (devices_in devices)
+registers db t devices rows version put turned all once few listed =
     let same : IsPermutation devices (put_all [] rows) =
     IsPermutation-trans _ _ _ turned
     (copied rows (all-permutation IsDevice devices rows turned all) (apart_turned devices rows turned once)) in
@@ -65,9 +67,13 @@ registers db t devices rows version put turned all once few =
           once = apart_turned devices (db.trees t.devices) here once;
           few = omega (arith, few, length_permutation devices (db.trees t.devices) here);
         };
+        listed = listed;
       };
       is = sym (same_devices devices (db.trees t.devices) here all once);
     }
+
+below_is : (x y : ℕ) → x < y → x ≡ y → ⊥
+below_is x y low same = omega (arith, low, same)
 
 module _ (a b c d e : State) (i j k l : ℕ) (registry : IsRegistry First a.now) (sound : IsDatabase a.now)
     (one : ExecutesInside 0 (device_text Second) [] a b (Ok i)) (two : ExecutesInside 0 copy_text [] b c (Ok j))
@@ -180,7 +186,7 @@ module _ (a b c d e : State) (i j k l : ℕ) (registry : IsRegistry First a.now)
       (has_added a.now sound t (meta_table t.meta) was) in
       let at = has_at b.now.schema.tables (meta_table t.meta) in_b in
       kept_in_d (meta_table t.meta) meta_in_d.listed
-      ∙ filled.1 at.0 (meta_table t.meta) at.1 (meta_apart a.now sound t)
+      ∙ filled.1.tables at.0 (meta_table t.meta) at.1 (meta_apart a.now sound t)
       ∙ kept_in_b (meta_table t.meta) was ∙ registry.whole.one
 
   -- ---- the version is written
@@ -198,16 +204,34 @@ module _ (a b c d e : State) (i j k l : ℕ) (registry : IsRegistry First a.now)
       ran.changed in
       (it.0, it.1, it.2, ran.sound)
 
-  -- so it is a registry of the second version, with the devices of the first
-  pub migrates : Registers e.now (devices_in (rows_of First (a.now.trees t.devices))) × IsDatabase e.now
+  -- so it is a registry of the second version, with the devices of the first, where it is listed so
+  pub migrates : (AreListed Second e.now.trees → Registers e.now (devices_in (rows_of First (a.now.trees t.devices))))
+      × IsDatabase e.now
   migrates =
       let to = migrated a.now sound t c.now e.now filled.3 schema_c written.3 (written.0 ∙ left.0) in
       let at = has_at d.now.schema.tables (device_table Second tree) new_in_d.listed in
       let put : e.now.trees tree ≡ put_all [] filled.2.0 =
-      written.2 at.0 (device_table Second tree) at.1 (λ same. meta_apart a.now sound t (sym same))
+      written.2.tables at.0 (device_table Second tree) at.1 (λ same. meta_apart a.now sound t (sym same))
       ∙ kept_in_d (device_table Second tree) new_in_d.listed ∙ filled.2.2 in (
         registers e.now to.0 (rows_of First (a.now.trees t.devices)) filled.2.0
             (ap e.now.trees to.1 ∙ written.1) (ap e.now.trees to.2 ∙ put) filled.2.1 registry.whole.rows
             registry.whole.once registry.whole.few,
         written.3,
+      )
+
+  -- and each other table has the rows that it had
+  pub others_kept : (table : Table) → Has a.now.schema.tables table → table.tree ≢ t.meta → table.tree ≢ t.devices
+      → Has e.now.schema.tables table × (e.now.trees table.tree ≡ a.now.trees table.tree)
+  others_kept table has not_meta not_first =
+      let low = table_below a.now.schema table has in
+      let in_added = has_added a.now sound t table has in
+      let in_b : Has b.now.schema.tables table = subst (λ (s : Schema). Has s.tables table) (sym made.0) in_added in
+      let in_d : Has d.now.schema.tables table = subst (λ (s : Schema). Has s.tables table) (sym left.0)
+      (is_kept (λ (x : Table). not (x.tree == t.devices)) schema_b.tables table in_added
+      (apart_trees table.tree t.devices not_first)) in
+      let at_b = has_at b.now.schema.tables table in_b in
+      let at_d = has_at d.now.schema.tables table in_d in (
+        subst (λ (s : Schema). Has s.tables table) (sym written.0) in_d,
+        written.2.tables at_d.0 table at_d.1 not_meta ∙ kept_in_d table in_d
+            ∙ filled.1.tables at_b.0 table at_b.1 (λ same. below_is table.tree tree low same) ∙ kept_in_b table has,
       )

@@ -8,6 +8,8 @@ use Rattle.sqlite.specs.Files.{file_state}
 use Rattle.sqlite.proofs.Callers.{unchanged_then, finds_again}
 use Rattle.sqlite_disk.specs.declared.Disk.{Ghosts}
 use Rattle.sqlite.proofs.StateLemmas.{survives_weaker, survives_then}
+use Rattle.sqlite.proofs.Theorems.{next_run}
+use Rattle.std.proofs.Math.Logic.{∥∥₁_map}
 use Rattle.sqlite_trees.specs.Tree.{Trees}
 use Rattle.std.specs.FinMap.{empty}
 use Rattle.device_registry.specs.declared.fault.OpenFault.{OpenFault}
@@ -17,12 +19,12 @@ use Rattle.device_registry.specs.declared.table.Version.{Version}
 use Rattle.device_registry.specs.declared.table.Version.TheVariants.{First, Second}
 use Rattle.device_registry.specs.Devices.{Devices}
 use Rattle.device_registry.specs.Table.{meta_name, device_name}
-use Rattle.device_registry.specs.Stored.{HasTables, IsWhole, IsRegistry, RegistersAs, HoldsAs, Holds, IsHeld, IsBare}
+use Rattle.device_registry.specs.Stored.{HasTables, IsWhole, IsRegistry, AreListed, RegistersAs, HoldsAs, Holds, IsHeld, IsFree}
 use Rattle.device_registry.specs.Table.Rows.{devices_in, rows_of}
 use Rattle.sqlite_rules.specs.Lists.{Has}
 use Rattle.device_registry.specs.Holding.{AreRegistries, Finds, Opens}
-use Rattle.device_registry.specs.Ready.{Shows, IsReady, KeepsRows}
-use Rattle.device_registry.specs.Opening.{IsAtRest, IsPrepared, IsOwn, KeepsFound, IsOther}
+use Rattle.device_registry.specs.Ready.{Shows, IsReady, KeepsOthers, KeepsRows}
+use Rattle.device_registry.specs.Opening.{IsAtRest, IsPrepared, IsOwn, KeepsFound, IsOther, RegistriesAreRecognized, OnlyOthersAreRefused, CrashedFilesAreFound}
 use Rattle.device_registry.specs.Opening.{RefusesToOpen, FoundAgain, HandedOn, RefusedOpensKeep, ClosedFilesAreFound}
 use Rattle.device_registry.specs.Places.{is_clear}
 use Rattle.sqlite_catalog.specs.Listing.{IsSound}
@@ -40,17 +42,21 @@ before survives clean = omega (arith, clean, survives.clean)
 
 -- what was asked of the state between, which is as it was
 pub taken_if : (version : Version) (r : Result Bool Error) (old mid new : State) → IsUnchanged old mid
-    → HasTables version old.now.schema
+    → HasTables version old.now.schema → AreListed version old.now.trees
     → IfOk r (λ yes. IsUnchanged mid new × (IsTrue yes → (t : HasTables version mid.now.schema)
     → IsWhole version mid.now.trees t.meta t.devices))
     → IfOk r (λ yes. IsUnchanged old new × (IsTrue yes → IsRegistry version old.now))
-taken_if version (Ok is_so) old mid new same tables h = (
+taken_if version (Ok is_so) old mid new same tables listed h = (
   unchanged_then old mid new same h.0,
   λ is. subst (IsRegistry version) same.0.now_is
       (let t : HasTables version mid.now.schema = subst (λ (db : Database). HasTables version db.schema)
-      (sym same.0.now_is) tables in record { tables = t; whole = h.1 is t }),
+      (sym same.0.now_is) tables in record {
+        tables = t;
+        whole = h.1 is t;
+        listed = subst (λ (db : Database). AreListed version db.trees) (sym same.0.now_is) listed;
+      }),
 )
-taken_if version (Err e) old mid new same tables h = tt
+taken_if version (Err e) old mid new same tables listed h = tt
 
 pub not_whole : (version : Version) (old mid : State) → IsUnchanged old mid
     → ((t : HasTables version mid.now.schema) → ¬ IsWhole version mid.now.trees t.meta t.devices)
@@ -81,45 +87,26 @@ one_schema : (trees : Trees) (a b : Database) → a.trees ≡ trees → b.trees 
 one_schema trees a b p q one two = same_schema trees a.schema b.schema (subst (IsSound a.schema) p one)
     (subst (IsSound b.schema) q two)
 
--- what is own of the first version is no registry of the second
-not_second : (trees : Trees) (db : Database) → db.trees ≡ trees → IsDatabase db → IsRegistry Second db
-    → IsOwn First trees → ⊥
-not_second trees db same sound registry own = other_version db.schema
-    (subst (HasTables First) (one_schema trees own.db db own.same same own.sound sound) own.registry.tables)
-    registry.tables
-
 -- ---- a database in which the tables can be made
 
 -- a database that is a registry has tables
 not_bare : (version : Version) (trees : Trees) (db : Database) → db.trees ≡ trees → IsDatabase db
-    → IsRegistry version db → IsBare trees → ⊥
-not_bare version trees db same sound registry bare =
+    → IsRegistry version db → IsFree trees → ⊥
+not_bare version trees db same sound registry free =
     no_place (table_named db.schema meta_name) registry.tables.meta_at registry.tables.meta_stands.named
-    (ap (λ s. table_named s meta_name) (one_schema trees db bare.db same bare.same sound bare.sound) ∙ bare.no_meta)
+    (ap (λ s. table_named s meta_name) (one_schema trees db free.db same free.same sound free.sound)
+    ∙ (unused free.db.schema meta_name free.clear.free_meta).0)
 
-bare : (s : State) → IsAtRest s → IsTrue (is_clear s.now.schema) → IsBare s.now.trees
-bare s rest clear =
-    let it = cleared s.now.schema clear in
-    record {
-      db = s.now;
-      same = refl;
-      sound = rest.sound;
-      no_meta = (unused s.now.schema meta_name it.free_meta).0;
-      no_devices = λ version. (unused s.now.schema (device_name version) (it.free_devices version)).0;
-    }
+bare : (s : State) → IsAtRest s → IsTrue (is_clear s.now.schema) → IsFree s.now.trees
+bare s rest clear = record { db = s.now; same = refl; sound = rest.sound; clear = cleared s.now.schema clear }
 
 module _ {old new : State} {P : Trees → Type 0} (rest : HasCleanDisk old → IsAtRest old)
     (clear : IsTrue (is_clear old.now.schema)) (survives : Survives old new P) where
-  it_was_bare : HasCleanDisk new → IsBare old.now.trees
+  it_was_bare : HasCleanDisk new → IsFree old.now.trees
   it_was_bare clean = bare old (rest (before survives clean)) clear
 
   pub begun : (HasCleanDisk new → Shows new empty) → HasCleanDisk new → (devices : Devices) × IsPrepared old new devices
   begun shows clean = (empty, record { found = inr (it_was_bare clean, refl); shows = shows clean })
-
-  -- and it was no registry, of either version
-  pub begun_own : HasCleanDisk new → IsOwn First old.now.trees → IsOwn Second new.now.trees
-  begun_own clean own =
-      absurd (not_bare First old.now.trees own.db own.same own.sound own.registry (it_was_bare clean))
 
   pub begun_bare : {A : Type 0} → HasCleanDisk new → IsHeld old.now.trees → A
   begun_bare clean is_held = let it = is_held.holds in absurd (
@@ -134,7 +121,6 @@ begun_stop {old} {new} rest clear h = survives_weaker old new (λ trees. Holds t
       devices = empty;
       finds = inr (none, refl);
       holds = holds;
-      own = λ own. absurd (not_bare First old.now.trees own.db own.same own.sound own.registry none);
     }) h
 
 -- ---- what the database was asked for
@@ -205,11 +191,6 @@ module _ {old mid new : State} {P : Trees → Type 0} (asked : Took Second old m
         },
       )
 
-  pub taken_own : HasCleanDisk new → IsOwn First old.now.trees → IsOwn Second new.now.trees
-  taken_own clean own =
-      let it = asked (before survives clean) in
-      absurd (not_second old.now.trees old.now refl it.0.sound it.2 own)
-
   pub taken_rows : (HasCleanDisk new → IsReady mid → KeepsRows mid new) → HasCleanDisk new → IsHeld old.now.trees
       → KeepsRows old new
   taken_rows kept clean is_held =
@@ -229,7 +210,6 @@ taken_stop {old} {mid} {new} asked first second =
       devices = was.0;
       finds = inl (Second, held old was.0 was.1);
       holds = leaves was.0 ((unchanged old mid it.1 it.1.0.is_open).1 was.0 was.1);
-      own = λ own. absurd (not_second old.now.trees old.now refl it.0.sound it.2 own);
     })
     first second
 
@@ -258,8 +238,8 @@ first_asked {old} {mid} asked clean =
     (subst (IsRegistry First) (sym it.1.0.now_is) it.2, subst IsDatabase (sym it.1.0.now_is) it.0.sound)
 
 module _ {old mid new : State} {P : Trees → Type 0} (asked : Took First old mid) (survives : Survives mid new P) where
-  pub migrated : (HasCleanDisk new → IsOwn Second new.now.trees
-      × ((devices : Devices) → RegistersAs First mid.now devices → Shows new devices)) → HasCleanDisk new
+  pub migrated : (HasCleanDisk new → (devices : Devices) → RegistersAs First mid.now devices → Shows new devices)
+      → HasCleanDisk new
       → (devices : Devices) × IsPrepared old new devices
   migrated made clean =
       let it = asked (before survives clean) in
@@ -267,7 +247,7 @@ module _ {old mid new : State} {P : Trees → Type 0} (asked : Took First old mi
         was.0,
         record {
           found = inl (First, was.2);
-          shows = (made clean).1 was.0 (first_between old mid it.1 was.0 was.1);
+          shows = made clean was.0 (first_between old mid it.1 was.0 was.1);
         },
       )
 
@@ -281,12 +261,11 @@ module _ {old mid new : State} {P : Trees → Type 0} (asked : Took First old mi
       holds.registers.registry.tables))
 
 pub migrated_stop : {old mid new : State} → Took First old mid → Survives old mid (λ _. ⊥)
-    → Survives mid new (λ trees. IsOwn Second trees
-    × ((devices : Devices) → RegistersAs First mid.now devices → Holds trees devices))
+    → Survives mid new (λ trees. (devices : Devices) → RegistersAs First mid.now devices → Holds trees devices)
     → Survives old new (KeepsFound old.now.trees)
 migrated_stop {old} {mid} {new} asked first second =
-    survives_then old mid new (λ _. ⊥) (λ trees. IsOwn Second trees
-    × ((devices : Devices) → RegistersAs First mid.now devices → Holds trees devices))
+    survives_then old mid new (λ _. ⊥)
+    (λ trees. (devices : Devices) → RegistersAs First mid.now devices → Holds trees devices)
     (KeepsFound old.now.trees) (λ clean trees no. absurd no)
     (λ clean trees left.
     let it = asked (before second clean) in
@@ -294,15 +273,20 @@ migrated_stop {old} {mid} {new} asked first second =
     record {
       devices = was.0;
       finds = inl (First, was.2);
-      holds = left.1 was.0 (first_between old mid it.1 was.0 was.1);
-      own = λ _. left.0;
+      holds = left was.0 (first_between old mid it.1 was.0 was.1);
     })
     first second
 
 -- no version of it is a registry as this program leaves it, and its tables cannot be made
 pub is_other : (s : State) → IsAtRest s → ((version : Version) → ¬ IsOwn version s.now.trees)
     → (IsTrue (is_clear s.now.schema) → ⊥) → IsOther s.now.trees
-is_other s rest none unclear = (none, λ free. unclear (free_found s rest free))
+is_other s rest none unclear devices (inl (version, holds)) = none version (record {
+  db = holds.db;
+  same = holds.same;
+  sound = holds.sound;
+  registry = holds.registers.registry;
+})
+is_other s rest none unclear devices (inr (free, is)) = unclear (free_found s rest free)
 
 -- ---- what is opened
 
@@ -354,16 +338,6 @@ module _ {T : Type 0} (old mid new : State) (law : Settles new) where
   opens_if (Ok v) was it = (it.0, opened old mid new it.0 was.0 was.1 it.1 (λ trees. law trees it.1.shows.is_open))
   opens_if (Err e) was it = tt
 
-  -- what was a first version as this program left it is a second
-  pub migrated_if : (r : Result T OpenFault) → IsUnchanged old mid × IsAtRest old
-      → OnOk r ((devices : Devices) × IsPrepared mid new devices)
-      → OnOk r (IsOwn First mid.now.trees → IsOwn Second new.now.trees)
-      → OnOk r (IsOwn First old.committed.trees → (trees : Trees) → new.may_leave trees → IsOwn Second trees)
-  migrated_if (Ok v) was it own = λ first trees may.
-      subst (IsOwn Second) (ap (λ (db : Database). db.trees) it.1.shows.settled
-      ∙ sym (law trees it.1.shows.is_open may)) (own (subst (IsOwn First) (sym (last old mid was.0 was.1)) first))
-  migrated_if (Err e) was it own = tt
-
   pub registries_if : (r : Result T OpenFault) → OnOk r ((devices : Devices) × IsPrepared mid new devices)
       → OnOk r (AreRegistries new.may_leave)
   registries_if (Ok v) it = registries new it.0 it.1.shows (λ trees. law trees it.1.shows.is_open)
@@ -391,9 +365,20 @@ pub nothing : (old new : State) → Survives old new (λ _. ⊥) → HasCleanDis
     → old.may_leave trees ⊎ (IsTrue old.is_open × KeepsFound old.committed.trees trees)
 nothing old new h clean trees may = elim (h.crash clean trees may) [ inl before ↦ inl before | inr none ↦ absurd none ]
 
+survives_itself : (s : State) (P : Trees → Type 0) → Survives s s P
+survives_itself s P = record {
+  clean = omega arith;
+  shield = λ shielded. shielded;
+  counts = omega arith;
+  limit = refl;
+  closes = λ clean is_open. inl is_open;
+  crash = λ clean trees may. inl may;
+}
+
 -- the store did not answer, and nothing was asked of it
 pub not_asked : (s : State) (fault : StoreFault) → RefusesToOpen s s (Refused fault)
 not_asked s fault = record {
+  survives = survives_itself s (KeepsFound s.committed.trees);
   clean = λ clean. clean;
   other = λ clean is. absurd (let e = is in cc);
   stop = λ clean trees may. inl may;
@@ -403,6 +388,7 @@ not_asked s fault = record {
 pub refused_first : (old new : State) (fault : OpenFault) → fault ≢ NotARegistry → Survives old new (λ _. ⊥)
     → RefusesToOpen old new fault
 refused_first old new fault other survives = record {
+  survives = survives_weaker old new (λ _. ⊥) (KeepsFound old.committed.trees) (λ clean trees no. absurd no) survives;
   clean = λ clean. let early : HasCleanDisk old = omega (arith, clean, survives.clean) in early;
   other = λ clean is. absurd (other is);
   stop = λ clean. nothing old new survives clean;
@@ -418,6 +404,12 @@ pub refused_then : {T : Type 0} (r : Result T OpenFault) (old mid new : State)
     → IfErr r (RefusesToOpen old new)
 refused_then (Ok v) old mid new was first second other same = tt
 refused_then (Err fault) old mid new was first second other same = record {
+  survives = survives_then old mid new (λ _. ⊥) (KeepsFound mid.now.trees) (KeepsFound old.committed.trees)
+      (λ clean trees no. absurd no)
+      (λ clean trees kept.
+      let between : HasCleanDisk mid = omega (arith, clean, second.clean) in
+      let it = was between in subst (λ found. KeepsFound found trees) (last old mid it.0 it.1) kept)
+      first second;
   clean = λ clean. let early : HasCleanDisk old = omega (arith, clean, second.clean, first.clean) in early;
   other = λ clean is.
       let between : HasCleanDisk mid = omega (arith, clean, second.clean) in
@@ -447,7 +439,7 @@ holds_same trees v w left found one two =
     two.registers.registry.tables in
     held_by w trees left found (subst (λ u. HoldsAs u trees left) same one) two
 
-holds_none : (trees : Trees) (version : Version) (devices : Devices) → HoldsAs version trees devices → IsBare trees → ⊥
+holds_none : (trees : Trees) (version : Version) (devices : Devices) → HoldsAs version trees devices → IsFree trees → ⊥
 holds_none trees version devices holds =
     not_bare version trees holds.db holds.same holds.sound holds.registers.registry
 
@@ -471,6 +463,15 @@ refused_opens_keep state old new fault clean refused = (
   ],
 )
 
+pub registries_are_recognized : {C : Type 0} (state : C → State) → RegistriesAreRecognized state
+registries_are_recognized state = (
+  λ trees it. (it.devices, inl (Second, it.holds)),
+  λ old new fault devices clean refused finds is. (refused.other clean is).0 devices finds,
+)
+
+pub only_others_are_refused : {C : Type 0} (state : C → State) → OnlyOthersAreRefused state
+only_others_are_refused state conn last clean refused = (refused.other (clean last refused.survives) refl).0
+
 pub handed_on : {C : Type 0} (state : C → State) → HandedOn state
 handed_on state closed opened devices found clean committed has opens =
     let last = state closed in
@@ -486,3 +487,39 @@ closed_files_are_found g closed opened files devices copied finds committed has 
       inl (Second, holds),
       λ found other. sym (found_again trees devices found (inl (Second, holds)) other),
     )
+
+pub crashed_files_are_found : {D : Type 0} (g : Ghosts D) → CrashedFilesAreFound g
+crashed_files_are_found g stopped opened image numbered registries may found =
+    ∥∥₁_map
+    (next_run stopped.store numbered
+    (λ trees leaves. let held = registries trees leaves in
+    (held.holds.db.schema, subst (IsSound held.holds.db.schema) held.holds.same held.holds.sound)) image may
+    (file_state opened) found)
+    (λ left.
+    let held = registries (file_state opened).committed.trees left in
+    (held.devices, ((file_state opened).committed.trees, left, held.holds), inl (Second, held.holds)))
+
+-- ---- other tables
+
+-- what was asked before changed nothing
+others_from : (old mid new : State) → IsUnchanged old mid → KeepsOthers mid.now new.now → KeepsOthers old.now new.now
+others_from old mid new same = subst (λ db. KeepsOthers db new.now) same.0.now_is
+
+pub others_then : {T E : Type 0} (r : Result T E) (old mid new : State) → IsUnchanged old mid
+    → OnOk r (KeepsOthers mid.now new.now) → OnOk r (KeepsOthers old.now new.now)
+others_then (Ok v) old mid new same kept = others_from old mid new same kept
+others_then (Err e) old mid new same kept = tt
+
+-- a registry that is taken keeps every row
+pub taken_others : {old mid new : State} {P : Trees → Type 0} → Took Second old mid → Survives mid new P
+    → (HasCleanDisk new → IsReady mid → KeepsRows mid new) → HasCleanDisk new → KeepsOthers old.now new.now
+taken_others {old} {mid} {new} asked survives kept clean =
+    let early = before survives clean in
+    let rows = kept clean (taken_ready asked early) in
+    others_from old mid new (asked early).1 (λ table has _ _.
+    (subst (λ (s : Schema). Has s.tables table) (sym rows.schema) has, rows.rows table has))
+
+pub migrated_others : {old mid new : State} {P : Trees → Type 0} → Took First old mid → Survives mid new P
+    → (HasCleanDisk new → KeepsOthers mid.now new.now) → HasCleanDisk new → KeepsOthers old.now new.now
+migrated_others {old} {mid} {new} asked survives kept clean =
+    others_from old mid new (asked (before survives clean)).1 (kept clean)

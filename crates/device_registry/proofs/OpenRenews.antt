@@ -20,7 +20,10 @@ use Rattle.device_registry.specs.declared.fault.OpenFault.{OpenFault}
 use Rattle.device_registry.specs.declared.table.Version.TheVariants.{Second}
 use Rattle.device_registry.specs.Table.{renew_text}
 use Rattle.device_registry.specs.Stored.{HasTables, IsHeld}
-use Rattle.device_registry.specs.Opening.{IsAtRest, IsRenewed}
+use Rattle.device_registry.specs.Devices.{Devices}
+use Rattle.device_registry.specs.Holding.{IsRenewed}
+use Rattle.device_registry.specs.Ready.{Shows, IsReady}
+use Rattle.device_registry.specs.Opening.{IsAtRest}
 use Rattle.device_registry.proofs.OpenCalls.{Took, last, taken_ready}
 use Rattle.device_registry.proofs.StatementTexts.{program_of, renew_query}
 use Rattle.device_registry.proofs.TablesRecognized.{same_schema}
@@ -102,6 +105,14 @@ renewed_by {old} {mid} {new} count asked first second runs clean is_held =
     let one = changes_one mid new count (taken_ready asked early) (runs clean) in
     renewed_between old mid new it.2.tables it.1 first
     (subst (λ n. Executes renew_text [] mid new (Ok n)) one (runs clean))
+
+-- of a registry, too
+pub written_by : (old mid new : State) (count : ℕ) (devices : Devices) → Shows old devices → IsUnchanged old mid
+    → Survives old mid (λ _. ⊥) → IsReady mid → Executes renew_text [] mid new (Ok count) → IsRenewed old new
+written_by old mid new count devices shows same survives ready runs =
+    let one = changes_one mid new count ready runs in
+    renewed_between old mid new shows.registers.registry.tables same survives
+    (subst (λ n. Executes renew_text [] mid new (Ok n)) one runs)
 
 -- a sound database with the trees of a registry has its tables
 has_tables : (db : Database) → IsDatabase db → IsHeld db.trees → HasTables Second db.schema

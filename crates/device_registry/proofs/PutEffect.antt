@@ -30,17 +30,14 @@ use Rattle.learned_devices.specs.Labels.{is_label}
 use Rattle.device_registry.specs.declared.table.Version.TheVariants.{Second}
 use Rattle.device_registry.specs.Table.{device_table}
 use Rattle.device_registry.specs.Devices.{Learned}
-use Rattle.device_registry.specs.Table.Rows.{IsDevice, stored, maker_number, eep_number}
+use Rattle.device_registry.specs.Table.Rows.{IsDevice, put_params, stored, maker_number, eep_number}
 use Rattle.device_registry.proofs.StatementTexts.{put_terms}
 use Rattle.device_registry.proofs.SenderTests.{equal_ids}
 use Rattle.device_registry.proofs.DeviceChecks.{checked}
 use Rattle.device_registry.proofs.TablesAlone.{StandsAlone, no_shares}
 use Rattle.device_registry.proofs.DistinctRows.{IsFree, untaken}
 use Rattle.device_registry.proofs.RowWrites.{cast_int, cast_none, cast_label, went, same_value, SparesOthers, spares}
-
-abbrev pub put_params : ℕ → Learned → Row
-put_params id it =
-    Int (pos id) ∷ Int (pos (eep_number it.eep)) ∷ Int (maker_number it.maker) ∷ Text it.label ∷ []
+use Rattle.device_registry.proofs.RowWrites.{spares_as, spares_then}
 
 -- the row is put, in place of the one with its rowid, and nothing else changes
 pub record IsPut (schema : Schema) (devices id : ℕ) (it : Learned) (before after : Trees) : Type 0 where
@@ -95,7 +92,7 @@ module _ (schema : Schema) (limit : Option ℕ) (keys : Keys) (params : Row) (d 
       let edit = edit_of db (device_table Second d) [] Given 0 (stored id it ∷ []) in
       let step = one_step schema keys db done.0 edit (stands.free keys [] edit.news) done.1 in (
         ap (λ (t : Trees). t d) trees ∙ step.rows ∙ ap (λ r. put_row r (db d)) (cast_stored d id it),
-        λ i t there other. ap (λ (s : Trees). s t.tree) trees ∙ spares schema keys db done.0 edit step i t there other,
+        spares_as schema d db done.0 w.trees trees (spares schema keys db done.0 edit step),
         untaken (stored id it) (db d) (none_taken (is_taken (db d) (stored id it))
             (ap (λ r. not (is_taken (db d) r) && true) (sym (cast_stored d id it)) ∙ step.fresh)),
       )
@@ -110,8 +107,7 @@ module _ (schema : Schema) (limit : Option ℕ) (keys : Keys) (params : Row) (d 
       let step = one_step schema keys db done.0 edit (stands.free keys (taken_by db edit) []) done.1 in
       let put = puts done.0 w done.2 in (
         put.0 ∙ ap (put_row (stored id it)) step.rows,
-        λ i t there other. put.1 i t there other
-            ∙ spares schema keys db done.0 edit step i t there other,
+        spares_then schema d db done.0 w.trees (spares schema keys db done.0 edit step) put.1,
         subst (IsFree (stored id it)) step.rows put.2,
       )
 

@@ -21,6 +21,7 @@ use Rattle.device_registry.specs.Devices.{entered, changed, after, learned, forg
 use Rattle.device_registry.specs.Devices.{relabelled, kept_label, known_of, device, device_of, all_of, is_full}
 use Rattle.device_registry.specs.Holding.{HasDevices, HoldsSome, AreRegistries, Keeps, Commits, Pends}
 use Rattle.device_registry.specs.Holding.{RefusesToLearn, LooksUp, Learns, Forgets, Relabels, ListsAll, HandsOn}
+use Rattle.device_registry.specs.Holding.{IsRenewed, WritesRow}
 use Rattle.device_registry.specs.Ready.{Shows, IsReady, StaysReady, GoesOn, Stays, Turns}
 use Rattle.device_registry.specs.Table.Rows.{listed}
 use Rattle.device_registry.proofs.DevicesHeld.{held_once, registers_once, room_for_known}
@@ -228,6 +229,7 @@ module _ (old new : State) (stays : Stays old new) (well : IsWell old) where
     receipt = tt;
     devices =
         λ clean devices has. kept_pends old new (forgotten id) devices (keeps old new stays well clean devices has);
+    written = λ clean devices has none. tt;
   }
 
 module _ {T E : Type 0} (old mid new : State) (result : Result T E) (stays : Stays old mid) (well : IsWell old) where
@@ -249,6 +251,7 @@ module _ {T E : Type 0} (old mid new : State) (result : Result T E) (stays : Sta
     registries = (refused_well old mid new (forgotten id) result stays well turns goes_on).0;
     receipt = tt;
     devices = λ clean. pends old mid new (forgotten id) result stays well turns (goes_on clean) clean;
+    written = λ clean devices has none. tt;
   }
 
 -- or the change is made
@@ -275,13 +278,15 @@ module _ {T E : Type 0} (old mid new : State) (result : Result T E) (stays : Sta
       → (HasCleanDisk new → (devices : Devices) → Shows mid devices → Shows new (changed devices (forgotten id)))
       → (HasCleanDisk mid → IsReady mid)
       → ((trees : Trees) → IsTrue new.is_open → new.may_leave trees → trees ≡ new.committed.trees)
+      → (HasCleanDisk new → (devices : Devices) → HasDevices old devices → get devices id ≡ None → IsRenewed old new)
       → Forgets old new id (Ok (record { id = id; is_learned = false }))
-  forget_made id turns made was last = record {
+  forget_made id turns made was last written = record {
     clean = λ clean. stays.clean (turns.clean clean);
     registries = (made_well old mid new (forgotten id) result stays well turns made was).0;
     receipt = (refl, refl);
     devices = λ clean devices has. commits old mid new (forgotten id) result stays well turns (made clean) clean
         (was (turns.clean clean)) last devices has;
+    written = written;
   }
 
 -- ---- what is put in place of what was known
@@ -343,7 +348,8 @@ module _ {T E : Type 0} (old new : State) (result : Result T E) (well : IsWell o
       → (HasCleanDisk old → IsReady old)
       → ((trees : Trees) → IsTrue new.is_open → new.may_leave trees → trees ≡ new.committed.trees)
       → (HasCleanDisk old → (devices : Devices) → HasDevices old devices
-      → after (get devices id) (Relabel label) ≡ Some it) → Relabels old new id label (Ok true)
+      → after (get devices id) (Relabel label) ≡ Some it)
+      → Relabels old new id label (Ok true)
   relabel_made it made was last known = record {
     clean = turns.clean;
     registries = (made_well old old new (relabelled id label) result (stays_itself old) well turns made was).0;
@@ -477,6 +483,12 @@ module _ (old mid : State) (id : ℕ) where
           ∙ ap (λ (l : Learned). Some (record { eep = l.eep; maker = l.maker; label = it.label }))
           (labels_apart was it label is)
 
+    -- a row written over the same devices
+    pub written_after : {C : Type 0} (state : C → State) (last : C) (change : Change) {T E : Type 0} (r : Result T E)
+        → (HasCleanDisk mid → (devices : Devices) → HasDevices mid devices → OnOk r (WritesRow state last change devices))
+        → HasCleanDisk mid → (devices : Devices) → HasDevices old devices → OnOk r (WritesRow state last change devices)
+    written_after state last change r written clean devices has = written clean devices (kept clean devices has).now
+
     pub learns_after : (it : Device) (r : Result Receipt LearnFault) → Learns mid new it r → Learns old new it r
     learns_after it r learns = record {
       clean = λ clean. looks.clean (learns.clean clean);
@@ -508,6 +520,10 @@ module _ (old mid : State) (id : ℕ) where
           let keeps = kept (relabels.clean clean) devices has in
           relabelled_after label r devices keeps (relabels.devices clean devices keeps.now);
     }
+
+pub if_written : (W : Type 0) (r : Result Bool StoreFault) → OnOk r W → IfOk r (λ known. IsTrue known → W)
+if_written W (Ok known) written = λ _. written
+if_written W (Err fault) written = tt
 
 -- the label of a device says nothing of how it is learned
 pub learns_alike : (old new : State) (it other : Device) (r : Result Receipt LearnFault) → other.id ≡ it.id

@@ -30,7 +30,7 @@ use Rattle.device_registry.specs.Table.Rows.{IsVersion}
 use Rattle.device_registry.proofs.StatementTexts.{program_of, renew_query}
 use Rattle.device_registry.proofs.SenderTests.{overlay_is}
 use Rattle.device_registry.proofs.TablesAlone.{StandsAlone}
-use Rattle.device_registry.proofs.RowWrites.{went, same_value, cast_int, cast_none, SparesOthers, spares}
+use Rattle.device_registry.proofs.RowWrites.{went, same_value, cast_int, cast_none, SparesOthers, spares, spares_as}
 use Rattle.device_registry.proofs.TestSteps.{both}
 
 -- the row as the statement writes it
@@ -112,7 +112,7 @@ renews schema at m limit mode db text tally after row there stands one key does 
     are ∙ replaced m db row key one in (
       ap (λ (db : Database). db.schema) now,
       rows,
-      λ i t is other. ap (λ (s : Trees). s t.tree) trees ∙ spares schema mode.keys db edits.0 edit step i t is other,
+      spares_as schema m db edits.0 after.trees trees (spares schema mode.keys db edits.0 edit step),
       ap (λ (p : Tally × Database). p.0.rows) (same_value shown.2)
           ∙ ap (λ (w : Written). Some (length w.rows)) (same_value edits.2)
           ∙ ap (λ rs. Some (length (edit_of db (meta_table m) (ids_of rs) Given 1 rs).news)) are,

@@ -1,6 +1,6 @@
 -- What holds of every statement that writes rows.
 use Rattle.std.proofs.Common.{◌≡◌, ◌≢◌, ◌⊎◌, inl, inr, ℕ, ℤ, Bool, true, false, not, cond, List}
-use Rattle.std.proofs.Common.{Some, Ok, Err, Result, refl, slice_get}
+use Rattle.std.proofs.Common.{Some, Ok, Err, Result, refl, sym, subst, ◌∙◌, slice_get}
 use Rattle.sqlite.specs.declared.types.Value.{Value}
 use Rattle.sqlite.specs.declared.types.Value.TheVariants.{Null, Int, Text}
 use Rattle.sqlite.specs.Order.{Row}
@@ -10,21 +10,38 @@ use Rattle.sqlite.specs.Kind.TheVariants.{Integer, Text as LabelText}
 use Rattle.sqlite.specs.Schema.{Schema}
 use Rattle.sqlite.specs.Table.{Table}
 use Rattle.sqlite_schema.specs.declared.schema.Keys.{Keys}
+use Rattle.sqlite_trees.specs.Objects.{catalog_tree}
 use Rattle.sqlite_trees.specs.Tree.{Trees, rowid, has_rowid, without_rowid}
 use Rattle.device_registry.specs.Table.Rows.{RowidsDiffer}
-use Rattle.sqlite_rules.specs.Edit.{Edit, Applies}
+use Rattle.sqlite_rules.specs.Edit.{Edit, Applies, IsNoIndex}
 use Rattle.sqlite_catalog.proofs.LayoutLemmas.{ascending_filter}
 use Rattle.device_registry.proofs.TablesAlone.{at_place}
 
--- the other tables' rows are as they were
-abbrev pub SparesOthers : Schema → ℕ → Trees → Trees → Type 0
-SparesOthers schema tree before after = (i : ℕ) (t : Table) → slice_get schema.tables i ≡ Some t → t.tree ≢ tree
-    → after t.tree ≡ before t.tree
+-- the other tables' rows are as they were, and so is the list of the objects
+pub record SparesOthers (schema : Schema) (tree : ℕ) (before after : Trees) : Type 0 where
+  pub tables : (i : ℕ) (t : Table) → slice_get schema.tables i ≡ Some t → t.tree ≢ tree → after t.tree ≡ before t.tree
+  pub objects : tree ≢ catalog_tree → IsNoIndex schema catalog_tree → after catalog_tree ≡ before catalog_tree
 
 pub spares : (schema : Schema) (keys : Keys) (db next : Trees) (edit : Edit) → Applies schema keys db edit next
     → SparesOthers schema edit.table.tree db next
-spares schema keys db next edit step i t there other =
-    at_place (λ t. t.tree ≢ edit.table.tree → next t.tree ≡ db t.tree) schema.tables i t step.tables there other
+spares schema keys db next edit step = record {
+  tables = λ i t there other.
+      at_place (λ t. t.tree ≢ edit.table.tree → next t.tree ≡ db t.tree) schema.tables i t step.tables there other;
+  objects = λ other none. step.others catalog_tree (λ e. other (sym e)) none;
+}
+
+-- so it is of what a step left in which nothing else was done
+pub spares_as : (schema : Schema) (tree : ℕ) (db mid next : Trees) → next ≡ mid → SparesOthers schema tree db mid
+    → SparesOthers schema tree db next
+spares_as schema tree db mid next same = subst (SparesOthers schema tree db) (sym same)
+
+-- and of two steps
+pub spares_then : (schema : Schema) (tree : ℕ) (db mid next : Trees) → SparesOthers schema tree db mid
+    → SparesOthers schema tree mid next → SparesOthers schema tree db next
+spares_then schema tree db mid next one two = record {
+  tables = λ i t there other. two.tables i t there other ∙ one.tables i t there other;
+  objects = λ other none. two.objects other none ∙ one.objects other none;
+}
 
 either : (b : Bool) (x : Value) → cond b x x ≡ x
 either true x = refl

@@ -15,7 +15,7 @@ use Rattle.device_registry.specs.declared.table.Version.{Version}
 use Rattle.device_registry.specs.declared.table.Version.TheVariants.{First, Second}
 use Rattle.device_registry.specs.Table.{meta_name, device_name}
 use Rattle.device_registry.specs.Stored.{AreSpared, SparesName, SparesOurs, KeepsTree, HasTables, AreCounted, other}
-use Rattle.device_registry.specs.Opening.{IsClear}
+use Rattle.device_registry.specs.Stored.{IsClear}
 use Rattle.device_registry.specs.Places.{refers, is_referred, are_referred, is_indexed, lacks_counts, is_clear, is_lone}
 use Rattle.device_registry.specs.Places.{are_counted}
 use Rattle.device_registry.specs.Places.{is_left_alone, if_left_alone, tree_named, trees_in}

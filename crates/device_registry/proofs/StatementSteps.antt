@@ -12,7 +12,8 @@ use Rattle.sqlite.specs.Effect.{IsDatabase}
 use Rattle.sqlite.specs.State.{State, HasCleanDisk, Survives, Executes, ExecutesIn, CommitsBy, MayCommit}
 use Rattle.sqlite.specs.State.{IsNotRun, IsUnchanged, IsRolledBack, shows_rows, Shown, ShowsRows}
 use Rattle.sqlite.specs.State.{FailsToQuery, FailsToShow, CommitsShowing}
-use Rattle.sqlite.proofs.Callers.{IsPlain, command_of, statement_of, never_commits}
+use Rattle.sqlite.proofs.Callers.{IsPlain, command_of, statement_of, never_commits, unchanged_then}
+use Rattle.sqlite.proofs.StateLemmas.{survives_then}
 use Rattle.device_registry.specs.Stored.{Registers}
 use Rattle.device_registry.specs.Ready.{IsReady, GoesOn, Stays}
 
@@ -157,6 +158,25 @@ compiled_query_stays sql text params old mid new items r first is plain survives
     subst (λ t. IsPlain (understood mid.now.schema t)) (sym (is clean)) (plain clean) in
     stays_then old mid new first (query_stays text params mid new items r known survives shown failed)
 
+-- it leaves what a stop could leave before, and it answers of what was there
+pub query_survives : (sql text : List ℕ) (params : Row) (old mid new : State) → Survives old mid (λ _. ⊥)
+    → (HasCleanDisk mid → text ≡ sql) → (HasCleanDisk mid → IsPlain (understood mid.now.schema sql))
+    → Survives mid new (CommitsShowing text params mid) → Survives old new (λ _. ⊥)
+query_survives sql text params old mid new first is plain second =
+    survives_then old mid new (λ _. ⊥) (CommitsShowing text params mid) (λ _. ⊥) (λ clean trees no. no)
+    (λ clean trees commits.
+    let early : HasCleanDisk mid = omega (arith, clean, second.clean) in
+    never_commits text params mid trees (subst (λ t. IsPlain (understood mid.now.schema t)) (sym (is early))
+    (plain early)) commits) first second
+
+pub answered_same : {V : Type 0} (sql text : List ℕ) (params : Row) (old mid new : State) (items : V → List Row)
+    (r : Result V Error) → IsUnchanged old mid → text ≡ sql → IsPlain (understood mid.now.schema sql)
+    → IfOk r (λ v. Shown text params mid new (items v)) → OnOk r (IsUnchanged old new)
+answered_same sql text params old mid new items (Ok v) first is plain shown =
+    unchanged_then old mid new first (shown_same sql params mid new plain (items v)
+    (subst (λ t. Shown t params mid new (items v)) is shown))
+answered_same sql text params old mid new items (Err e) first is plain shown = tt
+
 -- and that answered
 pub query_ready : (sql : List ℕ) (params : Row) (old new : State) (rows : List Row)
     → IsPlain (understood old.now.schema sql) → IsReady old → Shown sql params old new rows → IsReady new
@@ -179,6 +199,10 @@ module _ {V : Type 0} (P : V → Type 0) (sql : List ℕ) (old new : State) wher
   pub compiled_text : (r : Result V Error) → IfOk r (λ v. P v × IsUnchanged old new) → IfOk r P
   compiled_text (Ok v) ok = ok.0
   compiled_text (Err e) ok = tt
+
+  pub compiled_same : (r : Result V Error) → IfOk r (λ v. P v × IsUnchanged old new) → OnOk r (IsUnchanged old new)
+  compiled_same (Ok v) ok = ok.1
+  compiled_same (Err e) ok = tt
 
   -- and it tells that the registry is open
   pub compiled_ready : (r : Result V Error) → IfOk r (λ v. P v × IsUnchanged old new)

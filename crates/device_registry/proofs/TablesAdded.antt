@@ -27,7 +27,7 @@ use Rattle.device_registry.specs.declared.table.Version.{Version}
 use Rattle.device_registry.specs.declared.table.Version.TheVariants.{First, Second}
 use Rattle.device_registry.specs.Table.{meta_name, device_name, meta_table, device_table, keyed_table}
 use Rattle.device_registry.specs.Stored.{HasTables, SparesOurs}
-use Rattle.device_registry.specs.Opening.{IsClear}
+use Rattle.device_registry.specs.Stored.{IsClear}
 use Rattle.device_registry.proofs.CreateTablesMeaning.{unused}
 use Rattle.device_registry.proofs.TablePlaces.{stands}
 

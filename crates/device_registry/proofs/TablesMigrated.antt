@@ -29,7 +29,7 @@ all_kept : {X : Type 0} (P : X → Type 0) (test : X → Bool) (xs : List X) →
     → AllByRecursion P (filter test xs)
 all_kept P test xs all = all_from P (filter test xs) (λ x has. all_has P xs x all (has_filtered test xs x has).0)
 
-is_kept : {X : Type 0} (test : X → Bool) (xs : List X) (x : X) → Has xs x → test x ≡ true → Has (filter test xs) x
+pub is_kept : {X : Type 0} (test : X → Bool) (xs : List X) (x : X) → Has xs x → test x ≡ true → Has (filter test xs) x
 is_kept test [] x h passes = absurd h
 is_kept test (y ∷ xs) x (inl same) passes =
     let is : test y ≡ true = ap test (sym same) ∙ passes in rw is (inl same)
@@ -38,7 +38,7 @@ is_kept test (y ∷ xs) x (inr later) passes = elim (cases_Bool (test y)) [
   | inr is ↦ rw is (is_kept test xs x later passes)
 ]
 
-has_before : {X : Type 0} (xs ys : List X) (x : X) → Has xs x → Has (xs ++ ys) x
+pub has_before : {X : Type 0} (xs ys : List X) (x : X) → Has xs x → Has (xs ++ ys) x
 has_before [] ys x h = absurd h
 has_before (y ∷ xs) ys x (inl same) = inl same
 has_before (y ∷ xs) ys x (inr later) = inr (has_before xs ys x later)
@@ -111,7 +111,7 @@ lone_stands db sound name table it =
 itself : (a : ℕ) → (a == a) ≡ true
 itself a = grind (arith, nat_tests)
 
-apart_trees : (a b : ℕ) → a ≢ b → not (a == b) ≡ true
+pub apart_trees : (a b : ℕ) → a ≢ b → not (a == b) ≡ true
 apart_trees a b other = let e : (a == b) ≡ false = grind (arith, nat_tests) in ap not e
 
 module _ (db : Database) (sound : IsDatabase db) (t : HasTables First db.schema) where

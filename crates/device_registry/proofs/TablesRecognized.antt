@@ -43,8 +43,9 @@ use Rattle.device_registry.specs.declared.table.Version.{Version}
 use Rattle.device_registry.specs.declared.table.Version.TheVariants.{First, Second}
 use Rattle.device_registry.specs.Table.{list_objects_text, meta_name, device_name, meta_text}
 use Rattle.device_registry.specs.Table.{device_text, meta_table, device_table}
-use Rattle.device_registry.specs.Stored.{Stands, KeepsTree, HasTables, IsRegistry}
-use Rattle.device_registry.specs.Opening.{IsOwn, IsFree, IsClear, IsAtRest, listing, IsListedAs, AreListed}
+use Rattle.device_registry.specs.Stored.{Stands, KeepsTree, HasTables, IsRegistry, listing, IsListedAs, AreListed}
+use Rattle.device_registry.specs.Stored.{IsFree, IsClear}
+use Rattle.device_registry.specs.Opening.{IsOwn, IsAtRest}
 use Rattle.device_registry.specs.Listing.{has_text, is_line, are_ours}
 use Rattle.device_registry.specs.Places.{is_clear, trees_in}
 use Rattle.sqlite_catalog.proofs.ReadLemmas.{lists_once}

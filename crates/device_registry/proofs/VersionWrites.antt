@@ -1,14 +1,14 @@
 -- The version row, as it is written once, and as it is written again.
 use Rattle.std.proofs.Common.{◌≢◌, drop, ◌&&◌, ◌==◌, Bool, true, false, suc, arith, ◌≡◌, inl, inr, ℕ, List, []}
 use Rattle.std.proofs.Common.{◌∷◌, Some, None, Option, Ok, Err, Result, OnOk, refl, sym, ap, subst, ◌∙◌, slice_get}
-use Rattle.std.proofs.Common.{unwrap_or}
+use Rattle.std.proofs.Common.{unwrap_or, IfOk}
 use Rattle.sqlite.specs.Schema.{Schema}
 use Rattle.sqlite.specs.Table.{Table}
 use Rattle.sqlite.specs.Command.TheVariants.{Insert, Update}
 use Rattle.sqlite.specs.Source.TheVariants.{Values}
 use Rattle.sqlite.specs.declared.run.Mode.{Mode}
 use Rattle.sqlite.specs.declared.error.Error.{Error}
-use Rattle.sqlite.specs.Effect.{Database}
+use Rattle.sqlite.specs.Effect.{Database, IsDatabase}
 use Rattle.sqlite.specs.Does.{Tally, Does, AtPlace, OnRows}
 use Rattle.sqlite.specs.Rows.{Written, Task, count_of, rowids_for}
 use Rattle.sqlite.specs.Listing.{understood}
@@ -31,7 +31,7 @@ use Rattle.sqlite_schema.specs.declared.schema.Constraint.TheVariants.{Datatype}
 use Rattle.device_registry.proofs.StatementTexts.{program_of, renew_query}
 use Rattle.device_registry.proofs.VersionMeaning.{renew_means, version_terms}
 use Rattle.device_registry.proofs.TablesAlone.{StandsAlone, meta_alone}
-use Rattle.device_registry.proofs.RowWrites.{went, same_value, SparesOthers, spares}
+use Rattle.device_registry.proofs.RowWrites.{went, same_value, SparesOthers, spares, spares_as}
 use Rattle.device_registry.proofs.RenewEffect.{version_row, cast_version, renews, version_is}
 use Rattle.device_registry.proofs.DevicesHeld.{renewed_registers}
 use Rattle.device_registry.proofs.StatementSteps.{commits_as}
@@ -68,19 +68,18 @@ numbers schema at m limit mode db text tally after there stands none does =
     given.1.1 ∙ rw none (ap (λ r. with_rowid rowids [] r ∷ []) (cast_version m)) in (
       ap (λ (db : Database). db.schema) now,
       rows,
-      λ i t is other. ap (λ (s : Trees). s t.tree) trees
-          ∙ spares schema mode.keys db edits.0 edit step i t is other,
+      spares_as schema m db edits.0 after.trees trees (spares schema mode.keys db edits.0 edit step),
     )
 
 renew_does : (s : State) (after : Database) (text : List ℕ) (tally : Tally) (devices : Devices)
-    (had : Registers s.now devices)
+    (had : Registers s.now devices) → IsDatabase s.now
     → Does s.step_limit (mode_of s) [] s.now text None (Update had.registry.tables.meta_at
     (program_of (renew_query had.registry.tables.meta))) (Ok (tally, after)) → Registers after devices
-renew_does s after text tally devices had h =
+renew_does s after text tally devices had sound h =
     let r = had.registry in
     let kept = renews s.now.schema r.tables.meta_at r.tables.meta s.step_limit (mode_of s) s.now.trees text tally after
     r.whole.row r.tables.meta_stands.there (meta_alone s.now.schema r.tables) r.whole.one r.whole.numbered.key h in
-    renewed_registers s.now after devices had kept.0 kept.1 kept.2
+    renewed_registers s.now after devices had sound kept.0 kept.1 kept.2
 
 renewed : (old new : State) (count : ℕ) (devices : Devices) → Shows old devices
     → Executes renew_text [] old new (Ok count) → Shows new devices
@@ -95,7 +94,7 @@ renewed old new count devices shows h =
       settled = sym (rw shows.idle at w.shown.committed_is);
       sound = w.sound;
       registers = renew_does old new.now (statement_of renew_text (understood old.now.schema renew_text)) w.tally
-          devices shows.registers w.changed;
+          devices shows.registers shows.sound w.changed;
     }
 
 -- what the text does to the tables of a registry, and that it changes one row
@@ -156,7 +155,7 @@ renewed_rows old new count devices shows h =
             | inl tie ↦
                 let e = same_tree t.tree r.tables.meta tie in
                 ap new.now.trees e ∙ kept.1 ∙ ap (λ x. x ∷ []) (sym same) ∙ sym r.whole.one ∙ sym (ap old.now.trees e)
-            | inr apart ↦ kept.2 at.0 t at.1 (other_tree t.tree r.tables.meta apart)
+            | inr apart ↦ kept.2.tables at.0 t at.1 (other_tree t.tree r.tables.meta apart)
           ];
     }
 
@@ -184,7 +183,7 @@ renew_leaves s devices trees shows h =
             same = sym may.5;
             sound = may.4;
             registers = renew_does s may.2 (statement_of renew_text (understood s.now.schema renew_text)) may.1 devices
-                shows.registers may.3;
+                shows.registers shows.sound may.3;
           }
     ]
 

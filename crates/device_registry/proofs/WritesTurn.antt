@@ -1,6 +1,6 @@
 -- From what the store says of the three statements that write to how they turn the registry.
 use Rattle.std.proofs.Common.{true, ◌≡◌, ◌≢◌, inl, inr, ℕ, List, [], None, Ok, Err, Result, arith}
-use Rattle.std.proofs.Common.{OnOk, OnErr, refl, sym, subst, ◌∙◌, false}
+use Rattle.std.proofs.Common.{IfOk, OnOk, OnErr, refl, sym, subst, ◌∙◌, false}
 use Rattle.std.specs.FinMap.{insert, remove}
 use Rattle.sqlite.specs.Order.{Row}
 use Rattle.sqlite_trees.specs.Tree.{Trees}
@@ -9,7 +9,7 @@ use Rattle.sqlite.specs.Command.TheVariants.{InsertOr, Delete, Update, Commit, R
 use Rattle.sqlite.specs.Source.TheVariants.{Values}
 use Rattle.sqlite_schema.specs.declared.command.Conflict.TheVariants.{Replace}
 use Rattle.sqlite.specs.declared.error.Error.{Error}
-use Rattle.sqlite.specs.Effect.{Database}
+use Rattle.sqlite.specs.Effect.{Database, IsDatabase}
 use Rattle.sqlite.specs.Does.{Does, Tally}
 use Rattle.sqlite.specs.State.{State, HasCleanDisk, Survives, Executes, CommitsBy, Runs, Writes, mode_of}
 use Rattle.sqlite.proofs.Callers.{runs_as}
@@ -27,7 +27,8 @@ use Rattle.device_registry.proofs.VersionMeaning.{renew_means}
 use Rattle.device_registry.proofs.RowsAsMap.{IsShort}
 use Rattle.device_registry.proofs.SenderTests.{asked}
 use Rattle.device_registry.proofs.TablesAlone.{devices_alone, meta_alone}
-use Rattle.device_registry.proofs.PutEffect.{put_params, puts_in}
+use Rattle.device_registry.specs.Table.Rows.{put_params}
+use Rattle.device_registry.proofs.PutEffect.{puts_in}
 use Rattle.device_registry.proofs.ForgetEffect.{forgets}
 use Rattle.device_registry.proofs.RenewEffect.{renews}
 use Rattle.device_registry.proofs.DevicesHeld.{put_registers, forgotten_registers, renewed_registers}
@@ -43,7 +44,7 @@ module _ (sql : List ℕ) (params : Row) (change : Change) (HasRoom : Devices �
     (ends : (db : Database) (registry : IsRegistry Second db) → (command db registry ≢ Commit)
     × ((name : List ℕ) → command db registry ≢ Release name))
     (does : (s : State) (after : Database) (text : List ℕ) (tally : Tally) (devices : Devices)
-    (had : Registers s.now devices) → HasRoom devices
+    (had : Registers s.now devices) → IsDatabase s.now → HasRoom devices
     → Does s.step_limit (mode_of s) params s.now text None (command s.now had.registry) (Ok (tally, after))
     → Registers after (changed devices change)) where
   made : (old new : State) (count : ℕ) (devices : Devices) → HasRoom devices → Shows old devices
@@ -59,7 +60,7 @@ module _ (sql : List ℕ) (params : Row) (change : Change) (HasRoom : Devices �
         idle = w.shown.mode ∙ shows.idle;
         settled = sym (rw shows.idle at w.shown.committed_is);
         sound = w.sound;
-        registers = does old new.now _ w.tally devices shows.registers room w.changed;
+        registers = does old new.now _ w.tally devices shows.registers shows.sound room w.changed;
       }
 
   left : (s : State) (devices : Devices) (trees : Trees) → HasRoom devices → Shows s devices
@@ -79,7 +80,7 @@ module _ (sql : List ℕ) (params : Row) (change : Change) (HasRoom : Devices �
               db = may.2;
               same = sym may.5;
               sound = may.4;
-              registers = does s may.2 _ may.1 devices shows.registers room may.3;
+              registers = does s may.2 _ may.1 devices shows.registers shows.sound room may.3;
             }
       ]
 
@@ -119,15 +120,15 @@ MakesIt change id it devices = (is_full devices id ≡ false) × (changed device
 
 put_does : (change : Change) (id : ℕ) (it : Learned) → IsShort it.eep → is_label it.label ≡ true → (s : State)
     (after : Database) (text : List ℕ) (tally : Tally) (devices : Devices) (had : Registers s.now devices)
-    → MakesIt change id it devices
+    → IsDatabase s.now → MakesIt change id it devices
     → Does s.step_limit (mode_of s) (put_params id it) s.now text None
     (InsertOr had.registry.tables.devices_at Replace (Values put_terms 5) []) (Ok (tally, after))
     → Registers after (changed devices change)
-put_does change id it short label s after text tally devices had room h =
+put_does change id it short label s after text tally devices had sound room h =
     let r = had.registry in
     let put = puts_in s.now.schema r.tables.devices_at r.tables.devices s.step_limit (mode_of s) id it label s.now.trees
     text tally after r.tables.devices_stand.there (devices_alone s.now.schema r.tables) r.whole.rows h in
-    subst (Registers after) (sym room.1) (put_registers s.now after devices had id it short room.0 put.0 put.1)
+    subst (Registers after) (sym room.1) (put_registers s.now after devices had sound id it short room.0 put.0 put.1)
 
 pub put_turns : (change : Change) (id : ℕ) (it : Learned) → IsShort it.eep → is_label it.label ≡ true
     → (old new : State) (r : Result ℕ Error) → (HasCleanDisk old → IsReady old)
@@ -143,15 +144,15 @@ put_turns change id it short label = turned put_text (put_params id it) change (
     (put_does change id it short label)
 
 forget_does : (id : ℕ) (s : State) (after : Database) (text : List ℕ) (tally : Tally) (devices : Devices)
-    (had : Registers s.now devices) → Unit {0}
+    (had : Registers s.now devices) → IsDatabase s.now → Unit {0}
     → Does s.step_limit (mode_of s) (asked id) s.now text None
     (Delete had.registry.tables.devices_at (program_of (forget_query had.registry.tables.devices))) (Ok (tally, after))
     → Registers after (remove devices id)
-forget_does id s after text tally devices had room h =
+forget_does id s after text tally devices had sound room h =
     let r = had.registry in
     let gone = forgets s.now.schema r.tables.devices_at r.tables.devices s.step_limit (mode_of s) id s.now.trees text
     tally after r.tables.devices_stand.there (devices_alone s.now.schema r.tables) r.whole.rows r.whole.once h in
-    forgotten_registers s.now after devices had id gone.0 gone.1 gone.2
+    forgotten_registers s.now after devices had sound id gone.0 gone.1 gone.2
 
 pub forget_turns : (id : ℕ) (old new : State) (r : Result ℕ Error) → (HasCleanDisk old → IsReady old)
     → Survives old new (CommitsBy forget_text (asked id) old)
@@ -168,15 +169,15 @@ forget_turns id old new r ready =
     old new r ready (λ clean devices shows. tt)
 
 renew_does : (change : Change) (s : State) (after : Database) (text : List ℕ) (tally : Tally) (devices : Devices)
-    (had : Registers s.now devices) → changed devices change ≡ devices
+    (had : Registers s.now devices) → IsDatabase s.now → changed devices change ≡ devices
     → Does s.step_limit (mode_of s) [] s.now text None
     (Update had.registry.tables.meta_at (program_of (renew_query had.registry.tables.meta))) (Ok (tally, after))
     → Registers after (changed devices change)
-renew_does change s after text tally devices had same h =
+renew_does change s after text tally devices had sound same h =
     let r = had.registry in
     let kept = renews s.now.schema r.tables.meta_at r.tables.meta s.step_limit (mode_of s) s.now.trees text tally after
     r.whole.row r.tables.meta_stands.there (meta_alone s.now.schema r.tables) r.whole.one r.whole.numbered.key h in
-    subst (Registers after) (sym same) (renewed_registers s.now after devices had kept.0 kept.1 kept.2)
+    subst (Registers after) (sym same) (renewed_registers s.now after devices had sound kept.0 kept.1 kept.2)
 
 -- a change that leaves the devices as they are is made by writing the version row
 pub renew_turns : (change : Change) (old new : State) (r : Result ℕ Error) → (HasCleanDisk old → IsReady old)
@@ -189,3 +190,9 @@ renew_turns change = turned renew_text [] change (λ devices. changed devices ch
     (λ old new registry text count h. h)
     (λ db registry. (λ e. cc, λ name e. cc))
     (renew_does change)
+
+-- where a statement was executed, it was so with a count
+pub executed_if : (sql : List ℕ) (params : Row) (old new : State) (r : Result ℕ Error) → Executes sql params old new r
+    → IfOk r (λ count. Executes sql params old new (Ok count))
+executed_if sql params old new (Ok count) h = h
+executed_if sql params old new (Err e) h = tt

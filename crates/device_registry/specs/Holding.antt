@@ -1,19 +1,21 @@
 -- What a registry holds, what a stop may leave of it, and how its calls move both.
-use Rattle.std.specs.Prelude.{◌≡◌, ◌⊎◌, ℕ, Bool, false, is_some, IsTrue, IfOk, MatchBool, MatchResult}
-use Rattle.std.specs.Prelude.{List, Option, Result, Vec}
+use Rattle.std.specs.Prelude.{◌≡◌, ◌⊎◌, ℕ, Bool, false, is_some, IsTrue, IfOk, OnOk, MatchBool, MatchResult}
+use Rattle.std.specs.Prelude.{List, [], Option, Some, None, Result, Ok, Vec}
 use Rattle.std.specs.declared.alloc.Global.{Global}
 use Rattle.std.specs.FinMap.{empty, get}
-use Rattle.sqlite.specs.State.{State, HasCleanDisk}
+use Rattle.sqlite.specs.State.{State, HasCleanDisk, Executes}
 use Rattle.sqlite_trees.specs.Tree.{Trees}
 use Rattle.learned_devices.specs.declared.Device.{Device}
 use Rattle.device_registry.specs.declared.fault.LearnFault.{LearnFault}
 use Rattle.device_registry.specs.declared.fault.LearnFault.TheVariants.{Full, Refused}
 use Rattle.device_registry.specs.declared.fault.StoreFault.{StoreFault}
 use Rattle.device_registry.specs.declared.receipt.Receipt.{Receipt}
-use Rattle.device_registry.specs.Devices.{Devices, device_of, all_of, is_full}
+use Rattle.device_registry.specs.Devices.{Devices, Learned, device_of, all_of, after, is_full}
 use Rattle.device_registry.specs.Devices.{Change, changed, learned, forgotten, relabelled}
 use Rattle.device_registry.specs.declared.table.Version.{Version}
-use Rattle.device_registry.specs.Stored.{Registers, HoldsAs, Holds, IsHeld, IsBare}
+use Rattle.device_registry.specs.Table.{put_text, renew_text}
+use Rattle.device_registry.specs.Table.Rows.{put_params}
+use Rattle.device_registry.specs.Stored.{Registers, HoldsAs, Holds, IsHeld, IsFree}
 
 -- while the disk is honest and the connection is open, the registry holds these devices
 abbrev pub HasDevices : State → Devices → Type 0
@@ -56,10 +58,10 @@ abbrev pub IsCommitted : State → Type 0
 IsCommitted s = HasCleanDisk s → IsTrue s.is_open → (devices : Devices) → HasDevices s devices
     → Holds s.committed.trees devices
 
--- a database with these trees is a registry of these devices, of either version, or has none of the tables yet, which
--- is to hold none
+-- a database with these trees is a registry of these devices, of either version, or has none of the tables yet, and they
+-- can be made, which is to hold none
 abbrev pub Finds : Trees → Devices → Type 0
-Finds trees devices = ((version : Version) × HoldsAs version trees devices) ⊎ (IsBare trees × (devices ≡ empty))
+Finds trees devices = ((version : Version) × HoldsAs version trees devices) ⊎ (IsFree trees × (devices ≡ empty))
 
 -- The registry is opened: it has the devices that were committed last, and a stop leaves these and nothing else.
 pub record Opens (old new : State) (devices : Devices) : Type 0 where
@@ -72,6 +74,22 @@ pub record Opens (old new : State) (devices : Devices) : Type 0 where
 abbrev pub RefusesToLearn : State → State → Device → Devices → LearnFault → Type 0
 RefusesToLearn old new it devices Full = IsTrue (is_full devices it.id) × Keeps old new devices
 RefusesToLearn old new it devices (Refused fault) = Pends old new (learned it) devices
+
+-- What was done to the state is what the text does that writes the version row as it stands, and changes one row.
+-- Outside a transaction that is a commit. It is not nothing: the store counts the row. A rollback behind it would leave
+-- the same.
+abbrev pub IsRenewed : State → State → Type 0
+IsRenewed old new = Executes renew_text [] old new (Ok 1)
+
+-- The last thing done to the state is the statement that puts in the row of the change's sender, over the same devices.
+-- It is not nothing: the store counts the row.
+pub record WritesRow {C : Type 0} (state : C → State) (new : C) (change : Change) (devices : Devices) : Type 0 where
+  pub row : Learned
+  pub is : after (get devices change.sender) change.deed ≡ Some row
+  pub before : C
+  pub had : HasDevices (state before) devices
+  pub count : ℕ
+  pub executed : Executes put_text (put_params change.sender row) (state before) (state new) (Ok count)
 
 -- ---- the calls, from the state before to the one after
 
@@ -99,6 +117,9 @@ pub record Forgets (old new : State) (id : ℕ) (result : Result Receipt StoreFa
   pub receipt : IfOk result (λ receipt. (receipt.id ≡ id) × (receipt.is_learned ≡ false))
   pub devices : HasCleanDisk new → (devices : Devices) → HasDevices old devices
       → MatchResult result (λ _. Commits new (forgotten id) devices) (λ _. Pends old new (forgotten id) devices)
+  -- where nothing is known of the sender there is a commit all the same
+  pub written : HasCleanDisk new → (devices : Devices) → HasDevices old devices → get devices id ≡ None
+      → OnOk result (IsRenewed old new)
 
 -- a sender gets a label, if it is learned: the answer is whether it is
 pub record Relabels (old new : State) (id : ℕ) (label : List ℕ) (result : Result Bool StoreFault) : Type 0 where

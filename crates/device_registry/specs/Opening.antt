@@ -1,33 +1,24 @@
 -- What an open finds, and what it leaves.
-use Rattle.std.specs.Prelude.{◌≡◌, ◌⊎◌, ◌≤◌, ℕ, List, [], map, IsTrue, false, Ok}
+use Rattle.std.specs.Prelude.{◌≡◌, ◌≢◌, ◌⊎◌, ◌≤◌, IsTrue, false}
 use Rattle.std.specs.FinMap.{len}
-use Rattle.sqlite.specs.declared.types.Value.TheVariants.{Text}
-use Rattle.sqlite.specs.Order.{Row, column}
-use Rattle.sqlite.specs.Schema.{Schema}
-use Rattle.sqlite.specs.Does.{lacks_sequence}
 use Rattle.sqlite.specs.Effect.{Database, IsDatabase}
-use Rattle.sqlite.specs.Listing.{shown}
-use Rattle.sqlite.specs.State.{State, HasCleanDisk, IsUnchanged, Executes}
+use Rattle.sqlite.specs.State.{State, HasCleanDisk, IsUnchanged, Survives}
 use Rattle.sqlite.specs.Held.{Held}
 use Rattle.sqlite.specs.Files.{file_state, Finds as FindsFiles}
+use Rattle.sqlite.specs.Start.{FindsIn}
 use Rattle.sqlite.specs.Closing.{IsCopied}
 use Rattle.sqlite_disk.specs.declared.Disk.{Ghosts}
 use Rattle.sqlite_disk.specs.declared.Files.{Files}
 use Rattle.sqlite_store.specs.declared.store.FileStore.{FileStore}
-use Rattle.sqlite_catalog.specs.Change.{is_used}
-use Rattle.sqlite_rules.specs.Edit.{put_all}
-use Rattle.sqlite_rules.specs.Lists.{Has}
-use Rattle.sqlite_trees.specs.Objects.{catalog_tree}
+use Rattle.sqlite_store.specs.FileStore.{view, state as stored}
 use Rattle.sqlite_trees.specs.Tree.{Trees}
 use Rattle.device_registry.specs.declared.fault.OpenFault.{OpenFault}
 use Rattle.device_registry.specs.declared.fault.OpenFault.TheVariants.{NotARegistry}
 use Rattle.device_registry.specs.declared.table.Version.{Version}
-use Rattle.device_registry.specs.declared.table.Version.TheVariants.{First, Second}
 use Rattle.device_registry.specs.Devices.{Devices, most_devices}
-use Rattle.device_registry.specs.Table.{meta_name, device_name, meta_text, device_text, renew_text}
-use Rattle.device_registry.specs.Stored.{AreSpared, IsRegistry, Holds}
+use Rattle.device_registry.specs.Stored.{IsRegistry, Holds, IsHeld}
 use Rattle.device_registry.specs.Ready.{Shows}
-use Rattle.device_registry.specs.Holding.{HasDevices, IsCommitted, Finds, Opens}
+use Rattle.device_registry.specs.Holding.{AreRegistries, HasDevices, IsCommitted, MayFind, Finds, Opens}
 
 -- the connection is open between two transactions, over a sound database
 pub record IsAtRest (s : State) : Type 0 where
@@ -45,66 +36,28 @@ pub record IsPrepared (old new : State) (devices : Devices) : Type 0 where
   pub found : Finds old.now.trees devices
   pub shows : Shows new devices
 
--- What was done to the state is what the text does that writes the version row as it stands, and changes one row.
--- Outside a transaction that is a commit. It is not nothing: the store counts the row. A rollback behind it would leave
--- the same.
-abbrev pub IsRenewed : State → State → Type 0
-IsRenewed old new = Executes renew_text [] old new (Ok 1)
-
--- the list of the database's objects, as SQLite shows it
-abbrev pub listing : Trees → List Row
-listing trees = put_all [] (map shown (trees catalog_tree))
-
--- an object of this name is listed with this text
-pub record IsListedAs (trees : Trees) (name text : List ℕ) : Type 0 where
-  pub row : Row
-  pub listed : Has (listing trees) row
-  pub name_is : column row 2 ≡ Text name
-  pub sql : column row 5 ≡ Text text
-
--- the two tables are listed with our texts
-abbrev pub AreListed : Version → Trees → Type 0
-AreListed version trees =
-    IsListedAs trees meta_name meta_text × IsListedAs trees (device_name version) (device_text version)
-
 -- a registry of this version as this program leaves it
 pub record IsOwn (version : Version) (trees : Trees) : Type 0 where
   pub db : Database
   pub same : db.trees ≡ trees
   pub sound : IsDatabase db
   pub registry : IsRegistry version db
-  pub listed : AreListed version trees
 
--- The trees of a registry of the devices that are found in others. Of a first version that this program left, it is a
--- second version as this program leaves it.
+-- the trees of a registry of the devices that are found in others
 pub record KeepsFound (found left : Trees) : Type 0 where
   pub devices : Devices
   pub finds : Finds found devices
   pub holds : Holds left devices
-  pub own : IsOwn First found → IsOwn Second left
 
--- The tables can be made: nothing has their names, of whatever version, no foreign key refers to them, and no table
--- counts its rowids without SQLite's table of the counts, which our CREATE would add.
-pub record IsClear (schema : Schema) : Type 0 where
-  pub free_meta : is_used schema meta_name ≡ false
-  pub free_devices : (version : Version) → is_used schema (device_name version) ≡ false
-  pub spared : AreSpared schema
-  pub counted : lacks_sequence schema ≡ false
-
+-- no devices are found in the trees: they are those of no registry as this program leaves it, of either version, nor of
 -- a database in which the tables can be made
-pub record IsFree (trees : Trees) : Type 0 where
-  pub db : Database
-  pub same : db.trees ≡ trees
-  pub sound : IsDatabase db
-  pub clear : IsClear db.schema
-
--- neither a registry as this program leaves it, of either version, nor a database in which one can be made
 abbrev pub IsOther : Trees → Type 0
-IsOther trees = ((version : Version) → ¬ IsOwn version trees) × (¬ IsFree trees)
+IsOther trees = (devices : Devices) → ¬ Finds trees devices
 
 -- A database is refused. One that is no registry is as it was, and after another fault a stop leaves what it could
 -- leave before, or a registry of the devices that were committed.
 pub record RefusesToOpen (old new : State) (fault : OpenFault) : Type 0 where
+  pub survives : Survives old new (KeepsFound old.committed.trees)
   pub clean : HasCleanDisk new → HasCleanDisk old
   pub other : HasCleanDisk new → fault ≡ NotARegistry → IsOther old.committed.trees × IsUnchanged old new
       × ((trees : Trees) → new.may_leave trees → old.may_leave trees)
@@ -138,6 +91,22 @@ RefusedOpensKeep {C} state = (old new : C) (fault : OpenFault) → HasCleanDisk 
     × ((devices : Devices) → MayFindNext (state new) devices → MayFindNext (state old) devices
     ⊎ (IsTrue (state old).is_open × Finds (state old).committed.trees devices))
 
+-- What is found is never refused as no registry, and of a registry that was opened whatever a stop leaves is found.
+abbrev pub RegistriesAreRecognized : {C : Type 0} → (C → State) → Type 0
+RegistriesAreRecognized {C} state = ((trees : Trees) → IsHeld trees → (devices : Devices) × Finds trees devices)
+    × ((old new : C) (fault : OpenFault) (devices : Devices) → HasCleanDisk (state new)
+    → RefusesToOpen (state old) (state new) fault → Finds (state old).committed.trees devices → fault ≢ NotARegistry)
+
+-- whatever an open makes of this connection, the disk has returned what was written
+abbrev pub StaysClean : {C : Type 0} → (C → State) → C → Type 0
+StaysClean {C} state conn =
+    (last : C) → Survives (state conn) (state last) (KeepsFound (state conn).committed.trees) → HasCleanDisk (state last)
+
+-- so a database is refused as no registry only where it is none, also by an open that drops its connection
+abbrev pub OnlyOthersAreRefused : {C : Type 0} → (C → State) → Type 0
+OnlyOthersAreRefused {C} state = (conn last : C) → StaysClean state conn
+    → RefusesToOpen (state conn) (state last) NotARegistry → IsOther (state conn).committed.trees
+
 -- what is closed and handed on is what the next open finds
 abbrev pub HandedOn : {C : Type 0} → (C → State) → Type 0
 HandedOn {C} state = (closed opened : C) (devices found : Devices) → HasCleanDisk (state closed)
@@ -151,3 +120,12 @@ ClosedFilesAreFound {D} g =
     → FindsFiles files opened → IsCommitted (file_state closed) → HasDevices (file_state closed) devices
     → Finds (file_state opened).committed.trees devices
     × ((found : Devices) → Finds (file_state opened).committed.trees found → found ≡ devices)
+
+-- Where two files hold what a stop could leave in them, an open of these files finds devices that this stop could leave.
+-- (`next_run` of the crate `sqlite` says so of the trees; a store numbers its pages while its disk is clean.)
+abbrev pub CrashedFilesAreFound : {D : Type 0} → Ghosts D → Type 0
+CrashedFilesAreFound {D} g =
+    (stopped opened : Held (FileStore D g)) (image : _) → IsTrue (view stopped.store).is_numbered
+    → AreRegistries (file_state stopped).may_leave → (stored stopped.store).may_leave image
+    → FindsIn image (file_state opened)
+    → ∥ ((left : Devices) × MayFind (file_state stopped) left × Finds (file_state opened).committed.trees left) ∥₁

@@ -1,10 +1,13 @@
 -- The registry between two of its statements, and what each does to it.
 use Rattle.std.specs.Prelude.{◌≡◌, ◌⊎◌, false, Result, OnOk, OnErr, IsTrue}
 use Rattle.sqlite.specs.State.{State, HasCleanDisk}
-use Rattle.sqlite.specs.Effect.{IsDatabase}
+use Rattle.sqlite.specs.Effect.{Database, IsDatabase}
 use Rattle.sqlite.specs.Table.{Table}
 use Rattle.sqlite_rules.specs.Lists.{Has}
 use Rattle.sqlite_trees.specs.Tree.{Trees}
+use Rattle.sqlite_schema.specs.Names.{same_name}
+use Rattle.device_registry.specs.declared.table.Version.{Version}
+use Rattle.device_registry.specs.Table.{meta_name, device_name}
 use Rattle.device_registry.specs.Devices.{Devices, Change, changed}
 use Rattle.device_registry.specs.Stored.{Registers, Holds}
 
@@ -51,3 +54,9 @@ pub record Turns {T E : Type 0} (old new : State) (change : Change) (result : Re
 pub record KeepsRows (old new : State) : Type 0 where
   pub schema : new.now.schema ≡ old.now.schema
   pub rows : (table : Table) → Has old.now.schema.tables table → new.now.trees table.tree ≡ old.now.trees table.tree
+
+-- each table that has none of our names, of whatever version, is there still, with the rows that it had
+abbrev pub KeepsOthers : Database → Database → Type 0
+KeepsOthers old new = (table : Table) → Has old.schema.tables table → same_name table.name meta_name ≡ false
+    → ((version : Version) → same_name table.name (device_name version) ≡ false)
+    → Has new.schema.tables table × (new.trees table.tree ≡ old.trees table.tree)

@@ -1,19 +1,24 @@
 -- The devices that a database holds.
-use Rattle.std.specs.Prelude.{◌≡◌, ◌≢◌, ◌≤◌, ℕ, true, false, List, [], ◌∷◌, length, slice_get, Some, None}
+use Rattle.std.specs.Prelude.{◌≡◌, ◌≢◌, ◌≤◌, ℕ, true, false, List, [], ◌∷◌, length, map, slice_get, Some}
 use Rattle.std.specs.List.{AllByRecursion}
-use Rattle.sqlite.specs.Order.{Row}
+use Rattle.sqlite.specs.declared.types.Value.TheVariants.{Text}
+use Rattle.sqlite.specs.Order.{Row, column}
+use Rattle.sqlite.specs.Listing.{shown}
 use Rattle.sqlite.specs.Schema.{Schema}
 use Rattle.sqlite.specs.Table.{Table}
 use Rattle.sqlite.specs.Does.{lacks_sequence}
 use Rattle.sqlite.specs.Effect.{Database, IsDatabase}
 use Rattle.sqlite_catalog.specs.Change.{is_used}
 use Rattle.sqlite_schema.specs.Names.{table_named, same_name}
+use Rattle.sqlite_rules.specs.Edit.{put_all}
+use Rattle.sqlite_rules.specs.Lists.{Has}
+use Rattle.sqlite_trees.specs.Objects.{catalog_tree}
 use Rattle.sqlite_trees.specs.Tree.{Trees}
 use Rattle.sqlite_typing.specs.Types.{table_classes, row_classes}
 use Rattle.device_registry.specs.declared.table.Version.{Version}
 use Rattle.device_registry.specs.declared.table.Version.TheVariants.{First, Second}
 use Rattle.device_registry.specs.Devices.{Devices, most_devices}
-use Rattle.device_registry.specs.Table.{meta_name, device_name, meta_table, device_table}
+use Rattle.device_registry.specs.Table.{meta_name, device_name, meta_text, device_text, meta_table, device_table}
 use Rattle.device_registry.specs.Table.Rows.{IsDevice, IsVersion, RowidsDiffer, devices_in, rows_of}
 
 -- the schema's table of this name is this one, at this place
@@ -77,10 +82,27 @@ pub record IsWhole (version : Version) (trees : Trees) (meta devices : ℕ) : Ty
   pub once : RowidsDiffer (rows_of version (trees devices))
   pub few : length (rows_of version (trees devices)) ≤ most_devices
 
--- the database is a registry of this version
+-- the list of the database's objects, as SQLite shows it
+abbrev pub listing : Trees → List Row
+listing trees = put_all [] (map shown (trees catalog_tree))
+
+-- an object of this name is listed with this text
+pub record IsListedAs (trees : Trees) (name text : List ℕ) : Type 0 where
+  pub row : Row
+  pub listed : Has (listing trees) row
+  pub name_is : column row 2 ≡ Text name
+  pub sql : column row 5 ≡ Text text
+
+-- the two tables are listed with our texts
+abbrev pub AreListed : Version → Trees → Type 0
+AreListed version trees =
+    IsListedAs trees meta_name meta_text × IsListedAs trees (device_name version) (device_text version)
+
+-- the database is a registry of this version, as this program leaves it
 pub record IsRegistry (version : Version) (db : Database) : Type 0 where
   pub tables : HasTables version db.schema
   pub whole : IsWhole version db.trees tables.meta tables.devices
+  pub listed : AreListed version db.trees
 
 -- the database is a registry of this version with these devices
 pub record RegistersAs (version : Version) (db : Database) (devices : Devices) : Type 0 where
@@ -106,10 +128,17 @@ pub record IsHeld (trees : Trees) : Type 0 where
   pub devices : Devices
   pub holds : Holds trees devices
 
--- the trees are those of a database that has none of the tables, of whatever version
-pub record IsBare (trees : Trees) : Type 0 where
+-- The tables can be made: nothing has their names, of whatever version, no foreign key refers to them, and no table
+-- counts its rowids without SQLite's table of the counts, which our CREATE would add.
+pub record IsClear (schema : Schema) : Type 0 where
+  pub free_meta : is_used schema meta_name ≡ false
+  pub free_devices : (version : Version) → is_used schema (device_name version) ≡ false
+  pub spared : AreSpared schema
+  pub counted : lacks_sequence schema ≡ false
+
+-- the trees are those of a database in which the tables can be made
+pub record IsFree (trees : Trees) : Type 0 where
   pub db : Database
   pub same : db.trees ≡ trees
   pub sound : IsDatabase db
-  pub no_meta : table_named db.schema meta_name ≡ None
-  pub no_devices : (version : Version) → table_named db.schema (device_name version) ≡ None
+  pub clear : IsClear db.schema

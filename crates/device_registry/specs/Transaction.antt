@@ -5,7 +5,7 @@ use Rattle.sqlite.specs.State.{State, HasCleanDisk, Survives, KeepsCommit, Execu
 use Rattle.sqlite.specs.Held.{Held, state}
 use Rattle.sqlite_trees.specs.declared.store.Store.{Ghosts}
 use Rattle.device_registry.specs.declared.table.Version.{Version}
-use Rattle.device_registry.specs.Opening.{AreListed}
+use Rattle.device_registry.specs.Stored.{AreListed}
 
 -- Since the first state nothing is committed: a stop leaves what it could leave then, and a rollback what was committed
 -- then.

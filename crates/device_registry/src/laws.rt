@@ -1,7 +1,8 @@
 //! Laws of the definitions, and of every registry. Each function does nothing: its contract is the law.
 ghost use Rattle.device_registry.specs.Holding.{HoldsSome};
 ghost use Rattle.device_registry.specs.Opening.{ClosedFilesAreFound, FewAreHeld, FoundAgain, HandedOn};
-ghost use Rattle.device_registry.specs.Opening.{RefusedOpensKeep};
+ghost use Rattle.device_registry.specs.Opening.{CrashedFilesAreFound};
+ghost use Rattle.device_registry.specs.Opening.{RegistriesAreRecognized, OnlyOthersAreRefused, RefusedOpensKeep};
 
 use crate::registry::RegistryOver;
 use crate::sql_connection::SqlConnection;
@@ -23,9 +24,26 @@ pub fn refused_opens_keep<C: SqlConnection>()
     ensures { RefusedOpensKeep C.state }
 {}
 
+/// Whatever a stop leaves of a registry is found by the next open, and no open refuses what is found as no registry: a
+/// registry of either version as this program leaves it, or a database in which the tables can be made.
+pub fn registries_are_recognized<C: SqlConnection>()
+    ensures { RegistriesAreRecognized C.state }
+{}
+
+/// A database is refused as no registry only where it is none, also by an open that drops its connection, as long as the
+/// disk returns what was written whatever becomes of that connection.
+pub fn only_others_are_refused<C: SqlConnection>()
+    ensures { OnlyOthersAreRefused C.state }
+{}
+
 /// What is closed and handed on is what the next open finds.
 pub fn handed_on<C: SqlConnection>()
     ensures { HandedOn C.state }
+{}
+
+/// What a stop left in two files is what an open of them finds: devices that this stop could leave, of a registry.
+pub fn crashed_files_are_found<D: Disk>()
+    ensures { CrashedFilesAreFound D.Disk }
 {}
 
 /// What a registry held whose files the store has closed is what an open of these files finds, with no stop between.

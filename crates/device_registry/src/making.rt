@@ -5,25 +5,32 @@ ghost use Rattle.sqlite.specs.State.{HasCleanDisk, Survives};
 ghost use Rattle.sqlite.specs.Effect.{IsDatabase};
 ghost use Rattle.sqlite.specs.Held.{state};
 ghost use Rattle.device_registry.specs.Stored.{Holds};
-ghost use Rattle.device_registry.specs.Ready.{Shows};
+ghost use Rattle.device_registry.specs.Ready.{Shows, KeepsOthers};
 ghost use Rattle.device_registry.specs.Opening.{Remains};
 ghost use Rattle.device_registry.specs.Places.{is_clear};
 
+use crate::table::Version;
 use crate::table::statements::{CREATE_DEVICE, CREATE_META, WRITE_VERSION};
-use crate::transaction::run_all;
+use crate::transaction::run_listed;
 use sqlite::{Alter, Connection, Error};
 
-/// Makes the two tables and writes the version row, in one transaction.
+/// Makes the two tables and writes the version row, in one transaction, and sees that they are listed with our texts.
 pub fn make<S: Alter>(conn: &mut Connection<S>) -> Result<(), Error>
     requires idle { conn.old.in_transaction ≡ false }
     requires clear { HasCleanDisk (state S.Store conn.old) → IsTrue (is_clear (state S.Store conn.old).now.schema) ×
         IsDatabase (state S.Store conn.old).now }
     ensures made { HasCleanDisk (state S.Store conn.new) → OnOk result (Shows (state S.Store conn.new) empty) }
+    ensures others { HasCleanDisk (state S.Store conn.new) → OnOk result (KeepsOthers (state S.Store conn.old).now
+        (state S.Store conn.new).now) }
     ensures stop { Survives (state S.Store conn.old) (state S.Store conn.new) (λ trees. Holds trees empty) }
     ensures remains { HasCleanDisk (state S.Store conn.new) → OnErr result (Remains (state S.Store conn.old)
         (state S.Store conn.new)) }
 {
     let mut making = conn.transaction();
-    run_all(&mut making, &[CREATE_META, CREATE_DEVICE, WRITE_VERSION])?;
+    run_listed(
+        &mut making,
+        &[CREATE_META, CREATE_DEVICE, WRITE_VERSION],
+        Version::Second,
+    )?;
     making.commit()
 }

@@ -3,11 +3,11 @@ ghost use Rattle.std.specs.Prelude.{◌≡◌, false, IsTrue, OnOk, OnErr};
 ghost use Rattle.sqlite.specs.State.{HasCleanDisk, Survives};
 ghost use Rattle.sqlite.specs.Effect.{IsDatabase};
 ghost use Rattle.sqlite.specs.Held.{state};
-ghost use Rattle.device_registry.specs.declared.table.Version.TheVariants.{First, Second};
+ghost use Rattle.device_registry.specs.declared.table.Version.TheVariants.{First};
 ghost use Rattle.device_registry.specs.Devices.{Devices};
 ghost use Rattle.device_registry.specs.Stored.{IsRegistry, RegistersAs, Holds};
-ghost use Rattle.device_registry.specs.Ready.{Shows};
-ghost use Rattle.device_registry.specs.Opening.{IsOwn, Remains};
+ghost use Rattle.device_registry.specs.Ready.{Shows, KeepsOthers};
+ghost use Rattle.device_registry.specs.Opening.{Remains};
 
 use crate::table::Version;
 use crate::table::statements::{COPY, CREATE_DEVICE, DROP_FIRST_DEVICE, RENEW};
@@ -20,11 +20,12 @@ pub fn migrate<S: Alter>(conn: &mut Connection<S>) -> Result<(), Error>
     requires idle { conn.old.in_transaction ≡ false }
     requires first { HasCleanDisk (state S.Store conn.old) → IsRegistry First (state S.Store conn.old).now ×
         IsDatabase (state S.Store conn.old).now }
-    ensures made { HasCleanDisk (state S.Store conn.new) → OnOk result (IsOwn Second (state S.Store conn.new).now.trees
-        × ((devices : Devices) → RegistersAs First (state S.Store conn.old).now devices →
-        Shows (state S.Store conn.new) devices)) }
-    ensures stop { Survives (state S.Store conn.old) (state S.Store conn.new) (λ trees. IsOwn Second trees ×
-        ((devices : Devices) → RegistersAs First (state S.Store conn.old).now devices → Holds trees devices)) }
+    ensures made { HasCleanDisk (state S.Store conn.new) → OnOk result ((devices : Devices) →
+        RegistersAs First (state S.Store conn.old).now devices → Shows (state S.Store conn.new) devices) }
+    ensures others { HasCleanDisk (state S.Store conn.new) → OnOk result (KeepsOthers (state S.Store conn.old).now
+        (state S.Store conn.new).now) }
+    ensures stop { Survives (state S.Store conn.old) (state S.Store conn.new) (λ trees. (devices : Devices) →
+        RegistersAs First (state S.Store conn.old).now devices → Holds trees devices) }
     ensures remains { HasCleanDisk (state S.Store conn.new) → OnErr result (Remains (state S.Store conn.old)
         (state S.Store conn.new)) }
 {

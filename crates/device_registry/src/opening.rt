@@ -3,11 +3,10 @@ ghost use Rattle.std.specs.Prelude.{◌≡◌, ◌≤◌, false, IsTrue, IfOk, I
 ghost use Rattle.sqlite.specs.State.{HasCleanDisk, Survives, IsUnchanged};
 ghost use Rattle.sqlite_trees.specs.Tree.{Trees};
 ghost use Rattle.device_registry.specs.Devices.{Devices};
-ghost use Rattle.device_registry.specs.Holding.{AreRegistries, Opens};
+ghost use Rattle.device_registry.specs.Holding.{AreRegistries, IsRenewed, Opens};
 ghost use Rattle.device_registry.specs.Stored.{IsHeld};
-ghost use Rattle.device_registry.specs.Ready.{IsReady, KeepsRows};
-ghost use Rattle.device_registry.specs.declared.table.Version.TheVariants.{First, Second};
-ghost use Rattle.device_registry.specs.Opening.{IsAtRest, Remains, IsOwn, IsPrepared, IsRenewed, KeepsFound, IsOther};
+ghost use Rattle.device_registry.specs.Ready.{IsReady, KeepsOthers, KeepsRows};
+ghost use Rattle.device_registry.specs.Opening.{IsAtRest, Remains, IsPrepared, KeepsFound, IsOther};
 ghost use Rattle.device_registry.specs.Opening.{RefusesToOpen};
 
 use crate::cache::new_cache;
@@ -49,8 +48,6 @@ fn make_or_take<C: SqlConnection>(conn: &mut C) -> Result<(), OpenFault>
     requires rest { HasCleanDisk (C.state conn.old) → IsAtRest (C.state conn.old) }
     ensures prepared { HasCleanDisk (C.state conn.new) → OnOk result ((devices : Devices) × IsPrepared
         (C.state conn.old) (C.state conn.new) devices) }
-    ensures own { HasCleanDisk (C.state conn.new) → OnOk result (IsOwn First (C.state conn.old).now.trees →
-        IsOwn Second (C.state conn.new).now.trees) }
     ensures refused { HasCleanDisk (C.state conn.new) → result ≡ Err OpenFault.NotARegistry → IsOther
         (C.state conn.old).now.trees }
     ensures unchanged { HasCleanDisk (C.state conn.new) → result ≡ Err OpenFault.NotARegistry →
@@ -62,6 +59,8 @@ fn make_or_take<C: SqlConnection>(conn: &mut C) -> Result<(), OpenFault>
         KeepsRows (C.state conn.old) (C.state conn.new)) }
     ensures written { HasCleanDisk (C.state conn.new) → OnOk result (IsHeld (C.state conn.old).now.trees →
         IsRenewed (C.state conn.old) (C.state conn.new)) }
+    ensures others { HasCleanDisk (C.state conn.new) → OnOk result (KeepsOthers (C.state conn.old).now
+        (C.state conn.new).now) }
     ensures remains { HasCleanDisk (C.state conn.new) → OnErr result (Remains (C.state conn.old)
         (C.state conn.new)) }
 {
@@ -97,12 +96,12 @@ pub fn prepare<C: SqlConnection>(conn: &mut C) -> Result<(), OpenFault>
     ensures opens { HasCleanDisk (C.state conn.new) → OnOk result ((devices : Devices) × Opens
         (C.state conn.old) (C.state conn.new) devices) }
     ensures ready { HasCleanDisk (C.state conn.new) → OnOk result (IsReady (C.state conn.new)) }
-    ensures migrated { HasCleanDisk (C.state conn.new) → OnOk result (IsOwn First (C.state conn.old).committed.trees →
-        (trees : Trees) → (C.state conn.new).may_leave trees → IsOwn Second trees) }
     ensures rows { HasCleanDisk (C.state conn.new) → OnOk result (IsHeld
         (C.state conn.old).committed.trees → KeepsRows (C.state conn.old) (C.state conn.new)) }
     ensures written { HasCleanDisk (C.state conn.new) → OnOk result (IsHeld
         (C.state conn.old).committed.trees → IsRenewed (C.state conn.old) (C.state conn.new)) }
+    ensures others { HasCleanDisk (C.state conn.new) → OnOk result (KeepsOthers (C.state conn.old).now
+        (C.state conn.new).now) }
     ensures kept { HasCleanDisk (C.state conn.new) → OnErr result (IsTrue (C.state conn.new).is_open →
         IsAtRest (C.state conn.new) × ((C.state conn.new).now ≡ (C.state conn.old).now)) }
     ensures refused { IfErr result (RefusesToOpen (C.state conn.old) (C.state conn.new)) }
@@ -120,8 +119,6 @@ impl<C: SqlConnection + Drop> RegistryOver<C> {
         ensures opens { IfOk result (λ r. HasCleanDisk (C.state r) → (devices : Devices) × Opens
             (C.state conn) (C.state r) devices) }
         ensures ready { IfOk result (λ r. HasCleanDisk (C.state r) → IsReady (C.state r)) }
-        ensures migrated { IfOk result (λ r. HasCleanDisk (C.state r) → IsOwn First (C.state conn).committed.trees →
-            (trees : Trees) → (C.state r).may_leave trees → IsOwn Second trees) }
         ensures written { IfOk result (λ r. HasCleanDisk (C.state r) → IsHeld (C.state conn).committed.trees →
             IsRenewed (C.state conn) (C.state r)) }
         ensures refused { IfErr result (λ fault. fault ≡ OpenFault.NotARegistry → (last : C) ×
@@ -141,8 +138,6 @@ impl<C: SqlConnection + Drop> RegistryOver<C> {
         ensures opens { IfOk result (λ r. HasCleanDisk (C.state r) → (devices : Devices) × Opens
             (C.state conn) (C.state r) devices) }
         ensures ready { IfOk result (λ r. HasCleanDisk (C.state r) → IsReady (C.state r)) }
-        ensures migrated { IfOk result (λ r. HasCleanDisk (C.state r) → IsOwn First (C.state conn).committed.trees →
-            (trees : Trees) → (C.state r).may_leave trees → IsOwn Second trees) }
         ensures written { IfOk result (λ r. HasCleanDisk (C.state r) → IsHeld (C.state conn).committed.trees →
             IsRenewed (C.state conn) (C.state r)) }
         ensures refused { IfErr result (λ fault. fault ≡ OpenFault.NotARegistry → (last : C) ×

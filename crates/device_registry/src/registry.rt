@@ -1,10 +1,12 @@
 //! The registry.
-ghost use Rattle.std.specs.Prelude.{◌≡◌, [], true, Some, option_map, OnOk};
+ghost use Rattle.std.specs.Prelude.{◌≡◌, [], true, Some, option_map, IfOk, IsTrue, OnOk};
 ghost use Rattle.std.specs.FinMap.{get};
 ghost use Rattle.sqlite.specs.State.{HasCleanDisk};
 ghost use Rattle.learned_devices.specs.Labels.{is_label};
 ghost use Rattle.device_registry.specs.Devices.{Devices, Learn, Relabel, after, kept_label, known_of};
+ghost use Rattle.device_registry.specs.Devices.{learned, relabelled};
 ghost use Rattle.device_registry.specs.Holding.{HasDevices, LooksUp, Learns, Forgets, Relabels, ListsAll, HandsOn};
+ghost use Rattle.device_registry.specs.Holding.{WritesRow};
 ghost use Rattle.device_registry.specs.Ready.{IsReady, AreReady};
 
 use crate::cache::{Cache, cached, copied, forget_entry, remember};
@@ -118,7 +120,9 @@ impl<C: SqlConnection> RegistryOver<C> {
     fn learn_kept(&mut self, device: Device) -> Result<Receipt, LearnFault>
         requires { HasCleanDisk (C.state self.old) → (devices : Devices) → HasDevices (C.state self.old) devices →
             after (get devices device.id) (Learn device.eep device.maker) ≡ Some (known_of device) }
-        ensures { Learns (C.state self.old) (C.state self.new) device result }
+        ensures learns { Learns (C.state self.old) (C.state self.new) device result }
+        ensures written { HasCleanDisk (C.state self.new) → (devices : Devices) → HasDevices (C.state self.old) devices →
+            OnOk result (WritesRow C.state self.new (learned device) devices) }
     {
         let id = device.id;
         let copy = device.copied();
@@ -137,10 +141,13 @@ impl<C: SqlConnection> RegistryOver<C> {
     }
 
     /// Learns a device, in place of what was known of its sender. A known sender keeps its label; another gets the
-    /// empty one, which the device has here. `Full` says that 1,000 others are learned.
+    /// empty one, which the device has here. `Full` says that 1,000 others are learned. A device that stands already is
+    /// written again.
     pub fn learn(&mut self, device: Device) -> Result<Receipt, LearnFault>
         requires { device.label ≡ [] }
-        ensures { Learns (C.state self.old) (C.state self.new) device result }
+        ensures learns { Learns (C.state self.old) (C.state self.new) device result }
+        ensures written { HasCleanDisk (C.state self.new) → (devices : Devices) → HasDevices (C.state self.old) devices →
+            OnOk result (WritesRow C.state self.new (learned device) devices) }
     {
         let known = self.known(device.id)?;
         self.learn_kept(keeping_label(device, known))
@@ -151,7 +158,9 @@ impl<C: SqlConnection> RegistryOver<C> {
         requires ready { HasCleanDisk (C.state self.old) → IsReady (C.state self.old) }
         requires known { HasCleanDisk (C.state self.old) → (devices : Devices) → HasDevices (C.state self.old) devices
             → after (get devices device.id) (Relabel device.label) ≡ Some (known_of device) }
-        ensures { Relabels (C.state self.old) (C.state self.new) device.id device.label result }
+        ensures relabels { Relabels (C.state self.old) (C.state self.new) device.id device.label result }
+        ensures written { HasCleanDisk (C.state self.new) → (devices : Devices) → HasDevices (C.state self.old) devices →
+            OnOk result (WritesRow C.state self.new (relabelled device.id device.label) devices) }
     {
         let id = device.id;
         let labelled = device.copied();
@@ -168,10 +177,13 @@ impl<C: SqlConnection> RegistryOver<C> {
         }
     }
 
-    /// Gives a sender this label, if it is learned: the answer is whether it is.
+    /// Gives a sender this label, if it is learned: the answer is whether it is. A label that it has already is written
+    /// again.
     pub fn relabel(&mut self, id: u32, text: &str) -> Result<bool, StoreFault>
         requires { is_label text.now ≡ true }
-        ensures { Relabels (C.state self.old) (C.state self.new) id text.now result }
+        ensures relabels { Relabels (C.state self.old) (C.state self.new) id text.now result }
+        ensures written { HasCleanDisk (C.state self.new) → (devices : Devices) → HasDevices (C.state self.old) devices →
+            IfOk result (λ known. IsTrue known → WritesRow C.state self.new (relabelled id text.now) devices) }
     {
         match self.known(id)? {
             Some(known) => self.relabel_known(with_label(id, known, text)),

@@ -6,11 +6,11 @@ ghost use Rattle.sqlite.specs.Effect.{IsDatabase};
 ghost use Rattle.sqlite.specs.State.{State, HasCleanDisk, Survives, IsUnchanged, IsLive, IsNotRun};
 ghost use Rattle.sqlite.specs.State.{Executes, CommitsBy, Shown, FailsToQuery, CommitsShowing};
 ghost use Rattle.sqlite_trees.specs.Tree.{Trees};
-ghost use Rattle.device_registry.specs.declared.table.Version.TheVariants.{First, Second};
+ghost use Rattle.device_registry.specs.declared.table.Version.TheVariants.{First};
 ghost use Rattle.device_registry.specs.Devices.{Devices};
 ghost use Rattle.device_registry.specs.Stored.{IsRegistry, RegistersAs, Holds};
-ghost use Rattle.device_registry.specs.Ready.{Shows};
-ghost use Rattle.device_registry.specs.Opening.{IsOwn, Remains};
+ghost use Rattle.device_registry.specs.Ready.{Shows, KeepsOthers};
+ghost use Rattle.device_registry.specs.Opening.{Remains};
 ghost use Rattle.device_registry.specs.Places.{is_clear};
 
 use crate::{making, migrating};
@@ -80,6 +80,7 @@ pub trait SqlConnection {
         requires clear { HasCleanDisk (state self.old) → IsTrue (is_clear (state self.old).now.schema) ×
             IsDatabase (state self.old).now }
         ensures made { HasCleanDisk (state self.new) → OnOk result (Shows (state self.new) empty) }
+        ensures others { HasCleanDisk (state self.new) → OnOk result (KeepsOthers (state self.old).now (state self.new).now) }
         ensures stop { Survives (state self.old) (state self.new) (λ trees. Holds trees empty) }
         ensures remains { HasCleanDisk (state self.new) → OnErr result (Remains (state self.old) (state self.new)) };
 
@@ -88,10 +89,11 @@ pub trait SqlConnection {
         requires idle { (state self.old).in_transaction ≡ false }
         requires first { HasCleanDisk (state self.old) → IsRegistry First (state self.old).now ×
             IsDatabase (state self.old).now }
-        ensures made { HasCleanDisk (state self.new) → OnOk result (IsOwn Second (state self.new).now.trees ×
-            ((devices : Devices) → RegistersAs First (state self.old).now devices → Shows (state self.new) devices)) }
-        ensures stop { Survives (state self.old) (state self.new) (λ trees. IsOwn Second trees ×
-            ((devices : Devices) → RegistersAs First (state self.old).now devices → Holds trees devices)) }
+        ensures made { HasCleanDisk (state self.new) → OnOk result ((devices : Devices) →
+            RegistersAs First (state self.old).now devices → Shows (state self.new) devices) }
+        ensures others { HasCleanDisk (state self.new) → OnOk result (KeepsOthers (state self.old).now (state self.new).now) }
+        ensures stop { Survives (state self.old) (state self.new) (λ trees. (devices : Devices) →
+            RegistersAs First (state self.old).now devices → Holds trees devices) }
         ensures remains { HasCleanDisk (state self.new) → OnErr result (Remains (state self.old) (state self.new)) };
 
     // While the connection is open, a stop leaves what is committed.

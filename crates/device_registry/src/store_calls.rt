@@ -1,16 +1,17 @@
 //! The calls of the store that the registry makes, each by one statement. A call begins with a text that is compiled,
 //! which tells whether the connection is open: nothing is known of what a shut one writes.
-ghost use Rattle.std.specs.Prelude.{◌≡◌, [], ◌∷◌, map, pos, false, OnOk, OnErr, IfOk, IfErr};
+ghost use Rattle.std.specs.Prelude.{◌≡◌, [], ◌∷◌, map, pos, false, Ok, OnOk, OnErr, IfOk, IfErr};
 ghost use Rattle.std.specs.FinMap.{insert};
 ghost use Rattle.sqlite.specs.declared.types.Value.TheVariants.{Int, Text};
-ghost use Rattle.sqlite.specs.State.{HasCleanDisk, Survives, Executes, CommitsBy, Shown, FailsToQuery, CommitsShowing};
+ghost use Rattle.sqlite.specs.State.{HasCleanDisk, IsUnchanged, Survives, Executes, CommitsBy};
+ghost use Rattle.sqlite.specs.State.{Shown, FailsToQuery, CommitsShowing};
 ghost use Rattle.device_registry.specs.Devices.{Devices, Change, changed, forgotten, known_of, is_full, all_of};
 ghost use Rattle.device_registry.specs.Devices.{device_of};
 ghost use Rattle.device_registry.specs.Table.{put_text, forget_text, renew_text};
 ghost use Rattle.device_registry.specs.Stored.{Holds};
 ghost use Rattle.device_registry.specs.Opening.{Remains};
 ghost use Rattle.device_registry.specs.Ready.{Shows, IsReady, StaysReady, Stays, Turns, KeepsRows};
-ghost use Rattle.device_registry.specs.Table.Rows.{AreFound, listed};
+ghost use Rattle.device_registry.specs.Table.Rows.{AreFound, listed, put_params};
 
 use crate::fault::StoreFault;
 use crate::limits::MOST_DEVICES;
@@ -25,6 +26,8 @@ fn compiled<C: SqlConnection>(conn: &mut C, sql: &str) -> Result<Statement, Erro
     requires { StaysReady (C.state conn.old) }
     ensures text { HasCleanDisk (C.state conn.new) → IfOk result (λ statement. statement.text ≡ sql.now) }
     ensures stays { Stays (C.state conn.old) (C.state conn.new) }
+    ensures same { HasCleanDisk (C.state conn.new) → OnOk result (IsUnchanged (C.state conn.old) (C.state conn.new)) }
+    ensures survives { Survives (C.state conn.old) (C.state conn.new) (λ _. ⊥) }
     ensures ready { HasCleanDisk (C.state conn.new) → OnOk result (IsReady (C.state conn.new)) }
 {
     conn.prepare(sql)
@@ -52,6 +55,8 @@ fn rows_for<C: SqlConnection>(
 pub(crate) fn look_up<C: SqlConnection>(conn: &mut C, id: u32) -> Result<Vec<Row>, Error>
     requires { StaysReady (C.state conn.old) }
     ensures stays { Stays (C.state conn.old) (C.state conn.new) }
+    ensures same { HasCleanDisk (C.state conn.new) → OnOk result (IsUnchanged (C.state conn.old) (C.state conn.new)) }
+    ensures survives { Survives (C.state conn.old) (C.state conn.new) (λ _. ⊥) }
     ensures found { HasCleanDisk (C.state conn.new) → IfOk result (λ rows. IsReady (C.state conn.new) ×
         ((devices : Devices) → Shows (C.state conn.old) devices → AreFound (device_of devices id) rows.items)) }
 {
@@ -103,9 +108,11 @@ pub(crate) fn put<C: SqlConnection>(conn: &mut C, device: Device) -> Result<usiz
     requires ready { HasCleanDisk (C.state conn.old) → IsReady (C.state conn.old) }
     requires room { HasCleanDisk (C.state conn.old) → (devices : Devices) → Shows
         (C.state conn.old) devices → is_full devices device.id ≡ false }
-    ensures { (change : Change) → (HasCleanDisk (C.state conn.old) → (devices : Devices) → Shows
+    ensures turns { (change : Change) → (HasCleanDisk (C.state conn.old) → (devices : Devices) → Shows
         (C.state conn.old) devices → changed devices change ≡ insert devices device.id (known_of device))
         → Turns (C.state conn.old) (C.state conn.new) change result }
+    ensures written { HasCleanDisk (C.state conn.new) → IfOk result (λ count. Executes put_text
+        (put_params device.id (known_of device)) (C.state conn.old) (C.state conn.new) (Ok count)) }
 {
     run_put(
         conn,
@@ -163,7 +170,9 @@ pub(crate) fn forget_or_renew<C: SqlConnection>(
     requires ready { HasCleanDisk (C.state conn.old) → IsReady (C.state conn.old) }
     requires found { HasCleanDisk (C.state conn.old) → (devices : Devices) → Shows
         (C.state conn.old) devices → AreFound (device_of devices id) rows.now }
-    ensures { Turns (C.state conn.old) (C.state conn.new) (forgotten id) result }
+    ensures turns { Turns (C.state conn.old) (C.state conn.new) (forgotten id) result }
+    ensures written { HasCleanDisk (C.state conn.new) → rows.now ≡ [] → IfOk result (λ count. Executes renew_text []
+        (C.state conn.old) (C.state conn.new) (Ok count)) }
 {
     if rows.is_empty() {
         return renew(conn);

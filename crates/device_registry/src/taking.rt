@@ -4,8 +4,8 @@ ghost use Rattle.sqlite.specs.State.{HasCleanDisk, Survives, Shown, IsUnchanged}
 ghost use Rattle.sqlite.specs.Given.{IsPlain};
 ghost use Rattle.sqlite.specs.Listing.{understood};
 ghost use Rattle.sqlite.specs.Effect.{IsDatabase};
-ghost use Rattle.device_registry.specs.Stored.{HasTables, IsWhole, IsRegistry};
-ghost use Rattle.device_registry.specs.Opening.{IsAtRest, Remains, AreListed, IsOwn};
+ghost use Rattle.device_registry.specs.Stored.{HasTables, IsWhole, IsRegistry, AreListed};
+ghost use Rattle.device_registry.specs.Opening.{IsAtRest, Remains, IsOwn};
 
 use crate::limits::MOST_DEVICES;
 use crate::listing::are_ours;

@@ -16,4 +16,5 @@ pub mod TurnLemmas
 pub mod WiresLemmas
 pub mod ScriptReplayLemmas
 pub mod StartLemmas
+pub mod HeadlineLemmas
 pub mod LifeLemmas

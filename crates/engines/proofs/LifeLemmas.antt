@@ -1,8 +1,9 @@
 -- What a stop leaves after an engine.
-use Rattle.std.proofs.Common.{ℕ, List, [], ◌∷◌, ◌++◌, None, subst}
+use Rattle.std.proofs.Common.{ℕ, List, [], ◌∷◌, ◌++◌, None, inl, subst}
 use Rattle.sqlite.specs.State.{State, HasCleanDisk}
 use Rattle.device_registry.specs.Devices.{Devices}
-use Rattle.device_registry.specs.Holding.{HandsOn, MayFind, Opens}
+use Rattle.device_registry.specs.declared.table.Version.TheVariants.{Second}
+use Rattle.device_registry.specs.Holding.{HandsOn, Opens}
 use Rattle.gateway_core.specs.Step.{Item, Answer}
 use Rattle.gateway_core.specs.Handling.{HandlerValue, Handles}
 use Rattle.gateway_core.specs.Beginnings.{ClosesALife, LeavesALife}
@@ -10,27 +11,32 @@ use Rattle.gateway_core.specs.Events.{items_of}
 use Rattle.gateway_core.proofs.ForCallers.{calls_leave_a_life, closes_leave_a_life}
 use Rattle.engines.specs.Started.{Starts}
 use Rattle.engines.specs.Lived.{PlaysAreLives, BrokenPlaysAreLives, ClosedPlaysAreLives, BrokenClosedPlaysAreLives}
+use Rattle.engines.specs.Lived.{LeavesWhatALifeMay}
 
 module _ {C : Type 0} (state : C → State) where
   handled_is_a_life : (database : C) (base : ℕ) (old new : HandlerValue C) (items : List Item)
       (answers : List Answer)
       (began : Starts state database base old) → Handles state old items answers new
-      → HasCleanDisk (state new.registry) → (left : Devices) → MayFind (state new.registry) left
-      → LeavesALife base began.found items answers None left
-  handled_is_a_life database base old new items answers began handled clean left may =
-      let P : ℕ → Type 0 = λ b. LeavesALife b began.found items answers None left in
-      subst P began.base_is (calls_leave_a_life state old new began.found items answers clean began.begins handled left
-      may)
+      → HasCleanDisk (state new.registry) → LeavesWhatALifeMay (state new.registry) base began.found items answers
+  handled_is_a_life database base old new items answers began handled clean trees may =
+      let held = handled.registries clean began.registries trees may in
+      let left = held.devices in
+      let P : ℕ → Type 0 = λ b. LeavesALife b began.found items answers None left in (
+        left,
+        inl (Second, held.holds),
+        subst P began.base_is (calls_leave_a_life state old new began.found items answers clean began.begins handled
+            left (trees, may, held.holds)),
+      )
 
   pub plays_are_lives : (puts : List Answer → Type 0) → PlaysAreLives state puts
-  plays_are_lives puts database base old new events began done clean left may =
+  plays_are_lives puts database base old new events began done clean =
       handled_is_a_life database base old.handler new.handler (items_of old.rest events) done.answered.answers began
-      done.answered.handled clean left may
+      done.answered.handled clean
 
   pub broken_plays_are_lives : (breaks : List Answer → Answer → Type 0) → BrokenPlaysAreLives state breaks
-  broken_plays_are_lives breaks database base old new events event began broken clean left may =
+  broken_plays_are_lives breaks database base old new events event began broken clean =
       handled_is_a_life database base old.handler new.handler broken.items
-      (broken.answered.answers ++ broken.answered.last ∷ []) began broken.answered.handled clean left may
+      (broken.answered.answers ++ broken.answered.last ∷ []) began broken.answered.handled clean
 
   closed_is_a_life : (database opened : C) (base : ℕ) (old new : HandlerValue C) (items : List Item)
       (answers : List Answer) (next : Devices)

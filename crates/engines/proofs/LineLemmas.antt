@@ -1,11 +1,12 @@
 -- The events of lines.
 use Rattle.std.proofs.Common.{◌≡◌, ℕ, ◌<◌, List, [], ◌∷◌, ◌++◌, length, refl, ap, sym, ◌∙◌, append_assoc}
-use Rattle.std.proofs.Common.{append-nil, arith, map, Bool, true, false, inl, inr, zero, suc}
+use Rattle.std.proofs.Common.{append-nil, arith, map, Bool, true, false, inl, inr, zero, suc, ◌≢◌, length-append}
 use Rattle.std.specs.Prelude.{◌==◌, ◌⊎◌, if◌then◌else◌, All}
 use Rattle.std.specs.List.{flat_map, slice_split}
 use Rattle.std.specs.Str.Lines.{lines, lines_of_parts, strip_carriage_return}
 use Rattle.std.proofs.lemmas.List.Splits.{slice_split_none, slice_split_at, length-slice_split}
 use Rattle.std.proofs.lemmas.Bool.{ne_eqb}
+use Rattle.std.proofs.lemmas.Bool.Decides.{eqb_tells}
 use Rattle.gateway_core.specs.Events.{Event}
 use Rattle.engines.specs.Script.{IsOneLine, event_of, script, with_end}
 use Rattle.engines.specs.Lines.{events_by}
@@ -66,3 +67,59 @@ ended_of_lines (l ∷ ls) = elim (ended_of_lines ls) [
 pub only_line : (line : List ℕ) → IsOneLine line → All IsOneLine (line ∷ [])
 only_line line h zero d l = h
 only_line line h (suc k) d l = absurd (omega arith)
+
+-- the lines of which the last ends here
+record EndedLines (bytes : List ℕ) : Type 0 where
+  ls : List (List ℕ)
+  each : All IsOneLine ls
+  whole : bytes ≡ flat_map with_end ls
+
+line_more : (byte : ℕ) (line : List ℕ) → byte ≢ 10 → IsOneLine line → IsOneLine (byte ∷ line)
+line_more byte line other one zero d l = other
+line_more byte line other one (suc k) d l = one k d (omega (arith, l))
+
+lines_more : (line : List ℕ) (ls : List (List ℕ)) → IsOneLine line → All IsOneLine ls → All IsOneLine (line ∷ ls)
+lines_more line ls one each zero d l = one
+lines_more line ls one each (suc k) d l = each k d (omega (arith, l))
+
+no_line : IsOneLine []
+no_line k d l = absurd (omega (arith, l))
+
+-- what ends with LF is lines
+ended_lines_of : (front : List ℕ) → EndedLines (with_end front)
+ended_lines_of [] = record { ls = [] ∷ []; each = only_line [] no_line; whole = refl }
+ended_lines_of (byte ∷ front) =
+    let rest = ended_lines_of front in
+    elim (eqb_tells byte 10) [
+      | inl (test, is) ↦
+          record {
+            ls = [] ∷ rest.ls;
+            each = lines_more [] rest.ls no_line rest.each;
+            whole = ap (λ b. b ∷ with_end front) is ∙ ap (λ s. 10 ∷ s) rest.whole;
+          }
+      | inr (test, other) ↦ others rest.ls rest.whole rest.each other
+    ]
+  where
+    others : (ls : List (List ℕ)) → with_end front ≡ flat_map with_end ls → All IsOneLine ls → byte ≢ 10
+        → EndedLines (byte ∷ with_end front)
+    others [] whole each other = absurd (omega (arith, ap length whole, length-append front (10 ∷ [])))
+    others (line ∷ ls) whole each other = record {
+      ls = (byte ∷ line) ∷ ls;
+      each = lines_more (byte ∷ line) ls (line_more byte line other (each 0 [] (omega arith)))
+          (λ k d l. each (suc k) d (omega (arith, l)));
+      whole = ap (λ s. byte ∷ s) whole;
+    }
+
+-- a script whose first part is empty or ends with LF
+pub script-behind : (ended more : List ℕ) → (ended ≡ []) ⊎ ((front : List ℕ) × (ended ≡ with_end front))
+    → script (ended ++ more) ≡ script ended ++ script more
+script-behind ended more ends = elim ends [
+  | inl none ↦ rw none refl
+  | inr (front, is) ↦
+      let it = ended_lines_of front in
+      let whole : ended ≡ flat_map with_end it.ls = is ∙ it.whole in
+      ap (λ s. script (s ++ more)) whole ∙ script-ended it.ls more it.each
+      ∙ ap (λ (es : List Event). es ++ script more)
+      (sym (append-nil (events_by OfScript it.ls)) ∙ sym (script-ended it.ls [] it.each)
+      ∙ ap script (append-nil (flat_map with_end it.ls) ∙ sym whole))
+]

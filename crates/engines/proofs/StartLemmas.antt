@@ -4,13 +4,14 @@ use Rattle.std.specs.Prelude.{if◌then◌else◌}
 use Rattle.sqlite.specs.State.{State, HasCleanDisk}
 use Rattle.esp3_frames.proofs.ForCallers.{empty_may_become}
 use Rattle.device_registry.specs.Devices.{Devices}
-use Rattle.device_registry.specs.Holding.{AreRegistries, Opens}
+use Rattle.device_registry.specs.Holding.{AreRegistries, Finds, Opens}
 use Rattle.device_registry.specs.Opening.{RefusesToOpen}
 use Rattle.device_registry.specs.declared.fault.OpenFault.{OpenFault}
 use Rattle.device_registry.specs.declared.fault.OpenFault.TheVariants.{NotARegistry, Refused}
 use Rattle.gateway_core.specs.Calls.{Value, new_value}
 use Rattle.engines.specs.Played.{IsIdle}
 use Rattle.engines.specs.Faults.{fault_of_open}
+use Rattle.engines.specs.Headline.{IsNew}
 use Rattle.engines.specs.Started.{RefusesToStart, Starts}
 use Rattle.engines.specs.declared.fault.Fault.TheVariants.{Store, Memory}
 
@@ -35,6 +36,22 @@ starts {C} state database registry base new is registries opens =
       begins = record { at = (refl, refl, opened.1.now, refl); stop = opened.1.stop };
       registries = registries clean;
     })
+
+pub new_gateway : {C : Type 0} (state : C → State) (database registry : C) (base : ℕ) (new : Value C)
+    → new ≡ new_value base registry
+    → (HasCleanDisk (state registry) → AreRegistries (state registry).may_leave)
+    → (HasCleanDisk (state registry) → (devices : Devices) × Opens (state database) (state registry) devices)
+    → HasCleanDisk (state new.handler.registry)
+    → (found : Devices) × Finds (state database).committed.trees found × IsNew state base found new
+new_gateway {C} state database registry base new is registries opens =
+    let P : Value C → Type 0 = λ v. HasCleanDisk (state v.handler.registry)
+    → (found : Devices) × Finds (state database).committed.trees found × IsNew state base found v in
+    subst P (sym is) (λ clean.
+    let opened = opens clean in (
+      opened.0,
+      opened.1.found,
+      record { value = refl; known = opened.1.now; registries = registries clean; left = opened.1.stop },
+    ))
 
 memory_or_store : {C : Type 0} (state : C → State) (database : C) (is_memory : Bool)
     → RefusesToStart state database (if is_memory then Memory else Store)

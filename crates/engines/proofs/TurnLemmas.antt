@@ -104,6 +104,18 @@ events_behind-more before (first ∷ read) turn =
     ∙ sym (append_assoc own (events_behind now read) (last_turn (now ++ desk_bytes read) turn))
     ∙ ap (λ b. (own ++ events_behind now read) ++ last_turn b turn) (append_assoc before first.desk (desk_bytes read))
 
+-- a turn that read nothing of the desk
+pub events_of_piece : (read : List Turn) (piece : List ℕ)
+    → events_of_turns (read ++ record { piece = piece; desk = [] } ∷ []) ≡ events_of_turns read ++ Piece piece ∷ []
+events_of_piece read piece =
+    let before = desk_bytes read in
+    let none : drop (length (orders before)) (orders (before ++ [])) ≡ [] =
+    ap (λ s. drop (length (orders before)) (orders s)) (append-nil before)
+    ∙ ap (λ (es : List Event). drop (length (orders before)) es) (sym (append-nil (orders before)))
+    ∙ drop-append_seam (orders before) [] in
+    events_behind-more [] read (record { piece = piece; desk = [] })
+    ∙ ap (λ (es : List Event). events_of_turns read ++ Piece piece ∷ es) none
+
 desk_bytes-more : (read : List Turn) (turn : Turn) → desk_bytes (read ++ turn ∷ []) ≡ desk_bytes read ++ turn.desk
 desk_bytes-more read turn =
     flat_map-append (λ (turn : Turn). turn.desk) read (turn ∷ [])

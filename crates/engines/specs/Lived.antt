@@ -2,13 +2,19 @@
 use Rattle.std.specs.Prelude.{ℕ, List, [], ◌∷◌, ◌++◌, None}
 use Rattle.sqlite.specs.State.{State, HasCleanDisk}
 use Rattle.device_registry.specs.Devices.{Devices}
-use Rattle.device_registry.specs.Holding.{HandsOn, MayFind, Opens}
+use Rattle.device_registry.specs.Holding.{Finds, HandsOn, Opens}
 use Rattle.gateway_core.specs.Beginnings.{ClosesALife, LeavesALife}
 use Rattle.gateway_core.specs.Calls.{Value}
 use Rattle.gateway_core.specs.Events.{Event, items_of}
-use Rattle.gateway_core.specs.Step.{Answer}
+use Rattle.gateway_core.specs.Step.{Item, Answer}
 use Rattle.engines.specs.Played.{Plays, Breaks}
 use Rattle.engines.specs.Started.{Starts}
+
+-- whatever a stop leaves, the next open finds devices there, and a life that found those and handled these items may leave
+-- them
+abbrev pub LeavesWhatALifeMay : State → ℕ → Devices → List Item → List Answer → Type 0
+LeavesWhatALifeMay now base found items answers = (trees : _) → now.may_leave trees
+    → (left : Devices) × Finds trees left × LeavesALife base found items answers None left
 
 -- `puts` and `breaks` say what got out of the answers.
 module _ {C : Type 0} (state : C → State) where
@@ -18,8 +24,8 @@ module _ {C : Type 0} (state : C → State) where
       (database : C) (base : ℕ) (old new : Value C) (events : List Event)
       → (began : Starts state database base old.handler) → (done : Plays state old new events puts)
       → HasCleanDisk (state new.handler.registry)
-      → (left : Devices) → MayFind (state new.handler.registry) left
-      → LeavesALife base began.found (items_of old.rest events) done.answered.answers None left
+      → LeavesWhatALifeMay (state new.handler.registry) base began.found (items_of old.rest events)
+      done.answered.answers
 
   -- The same where a write failed. The last answer need not be out, but its item was handled.
   abbrev pub BrokenPlaysAreLives : (breaks : List Answer → Answer → Type 0) → Type 0
@@ -27,8 +33,8 @@ module _ {C : Type 0} (state : C → State) where
       (database : C) (base : ℕ) (old new : Value C) (events : List Event) (event : Event)
       → (began : Starts state database base old.handler) → (broken : Breaks state old new events event breaks)
       → HasCleanDisk (state new.handler.registry)
-      → (left : Devices) → MayFind (state new.handler.registry) left
-      → LeavesALife base began.found broken.items (broken.answered.answers ++ broken.answered.last ∷ []) None left
+      → LeavesWhatALifeMay (state new.handler.registry) base began.found broken.items
+      (broken.answered.answers ++ broken.answered.last ∷ [])
 
   -- The life ends by `close`, and the next open finds what it leaves, which is what was known at its end.
   abbrev pub ClosedPlaysAreLives : (puts : List Answer → Type 0) → Type 0

@@ -2,7 +2,10 @@
 ghost use Rattle.std.specs.Prelude.{◌≡◌, ◌≤◌, false, true, IfErr, IfOk};
 ghost use Rattle.sqlite.specs.State.{HasCleanDisk};
 ghost use Rattle.erp1_telegrams.specs.Address;
+ghost use Rattle.device_registry.specs.Devices.{Devices};
+ghost use Rattle.device_registry.specs.Holding.{Finds};
 ghost use Rattle.gateway_core.specs.Calls.{new_value};
+ghost use Rattle.engines.specs.Headline.{IsNew};
 ghost use Rattle.engines.specs.Played.{IsIdle};
 ghost use Rattle.engines.specs.Started.{RefusesToStart, Starts};
 
@@ -26,6 +29,9 @@ pub fn start<C: SqlConnection + Drop>(
     requires base { Address.is_base base ≡ true }
     requires room { (1 ≤ remembered) × (remembered ≤ 1024) }
     requires idle { (C.state conn).in_transaction ≡ false }
+    // How the headline begins: with the devices that were committed last.
+    ensures begins { IfOk result (λ gateway. HasCleanDisk (C.state gateway.handler.registry) → (found : Devices)
+        × Finds (C.state conn).committed.trees found × IsNew C.state base found gateway) }
     ensures new { IfOk result (λ gateway. gateway ≡ new_value base gateway.handler.registry) }
     ensures idle { IfOk result IsIdle }
     ensures starts { IfOk result (λ gateway. HasCleanDisk (C.state gateway.handler.registry) →

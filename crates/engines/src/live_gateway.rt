@@ -1,6 +1,7 @@
 //! A gateway serves a serial line and a desk.
 ghost use Rattle.std.specs.Prelude.{◌≡◌, ◌+◌, ◌≤◌, ℕ, [], IfErr, IfOk};
 ghost use Rattle.byte_streams.specs.Counts.{Made};
+ghost use Rattle.engines.specs.Headline.{ServesAsSpecified};
 ghost use Rattle.engines.specs.LiveGateway.{Serves, ServesUntil, TellsAllTurns, live_at};
 
 use crate::engine::Engine;
@@ -32,6 +33,11 @@ pub fn live<P: Source, Q: Source, R: Sink, D: Sink, S: DeviceStore>(
     turns: u64,
 ) -> Result<Summary, RunFault>
     requires { gateway.old.ready ≡ [] }
+    // The headline, of a new gateway, and of readers and writers whose bytes are known.
+    ensures as_specified { ServesAsSpecified S.stored P.Source Q.Source R.Sink D.Sink explains result
+        (gateway.old, serial_in.old, desk_in.old, serial_out.old, desk_out.old)
+        (gateway.new, serial_in.new, desk_in.new, serial_out.new, desk_out.new) turns }
+
     // What is read, handled and written.
     ensures ok { IfOk result (Serves S.stored (live_at P.Source Q.Source R.Sink D.Sink) explains
         (gateway.old, serial_in.old, desk_in.old, serial_out.old, desk_out.old)

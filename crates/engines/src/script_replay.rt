@@ -2,6 +2,7 @@
 ghost use Rattle.std.specs.Prelude.{◌≡◌, Err, [], IfErr, IfOk, OnOk};
 ghost use Rattle.byte_streams.specs.Counts.{OneEmpty, OneFailed, WentWell};
 ghost use Rattle.engines.specs.CallCounts.{OneWrong, WellOrEnded};
+ghost use Rattle.engines.specs.Headline.{ReplaysAsSpecified};
 ghost use Rattle.engines.specs.Reads.{MakesReads};
 ghost use Rattle.engines.specs.ScriptReplay.{Replays, ReplaysUntil, TellsTooManyTurns, replay_at};
 ghost use Rattle.engines.specs.Streams.{source_value};
@@ -34,6 +35,10 @@ pub fn replay<R: Source, W: Sink, S: DeviceStore>(
     turns: u64,
 ) -> Result<Summary, RunFault>
     requires { gateway.old.ready ≡ [] }
+    // The headline, of a new gateway, and of a reader and a writer whose bytes are known.
+    ensures as_specified { ReplaysAsSpecified S.stored R.Source W.Sink explains result
+        (gateway.old, reader.old, writer.old) (gateway.new, reader.new, writer.new) }
+
     // What is read, handled and written.
     ensures ok { IfOk result (Replays S.stored (replay_at R.Source W.Sink) explains
         (gateway.old, reader.old, writer.old) (gateway.new, reader.new, writer.new)) }

@@ -5,7 +5,7 @@ pub use Rattle.gateway_core.proofs.BeginningLemmas.{stops_leave_a_life}
 pub use Rattle.gateway_core.proofs.CallLemmas.{calls_are_a_run}
 pub use Rattle.gateway_core.proofs.CountLemmas.{count_on, refusals_are_counted, taken_are_counted}
 pub use Rattle.gateway_core.proofs.ReplyLemmas.{radio_is_told}
-pub use Rattle.gateway_core.proofs.EventLemmas.{brought-rest, items_of-append, cuts_do_not_matter}
+pub use Rattle.gateway_core.proofs.EventLemmas.{brought-append, brought-rest, items_of-append, cuts_do_not_matter}
 pub use Rattle.gateway_core.proofs.EventLemmas.{cuts_are_answered_alike}
 pub use Rattle.gateway_core.proofs.LifeLemmas.{lives_keep}
 pub use Rattle.gateway_core.proofs.LongLineLemmas.{handles_alike}

@@ -4,6 +4,7 @@ pub mod CountLemmas
 pub mod DeviceLemmas
 pub mod EffectLemmas
 pub mod EventLemmas
+pub mod ExplainingLemmas
 pub mod ForCallers
 pub mod LifeLemmas
 pub mod LongLineLemmas
@@ -13,6 +14,7 @@ pub mod RestLemmas
 pub mod RunLemmas
 pub mod StopLemmas
 pub mod TellingLemmas
+pub mod AcknowledgementLemmas
 pub mod TryLemmas
 pub mod ReplyLemmas
 pub mod WindowLemmas

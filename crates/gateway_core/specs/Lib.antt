@@ -11,6 +11,7 @@ pub mod Promises
 pub mod Lives
 pub mod Prefixes
 pub mod Telling
+pub mod Acknowledgements
 pub mod Accounts
 pub mod Beginnings
 pub mod Events
@@ -19,4 +20,5 @@ pub mod Codes
 pub mod Desks
 pub mod Replies
 pub mod Counting
+pub mod Explaining
 pub mod Windows

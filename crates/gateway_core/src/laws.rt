@@ -7,6 +7,7 @@ ghost use Rattle.gateway_core.specs.Beginnings.{CallsLeaveALife, ClosesLeaveALif
 ghost use Rattle.gateway_core.specs.Calls.{CallsAreARun};
 ghost use Rattle.gateway_core.specs.Counting.{ExplanationsAreCounted, TakenAreCounted};
 ghost use Rattle.gateway_core.specs.Events.{CutsAreAnsweredAlike, CutsDoNotMatter, Event, brought, bytes_in, items_of};
+ghost use Rattle.gateway_core.specs.Explaining.{ExplanationsAreTrue};
 ghost use Rattle.gateway_core.specs.Handling.{Handles, KnowsState, HandlerValue};
 ghost use Rattle.gateway_core.specs.Lives.{LivesKeep};
 ghost use Rattle.gateway_core.specs.Prefixes.{LeftIsPrefix, SafeIsPrefix, ToldStandBefore};
@@ -14,6 +15,7 @@ ghost use Rattle.gateway_core.specs.Run.{RefusalsAreCounted, SameRefusals};
 ghost use Rattle.gateway_core.specs.Step.{Answer, Item};
 ghost use Rattle.gateway_core.specs.Stops.{IsOneOf, SafeJoins};
 ghost use Rattle.gateway_core.specs.Telling.{ChangesAreTold, LabelsAreTold, RadioIsTold, TeachLinesAreTold};
+ghost use Rattle.gateway_core.specs.Acknowledgements.{AcknowledgedIsDurable};
 ghost use Rattle.gateway_core.specs.Windows.{PacketsChangeInWindows};
 
 use crate::device_store::DeviceStore;
@@ -74,6 +76,13 @@ pub fn explanations_are_counted()
     ensures { ExplanationsAreCounted }
 {}
 
+/// The line that explains a packet that is taken tells the truth: its word is so of the packet and of what was known,
+/// and it tells the profile and the maker of the device that the packet's data are of, or that is learned by it; of any
+/// other sender those of its query alone.
+pub fn explanations_are_true()
+    ensures { ExplanationsAreTrue }
+{}
+
 /// Whatever is called of a new gateway, in whatever order: the packets handled, and behind them those that wait, are
 /// the packets of the bytes given, and the answers are a run on packets and lines in the order of the calls.
 pub fn calls_are_a_run<S: DeviceStore>()
@@ -106,6 +115,12 @@ pub fn safe_joins_from_any<M: Maps>()
 /// label, until one labels it otherwise or forgets it.
 pub fn lives_keep()
     ensures { LivesKeep }
+{}
+
+/// What the desk was told of a device, by a line that says `accepted` or `deleted`, is so in every later life, until an
+/// item changes that sender otherwise.
+pub fn acknowledged_is_durable()
+    ensures { AcknowledgedIsDurable }
 {}
 
 /// What a stop may leave is what was known after a first part of the items, perhaps with the change of the next one,

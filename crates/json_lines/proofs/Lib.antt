@@ -1,8 +1,10 @@
 pub mod ForCallers
 pub mod HexTexts
 pub mod LineTexts
+pub mod PacketLineTexts
 pub mod PacketTexts
 pub mod Sent
+pub mod Distinguishable
 pub mod TeachLines
 pub mod TeachTexts
 pub mod WhyWords

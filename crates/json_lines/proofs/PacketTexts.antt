@@ -14,7 +14,7 @@ use Rattle.json_lines.specs.declared.packet.ToldPacket.TheVariants.{Telegram, Ot
 use Rattle.json_lines.specs.declared.packet.Why.{Why}
 
 -- a signal strength has a sign and at most three digits
-mag-minus : (byte : ℕ) → mag (pos 0 -ℤ pos byte) ≤ byte
+pub mag-minus : (byte : ℕ) → mag (pos 0 -ℤ pos byte) ≤ byte
 mag-minus zero = omega arith
 mag-minus (suc n) =
     let below_zero : pos 0 -ℤ pos (suc n) ≡ negsuc n = omega (arith, ints) in

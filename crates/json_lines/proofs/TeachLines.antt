@@ -25,12 +25,12 @@ ok_or other (Ok bytes) = bytes
 ok_or other (Err fault) = other
 
 -- bytes with the same digits
-same-bytes : (a b : List ℕ) → IsBytes a → IsBytes b → encode_upper a ≡ encode_upper b → a ≡ b
+pub same-bytes : (a b : List ℕ) → IsBytes a → IsBytes b → encode_upper a ≡ encode_upper b → a ≡ b
 unfolding ok_or
 same-bytes a b bytes_a bytes_b e =
     ap (ok_or []) (sym (decode_of-encode_upper a bytes_a) ∙ ap decode_of e ∙ decode_of-encode_upper b bytes_b)
 
-same-id : (a b : ℕ) → a < 2 ^ 32 → b < 2 ^ 32 → id_text a ≡ id_text b → a ≡ b
+pub same-id : (a b : ℕ) → a < 2 ^ 32 → b < 2 ^ 32 → id_text a ≡ id_text b → a ≡ b
 same-id a b in_a in_b e =
     sym (from_be_bytes-to_be_bytes_4 a in_a)
     ∙ ap (from_be_bytes w32) (same-bytes (to_be_bytes w32 a) (to_be_bytes w32 b) (id_bytes a) (id_bytes b) e)
@@ -40,7 +40,7 @@ byte_bytes : (n : ℕ) → n < 256 → IsBytes (n ∷ [])
 byte_bytes n below zero = below
 byte_bytes n below (suc i) = omega arith
 
-same-byte : (a b : ℕ) → a < 256 → b < 256 → byte_text a ≡ byte_text b → a ≡ b
+pub same-byte : (a b : ℕ) → a < 256 → b < 256 → byte_text a ≡ byte_text b → a ≡ b
 same-byte a b in_a in_b e =
     let rest : a % 256 ≡ b % 256 =
     ap (λ (t : List ℕ). slice_index t 0)
@@ -48,7 +48,7 @@ same-byte a b in_a in_b e =
     (byte_bytes (b % 256) (omega arith)) e) in
     omega (arith, rest, in_a, in_b)
 
-same-eep : (a b : Eep) → (a.rorg < 256) × (a.func < 256) × (a.typ < 256)
+pub same-eep : (a b : Eep) → (a.rorg < 256) × (a.func < 256) × (a.typ < 256)
     → (b.rorg < 256) × (b.func < 256) × (b.typ < 256) → eep_text a ≡ eep_text b → a ≡ b
 unfolding encode_with
 same-eep a b in_a in_b e =
@@ -76,11 +76,11 @@ digits-first (suc k) n later first =
     one now on true last more = last
     one now on false last more = more
 
-not-null : (n : ℕ) → decimal n ≢ codes "null"
+pub not-null : (n : ℕ) → decimal n ≢ codes "null"
 unfolding digits
 not-null n e = digits-first 64 n [] (λ none. absurd (omega (arith, none))) (ap (λ (t : List ℕ). slice_index_or t 0 0) e)
 
-same-maker : (a b : Option ℕ) → IfSome a (λ maker. maker < 2 ^ 16) → IfSome b (λ maker. maker < 2 ^ 16)
+pub same-maker : (a b : Option ℕ) → IfSome a (λ maker. maker < 2 ^ 16) → IfSome b (λ maker. maker < 2 ^ 16)
     → or_null decimal a ≡ or_null decimal b → a ≡ b
 same-maker None None in_a in_b e = refl
 same-maker (Some a) (Some b) in_a in_b e =

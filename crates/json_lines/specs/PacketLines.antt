@@ -1,8 +1,8 @@
 -- The packet lines, and their texts, as bytes. Of each packet such a line tells what it was, and by one word why what
 -- was done with it was done. Own choice, with the layout of the other lines.
-use Rattle.std.specs.Prelude.{ℕ, ◌+◌, List, [], ◌∷◌, ◌++◌, codes, decimal}
+use Rattle.std.specs.Prelude.{ℕ, ◌+◌, ◌<◌, ◌^◌, IfSome, List, [], ◌∷◌, ◌++◌, codes, decimal}
 use Rattle.std.specs.List.{join_by}
-use Rattle.hex.specs.Hex.{encode_upper}
+use Rattle.hex.specs.Hex.{IsBytes, encode_upper}
 use Rattle.json_lines.specs.Lines.{or_null, dbm_text, id_text, profile_text, byte_text, in_quotes, outcome_word}
 use Rattle.json_lines.specs.Lines.{member_text, object_text}
 use Rattle.json_lines.specs.ToldTelegram.{ToldTelegram}
@@ -92,3 +92,20 @@ longest_end = 38
 
 abbrev pub longest_packet_line : ℕ
 longest_packet_line = longest_sender + longest_content + longest_end + 5
+
+-- ---- what is told is in the ranges of a packet's numbers
+
+-- of a telegram: bytes, IDs of four bytes, and a maker of at most two
+pub record HasFieldsInRange (told : ToldTelegram) : Type 0 where
+  pub dbm : IfSome told.dbm (λ byte. byte < 256)
+  pub dest : IfSome told.dest (λ id. id < 2 ^ 32)
+  pub eep : IfSome told.eep (λ eep. (eep.rorg < 256) × (eep.func < 256) × (eep.typ < 256))
+  pub id : told.id < 2 ^ 32
+  pub maker : IfSome told.maker (λ maker. maker < 2 ^ 16)
+  pub payload : IsBytes told.payload
+  pub rorg : told.rorg < 256
+  pub status : told.status < 256
+
+abbrev pub HasPacketNumbersInRange : ToldPacket → Type 0
+HasPacketNumbersInRange (Telegram told) = HasFieldsInRange told
+HasPacketNumbersInRange (Other kind size) = (kind < 256) × (size < 2 ^ 16)

@@ -1,7 +1,8 @@
 //! Laws of the definitions. Each function does nothing: its contract is the law.
-ghost use Rattle.std.specs.Prelude.{◌≡◌, List, [], ◌∷◌};
+ghost use Rattle.std.specs.Prelude.{◌≡◌, ◌≢◌, ℕ, List, [], ◌∷◌, ◌++◌};
 ghost use Rattle.json_lines.specs.Lines.{DeskLine, HasNumbersInRange, Teach, TeachLine, text, texts};
-ghost use Rattle.json_lines.specs.PacketLines.{longest_packet_line, why_word};
+ghost use Rattle.json_lines.specs.PacketLines.{HasPacketNumbersInRange, longest_packet_line, packet_text, why_word};
+ghost use Rattle.json_lines.specs.declared.packet.PacketLine.{PacketLine};
 ghost use Rattle.json_lines.specs.declared.packet.Why.{Why};
 ghost use Rattle.json_lines.specs.declared.pieces.TheConstants.{LONGEST_PACKET_LINE};
 
@@ -20,6 +21,18 @@ pub fn teach_texts_tell_one_line()
 /// Each word that says why stands for one reason.
 pub fn words_tell_why()
     ensures { (why other : Why) → why_word why ≡ why_word other → why ≡ other }
+{}
+
+/// Packet lines with the same text tell the same: the same packet, field by field, and the same reason.
+pub fn packet_texts_are_injective()
+    ensures { (line told : PacketLine) → HasPacketNumbersInRange line.packet → HasPacketNumbersInRange told.packet
+        → packet_text line ≡ packet_text told → line ≡ told }
+{}
+
+/// Whatever follows, no line of the desk begins as a packet line, and no packet line as one of the desk: so line by line
+/// each is told from the other.
+pub fn packet_lines_are_distinguishable()
+    ensures { (line : DeskLine) (told : PacketLine) (a b : List ℕ) → text line ++ a ≢ packet_text told ++ b }
 {}
 
 /// The room of a packet line is the length of the longest.

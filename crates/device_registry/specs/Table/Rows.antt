@@ -97,6 +97,11 @@ abbrev pub stored : ℕ → Learned → Row
 stored id it =
     Int (pos id) ∷ Null ∷ Int (pos (eep_number it.eep)) ∷ Int (maker_number it.maker) ∷ Text it.label ∷ []
 
+-- the values with which the statement puts that row in
+abbrev pub put_params : ℕ → Learned → Row
+put_params id it =
+    Int (pos id) ∷ Int (pos (eep_number it.eep)) ∷ Int (maker_number it.maker) ∷ Text it.label ∷ []
+
 -- the row of the version
 pub record IsVersion (version : Version) (row : Row) : Type 0 where
   pub key : column row 0 ≡ Int (pos 1)

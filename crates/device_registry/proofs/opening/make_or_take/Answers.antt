@@ -4,9 +4,9 @@ use Rattle.device_registry.specs.declared.table.Version.{Version}
 use Rattle.device_registry.specs.declared.table.Version.TheVariants.{First, Second}
 use Rattle.device_registry.specs.Stored.{IsRegistry}
 use Rattle.device_registry.specs.Opening.{IsOwn}
-use Rattle.device_registry.proofs.OpenCalls.{begun, begun_own, begun_bare, begun_stop, took, first_asked, migrated}
-use Rattle.device_registry.proofs.OpenCalls.{migrated_other, migrated_stop, taken, taken_own, taken_ready, taken_rows}
-use Rattle.device_registry.proofs.OpenCalls.{taken_stop, is_other}
+use Rattle.device_registry.proofs.OpenCalls.{begun, begun_bare, begun_stop, took, first_asked, migrated}
+use Rattle.device_registry.proofs.OpenCalls.{migrated_other, migrated_stop, taken, taken_ready, taken_rows}
+use Rattle.device_registry.proofs.OpenCalls.{taken_stop, taken_others, migrated_others, is_other}
 use Rattle.device_registry.proofs.OpenRenews.{renewed_by}
 use Rattle.device_registry.proofs.opening.make_or_take.Goals as goal
 
@@ -18,9 +18,6 @@ returns-in_err-make_tables-clause-stop g c = begun_stop c.requires.rest (search 
 pub returns-then-is_clear-clause-prepared : goal.returns-then-is_clear-clause-prepared
 returns-then-is_clear-clause-prepared g c =
     begun c.requires.rest (search rules) c.make_tables.ensures.stop c.in_ok-make_tables.ensures.made
-
-pub returns-then-is_clear-clause-own : goal.returns-then-is_clear-clause-own
-returns-then-is_clear-clause-own g c = begun_own c.requires.rest (search rules) c.make_tables.ensures.stop
 
 pub returns-then-is_clear-clause-stop : goal.returns-then-is_clear-clause-stop
 returns-then-is_clear-clause-stop g c = begun_stop c.requires.rest (search rules) c.make_tables.ensures.stop
@@ -104,12 +101,6 @@ returns-in_ok-renew-in-Some-Second-clause-prepared g c =
     c.version_of.ensures.stop c.in_ok-version_of.ensures.found)
     c.renew.ensures.stop c.in_ok-renew-in-Some-Second.ensures.renewed
 
-pub returns-in_ok-renew-in-Some-Second-clause-own : goal.returns-in_ok-renew-in-Some-Second-clause-own
-returns-in_ok-renew-in-Some-Second-clause-own g c =
-    taken_own (took Second c.in-Some-Second.is c.in-Some-Second.field-0-is c.requires.rest
-    c.version_of.ensures.stop c.in_ok-version_of.ensures.found)
-    c.renew.ensures.stop
-
 pub returns-in_ok-renew-in-Some-Second-clause-stop : goal.returns-in_ok-renew-in-Some-Second-clause-stop
 returns-in_ok-renew-in-Some-Second-clause-stop g c =
     taken_stop (took Second c.in-Some-Second.is c.in-Some-Second.field-0-is c.requires.rest
@@ -127,3 +118,16 @@ returns-in_ok-renew-in-Some-Second-clause-written g c =
     renewed_by c.in_ok-renew-in-Some-Second.field-0 (took Second c.in-Some-Second.is c.in-Some-Second.field-0-is c.requires.rest
     c.version_of.ensures.stop c.in_ok-version_of.ensures.found)
     c.version_of.ensures.stop c.renew.ensures.stop c.in_ok-renew-in-Some-Second.ensures.runs
+
+pub returns-in_ok-renew-in-Some-Second-clause-others : goal.returns-in_ok-renew-in-Some-Second-clause-others
+returns-in_ok-renew-in-Some-Second-clause-others g c =
+    taken_others (took Second c.in-Some-Second.is c.in-Some-Second.field-0-is c.requires.rest
+    c.version_of.ensures.stop c.in_ok-version_of.ensures.found)
+    c.renew.ensures.stop c.in_ok-renew-in-Some-Second.ensures.rows
+
+pub returns-in_ok-migrate_tables-in-Some-First-clause-others :
+    goal.returns-in_ok-migrate_tables-in-Some-First-clause-others
+returns-in_ok-migrate_tables-in-Some-First-clause-others g c =
+    migrated_others (took First c.in-Some-First.is c.in-Some-First.field-0-is c.requires.rest
+    c.version_of.ensures.stop c.in_ok-version_of.ensures.found)
+    c.migrate_tables.ensures.stop c.in_ok-migrate_tables-in-Some-First.ensures.others

@@ -1,8 +1,8 @@
 use Rattle.std.proofs.Common.{arith, sym, ◌∙◌}
 use Rattle.std.proofs.lemmas.Result.{err_from_is_err_and}
 use Rattle.sqlite.specs.State.{HasCleanDisk}
-use Rattle.device_registry.proofs.OpenCalls.{opens_if, migrated_if, registries_if, ready_if, rows_on}
-use Rattle.device_registry.proofs.OpenCalls.{refused_first, refused_then}
+use Rattle.device_registry.proofs.OpenCalls.{opens_if, registries_if, ready_if, rows_on}
+use Rattle.device_registry.proofs.OpenCalls.{others_then, refused_first, refused_then}
 use Rattle.device_registry.proofs.OpenRenews.{renewed_if}
 use Rattle.device_registry.proofs.opening.prepare.Goals as goal
 
@@ -22,16 +22,6 @@ returns-clause-opens g c clean =
     let early : HasCleanDisk mid = omega (arith, clean, c.make_or_take.ensures.stop.clean) in
     opens_if old mid new (λ trees is_open. g.met.C.SqlConnection.settled c.make_or_take.new.conn trees is_open)
     c.make_or_take.result (c.in_ok-check_open.ensures.same early) (c.make_or_take.ensures.prepared clean)
-
-pub returns-clause-migrated : goal.returns-clause-migrated
-returns-clause-migrated g c clean =
-    let old = g.C.SqlConnection.state c.args.conn.now in
-    let mid = g.C.SqlConnection.state c.check_open.new.conn in
-    let new = g.C.SqlConnection.state c.make_or_take.new.conn in
-    let early : HasCleanDisk mid = omega (arith, clean, c.make_or_take.ensures.stop.clean) in
-    migrated_if old mid new (λ trees is_open. g.met.C.SqlConnection.settled c.make_or_take.new.conn trees is_open)
-    c.make_or_take.result (c.in_ok-check_open.ensures.same early) (c.make_or_take.ensures.prepared clean)
-    (c.make_or_take.ensures.own clean)
 
 pub returns-clause-ready : goal.returns-clause-ready
 returns-clause-ready g c clean = ready_if (g.C.SqlConnection.state c.check_open.new.conn)
@@ -69,3 +59,11 @@ returns-clause-written g c clean =
     let was = c.in_ok-check_open.ensures.same early in
     renewed_if c.make_or_take.result old mid (g.C.SqlConnection.state c.make_or_take.new.conn) was.0 was.1
     c.check_open.ensures.stop (c.make_or_take.ensures.written clean)
+
+pub returns-clause-others : goal.returns-clause-others
+returns-clause-others g c clean =
+    let mid = g.C.SqlConnection.state c.check_open.new.conn in
+    let early : HasCleanDisk mid = omega (arith, clean, c.make_or_take.ensures.stop.clean) in
+    others_then c.make_or_take.result (g.C.SqlConnection.state c.args.conn.now) mid
+    (g.C.SqlConnection.state c.make_or_take.new.conn) (c.in_ok-check_open.ensures.same early).0
+    (c.make_or_take.ensures.others clean)

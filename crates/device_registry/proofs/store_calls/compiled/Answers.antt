@@ -1,6 +1,6 @@
 use Rattle.std.proofs.Common.{◌≡◌, arith}
 use Rattle.sqlite.specs.State.{HasCleanDisk}
-use Rattle.device_registry.proofs.StatementSteps.{compiled_stays, compiled_text, compiled_ready}
+use Rattle.device_registry.proofs.StatementSteps.{compiled_stays, compiled_text, compiled_same, compiled_ready}
 use Rattle.device_registry.proofs.store_calls.compiled.Goals as goal
 
 pub returns-clause-stays : goal.returns-clause-stays
@@ -18,5 +18,10 @@ returns-clause-ready g c clean =
 
 pub returns-clause-text : goal.returns-clause-text
 returns-clause-text g c clean = compiled_text (λ s. s.text ≡ c.args.sql.now) c.args.sql.now
+    (g.C.SqlConnection.state c.args.conn.now) (g.C.SqlConnection.state c.prepare.new.self) c.prepare.result
+    (c.prepare.ensures.ok clean)
+
+pub returns-clause-same : goal.returns-clause-same
+returns-clause-same g c clean = compiled_same (λ s. s.text ≡ c.args.sql.now) c.args.sql.now
     (g.C.SqlConnection.state c.args.conn.now) (g.C.SqlConnection.state c.prepare.new.self) c.prepare.result
     (c.prepare.ensures.ok clean)

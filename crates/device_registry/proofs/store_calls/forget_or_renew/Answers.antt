@@ -1,14 +1,22 @@
 use Rattle.std.proofs.Common.{rules, arith, ◌≡◌, []}
 use Rattle.std.proofs.lemmas.Grind.{common_steps}
 use Rattle.device_registry.proofs.FindAnswer.{unknown_is_removed}
+use Rattle.device_registry.specs.Table.{renew_text}
+use Rattle.device_registry.proofs.WritesTurn.{executed_if}
 use Rattle.device_registry.specs.Devices.{forgotten}
 use Rattle.device_registry.proofs.store_calls.forget_or_renew.Goals as goal
 
-pub returns-then-is_empty : goal.returns-then-is_empty
-returns-then-is_empty g c =
+pub returns-then-is_empty-clause-turns : goal.returns-then-is_empty-clause-turns
+returns-then-is_empty-clause-turns g c =
     let none : c.args.rows.now ≡ [] = grind (arith, common_steps, c.is_empty.ensures, c.if-is_empty.true) in
     c.renew.ensures.turns (forgotten c.args.id) (λ clean devices shows.
     unknown_is_removed devices c.args.id c.args.rows.now (c.requires.found clean devices shows) none)
 
-pub returns : goal.returns
-returns g c = search rules
+pub returns-then-is_empty-clause-written : goal.returns-then-is_empty-clause-written
+returns-then-is_empty-clause-written g c clean none =
+    executed_if renew_text [] (g.C.SqlConnection.state c.args.conn.now) (g.C.SqlConnection.state c.renew.new.conn)
+    c.renew.result
+    (c.renew.ensures.runs clean)
+
+pub returns-clause-written : goal.returns-clause-written
+returns-clause-written g c clean none = absurd (search (rules, none))

@@ -3,12 +3,12 @@ use Rattle.sqlite.specs.State.{HasCleanDisk, Executes, CommitsBy, Survives}
 use Rattle.learned_devices.specs.Labels.{is_label}
 use Rattle.device_registry.specs.Devices.{Learned, known_of}
 use Rattle.device_registry.specs.Table.{put_text}
-use Rattle.device_registry.proofs.PutEffect.{put_params}
-use Rattle.device_registry.proofs.WritesTurn.{put_turns}
+use Rattle.device_registry.specs.Table.Rows.{put_params}
+use Rattle.device_registry.proofs.WritesTurn.{executed_if, put_turns}
 use Rattle.device_registry.proofs.store_calls.put.Goals as goal
 
-pub returns : goal.returns
-returns g c change makes =
+pub returns-clause-turns : goal.returns-clause-turns
+returns-clause-turns g c change makes =
     let old = g.C.SqlConnection.state c.args.conn.now in
     let new = g.C.SqlConnection.state c.run_put.new.conn in
     let it : Learned = known_of c.args.device in
@@ -31,3 +31,16 @@ returns g c change makes =
       c.requires.room clean devices shows,
       makes clean devices shows,
     )) survived ran
+
+pub returns-clause-written : goal.returns-clause-written
+returns-clause-written g c clean =
+    let old = g.C.SqlConnection.state c.args.conn.now in
+    let new = g.C.SqlConnection.state c.run_put.new.conn in
+    let it : Learned = known_of c.args.device in
+    let a : SFits w64 c.from.result = search rules in
+    let b : SFits w64 c.number_of.result = search rules in
+    let m : SFits w64 c.number_of_maker.result = search rules in
+    let done : Executes put_text (put_params c.args.device.id it) old new c.run_put.result =
+    rw (c.from.ensures, c.number_of.ensures, c.number_of_maker.ensures, c.as_str.ensures.text) at
+    (simp to_z-of_z at (c.run_put.ensures.runs clean)) in
+    executed_if put_text (put_params c.args.device.id it) old new c.run_put.result done

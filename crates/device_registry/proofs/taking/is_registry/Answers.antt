@@ -22,9 +22,7 @@ returns-then-not-branch-clause-other g c clean none own =
     let early : HasCleanDisk old = omega (arith, clean, c.lists_ours.ensures.stop.clean) in
     let rest = c.requires early in
     let it = own_found c.args.version old rest own in
-    let is : trees_in c.args.version old.now.schema ≡ Some (it.tables.meta, it.tables.devices) =
-    placed_tables c.args.version old.now.schema it.tables in
-    absurd (search rules)
+    absurd (c.lists_ours.ensures.other clean (search rules) it.listed)
 
 pub is_whole-requires : goal.is_whole-requires
 is_whole-requires g c clean =
@@ -46,7 +44,7 @@ returns-clause-ours g c clean =
     let yes : IsTrue c.in_ok-lists_ours.field-0 = search rules in
     let is : trees_in c.args.version old.now.schema ≡ Some (c.in-Some._meta, c.in-Some._devices) = search rules in
     taken_if c.args.version c.is_whole.result old mid (g.C.SqlConnection.state c.is_whole.new.conn) got.0
-    (tables_taken c.args.version old c.in-Some._meta c.in-Some._devices (c.requires early) is (got.1 yes))
+    (tables_taken c.args.version old c.in-Some._meta c.in-Some._devices (c.requires early) is (got.1 yes)) (got.1 yes)
     (c.is_whole.ensures.whole clean)
 
 pub returns-clause-other : goal.returns-clause-other

@@ -1,7 +1,7 @@
 use Rattle.std.proofs.Common.{sym, subst}
 use Rattle.std.proofs.lemmas.Result.{err_from_is_err_and}
 use Rattle.engines.specs.Started.{RefusesToStart}
-use Rattle.engines.proofs.StartLemmas.{idle_at_first, refuses_as_open, starts}
+use Rattle.engines.proofs.StartLemmas.{idle_at_first, new_gateway, refuses_as_open, starts}
 use Rattle.engines.proofs.gateway_start.start.Goals as goal
 
 pub returns-in_err-registry-clause-refused : goal.returns-in_err-registry-clause-refused
@@ -18,3 +18,9 @@ pub returns-clause-starts : goal.returns-clause-starts
 returns-clause-starts g c =
     starts g.C.SqlConnection.state c.args.conn c.in_ok-registry.registry c.args.base c.in_ok-gateway_over.field-0
     c.in_ok-gateway_over.ensures c.in_ok-registry.ensures.registries c.in_ok-registry.ensures.opens
+
+pub returns-clause-begins : goal.returns-clause-begins
+returns-clause-begins g c =
+    new_gateway g.C.SqlConnection.state c.args.conn c.in_ok-registry.registry c.args.base
+    c.in_ok-gateway_over.field-0 c.in_ok-gateway_over.ensures c.in_ok-registry.ensures.registries
+    c.in_ok-registry.ensures.opens

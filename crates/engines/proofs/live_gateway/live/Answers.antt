@@ -6,6 +6,8 @@ use Rattle.engines.specs.Turns.{Turn, desks, pieces}
 use Rattle.engines.specs.Wires.{way_of_wires}
 use Rattle.engines.proofs.CallCountLemmas.{made_both, made_first, made_more, made_none, not_failed}
 use Rattle.engines.proofs.CallCountLemmas.{well_at}
+use Rattle.engines.specs.declared.runs.RunFault.TheVariants.{Read, Write}
+use Rattle.engines.proofs.HeadlineLemmas.{served, served_until}
 use Rattle.engines.proofs.ReadLemmas.{reads_fail, reads_more, reads_none}
 use Rattle.engines.proofs.TurnLemmas.{desks-more, first_player, order_stops, piece_stops, piece_taken, pieces-more}
 use Rattle.engines.proofs.TurnLemmas.{turn_taken, turns_none}
@@ -330,3 +332,30 @@ returns-clause-whole g c =
       },
       λ _. refl,
     )
+
+-- ---- the headline
+
+pub returns-in_default-clause-as_specified : goal.returns-in_default-clause-as_specified
+returns-in_default-clause-as_specified g c =
+    served_until g.S.DeviceStore.stored g.P.Source g.Q.Source g.R.Sink g.D.Sink c.args.explains _ _ c.args.turns Read
+    (returns-in_default-clause-err g c)
+
+pub returns-in_default-take_piece-clause-as_specified : goal.returns-in_default-take_piece-clause-as_specified
+returns-in_default-take_piece-clause-as_specified g c =
+    served_until g.S.DeviceStore.stored g.P.Source g.Q.Source g.R.Sink g.D.Sink c.args.explains _ _ c.args.turns Write
+    (returns-in_default-take_piece-clause-err g c)
+
+pub returns-in_default-read-clause-as_specified : goal.returns-in_default-read-clause-as_specified
+returns-in_default-read-clause-as_specified g c =
+    served_until g.S.DeviceStore.stored g.P.Source g.Q.Source g.R.Sink g.D.Sink c.args.explains _ _ c.args.turns Read
+    (returns-in_default-read-clause-err g c)
+
+pub returns-in_default-take_bytes-clause-as_specified : goal.returns-in_default-take_bytes-clause-as_specified
+returns-in_default-take_bytes-clause-as_specified g c =
+    served_until g.S.DeviceStore.stored g.P.Source g.Q.Source g.R.Sink g.D.Sink c.args.explains _ _ c.args.turns Write
+    (returns-in_default-take_bytes-clause-err g c)
+
+pub returns-clause-as_specified : goal.returns-clause-as_specified
+returns-clause-as_specified g c =
+    served g.S.DeviceStore.stored g.P.Source g.Q.Source g.R.Sink g.D.Sink c.args.explains _ _ c.args.turns _
+    (returns-clause-ok g c)

@@ -9,6 +9,8 @@ use Rattle.engines.specs.CallCounts.{OneWrong, wrong_behind}
 use Rattle.engines.specs.declared.line_loop.Lines.TheVariants.{OfScript}
 use Rattle.engines.specs.Streams.{source_value}
 use Rattle.engines.specs.Written.{way_of_text}
+use Rattle.engines.specs.declared.runs.RunFault.TheVariants.{Read, TooManyTurns, Write}
+use Rattle.engines.proofs.HeadlineLemmas.{replayed, replayed_until}
 use Rattle.engines.proofs.LineLoopLemmas.{bytes_none, bytes_behind, first_player, keeps_none, stops_behind}
 use Rattle.engines.proofs.CallCountLemmas.{wrong_at}
 use Rattle.engines.proofs.ReadLemmas.{one_read_more, reads_fail, reads_more, reads_none}
@@ -250,3 +252,25 @@ returns-clause-ended g c = search rules
 
 pub returns-clause-too_many : goal.returns-clause-too_many
 returns-clause-too_many g c = search rules
+
+-- ---- the headline
+
+pub returns-in-Err-clause-as_specified : goal.returns-in-Err-clause-as_specified
+returns-in-Err-clause-as_specified g c =
+    replayed_until g.S.DeviceStore.stored g.R.Source g.W.Sink c.args.explains _ _ Read (returns-in-Err-clause-err g c)
+
+pub returns-clause-as_specified : goal.returns-clause-as_specified
+returns-clause-as_specified g c =
+    replayed_until g.S.DeviceStore.stored g.R.Source g.W.Sink c.args.explains _ _ TooManyTurns (returns-clause-err g c)
+
+pub returns-in_default-clause-as_specified : goal.returns-in_default-clause-as_specified
+returns-in_default-clause-as_specified g c =
+    replayed_until g.S.DeviceStore.stored g.R.Source g.W.Sink c.args.explains _ _ Write (returns-in_default-clause-err g c)
+
+pub returns-in_default-take_bytes-clause-as_specified : goal.returns-in_default-take_bytes-clause-as_specified
+returns-in_default-take_bytes-clause-as_specified g c =
+    replayed_until g.S.DeviceStore.stored g.R.Source g.W.Sink c.args.explains _ _ Write (returns-in_default-take_bytes-clause-err g c)
+
+pub returns-then-length-eq0-clause-as_specified : goal.returns-then-length-eq0-clause-as_specified
+returns-then-length-eq0-clause-as_specified g c =
+    replayed g.S.DeviceStore.stored g.R.Source g.W.Sink c.args.explains _ _ _ (returns-then-length-eq0-clause-ok g c)

@@ -1,6 +1,9 @@
-use Rattle.device_registry.specs.Devices.{forgotten}
+use Rattle.std.proofs.Common.{◌∙◌, subst, option_map}
+use Rattle.device_registry.specs.Devices.{device, forgotten}
+use Rattle.device_registry.specs.Table.Rows.{AreFound}
+use Rattle.device_registry.proofs.OpenRenews.{written_by}
 use Rattle.device_registry.proofs.RegistryCalls.{keeps_well, forgets_not, refused_well, forget_refused, made_well}
-use Rattle.device_registry.proofs.RegistryCalls.{shown_before, ready_made, forget_made}
+use Rattle.device_registry.proofs.RegistryCalls.{had, shown_before, ready_made, forget_made}
 use Rattle.device_registry.proofs.device_table.DeviceTable.forget.Goals as goal
 
 -- ---- the query failed
@@ -31,7 +34,7 @@ pub invariant_of-self-in_err-changed : goal.invariant_of-self-in_err-changed
 invariant_of-self-in_err-changed g c =
     refused_well (g.C.SqlConnection.state c.self.inside.conn) (g.C.SqlConnection.state c.look_up.new.conn)
     (g.C.SqlConnection.state c.forget_or_renew.new.conn) (forgotten c.args.id) c.forget_or_renew.result
-    c.look_up.ensures.stays c.self.invariant c.forget_or_renew.ensures c.in_err-changed.ensures.refused
+    c.look_up.ensures.stays c.self.invariant c.forget_or_renew.ensures.turns c.in_err-changed.ensures.turns.refused
 
 pub returns-in_err-changed-clause-forgets : goal.returns-in_err-changed-clause-forgets
 returns-in_err-changed-clause-forgets g c =
@@ -39,13 +42,13 @@ returns-in_err-changed-clause-forgets g c =
     (g.C.SqlConnection.state c.look_up.new.conn)
     (g.C.SqlConnection.state c.forget_or_renew.new.conn) c.forget_or_renew.result
     c.look_up.ensures.stays c.self.invariant c.args.id c.from_residual-in_err-changed.result
-    c.from_residual-in_err-changed.ensures.0 c.forget_or_renew.ensures c.in_err-changed.ensures.refused)
+    c.from_residual-in_err-changed.ensures.0 c.forget_or_renew.ensures.turns c.in_err-changed.ensures.turns.refused)
 
 pub invariant_of-self-2 : goal.invariant_of-self-2
 invariant_of-self-2 g c =
     made_well (g.C.SqlConnection.state c.self.inside.conn) (g.C.SqlConnection.state c.look_up.new.conn)
     (g.C.SqlConnection.state c.forget_or_renew.new.conn) (forgotten c.args.id) c.forget_or_renew.result
-    c.look_up.ensures.stays c.self.invariant c.forget_or_renew.ensures c.in_ok-changed.ensures.made
+    c.look_up.ensures.stays c.self.invariant c.forget_or_renew.ensures.turns c.in_ok-changed.ensures.turns.made
     (λ clean. (c.in_ok-rows.ensures.found clean).0)
 
 pub returns-clause-forgets : goal.returns-clause-forgets
@@ -53,17 +56,26 @@ returns-clause-forgets g c =
     let old = g.C.SqlConnection.state c.self.inside.conn in
     let mid = g.C.SqlConnection.state c.look_up.new.conn in
     let new = g.C.SqlConnection.state c.forget_or_renew.new.conn in
-    let turns = c.forget_or_renew.ensures in
+    let turns = c.forget_or_renew.ensures.turns in
     rw (← c.self.view_is, c.forgotten.ensures)
     (forget_made old mid new c.forget_or_renew.result c.look_up.ensures.stays c.self.invariant
-    c.args.id turns c.in_ok-changed.ensures.made
+    c.args.id turns c.in_ok-changed.ensures.turns.made
     (λ clean. (c.in_ok-rows.ensures.found clean).0)
-    (λ trees is_open. g.met.C.SqlConnection.settled c.forget_or_renew.new.conn trees is_open))
+    (λ trees is_open. g.met.C.SqlConnection.settled c.forget_or_renew.new.conn trees is_open)
+    (λ clean devices has none.
+    let early = turns.clean clean in
+    let found = c.in_ok-rows.ensures.found early in
+    let shows = had old mid c.look_up.ensures.stays c.self.invariant early found.0 devices has in
+    let no_rows = subst (λ o. AreFound (option_map (device c.args.id) o) c.in_ok-rows.rows.items) none
+    (found.1 devices shows) in
+    written_by old mid new c.in_ok-changed.changed devices shows (c.in_ok-rows.ensures.same early)
+    c.look_up.ensures.survives found.0
+    (c.in_ok-changed.ensures.written clean (c.deref.ensures.value ∙ no_rows))))
 
 pub returns-clause-ready : goal.returns-clause-ready
 returns-clause-ready g c clean =
     rw (← c.self.view_is) (ready_made (g.C.SqlConnection.state c.self.inside.conn)
     (g.C.SqlConnection.state c.look_up.new.conn)
     (g.C.SqlConnection.state c.forget_or_renew.new.conn) (forgotten c.args.id) c.forget_or_renew.result
-    c.look_up.ensures.stays c.self.invariant c.forget_or_renew.ensures (c.in_ok-changed.ensures.made clean)
-    clean (c.in_ok-rows.ensures.found (c.forget_or_renew.ensures.clean clean)).0)
+    c.look_up.ensures.stays c.self.invariant c.forget_or_renew.ensures.turns (c.in_ok-changed.ensures.turns.made clean)
+    clean (c.in_ok-rows.ensures.found (c.forget_or_renew.ensures.turns.clean clean)).0)

@@ -1,8 +1,8 @@
 use Rattle.std.proofs.Common.{◌∙◌, sym, ap, subst, Err}
 use Rattle.std.proofs.lemmas.Result.{err_from_is_err_and}
 use Rattle.device_registry.specs.Devices.{learned, known_of}
-use Rattle.device_registry.specs.Holding.{Learns}
-use Rattle.device_registry.proofs.RegistryCalls.{puts_it, had, shown_before, keeps_well}
+use Rattle.device_registry.specs.Holding.{Learns, WritesRow}
+use Rattle.device_registry.proofs.RegistryCalls.{puts_it, had, shown_before, keeps, keeps_well}
 use Rattle.device_registry.proofs.RegistryCalls.{learns_not, is_full_then, refused_well}
 use Rattle.device_registry.proofs.RegistryCalls.{learn_refused, made_well, learn_made, ready_both, ready_made}
 use Rattle.device_registry.proofs.device_table.DeviceTable.learn.Goals as goal
@@ -64,9 +64,9 @@ invariant_of-self-in_err-changed g c =
     let stays = c.has_no_room.ensures.stays in
     let makes = puts_it old mid stays c.self.invariant change (known_of c.args.device)
     (rw (← c.self.view_is) at c.requires) in
-    let turns = c.put.ensures change makes in
+    let turns = c.put.ensures.turns change makes in
     refused_well old mid new change c.put.result stays c.self.invariant turns
-    (c.in_err-changed.ensures change makes).refused
+    (c.in_err-changed.ensures.turns change makes).refused
 
 pub returns-in_err-changed-clause-learns : goal.returns-in_err-changed-clause-learns
 returns-in_err-changed-clause-learns g c =
@@ -77,11 +77,11 @@ returns-in_err-changed-clause-learns g c =
     let stays = c.has_no_room.ensures.stays in
     let makes = puts_it old mid stays c.self.invariant change (known_of c.args.device)
     (rw (← c.self.view_is) at c.requires) in
-    let turns = c.put.ensures change makes in
+    let turns = c.put.ensures.turns change makes in
     let why = err_from_is_err_and c.from_residual-in_err-changed.result c.from_residual-in_err-changed.ensures.1 in
     rw (← c.self.view_is) (subst (Learns old new c.args.device) (sym (why.1 ∙ ap Err why.2))
     (learn_refused old mid new c.put.result stays c.self.invariant c.args.device _ turns
-    (c.in_err-changed.ensures change makes).refused))
+    (c.in_err-changed.ensures.turns change makes).refused))
 
 pub invariant_of-self-2 : goal.invariant_of-self-2
 invariant_of-self-2 g c =
@@ -92,8 +92,8 @@ invariant_of-self-2 g c =
     let stays = c.has_no_room.ensures.stays in
     let makes = puts_it old mid stays c.self.invariant change (known_of c.args.device)
     (rw (← c.self.view_is) at c.requires) in
-    let turns = c.put.ensures change makes in
-    made_well old mid new change c.put.result stays c.self.invariant turns (c.in_ok-changed.ensures change makes).made
+    let turns = c.put.ensures.turns change makes in
+    made_well old mid new change c.put.result stays c.self.invariant turns (c.in_ok-changed.ensures.turns change makes).made
     (λ clean. (c.in_ok-has_no_room.ensures.full clean).0)
 
 pub returns-clause-learns : goal.returns-clause-learns
@@ -105,16 +105,35 @@ returns-clause-learns g c =
     let stays = c.has_no_room.ensures.stays in
     let makes = puts_it old mid stays c.self.invariant change (known_of c.args.device)
     (rw (← c.self.view_is) at c.requires) in
-    let turns = c.put.ensures change makes in
+    let turns = c.put.ensures.turns change makes in
     rw (← c.self.view_is, c.learned.ensures)
     (learn_made old mid new c.put.result stays c.self.invariant c.args.device turns
-    (c.in_ok-changed.ensures change makes).made
+    (c.in_ok-changed.ensures.turns change makes).made
     (λ clean. (c.in_ok-has_no_room.ensures.full clean).0)
     (λ trees is_open. g.met.C.SqlConnection.settled c.put.new.conn trees is_open)
     (λ clean devices has.
     let told = c.in_ok-has_no_room.ensures.full clean in
     sym (told.1 devices (had old mid stays c.self.invariant clean told.0 devices has))
     ∙ c.if-branch.false))
+
+pub returns-clause-written : goal.returns-clause-written
+returns-clause-written g c =
+    let old = g.C.SqlConnection.state c.self.inside.conn in
+    let mid = g.C.SqlConnection.state c.has_no_room.new.conn in
+    let stays = c.has_no_room.ensures.stays in
+    let asked = rw (← c.self.view_is) at c.requires in
+    let makes = puts_it old mid stays c.self.invariant (learned c.args.device) (known_of c.args.device) asked in
+    let turns = c.put.ensures.turns (learned c.args.device) makes in
+    rw (← c.self.view_is) (λ clean devices has.
+    let early = turns.clean clean in
+    let row : WritesRow g.C.SqlConnection.state c.put.new.conn (learned c.args.device) devices = record {
+      row = known_of c.args.device;
+      is = asked (stays.clean early) devices has;
+      before = c.has_no_room.new.conn;
+      had = (keeps old mid stays c.self.invariant early devices has).now;
+      count = c.in_ok-changed.changed;
+      executed = c.in_ok-changed.ensures.written clean;
+    } in row)
 
 pub returns-clause-ready : goal.returns-clause-ready
 returns-clause-ready g c clean =
@@ -125,7 +144,7 @@ returns-clause-ready g c clean =
     let stays = c.has_no_room.ensures.stays in
     let makes = puts_it old mid stays c.self.invariant change (known_of c.args.device)
     (rw (← c.self.view_is) at c.requires) in
-    let turns = c.put.ensures change makes in
+    let turns = c.put.ensures.turns change makes in
     rw (← c.self.view_is) (ready_made old mid new change c.put.result stays c.self.invariant turns
-    ((c.in_ok-changed.ensures change makes).made clean) clean
+    ((c.in_ok-changed.ensures.turns change makes).made clean) clean
     (c.in_ok-has_no_room.ensures.full (turns.clean clean)).0)

@@ -1,4 +1,5 @@
 use Rattle.device_registry.specs.Devices.{known_of, relabelled}
+use Rattle.device_registry.specs.Holding.{WritesRow}
 use Rattle.device_registry.proofs.RegistryCalls.{puts_it, stays_itself, room_if_known, refused_well, made_well}
 use Rattle.device_registry.proofs.RegistryCalls.{relabel_refused, relabel_made, ready_made}
 use Rattle.device_registry.proofs.device_table.DeviceTable.relabel.Goals as goal
@@ -18,9 +19,9 @@ invariant_of-self g c =
     let change = relabelled c.args.device.id c.args.device.label in
     let makes = puts_it old old (stays_itself old) c.self.invariant change (known_of c.args.device)
     (rw (← c.self.view_is) at c.requires.known) in
-    let turns = c.put.ensures change makes in
+    let turns = c.put.ensures.turns change makes in
     refused_well old old new change c.put.result (stays_itself old) c.self.invariant turns
-    (c.in_err-put.ensures change makes).refused
+    (c.in_err-put.ensures.turns change makes).refused
 
 pub returns-in_err-put-clause-relabels : goal.returns-in_err-put-clause-relabels
 returns-in_err-put-clause-relabels g c =
@@ -29,9 +30,9 @@ returns-in_err-put-clause-relabels g c =
     let change = relabelled c.args.device.id c.args.device.label in
     let makes = puts_it old old (stays_itself old) c.self.invariant change (known_of c.args.device)
     (rw (← c.self.view_is) at c.requires.known) in
-    let turns = c.put.ensures change makes in
+    let turns = c.put.ensures.turns change makes in
     rw (← c.self.view_is) (relabel_refused old new c.put.result c.self.invariant c.args.device.id c.args.device.label
-    turns c.from_residual.result c.from_residual.ensures.0 (c.in_err-put.ensures change makes).refused)
+    turns c.from_residual.result c.from_residual.ensures.0 (c.in_err-put.ensures.turns change makes).refused)
 
 pub invariant_of-self-2 : goal.invariant_of-self-2
 invariant_of-self-2 g c =
@@ -40,9 +41,9 @@ invariant_of-self-2 g c =
     let change = relabelled c.args.device.id c.args.device.label in
     let makes = puts_it old old (stays_itself old) c.self.invariant change (known_of c.args.device)
     (rw (← c.self.view_is) at c.requires.known) in
-    let turns = c.put.ensures change makes in
+    let turns = c.put.ensures.turns change makes in
     made_well old old new change c.put.result (stays_itself old) c.self.invariant turns
-    (c.in_ok-put.ensures change makes).made (rw (← c.self.view_is) at c.requires.ready)
+    (c.in_ok-put.ensures.turns change makes).made (rw (← c.self.view_is) at c.requires.ready)
 
 pub returns-clause-relabels : goal.returns-clause-relabels
 returns-clause-relabels g c =
@@ -51,11 +52,28 @@ returns-clause-relabels g c =
     let change = relabelled c.args.device.id c.args.device.label in
     let makes = puts_it old old (stays_itself old) c.self.invariant change (known_of c.args.device)
     (rw (← c.self.view_is) at c.requires.known) in
-    let turns = c.put.ensures change makes in
+    let turns = c.put.ensures.turns change makes in
     rw (← c.self.view_is) (relabel_made old new c.put.result c.self.invariant c.args.device.id c.args.device.label
-    turns (known_of c.args.device) (c.in_ok-put.ensures change makes).made (rw (← c.self.view_is) at c.requires.ready)
+    turns (known_of c.args.device) (c.in_ok-put.ensures.turns change makes).made (rw (← c.self.view_is) at c.requires.ready)
     (λ trees is_open. g.met.C.SqlConnection.settled c.put.new.conn trees is_open)
     (rw (← c.self.view_is) at c.requires.known))
+
+pub returns-clause-written : goal.returns-clause-written
+returns-clause-written g c =
+    let old = g.C.SqlConnection.state c.self.inside.conn in
+    let change = relabelled c.args.device.id c.args.device.label in
+    let known = rw (← c.self.view_is) at c.requires.known in
+    let makes = puts_it old old (stays_itself old) c.self.invariant change (known_of c.args.device) known in
+    let turns = c.put.ensures.turns change makes in
+    rw (← c.self.view_is) (λ clean devices has.
+    let row : WritesRow g.C.SqlConnection.state c.put.new.conn change devices = record {
+      row = known_of c.args.device;
+      is = known (turns.clean clean) devices has;
+      before = c.self.inside.conn;
+      had = has;
+      count = c.in_ok-put.field-0;
+      executed = c.in_ok-put.ensures.written clean;
+    } in row)
 
 pub returns-clause-ready : goal.returns-clause-ready
 returns-clause-ready g c clean =
@@ -64,7 +82,7 @@ returns-clause-ready g c clean =
     let change = relabelled c.args.device.id c.args.device.label in
     let makes = puts_it old old (stays_itself old) c.self.invariant change (known_of c.args.device)
     (rw (← c.self.view_is) at c.requires.known) in
-    let turns = c.put.ensures change makes in
+    let turns = c.put.ensures.turns change makes in
     let ready = rw (← c.self.view_is) at c.requires.ready in
     rw (← c.self.view_is) (ready_made old old new change c.put.result (stays_itself old) c.self.invariant turns
-    ((c.in_ok-put.ensures change makes).made clean) clean (ready (turns.clean clean)))
+    ((c.in_ok-put.ensures.turns change makes).made clean) clean (ready (turns.clean clean)))

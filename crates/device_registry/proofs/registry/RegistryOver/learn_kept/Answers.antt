@@ -21,8 +21,11 @@ invariant_of-self g c = (
       c.self.invariant.1 c.forget_entry.ensures.kept c.remember.ensures.kept,
 )
 
-pub returns-in-Ok : goal.returns-in-Ok
-returns-in-Ok g c = rw (← c.self.view_is) c.in-Ok.ensures.learns
+pub returns-in-Ok-clause-learns : goal.returns-in-Ok-clause-learns
+returns-in-Ok-clause-learns g c = rw (← c.self.view_is) c.in-Ok.ensures.learns
+
+pub returns-in-Ok-clause-written : goal.returns-in-Ok-clause-written
+returns-in-Ok-clause-written g c = rw (← c.self.view_is) c.in-Ok.ensures.written
 
 -- ---- there is no room, and what is remembered of the others stays
 
@@ -39,11 +42,11 @@ invariant_of-self-in-Err-Full g c =
           c.self.invariant.1 (λ e has. (c.forget_entry.ensures.kept e has).0),
     )
 
-pub returns-in-Err-Full : goal.returns-in-Err-Full
-returns-in-Err-Full g c =
+pub returns-in-Err-Full-clause-learns : goal.returns-in-Err-Full-clause-learns
+returns-in-Err-Full-clause-learns g c =
     rw (← c.self.view_is) (subst
     (Learns (g.C.SqlConnection.state c.self.inside.table) (g.C.SqlConnection.state c.learn.new.self) c.args.device)
     (c.in-Err-Full.is ∙ ap Err c.in-Err-Full.field-0-is) c.learn.ensures.learns)
 
-pub returns-in-Err : goal.returns-in-Err
-returns-in-Err g c = rw (← c.self.view_is) c.in-Err.ensures.learns
+pub returns-in-Err-clause-learns : goal.returns-in-Err-clause-learns
+returns-in-Err-clause-learns g c = rw (← c.self.view_is) c.in-Err.ensures.learns

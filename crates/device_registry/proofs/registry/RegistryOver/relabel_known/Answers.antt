@@ -27,8 +27,11 @@ invariant_of-self g c =
           c.self.invariant.1 c.forget_entry.ensures.kept c.remember.ensures.kept,
     )
 
-pub returns-in-Ok : goal.returns-in-Ok
-returns-in-Ok g c = rw (← c.self.view_is) c.in-Ok.ensures.relabels
+pub returns-in-Ok-clause-relabels : goal.returns-in-Ok-clause-relabels
+returns-in-Ok-clause-relabels g c = rw (← c.self.view_is) c.in-Ok.ensures.relabels
 
-pub returns-in-Err : goal.returns-in-Err
-returns-in-Err g c = rw (← c.self.view_is) c.in-Err.ensures.relabels
+pub returns-in-Ok-clause-written : goal.returns-in-Ok-clause-written
+returns-in-Ok-clause-written g c = rw (← c.self.view_is) c.in-Ok.ensures.written
+
+pub returns-in-Err-clause-relabels : goal.returns-in-Err-clause-relabels
+returns-in-Err-clause-relabels g c = rw (← c.self.view_is) c.in-Err.ensures.relabels

@@ -1,0 +1,335 @@
+-- The lines that explain packets tell the truth.
+use Rattle.std.proofs.Common.{◌≡◌, ◌≢◌, inl, inr, ◌<◌, ℕ, Bool, true, false, List, [], ◌∷◌, Option, length}
+use Rattle.std.proofs.Common.{Some, None, refl, sym, ap, subst, ◌∙◌, arith, eqb-true, Result, Ok, Err}
+use Rattle.std.specs.Prelude.{◌==◌, ◌||◌, ◌&&◌, not, IsErr, if◌then◌else◌}
+use Rattle.std.proofs.lemmas.Bool.{eqb-false}
+use Rattle.esp3_frames.specs.Packet.{Packet}
+use Rattle.erp1_telegrams.specs.declared.eep.Eep.{Eep}
+use Rattle.erp1_telegrams.specs.declared.telegram.TelegramFault.{TelegramFault}
+use Rattle.erp1_telegrams.specs.Address.{is_own, is_passed_over}
+use Rattle.erp1_telegrams.specs.Telegram.{Telegram, telegram_of}
+use Rattle.profiles_rps.specs.Reading.{Entry}
+use Rattle.profiles_rps.specs.declared.unreadable.Unreadable.{Unreadable}
+use Rattle.profiles_rps.specs.declared.unreadable.Unreadable.TheVariants as unreadable
+use Rattle.learned_devices.specs.declared.Device.{Device}
+use Rattle.device_registry.specs.Devices.{device_of, is_full}
+use Rattle.teach_in.specs.declared.ute.UteQuery.{UteQuery}
+use Rattle.teach_in.specs.declared.mode.Mode.{Mode}
+use Rattle.teach_in.specs.declared.mode.Mode.TheVariants as mode
+use Rattle.teach_in.specs.declared.outcome.Outcome.{Outcome}
+use Rattle.teach_in.specs.declared.outcome.Outcome.TheVariants.{Accepted, Deleted, Unsupported, Full, General}
+use Rattle.teach_in.specs.declared.outcome.Outcome.TheVariants.{NoProfile}
+use Rattle.teach_in.specs.declared.plans.Plan.{Plan}
+use Rattle.teach_in.specs.declared.plans.Plan.TheVariants.{Silent, Add, Forget, Refuse}
+use Rattle.teach_in.specs.declared.telegrams.Teach.{Teach}
+use Rattle.teach_in.specs.declared.telegrams.Teach.TheVariants as teach
+use Rattle.teach_in.specs.FourByte as four_byte
+use Rattle.teach_in.specs.Profiles.{supported}
+use Rattle.teach_in.specs.Telegrams.{teach_in_of}
+use Rattle.teach_in.specs.Plans.{add, add_told, in_mode, is_learned_by, plan_asked, plan_of, row_of}
+use Rattle.teach_in.specs.Ute as ute
+use Rattle.teach_in.specs.Ute.{request_in, deletion, not_used}
+use Rattle.teach_in.proofs.ForCallers.{IsOpen, either, hears-open, of_plan}
+use Rattle.json_lines.specs.declared.packet.Why.{Why}
+use Rattle.json_lines.specs.declared.packet.Why.TheVariants as why
+use Rattle.gateway_core.specs.declared.account.Account.{Account}
+use Rattle.gateway_core.specs.Accounts.{because, eep_told, explanation, line_of, of_device}
+use Rattle.gateway_core.specs.Accounts.{why_other, why_passed_over, why_silent}
+use Rattle.gateway_core.specs.Profiles.{read_by}
+use Rattle.gateway_core.specs.Responses.{response_from, response_in}
+use Rattle.gateway_core.specs.Explaining.{ExplanationsAreTrue, IsHeard, IsDataOf, Means, IsTeachIn}
+use Rattle.gateway_core.specs.Step.{State, Effect, case_effect, case_of, data_case, kind_case}
+use Rattle.gateway_core.specs.Step.{PassedOver, other_effect, packet_by, packet_effect, plan_effect}
+use Rattle.gateway_core.specs.Step.{accepts, reading_effect, tells_sender, told_of, unsaid}
+use Rattle.std.specs.Option.{option_map}
+
+-- where the effect is that of the packet, its account tells the truth
+abbrev Truth : State → Packet → Effect → Type 0
+Truth state packet e =
+    (packet_effect state packet).change ≡ e.change
+    → (account : Account) × (e.account ≡ Some account) × Means state packet account account.why
+
+-- ---- a packet without a telegram
+
+module _ (state : State) (packet : Packet) where
+  of-word : (word one : Why) → word ≡ one → Means state packet (because one) one
+      → Truth state packet (unsaid false (because word))
+  of-word word one is means =
+      subst (λ w. Truth state packet (unsaid false (because w))) (sym is) (λ change. (because one, refl, means))
+
+  -- it is no response
+  of-none : (fault : TelegramFault) → telegram_of packet ≡ Err fault → (packet.kind == 2) ≡ false
+      → Truth state packet (other_effect packet None)
+  of-none fault is other = by (packet.kind == 1) refl
+    where
+      word : (b c : Bool) → Why
+      word b c = if b then why.NoTelegram else if c then why.EmptyResponse else why.OtherType
+
+      by : (b : Bool) → (packet.kind == 1) ≡ b → Truth state packet (other_effect packet None)
+      by true one =
+          of-word (why_other packet) why.NoTelegram (ap (λ b. word b (packet.kind == 2)) one)
+          (eqb-true packet.kind 1 one, subst (λ r. IsErr r) (sym is) refl, (refl, refl))
+      by false one =
+          of-word (why_other packet) why.OtherType
+          (ap (λ b. word b (packet.kind == 2)) one ∙ ap (λ c. word false c) other)
+          (eqb-false packet.kind 1 one, eqb-false packet.kind 2 other, (refl, refl))
+
+  -- it is a response
+  of-body : (body : List ℕ) → packet.kind ≡ 2 → packet.body ≡ body
+      → Truth state packet (other_effect packet (response_from body))
+  of-body [] kind is change =
+      of-word (why_other packet) why.EmptyResponse
+      (ap (λ (k : ℕ). if k == 1 then why.NoTelegram else if k == 2 then why.EmptyResponse else why.OtherType) kind)
+      (kind, is, (refl, refl)) change
+  of-body (code ∷ bytes) kind is change =
+      (because why.Response, refl, (kind, subst (λ (b : List ℕ). 0 < length b) (sym is) (omega arith), (refl, refl)))
+
+  of-other : (fault : TelegramFault) → telegram_of packet ≡ Err fault
+      → Truth state packet (other_effect packet (response_in packet))
+  of-other fault is = by (packet.kind == 2) refl
+    where
+      by : (b : Bool) → (packet.kind == 2) ≡ b
+          → Truth state packet (other_effect packet (if packet.kind == 2 then response_from packet.body else None))
+      by true two =
+          subst (λ b. Truth state packet (other_effect packet (if b then response_from packet.body else None)))
+          (sym two) (of-body packet.body (eqb-true packet.kind 2 two) refl)
+      by false two =
+          subst (λ b. Truth state packet (other_effect packet (if b then response_from packet.body else None)))
+          (sym two) (of-none fault is two)
+
+-- ---- what a plan says
+
+abbrev outcome_in : Plan → Outcome
+outcome_in (Refuse outcome) = outcome
+outcome_in plan = Accepted
+
+-- why a sender is refused
+abbrev RefusalMeans : Teach → Outcome → Type 0
+RefusalMeans kind Unsupported = (eep : Eep) × (eep_told kind ≡ Some eep) × (supported eep ≡ false)
+RefusalMeans kind General = (query : UteQuery) × (kind ≡ teach.Ute query) × (request_in query ≡ not_used)
+RefusalMeans kind NoProfile = kind ≡ teach.Bare
+RefusalMeans kind outcome = ⊥
+
+module _ (t : Telegram) where
+  told-refuses : (kind : Teach) (eep : Eep) (maker : ℕ) (outcome : Outcome) → eep_told kind ≡ Some eep
+      → add_told t eep maker ≡ Refuse outcome → RefusalMeans kind outcome
+  told-refuses kind eep maker outcome is = by (supported eep) refl
+    where
+      by : (b : Bool) → supported eep ≡ b
+          → (if b then add t eep (Some maker) else Refuse Unsupported) ≡ Refuse outcome → RefusalMeans kind outcome
+      by true sup e = absurd cc
+      by false sup e = subst (RefusalMeans kind) (ap outcome_in e) (eep, is, sup)
+
+  asked-refuses : (query : UteQuery) (outcome : Outcome) → plan_asked t query ≡ Refuse outcome
+      → RefusalMeans (teach.Ute query) outcome
+  asked-refuses query outcome = by (request_in query == deletion) (request_in query == not_used) refl
+    where
+      by : (b c : Bool) → (request_in query == not_used) ≡ c
+          → (if b then Forget t.sender else if c then Refuse General
+          else add_told t (ute.eep_in query) (ute.maker_in query)) ≡ Refuse outcome
+          → RefusalMeans (teach.Ute query) outcome
+      by true c is e = absurd cc
+      by false true is e =
+          subst (RefusalMeans (teach.Ute query)) (ap outcome_in e)
+          (query, refl, eqb-true (request_in query) not_used is)
+      by false false is e =
+          told-refuses (teach.Ute query) (ute.eep_in query) (ute.maker_in query) outcome refl e
+
+  given-refuses : {X : Type 0} (b : Bool) (known : Device) (outcome : Outcome)
+      → (if b then Add known else Silent) ≡ Refuse outcome → X
+  given-refuses true known outcome e = absurd cc
+  given-refuses false known outcome e = absurd cc
+
+  data-refuses : {X : Type 0} (b c : Bool) (known : Device) (outcome : Outcome)
+      → (if b then if c then Add known else Silent else Silent) ≡ Refuse outcome → X
+  data-refuses true c known outcome e = given-refuses c known outcome e
+  data-refuses false c known outcome e = absurd cc
+
+  refuse-means : (known : Bool) (kind : Teach) (mode : Mode) (outcome : Outcome)
+      → in_mode (row_of t known kind) mode ≡ Refuse outcome → RefusalMeans kind outcome
+  refuse-means known kind mode.Closed outcome e = absurd cc
+  refuse-means known teach.Contact mode.Learn outcome e = absurd cc
+  refuse-means known teach.Contact mode.LearnAnswer outcome e = absurd cc
+  refuse-means known teach.Contact (mode.LearnAs eep) outcome e = given-refuses (eep.rorg == 0xD5) _ outcome e
+  refuse-means known teach.Bare mode.Learn outcome e = subst (RefusalMeans teach.Bare) (ap outcome_in e) refl
+  refuse-means known teach.Bare mode.LearnAnswer outcome e = subst (RefusalMeans teach.Bare) (ap outcome_in e) refl
+  refuse-means known teach.Bare (mode.LearnAs eep) outcome e = given-refuses (eep.rorg == 0xA5) _ outcome e
+  refuse-means known (teach.FourByte query) mode.Learn outcome e =
+      told-refuses (teach.FourByte query) (four_byte.eep_in query) (four_byte.maker_in query) outcome refl e
+  refuse-means known (teach.FourByte query) mode.LearnAnswer outcome e =
+      told-refuses (teach.FourByte query) (four_byte.eep_in query) (four_byte.maker_in query) outcome refl e
+  refuse-means known (teach.FourByte query) (mode.LearnAs eep) outcome e =
+      given-refuses (eep.rorg == 0xA5) _ outcome e
+  refuse-means known (teach.Ute query) mode.Learn outcome e = asked-refuses query outcome e
+  refuse-means known (teach.Ute query) mode.LearnAnswer outcome e = asked-refuses query outcome e
+  refuse-means known (teach.Ute query) (mode.LearnAs eep) outcome e = absurd cc
+  refuse-means known teach.Plain mode.Learn outcome e = absurd cc
+  refuse-means known teach.Plain mode.LearnAnswer outcome e = absurd cc
+  refuse-means known teach.Plain (mode.LearnAs eep) outcome e =
+      data-refuses (not known && is_learned_by t) (eep.rorg == t.rorg) _ outcome e
+  refuse-means known teach.Answer mode.Learn outcome e = absurd cc
+  refuse-means known teach.Answer mode.LearnAnswer outcome e = absurd cc
+  refuse-means known teach.Answer (mode.LearnAs eep) outcome e = absurd cc
+
+  -- in a window for all senders something is planned for each telegram of teach-in
+  told-speaks : (eep : Eep) (maker : ℕ) → add_told t eep maker ≢ Silent
+  told-speaks eep maker = either (λ p. p ≢ Silent) (supported eep) _ _ (λ e. absurd cc) (λ e. absurd cc)
+
+  speaks : (known : Bool) (kind : Teach) → IsTeachIn kind → (row_of t known kind).told ≢ Silent
+  speaks known teach.Contact is e = absurd cc
+  speaks known teach.Bare is e = absurd cc
+  speaks known (teach.FourByte query) is e = told-speaks _ _ e
+  speaks known (teach.Ute query) is e =
+      either (λ p. p ≢ Silent) (request_in query == deletion) _ _ (λ f. absurd cc)
+      (either (λ p. p ≢ Silent) (request_in query == not_used) _ _ (λ f. absurd cc) (told-speaks _ _)) e
+  speaks known teach.Plain is e = absurd is
+  speaks known teach.Answer is e = absurd is
+
+-- ---- a telegram
+
+others : (a b c : Bool) → (a || not (b || c)) ≡ true → a ≡ false → (b ≡ false) × (c ≡ false)
+others true b c is isnt = absurd cc
+others false true c is isnt = absurd cc
+others false false true is isnt = absurd cc
+others false false false is isnt = (refl, refl)
+
+module _ (state : State) (packet : Packet) (t : Telegram) (carried : telegram_of packet ≡ Ok t) where
+  of-passed : is_passed_over state.base t ≡ true → Truth state packet (unsaid false (because (why_passed_over t)))
+  of-passed over = by (t.sender == 0xFFFF_FFFF) refl
+    where
+      by : (b : Bool) → (t.sender == 0xFFFF_FFFF) ≡ b
+          → Truth state packet (unsaid false (because (why_passed_over t)))
+      by true is =
+          of-word state packet (why_passed_over t) why.FromBroadcast
+          (ap (λ b. if b then why.FromBroadcast else why.ForOthers) is)
+          (t, carried, eqb-true t.sender 0xFFFF_FFFF is, (refl, refl))
+      by false is =
+          let both = others (t.sender == 0xFFFF_FFFF) (t.dest == 0xFFFF_FFFF) (is_own state.base t.dest) over is in
+          of-word state packet (why_passed_over t) why.ForOthers
+          (ap (λ b. if b then why.FromBroadcast else why.ForOthers) is)
+          (t, carried, eqb-false t.sender 0xFFFF_FFFF is, eqb-false t.dest 0xFFFF_FFFF both.0, both.1, (refl, refl))
+
+  module _ (heard : IsHeard state packet t) where
+    refused : (outcome : Outcome) → RefusalMeans (teach_in_of t) outcome
+        → (change : (packet_effect state packet).change ≡ None)
+        → Means state packet (because (why.Told outcome)) (why.Told outcome)
+    refused Unsupported means change = (t, means.0, heard, means.1, means.2, change, (refl, refl))
+    refused General means change = (t, means.0, heard, means.1, means.2, change, (refl, refl))
+    refused NoProfile means change = (t, heard, means, change, (refl, refl))
+    refused Accepted means change = absurd means
+    refused Deleted means change = absurd means
+    refused Full means change = absurd means
+
+    of-planned : (asked known : Bool)
+        → (plan_of t state.mode known ≡ Silent → Truth state packet (plan_effect state t asked Silent))
+        → Truth state packet (plan_effect state t asked (plan_of t state.mode known))
+    of-planned asked known silent =
+        of_plan (λ plan. plan_of t state.mode known ≡ plan → Truth state packet (plan_effect state t asked plan)) t
+        state.mode known (record {
+          silent = silent;
+          adds = λ hears eep maker is.
+              let device : Device = record { id = t.sender; eep = eep; maker = maker; label = [] } in
+              let is_open = hears-open state.mode (teach_in_of t) hears in
+              by-room device (is_full state.devices t.sender) refl refl is_open;
+          forgets = λ told (query, asks, wants) is change.
+              (because (why.Told Deleted), refl, (t, query, heard, asks, wants, change, (refl, refl)));
+          refuses = λ hears outcome cause is change. (
+            because (why.Told outcome),
+            refl,
+            refused outcome (refuse-means t known (teach_in_of t) state.mode outcome is) change,
+          );
+        }) refl
+      where
+        by-room : (device : Device) (full : Bool) → is_full state.devices t.sender ≡ full → device.id ≡ t.sender
+            → IsOpen state.mode
+            → Truth state packet (if full then tells_sender state (teach_in_of t) (told_of device Full)
+            else accepts state (teach_in_of t) device)
+        by-room device true is same is_open change =
+            (because (why.Told Full), refl, (t, heard, is, change, (refl, refl)))
+        by-room device false is same is_open change = (
+          of_device device (why.Told Accepted),
+          refl,
+          (
+            t,
+            device,
+            heard,
+            same,
+            (λ closed. subst IsOpen closed is_open),
+            change,
+            (refl, refl),
+          ),
+        )
+
+    -- telegrams of teach-in
+    of-taught : (known : Bool) → IsTeachIn (teach_in_of t)
+        → Truth state packet (plan_effect state t false (plan_of t state.mode known))
+    of-taught known teaches = of-planned false known (by state.mode refl)
+      where
+        by : (mode : Mode) → state.mode ≡ mode → in_mode (row_of t known (teach_in_of t)) mode ≡ Silent
+            → Truth state packet (unsaid false (because (why_silent false mode)))
+        by mode.Closed is silent change = (because why.WindowClosed, refl, (t, heard, teaches, is, (refl, refl)))
+        by (mode.LearnAs eep) is silent change =
+            (because why.OtherMode, refl, (t, heard, teaches, (eep, is), (refl, refl)))
+        by mode.Learn is silent change = absurd (speaks t known (teach_in_of t) teaches silent)
+        by mode.LearnAnswer is silent change = absurd (speaks t known (teach_in_of t) teaches silent)
+
+    -- data
+    of-reading : (known : Device) → IsDataOf state packet t known → (readings : Result (List Entry) Unreadable)
+        → read_by known.eep t ≡ readings → Truth state packet (reading_effect t known readings)
+    of-reading known of (Ok readings) is change = (of_device known why.Read, refl, (t, known, readings, of, is, (refl, refl)))
+    of-reading known of (Err unreadable.NotSupported) is change =
+        (of_device known why.OtherMessage, refl, (t, known, _, of, is, inr refl, (refl, refl)))
+    of-reading known of (Err unreadable.WrongKind) is change =
+        (of_device known why.WrongKind, refl, (t, known, _, of, is, refl, (refl, refl)))
+    of-reading known of (Err unreadable.WrongLength) is change =
+        (of_device known why.WrongLength, refl, (t, known, _, of, is, refl, (refl, refl)))
+    of-reading known of (Err unreadable.OtherMessage) is change =
+        (of_device known why.OtherMessage, refl, (t, known, _, of, is, inl refl, (refl, refl)))
+
+    of-data : (known : Option Device) → teach_in_of t ≡ teach.Plain → device_of state.devices t.sender ≡ known
+        → Truth state packet (case_effect state t (data_case known))
+    of-data None plain is =
+        of-planned true false (λ silent change.
+        (because why.UnknownSender, refl, (t, heard, plain, is, (refl, refl))))
+    of-data (Some known) plain is =
+        of-reading known (record { hears = heard; data_alone = plain; is_known = is }) (read_by known.eep t) refl
+
+    of-kind : (kind : Teach) (known : Option Device) → teach_in_of t ≡ kind
+        → device_of state.devices t.sender ≡ known → Truth state packet (case_effect state t (kind_case kind known))
+    of-kind teach.Answer known is has = λ change. (because why.TeachInReply, refl, (t, heard, is, (refl, refl)))
+    of-kind teach.Contact known is has = of-taught _ (subst IsTeachIn (sym is) tt)
+    of-kind teach.Bare known is has = of-taught _ (subst IsTeachIn (sym is) tt)
+    of-kind (teach.FourByte query) known is has = of-taught _ (subst IsTeachIn (sym is) tt)
+    of-kind (teach.Ute query) known is has = of-taught _ (subst IsTeachIn (sym is) tt)
+    of-kind teach.Plain known is has = of-data known is has
+
+  of-telegram : Truth state packet (case_effect state t (case_of state t))
+  of-telegram = by (is_passed_over state.base t) refl
+    where
+      by : (over : Bool) → is_passed_over state.base t ≡ over
+          → Truth state packet (case_effect state t (case_of state t))
+      by true is =
+          subst (λ o. Truth state packet (case_effect state t
+          (if o then PassedOver else kind_case (teach_in_of t) (device_of state.devices t.sender)))) (sym is)
+          (of-passed is)
+      by false is =
+          subst (λ o. Truth state packet (case_effect state t
+          (if o then PassedOver else kind_case (teach_in_of t) (device_of state.devices t.sender)))) (sym is)
+          (of-kind (record { carried = carried; heard = is }) (teach_in_of t)
+          (device_of state.devices t.sender) refl refl)
+
+-- ---- each packet
+
+of-packet : (state : State) (packet : Packet) (telegram : Result Telegram TelegramFault)
+    → telegram_of packet ≡ telegram → Truth state packet (packet_by state packet telegram)
+of-packet state packet (Ok t) is = of-telegram state packet t is
+of-packet state packet (Err fault) is = of-other state packet fault is
+
+pub explanations_are_true : ExplanationsAreTrue
+explanations_are_true state packet =
+    let (account, is, means) = of-packet state packet (telegram_of packet) refl refl in
+    record {
+      account = account;
+      explained = ap (λ o. explanation (option_map (line_of packet) o)) is;
+      means = means;
+    }

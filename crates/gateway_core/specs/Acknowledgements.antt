@@ -1,0 +1,52 @@
+-- What the desk was told of a device is so in every later life.
+use Rattle.std.specs.Prelude.{◌≡◌, ◌⊎◌, length, List, ◌∷◌, ◌++◌}
+use Rattle.std.specs.List.{AllByRecursion}
+use Rattle.std.specs.FinMap.{get}
+use Rattle.learned_devices.specs.declared.Device.{Device}
+use Rattle.device_registry.specs.Devices.{Devices, Change, learned, forgotten}
+use Rattle.teach_in.specs.declared.outcome.Outcome.{Outcome}
+use Rattle.teach_in.specs.declared.outcome.Outcome.TheVariants.{Accepted, Deleted}
+use Rattle.json_lines.specs.Lines.{Teach, TeachLine, text}
+use Rattle.gateway_core.specs.Step.{State, Item, Answer, state_after, told_of}
+use Rattle.gateway_core.specs.Run.{Fate}
+use Rattle.gateway_core.specs.Lives.{AreLives, IsLife, Life, LifeSpares, Spares, StopSpares}
+use Rattle.gateway_core.specs.Promises.{Promises}
+
+-- at one place a life answered an item with this teach line
+pub record Acknowledges (life : Life) (line : TeachLine) : Type 0 where
+  pub before : List Item
+  pub item : Item
+  pub after : List Item
+  pub fates : List Fate
+  pub fate : Fate
+  pub more : List Fate
+  pub answers : List Answer
+  pub answer : Answer
+  pub later : List Answer
+  pub items_are : life.items ≡ before ++ item ∷ after
+  pub fates_are : life.fates ≡ fates ++ fate ∷ more
+  pub answers_are : life.answers ≡ answers ++ answer ∷ later
+  pub as_many_fates : length before ≡ length fates
+  pub as_many_answers : length before ≡ length answers
+  pub told : answer.desk ≡ text (Teach line)
+
+-- what is told by a line that says `accepted` or `deleted`
+abbrev pub acknowledged_change : Outcome → Device → Change
+acknowledged_change Accepted known = learned known
+acknowledged_change outcome known = forgotten known.id
+
+-- It has the text of the line of this device, and what it tells is found so by every later life, until an item changes
+-- that sender otherwise, be it taken, refused at its write, or stopped.
+pub record IsDurable (life : Life) (line : TeachLine) (answered : Acknowledges life line) : Type 0 where
+  pub at : State
+  pub known : Device
+  pub same_text : text (Teach line) ≡ text (Teach (told_of known line.outcome))
+  pub keeps : Spares (acknowledged_change line.outcome known) (state_after at answered.item) answered.after answered.more
+      → StopSpares (acknowledged_change line.outcome known) life.last life.stopped
+      → (lives : List Life) (last : Devices) → AllByRecursion (LifeSpares (acknowledged_change line.outcome known)) lives
+      → AreLives life.left lives last
+      → Promises (acknowledged_change line.outcome known).deed (get last (acknowledged_change line.outcome known).sender)
+
+abbrev pub AcknowledgedIsDurable : Type 0
+AcknowledgedIsDurable = (life : Life) (line : TeachLine) → IsLife life → (answered : Acknowledges life line)
+    → (line.outcome ≡ Accepted) ⊎ (line.outcome ≡ Deleted) → IsDurable life line answered

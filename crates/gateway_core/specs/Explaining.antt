@@ -1,0 +1,119 @@
+-- That the line which explains a packet tells the truth: what its word means of the packet and of what was known, and
+-- whose profile and maker it tells.
+use Rattle.std.specs.Prelude.{◌≡◌, ◌≢◌, ◌⊎◌, ◌<◌, ⊤, false, true, length, List, [], IsErr, Option, Some, None}
+use Rattle.std.specs.Prelude.{Ok, Err}
+use Rattle.esp3_frames.specs.Packet.{Packet}
+use Rattle.erp1_telegrams.specs.declared.eep.Eep.{Eep}
+use Rattle.erp1_telegrams.specs.Address.{is_own, is_passed_over}
+use Rattle.erp1_telegrams.specs.Telegram.{Telegram, telegram_of}
+use Rattle.profiles_rps.specs.Reading.{Entry}
+use Rattle.profiles_rps.specs.declared.unreadable.Unreadable.{Unreadable}
+use Rattle.profiles_rps.specs.declared.unreadable.Unreadable.TheVariants as unreadable
+use Rattle.learned_devices.specs.declared.Device.{Device}
+use Rattle.device_registry.specs.Devices.{device_of, forgotten, is_full, learned}
+use Rattle.teach_in.specs.declared.mode.Mode.TheVariants.{Closed, LearnAs}
+use Rattle.teach_in.specs.declared.outcome.Outcome.TheVariants.{Accepted, Deleted, Unsupported, Full, General}
+use Rattle.teach_in.specs.declared.outcome.Outcome.TheVariants.{NoProfile}
+use Rattle.teach_in.specs.declared.telegrams.Teach.{Teach}
+use Rattle.teach_in.specs.declared.telegrams.Teach.TheVariants.{Answer, Bare, Contact, FourByte, Plain, Ute}
+use Rattle.teach_in.specs.declared.ute.UteQuery.{UteQuery}
+use Rattle.teach_in.specs.Profiles.{supported}
+use Rattle.teach_in.specs.Telegrams.{teach_in_of}
+use Rattle.teach_in.specs.Ute.{request_in, deletion, not_used}
+use Rattle.json_lines.specs.declared.packet.Why.{Why}
+use Rattle.json_lines.specs.declared.packet.Why.TheVariants as why
+use Rattle.json_lines.specs.PacketLines.{packet_text}
+use Rattle.gateway_core.specs.declared.account.Account.{Account}
+use Rattle.gateway_core.specs.Accounts.{eep_told, line_of}
+use Rattle.gateway_core.specs.Profiles.{read_by}
+use Rattle.gateway_core.specs.Step.{State, Received, answer_to, change_of}
+
+-- the packet carries this telegram, which is not passed over
+pub record IsHeard (state : State) (packet : Packet) (t : Telegram) : Type 0 where
+  pub carried : telegram_of packet ≡ Ok t
+  pub heard : is_passed_over state.base t ≡ false
+
+-- a telegram of teach-in that is no reply
+abbrev pub IsTeachIn : Teach → Type 0
+IsTeachIn Contact = ⊤
+IsTeachIn Bare = ⊤
+IsTeachIn (FourByte query) = ⊤
+IsTeachIn (Ute query) = ⊤
+IsTeachIn kind = ⊥
+
+-- data of a learned device
+pub record IsDataOf (state : State) (packet : Packet) (t : Telegram) (known : Device) : Type 0 where
+  pub hears : IsHeard state packet t
+  pub data_alone : teach_in_of t ≡ Plain
+  pub is_known : device_of state.devices t.sender ≡ Some known
+
+-- the line tells the profile and the maker of this device, and else those of a query alone
+abbrev pub NamesDevice : Account → Option Device → Type 0
+NamesDevice account None = (account.eep ≡ None) × (account.maker ≡ None)
+NamesDevice account (Some known) = (account.eep ≡ Some known.eep) × (account.maker ≡ known.maker)
+
+-- data of a learned device that its profile does not read, for one of these
+abbrev pub IsUnreadable : State → Packet → Account → (Unreadable → Type 0) → Type 0
+IsUnreadable state packet account Why =
+    (t : Telegram) × (known : Device) × (fault : Unreadable) × IsDataOf state packet t known
+    × (read_by known.eep t ≡ Err fault) × Why fault × NamesDevice account (Some known)
+
+-- What the word means, and whose profile and maker are told.
+abbrev pub Means : State → Packet → Account → Why → Type 0
+Means state packet account why.Refused = ⊥
+Means state packet account why.Response =
+    (packet.kind ≡ 2) × (0 < length packet.body) × NamesDevice account None
+Means state packet account why.EmptyResponse = (packet.kind ≡ 2) × (packet.body ≡ []) × NamesDevice account None
+Means state packet account why.OtherType = (packet.kind ≢ 1) × (packet.kind ≢ 2) × NamesDevice account None
+Means state packet account why.NoTelegram =
+    (packet.kind ≡ 1) × IsErr (telegram_of packet) × NamesDevice account None
+Means state packet account why.FromBroadcast =
+    (t : Telegram) × (telegram_of packet ≡ Ok t) × (t.sender ≡ 0xFFFF_FFFF) × NamesDevice account None
+Means state packet account why.ForOthers =
+    (t : Telegram) × (telegram_of packet ≡ Ok t) × (t.sender ≢ 0xFFFF_FFFF) × (t.dest ≢ 0xFFFF_FFFF)
+    × (is_own state.base t.dest ≡ false) × NamesDevice account None
+Means state packet account why.TeachInReply =
+    (t : Telegram) × IsHeard state packet t × (teach_in_of t ≡ Answer) × NamesDevice account None
+Means state packet account why.WindowClosed =
+    (t : Telegram) × IsHeard state packet t × IsTeachIn (teach_in_of t) × (state.mode ≡ Closed) × NamesDevice account None
+Means state packet account why.OtherMode =
+    (t : Telegram) × IsHeard state packet t × IsTeachIn (teach_in_of t)
+    × ((eep : Eep) × (state.mode ≡ LearnAs eep)) × NamesDevice account None
+Means state packet account why.UnknownSender =
+    (t : Telegram) × IsHeard state packet t × (teach_in_of t ≡ Plain) × (device_of state.devices t.sender ≡ None)
+    × NamesDevice account None
+Means state packet account why.Read =
+    (t : Telegram) × (known : Device) × (readings : List Entry) × IsDataOf state packet t known
+    × (read_by known.eep t ≡ Ok readings) × NamesDevice account (Some known)
+Means state packet account why.WrongKind = IsUnreadable state packet account (λ fault. fault ≡ unreadable.WrongKind)
+Means state packet account why.WrongLength = IsUnreadable state packet account (λ fault. fault ≡ unreadable.WrongLength)
+Means state packet account why.OtherMessage =
+    IsUnreadable state packet account (λ fault. (fault ≡ unreadable.OtherMessage) ⊎ (fault ≡ unreadable.NotSupported))
+Means state packet account (why.Told Accepted) =
+    (t : Telegram) × (known : Device) × IsHeard state packet t × (known.id ≡ t.sender) × (state.mode ≢ Closed)
+    × (change_of state (Received packet) ≡ Some (learned known)) × NamesDevice account (Some known)
+Means state packet account (why.Told Deleted) =
+    (t : Telegram) × (query : UteQuery) × IsHeard state packet t × (teach_in_of t ≡ Ute query)
+    × (request_in query ≡ deletion) × (change_of state (Received packet) ≡ Some (forgotten t.sender))
+    × NamesDevice account None
+Means state packet account (why.Told Full) =
+    (t : Telegram) × IsHeard state packet t × (is_full state.devices t.sender ≡ true)
+    × (change_of state (Received packet) ≡ None) × NamesDevice account None
+Means state packet account (why.Told Unsupported) =
+    (t : Telegram) × (eep : Eep) × IsHeard state packet t × (eep_told (teach_in_of t) ≡ Some eep)
+    × (supported eep ≡ false) × (change_of state (Received packet) ≡ None) × NamesDevice account None
+Means state packet account (why.Told General) =
+    (t : Telegram) × (query : UteQuery) × IsHeard state packet t × (teach_in_of t ≡ Ute query)
+    × (request_in query ≡ not_used) × (change_of state (Received packet) ≡ None) × NamesDevice account None
+Means state packet account (why.Told NoProfile) =
+    (t : Telegram) × IsHeard state packet t × (teach_in_of t ≡ Bare) × (change_of state (Received packet) ≡ None)
+    × NamesDevice account None
+
+-- A packet that is taken is explained by the line of an account whose word is true.
+pub record IsTrulyExplained (state : State) (packet : Packet) : Type 0 where
+  pub account : Account
+  pub explained : (answer_to state (Received packet)).explained ≡ packet_text (line_of packet account)
+  pub means : Means state packet account account.why
+
+abbrev pub ExplanationsAreTrue : Type 0
+ExplanationsAreTrue = (state : State) (packet : Packet) → IsTrulyExplained state packet

@@ -1,0 +1,439 @@
+-- Packet lines with one text are one line.
+use Rattle.std.proofs.Common.{◌≡◌, ◌≢◌, ℕ, zero, suc, ◌+◌, ◌<◌, ◌^◌, ◌/◌, ◌%◌, Bool, true, false, cond}
+use Rattle.std.proofs.Common.{List, [], ◌∷◌, ◌++◌, codes, decimal, Option, Some, None}
+use Rattle.std.proofs.Common.{refl, sym, ap, subst, ◌∙◌, arith, append_assoc, append-nil, pos, negsuc, ◌-ℤ◌, ℤ}
+use Rattle.std.proofs.Common.{inl, inr, slice_index}
+use Rattle.std.specs.Prelude.{if◌then◌else◌, ◌==◌, ◌&&◌, IfSome, nat_lt, slice_index_or, not}
+use Rattle.std.specs.List.{AllByRecursion}
+use Rattle.std.specs.Fmt.{digits_onto, digits, digit_glyph, signed_decimal}
+use Rattle.std.specs.Int.{w8, w32, to_be_bytes}
+use Rattle.std.proofs.lemmas.Bool.{and_parts, cases_lt, ne_eqb}
+use Rattle.std.proofs.lemmas.Fmt.{decimal_injective, signed_decimal_injective}
+use Rattle.std.proofs.lemmas.Int.{ints}
+use Rattle.std.proofs.lemmas.List.{append_cancel_left, append_cancel_right}
+use Rattle.hex.specs.Hex.{IsBytes, encode_upper, encode_with, upper_digits}
+use Rattle.erp1_telegrams.specs.declared.eep.Eep.{Eep}
+use Rattle.json_lines.specs.Lines.{byte_text, dbm_text, eep_text, id_text, in_quotes, or_null, profile_text}
+use Rattle.json_lines.specs.PacketLines.{id_string, members_text, packet_text, why_word}
+use Rattle.json_lines.specs.PacketLines.{HasPacketNumbersInRange, HasFieldsInRange}
+use Rattle.json_lines.specs.ToldTelegram.{ToldTelegram}
+use Rattle.json_lines.specs.declared.packet.PacketLine.{PacketLine}
+use Rattle.json_lines.specs.declared.packet.ToldPacket.{ToldPacket}
+use Rattle.json_lines.specs.declared.packet.ToldPacket.TheVariants.{Telegram, Other}
+use Rattle.json_lines.specs.declared.packet.Why.{Why}
+use Rattle.json_lines.proofs.HexTexts.{id_bytes}
+use Rattle.json_lines.proofs.PacketTexts.{mag-minus}
+use Rattle.json_lines.proofs.TeachLines.{same-bytes, same-id, same-byte, same-eep, same-maker, not-null}
+use Rattle.json_lines.proofs.WhyWords.{one_why}
+
+-- ---- texts with no comma
+
+-- no byte of it is a comma
+abbrev NoComma : List ℕ → Type 0
+NoComma = AllByRecursion (λ c. c ≢ 44)
+
+no-append : (a b : List ℕ) → NoComma a → NoComma b → NoComma (a ++ b)
+no-append [] b in_a in_b = in_b
+no-append (c ∷ a) b in_a in_b = (in_a.0, no-append a b in_a.1 in_b)
+
+-- what stands before and behind the first comma
+before : List ℕ → List ℕ
+before [] = []
+before (c ∷ t) = if c == 44 then [] else c ∷ before t
+
+pub behind : List ℕ → List ℕ
+behind [] = []
+behind (c ∷ t) = if c == 44 then t else behind t
+
+before-comma : (a rest : List ℕ) → NoComma a → before (a ++ 44 ∷ rest) ≡ a
+unfolding before
+before-comma [] rest free = refl
+before-comma (c ∷ a) rest free = rw (ne_eqb c 44 free.0) (ap (λ t. c ∷ t) (before-comma a rest free.1))
+
+pub behind-comma : (a rest : List ℕ) → NoComma a → behind (a ++ 44 ∷ rest) ≡ rest
+unfolding behind
+behind-comma [] rest free = refl
+behind-comma (c ∷ a) rest free = rw (ne_eqb c 44 free.0) (behind-comma a rest free.1)
+
+-- two texts, each up to its first comma
+peel : (a b x y : List ℕ) → NoComma a → NoComma b → a ++ 44 ∷ x ≡ b ++ 44 ∷ y → (a ≡ b) × (x ≡ y)
+peel a b x y in_a in_b e = (
+  sym (before-comma a x in_a) ∙ ap before e ∙ before-comma b y in_b,
+  sym (behind-comma a x in_a) ∙ ap behind e ∙ behind-comma b y in_b,
+)
+
+-- ---- the values of members have none
+
+glyph-other : (d : ℕ) (b : Bool) → cond b (48 + d) (87 + d) ≢ 44
+glyph-other d true e = absurd (omega (arith, e))
+glyph-other d false e = absurd (omega (arith, e))
+
+no-digits : (k n : ℕ) (later : List ℕ) → NoComma later → NoComma (digits_onto k 10 false n later)
+no-digits zero n later h = h
+no-digits (suc k) n later h =
+    let longer : NoComma (digit_glyph false (n % 10) ∷ later) = (glyph-other (n % 10) (nat_lt (n % 10) 10), h) in
+    one _ _ (n / 10 == 0) longer (no-digits k (n / 10) (digit_glyph false (n % 10) ∷ later) longer)
+  where
+    one : (now on : List ℕ) (b : Bool) → NoComma now → NoComma on → NoComma (if b then now else on)
+    one now on true last more = last
+    one now on false last more = more
+
+no-decimal : (n : ℕ) → NoComma (decimal n)
+unfolding digits
+no-decimal n = no-digits 64 n [] tt
+
+no-signed : (z : _) → NoComma (signed_decimal z)
+no-signed (pos n) = no-decimal n
+no-signed (negsuc n) = ((λ e. absurd (omega (arith, e))), no-decimal (suc n))
+
+-- none of the digits below n is a comma
+abbrev none_is : ℕ → Bool
+none_is zero = true
+none_is (suc n) = not (slice_index upper_digits n == 44) && none_is n
+
+not-eq : (c : ℕ) → not (c == 44) ≡ true → c ≢ 44
+not-eq c h e =
+    let t : not (44 == 44) ≡ true = subst (λ n. not (n == 44) ≡ true) e h in
+    absurd cc
+
+none-at : (n digit : ℕ) → none_is n ≡ true → digit < n → slice_index upper_digits digit ≢ 44
+none-at zero digit h below = absurd (omega arith)
+none-at (suc n) digit h below =
+    let parts = and_parts (not (slice_index upper_digits n == 44)) (none_is n) h in
+    elim (cases_lt digit n) [
+      | inl lower ↦ none-at n digit parts.1 lower
+      | inr top ↦
+          let e : digit ≡ n = omega arith in
+          rw e (not-eq (slice_index upper_digits n) parts.0)
+    ]
+
+no-hex : (bytes : List ℕ) → IsBytes bytes → NoComma (encode_upper bytes)
+unfolding encode_with
+no-hex [] h = tt
+no-hex (byte ∷ rest) h =
+    let below : byte < 256 = h 0 in (
+      none-at 16 (byte / 16) refl (omega arith),
+      (none-at 16 (byte % 16) refl (omega arith), no-hex rest (λ i. h (suc i))),
+    )
+
+no-quotes : (t : List ℕ) → NoComma t → NoComma (in_quotes t)
+no-quotes t free = ((λ e. absurd (omega (arith, e))), no-append t (codes "\"") free ((λ e. absurd (omega (arith, e))), tt))
+
+not-dash : (c : ℕ) → c ≡ 45 → c ≢ 44
+not-dash c is e = absurd (omega (arith, is, e))
+
+no-byte : (byte : ℕ) → byte < 256 → NoComma (byte_text byte)
+no-byte byte below = no-hex (to_be_bytes w8 byte) (one-byte (byte % 256) (omega arith))
+  where
+    one-byte : (n : ℕ) → n < 256 → IsBytes (n ∷ [])
+    one-byte n below zero = below
+    one-byte n below (suc i) = omega arith
+
+no-eep : (eep : Eep) → (eep.rorg < 256) × (eep.func < 256) × (eep.typ < 256) → NoComma (eep_text eep)
+no-eep eep in_eep =
+    let dash : NoComma (codes "-") = ((λ e. absurd (omega (arith, e))), tt) in
+    no-append _ (byte_text eep.typ)
+    (no-append _ (codes "-")
+    (no-append _ (byte_text eep.func) (no-append (byte_text eep.rorg) (codes "-") (no-byte eep.rorg in_eep.0) dash)
+    (no-byte eep.func in_eep.1))
+    dash)
+    (no-byte eep.typ in_eep.2)
+
+no-id : (id : ℕ) → NoComma (id_string id)
+no-id id = no-quotes (id_text id) (no-hex (to_be_bytes w32 id) (id_bytes id))
+
+no-null : NoComma (codes "null")
+no-null = (
+  (λ e. absurd (omega (arith, e))),
+  ((λ e. absurd (omega (arith, e))), ((λ e. absurd (omega (arith, e))), ((λ e. absurd (omega (arith, e))), tt))),
+)
+
+no-known : {A : Type 0} (text_of : A → List ℕ) (known : Option A) → IfSome known (λ it. NoComma (text_of it))
+    → NoComma (or_null text_of known)
+no-known text_of None free = no-null
+no-known text_of (Some it) free = free
+
+-- ---- what is known is the same where its text is
+
+same-known : {A : Type 0} (text_of : A → List ℕ) (InRange : A → Type 0) (a b : Option A)
+    → IfSome a InRange → IfSome b InRange
+    → ((one : A) → InRange one → text_of one ≢ codes "null")
+    → ((one other : A) → InRange one → InRange other → text_of one ≡ text_of other → one ≡ other)
+    → or_null text_of a ≡ or_null text_of b → a ≡ b
+same-known text_of InRange None None in_a in_b differs same e = refl
+same-known text_of InRange (Some a) (Some b) in_a in_b differs same e = ap Some (same a b in_a in_b e)
+same-known text_of InRange (Some a) None in_a in_b differs same e = absurd (differs a in_a e)
+same-known text_of InRange None (Some b) in_a in_b differs same e = absurd (differs b in_b (sym e))
+
+quoted-differs : (t : List ℕ) → in_quotes t ≢ codes "null"
+quoted-differs t e =
+    let first : 34 ≡ 110 = ap (λ (u : List ℕ). slice_index_or u 0 0) e in
+    absurd (omega (arith, first))
+
+same-quoted : (a b : List ℕ) → in_quotes a ≡ in_quotes b → a ≡ b
+same-quoted a b e = append_cancel_right a b (codes "\"") (append_cancel_left (codes "\"") (a ++ codes "\"") (b ++ codes "\"") e)
+
+-- a signal strength
+strength-differs : (byte : ℕ) → byte < 256 → dbm_text byte ≢ codes "null"
+strength-differs byte below = signed (pos 0 -ℤ pos byte)
+  where
+    signed : (z : ℤ) → signed_decimal z ≢ codes "null"
+    signed (pos n) e = not-null n e
+    signed (negsuc n) e =
+        let first : 45 ≡ 110 = ap (λ (u : List ℕ). slice_index_or u 0 0) e in
+        absurd (omega (arith, first))
+
+same-strength : (a b : ℕ) → a < 256 → b < 256 → dbm_text a ≡ dbm_text b → a ≡ b
+same-strength a b in_a in_b e =
+    let same = signed_decimal_injective (pos 0 -ℤ pos a) (pos 0 -ℤ pos b) (omega (arith, mag-minus a))
+    (omega (arith, mag-minus b)) e in
+    omega (arith, ints, same)
+
+-- ---- the values of a telegram's members
+
+-- the texts of the members, in their order
+pub record Values : Type 0 where
+  pub dbm : List ℕ
+  pub dest : List ℕ
+  pub eep : List ℕ
+  pub id : List ℕ
+  pub maker : List ℕ
+  pub payload : List ℕ
+  pub rorg : List ℕ
+  pub status : List ℕ
+
+abbrev values : ToldTelegram → Values
+values told = record {
+  dbm = or_null dbm_text told.dbm;
+  dest = or_null id_string told.dest;
+  eep = or_null profile_text told.eep;
+  id = id_string told.id;
+  maker = or_null decimal told.maker;
+  payload = in_quotes (encode_upper told.payload);
+  rorg = in_quotes (byte_text told.rorg);
+  status = in_quotes (byte_text told.status);
+}
+
+-- none of them has a comma
+pub record NoCommas (v : Values) : Type 0 where
+  pub dbm : NoComma v.dbm
+  pub dest : NoComma v.dest
+  pub eep : NoComma v.eep
+  pub id : NoComma v.id
+  pub maker : NoComma v.maker
+  pub payload : NoComma v.payload
+  pub rorg : NoComma v.rorg
+  pub status : NoComma v.status
+
+pub strength-alone : (known : Option ℕ) → NoComma (or_null dbm_text known)
+strength-alone None = no-null
+strength-alone (Some byte) = no-signed (pos 0 -ℤ pos byte)
+
+dest-alone : (known : Option ℕ) → NoComma (or_null id_string known)
+dest-alone None = no-null
+dest-alone (Some id) = no-id id
+
+eep-alone : (known : Option Eep) → IfSome known (λ eep. (eep.rorg < 256) × (eep.func < 256) × (eep.typ < 256))
+    → NoComma (or_null profile_text known)
+eep-alone None range = no-null
+eep-alone (Some eep) range = no-quotes (eep_text eep) (no-eep eep range)
+
+maker-alone : (known : Option ℕ) → NoComma (or_null decimal known)
+maker-alone None = no-null
+maker-alone (Some maker) = no-decimal maker
+
+no-commas : (told : ToldTelegram) → HasFieldsInRange told → NoCommas (values told)
+no-commas told range = record {
+  dbm = strength-alone told.dbm;
+  dest = dest-alone told.dest;
+  eep = eep-alone told.eep range.eep;
+  id = no-id told.id;
+  maker = maker-alone told.maker;
+  payload = no-quotes (encode_upper told.payload) (no-hex told.payload range.payload);
+  rorg = no-quotes (byte_text told.rorg) (no-byte told.rorg range.rorg);
+  status = no-quotes (byte_text told.status) (no-byte told.status range.status);
+}
+
+-- a line of a telegram, member by member
+abbrev end_text : List ℕ → List ℕ
+end_text word = codes "\"type\":\"packet\",\"why\":\"" ++ (word ++ codes "\"}\n")
+
+abbrev line_of_values : Values → List ℕ → List ℕ
+line_of_values v word =
+    codes "{\"dbm\":" ++ (v.dbm ++ 44 ∷ (codes "\"dest\":" ++ (v.dest ++ 44 ∷ (codes "\"eep\":" ++ (v.eep ++ 44
+    ∷ (codes "\"id\":" ++ (v.id ++ 44 ∷ (codes "\"maker\":" ++ (v.maker ++ 44 ∷ (codes "\"payload\":"
+    ++ (v.payload ++ 44 ∷ (codes "\"rorg\":" ++ (v.rorg ++ 44 ∷ (codes "\"status\":" ++ (v.status ++ 44
+    ∷ end_text word)))))))))))))))
+
+-- what stands behind a member is closed
+push : (a name m r : List ℕ) → m ++ codes "}\n" ≡ r → (a ++ (name ++ m)) ++ codes "}\n" ≡ a ++ (name ++ r)
+push a name m r h =
+    append_assoc a (name ++ m) (codes "}\n")
+    ∙ ap (λ t. a ++ t) (append_assoc name m (codes "}\n") ∙ ap (λ t. name ++ t) h)
+
+telegram-pieces : (dbm dest eep id maker payload rorg status word : List ℕ)
+    → (codes "{" ++ (members_text ((codes "dbm", dbm) ∷ (codes "dest", dest) ∷ (codes "eep", eep) ∷ (codes "id", id)
+    ∷ (codes "maker", maker) ∷ (codes "payload", payload) ∷ (codes "rorg", rorg) ∷ (codes "status", status)
+    ∷ (codes "type", in_quotes (codes "packet")) ∷ (codes "why", in_quotes word) ∷ []) ++ codes "}")) ++ codes "\n"
+    ≡ line_of_values (record {
+      dbm = dbm;
+      dest = dest;
+      eep = eep;
+      id = id;
+      maker = maker;
+      payload = payload;
+      rorg = rorg;
+      status = status;
+    }) word
+telegram-pieces dbm dest eep id maker payload rorg status word =
+    let ends = push status (codes ",\"type\":\"packet\",\"why\":\"") (word ++ codes "\"") (word ++ codes "\"}\n")
+    (append_assoc word (codes "\"") (codes "}\n")) in
+    let rorgs = push rorg (codes ",\"status\":") _ _ ends in
+    let payloads = push payload (codes ",\"rorg\":") _ _ rorgs in
+    let makers = push maker (codes ",\"payload\":") _ _ payloads in
+    let ids = push id (codes ",\"maker\":") _ _ makers in
+    let eeps = push eep (codes ",\"id\":") _ _ ids in
+    let dests = push dest (codes ",\"eep\":") _ _ eeps in
+    simp (append_assoc, append-nil) (ap (λ t. codes "{\"dbm\":" ++ t)
+    (append_assoc _ (codes "}") (codes "\n") ∙ push dbm (codes ",\"dest\":") _ _ dests))
+
+telegram-line : (told : ToldTelegram) (why : Why)
+    → packet_text (record { packet = Telegram told; why = why }) ≡ line_of_values (values told) (why_word why)
+telegram-line told why =
+    telegram-pieces (or_null dbm_text told.dbm) (or_null id_string told.dest) (or_null profile_text told.eep)
+    (id_string told.id) (or_null decimal told.maker) (in_quotes (encode_upper told.payload))
+    (in_quotes (byte_text told.rorg)) (in_quotes (byte_text told.status)) (why_word why)
+
+-- a member of two lines, and what stands behind it
+member : (name a b x y : List ℕ) → NoComma a → NoComma b → name ++ (a ++ 44 ∷ x) ≡ name ++ (b ++ 44 ∷ y)
+    → (a ≡ b) × (x ≡ y)
+member name a b x y in_a in_b e = peel a b x y in_a in_b (append_cancel_left name (a ++ 44 ∷ x) (b ++ 44 ∷ y) e)
+
+same-word : (one other : Why) → end_text (why_word one) ≡ end_text (why_word other) → one ≡ other
+same-word one other e =
+    one_why one other
+    (append_cancel_right (why_word one) (why_word other) (codes "\"}\n")
+    (append_cancel_left (codes "\"type\":\"packet\",\"why\":\"") (why_word one ++ codes "\"}\n")
+    (why_word other ++ codes "\"}\n") e))
+
+-- the members' texts are the same
+pub record SameValues (v w : Values) (one other : Why) : Type 0 where
+  pub dbm : v.dbm ≡ w.dbm
+  pub dest : v.dest ≡ w.dest
+  pub eep : v.eep ≡ w.eep
+  pub id : v.id ≡ w.id
+  pub maker : v.maker ≡ w.maker
+  pub payload : v.payload ≡ w.payload
+  pub rorg : v.rorg ≡ w.rorg
+  pub status : v.status ≡ w.status
+  pub why : one ≡ other
+
+same-values : (v w : Values) (one other : Why) → NoCommas v → NoCommas w
+    → line_of_values v (why_word one) ≡ line_of_values w (why_word other) → SameValues v w one other
+same-values v w one other in_v in_w e =
+    let dbm = member (codes "{\"dbm\":") v.dbm w.dbm _ _ in_v.dbm in_w.dbm e in
+    let dest = member (codes "\"dest\":") v.dest w.dest _ _ in_v.dest in_w.dest dbm.1 in
+    let eep = member (codes "\"eep\":") v.eep w.eep _ _ in_v.eep in_w.eep dest.1 in
+    let id = member (codes "\"id\":") v.id w.id _ _ in_v.id in_w.id eep.1 in
+    let maker = member (codes "\"maker\":") v.maker w.maker _ _ in_v.maker in_w.maker id.1 in
+    let payload = member (codes "\"payload\":") v.payload w.payload _ _ in_v.payload in_w.payload maker.1 in
+    let rorg = member (codes "\"rorg\":") v.rorg w.rorg _ _ in_v.rorg in_w.rorg payload.1 in
+    let status = member (codes "\"status\":") v.status w.status _ _ in_v.status in_w.status rorg.1 in
+    record {
+      dbm = dbm.0;
+      dest = dest.0;
+      eep = eep.0;
+      id = id.0;
+      maker = maker.0;
+      payload = payload.0;
+      rorg = rorg.0;
+      status = status.0;
+      why = same-word one other status.1;
+    }
+
+-- ---- a telegram is told by one line
+
+same-told : (told said : ToldTelegram) (one other : Why) → HasFieldsInRange told → HasFieldsInRange said
+    → SameValues (values told) (values said) one other → told ≡ said
+same-told told said one other in_told in_said same =
+    of-fields told said
+    (same-known dbm_text (λ byte. byte < 256) told.dbm said.dbm in_told.dbm in_said.dbm strength-differs same-strength
+    same.dbm)
+    (same-known id_string (λ id. id < 2 ^ 32) told.dest said.dest in_told.dest in_said.dest
+    (λ id below. quoted-differs (id_text id))
+    (λ a b in_a in_b e. same-id a b in_a in_b (same-quoted (id_text a) (id_text b) e)) same.dest)
+    (same-known profile_text (λ eep. (eep.rorg < 256) × (eep.func < 256) × (eep.typ < 256)) told.eep said.eep
+    in_told.eep in_said.eep (λ eep range. quoted-differs (eep_text eep))
+    (λ a b in_a in_b e. same-eep a b in_a in_b (same-quoted (eep_text a) (eep_text b) e)) same.eep)
+    (same-id told.id said.id in_told.id in_said.id (same-quoted (id_text told.id) (id_text said.id) same.id))
+    (same-maker told.maker said.maker in_told.maker in_said.maker same.maker)
+    (same-bytes told.payload said.payload in_told.payload in_said.payload
+    (same-quoted (encode_upper told.payload) (encode_upper said.payload) same.payload))
+    (same-byte told.rorg said.rorg in_told.rorg in_said.rorg
+    (same-quoted (byte_text told.rorg) (byte_text said.rorg) same.rorg))
+    (same-byte told.status said.status in_told.status in_said.status
+    (same-quoted (byte_text told.status) (byte_text said.status) same.status))
+  where
+    of-fields : (a b : ToldTelegram) → a.dbm ≡ b.dbm → a.dest ≡ b.dest → a.eep ≡ b.eep → a.id ≡ b.id
+        → a.maker ≡ b.maker → a.payload ≡ b.payload → a.rorg ≡ b.rorg → a.status ≡ b.status → a ≡ b
+    of-fields a b dbm dest eep id maker payload rorg status =
+        ap (λ x. record a { dbm = x }) dbm
+        ∙ ap (λ x. record a { dbm = b.dbm; dest = x }) dest
+        ∙ ap (λ x. record a { dbm = b.dbm; dest = b.dest; eep = x }) eep
+        ∙ ap (λ x. record a { dbm = b.dbm; dest = b.dest; eep = b.eep; id = x }) id
+        ∙ ap (λ x. record a { dbm = b.dbm; dest = b.dest; eep = b.eep; id = b.id; maker = x }) maker
+        ∙ ap (λ x. record b { payload = x; rorg = a.rorg; status = a.status }) payload
+        ∙ ap (λ x. record b { rorg = x; status = a.status }) rorg
+        ∙ ap (λ x. record b { status = x }) status
+
+-- ---- another packet
+
+other-pieces : (kind size word : List ℕ)
+    → (codes "{" ++ (members_text ((codes "kind", kind) ∷ (codes "size", size)
+    ∷ (codes "type", in_quotes (codes "packet")) ∷ (codes "why", in_quotes word) ∷ []) ++ codes "}")) ++ codes "\n"
+    ≡ codes "{\"kind\":" ++ (kind ++ 44 ∷ (codes "\"size\":" ++ (size ++ 44 ∷ end_text word)))
+other-pieces kind size word =
+    let ends = push size (codes ",\"type\":\"packet\",\"why\":\"") (word ++ codes "\"") (word ++ codes "\"}\n")
+    (append_assoc word (codes "\"") (codes "}\n")) in
+    simp (append_assoc, append-nil) (ap (λ t. codes "{\"kind\":" ++ t)
+    (append_assoc _ (codes "}") (codes "\n") ∙ push kind (codes ",\"size\":") _ _ ends))
+
+other-line : (kind size : ℕ) (why : Why)
+    → packet_text (record { packet = Other kind size; why = why })
+    ≡ codes "{\"kind\":" ++ (decimal kind ++ 44 ∷ (codes "\"size\":" ++ (decimal size ++ 44 ∷ end_text (why_word why))))
+other-line kind size why = other-pieces (decimal kind) (decimal size) (why_word why)
+
+-- ---- each line
+
+pub one_packet_line : (line told : PacketLine) → HasPacketNumbersInRange line.packet
+    → HasPacketNumbersInRange told.packet → packet_text line ≡ packet_text told → line ≡ told
+one_packet_line line told = one line.packet told.packet line.why told.why
+  where
+    one : (a b : ToldPacket) (why by : Why) → HasPacketNumbersInRange a → HasPacketNumbersInRange b
+        → packet_text (record { packet = a; why = why }) ≡ packet_text (record { packet = b; why = by })
+        → (let x : PacketLine = record { packet = a; why = why } in x)
+        ≡ (let y : PacketLine = record { packet = b; why = by } in y)
+    one (Telegram a) (Telegram b) why by in_a in_b e =
+        let same = same-values (values a) (values b) why by (no-commas a in_a) (no-commas b in_b)
+        (sym (telegram-line a why) ∙ e ∙ telegram-line b by) in
+        ap (λ t. let x : PacketLine = record { packet = Telegram t; why = why } in x)
+        (same-told a b why by in_a in_b same)
+        ∙ ap (λ w. let x : PacketLine = record { packet = Telegram b; why = w } in x) same.why
+    one (Other kind size) (Other type many) why by in_a in_b e =
+        let h = sym (other-line kind size why) ∙ e ∙ other-line type many by in
+        let kinds = member (codes "{\"kind\":") (decimal kind) (decimal type) _ _ (no-decimal kind) (no-decimal type)
+        h in
+        let sizes = member (codes "\"size\":") (decimal size) (decimal many) _ _ (no-decimal size) (no-decimal many)
+        kinds.1 in
+        ap (λ k. let x : PacketLine = record { packet = Other k size; why = why } in x)
+        (decimal_injective kind type (omega (arith, in_a.0)) (omega (arith, in_b.0)) kinds.0)
+        ∙ ap (λ s. let x : PacketLine = record { packet = Other type s; why = why } in x)
+        (decimal_injective size many (omega (arith, in_a.1)) (omega (arith, in_b.1)) sizes.0)
+        ∙ ap (λ w. let x : PacketLine = record { packet = Other type many; why = w } in x)
+        (same-word why by sizes.1)
+    one (Telegram a) (Other kind size) why by in_a in_b e =
+        let bytes : 100 ≡ 107 = ap (λ (t : List ℕ). slice_index_or t 2 0) e in
+        absurd (omega (arith, bytes))
+    one (Other kind size) (Telegram b) why by in_a in_b e =
+        let bytes : 107 ≡ 100 = ap (λ (t : List ℕ). slice_index_or t 2 0) e in
+        absurd (omega (arith, bytes))

@@ -1,0 +1,5 @@
+use Rattle.json_lines.proofs.PacketLineTexts.{one_packet_line}
+use Rattle.json_lines.proofs.laws.packet_texts_are_injective.Goals as goal
+
+pub returns : goal.returns
+returns c = one_packet_line
