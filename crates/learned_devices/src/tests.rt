@@ -1,4 +1,4 @@
-//! Which texts are labels.
+//! Which texts are labels, and how they are printed.
 use crate::{Device, LONGEST_LABEL, Label, is_name};
 use erp1_telegrams::Eep;
 use std::test::Fail;
@@ -73,5 +73,19 @@ fn copies_are_equal(rt: HostRuntime) -> Result<(), Fail> {
     assert_eq!(rt; copy.label.as_str(), "Door");
     assert_eq!(rt; copy, door);
     assert!(rt; copy.label != Label::empty());
+    Ok(())
+}
+
+#[test]
+fn labels_are_printed(rt: HostRuntime) -> Result<(), Fail> {
+    for (text, printed) in [
+        ("", "\"\""),
+        ("Door", "\"Door\""),
+        ("Door \"A\"\\", "\"Door \\\"A\\\"\\\\\""),
+    ] {
+        let label = Label::new(text).unwrap_or(Label::empty());
+        let written = format!(in rt.alloc(); "{label:?}")?;
+        assert_eq!(rt; written.as_str(), printed);
+    }
     Ok(())
 }
