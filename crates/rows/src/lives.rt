@@ -61,6 +61,7 @@ pub(crate) fn tell(rt: &HostRuntime, telling: &mut Telling) -> Result<()> {
     tell_lengths(rt, telling)?;
     tell_reads_that_fail(rt, telling)?;
     tell_writes_that_fail(rt, telling)?;
+    tell_explained_writes_that_fail(rt, telling)?;
     tell_writers_that_take_nothing(rt, telling)
 }
 
@@ -104,11 +105,15 @@ fn serve(
     serve_by(alloc, &mut gateway, inputs, false, turns, 7, fails_at)
 }
 
-/// Serves turns that read these parts, with explanations, and with writers that do not fail.
-fn explain_parts(alloc: Global, serial: &[&[u8]], desk: &[&[u8]], turns: u64) -> Result<Served> {
+/// Serves two turns with explanations: a packet and two orders, and then a query. The writers take so many bytes at a
+/// call, and that to the desk fails at this call.
+fn serve_explained(alloc: Global, most: usize, desk_fails_at: usize) -> Result<Served> {
     let mut gateway = fresh(alloc)?;
-    let inputs = (Parts::new(serial, 0), Parts::new(desk, 0));
-    serve_by(alloc, &mut gateway, inputs, true, turns, 7, (NEVER, NEVER))
+    let serial = [CONTACT, QUERY];
+    let desk = [b"learn on\nbase\n".as_slice()];
+    let inputs = (Parts::new(&serial, 0), Parts::new(&desk, 0));
+    let fails_at = (NEVER, desk_fails_at);
+    serve_by(alloc, &mut gateway, inputs, true, 2, most, fails_at)
 }
 
 /// Serves turns by this gateway, with explanations or without, and with writers that take so many bytes at a call and
@@ -192,9 +197,7 @@ fn tell_both_outputs(rt: &HostRuntime, telling: &mut Telling) -> Result<()> {
 // A packet is explained before its own line. What goes out by radio is as without explanations, and so is what an order
 // comes to.
 fn tell_explanations(rt: &HostRuntime, telling: &mut Telling) -> Result<()> {
-    let serial = [CONTACT, QUERY];
-    let desk = [b"learn on\nbase\n".as_slice()];
-    let served = explain_parts(rt.alloc(), &serial, &desk, 2)?;
+    let served = serve_explained(rt.alloc(), 7, NEVER)?;
     let told = [CONTACT_EXPLAINED, OK, OK, QUERY_EXPLAINED, TAUGHT];
     let is_well = served.is(items(4), &[BASE_QUESTION, REPLY], &told);
     telling.tell(rt, "packets that are explained", is_well)
@@ -348,6 +351,46 @@ fn tell_writes_that_fail(rt: &HostRuntime, telling: &mut Telling) -> Result<()> 
         telling.tell(rt, name.as_str(), is_well)?;
     }
     Ok(())
+}
+
+// With explanations each write to the desk fails in turn. The wrong body of `replays` printed `at 0, differs` here.
+fn tell_explained_writes_that_fail(rt: &HostRuntime, telling: &mut Telling) -> Result<()> {
+    let wrong = first_wrong_explained(rt.alloc())?;
+    telling.tell_first(
+        rt,
+        "each write to the desk that explains fails in turn",
+        wrong,
+    )
+}
+
+/// The first number of bytes that the desk had as a write failed, if its text does not break off there, or if not just
+/// the radio bytes up to there are out.
+fn first_wrong_explained(alloc: Global) -> Result<Option<usize>> {
+    // what goes out by radio, and what the desk is told after it
+    let parts: [(&[u8], &[u8]); 5] = [
+        (b"", CONTACT_EXPLAINED),
+        (b"", OK),
+        (BASE_QUESTION, OK),
+        (REPLY, QUERY_EXPLAINED),
+        (b"", TAUGHT),
+    ];
+    let mut radio = Vec::new(alloc);
+    let mut desk = Vec::new(alloc);
+    for (sent, told) in parts {
+        radio.extend_from_slice(sent)?;
+        for byte in told {
+            let served = serve_explained(alloc, 1, desk.len().saturating_add(1))?;
+            if !served.is(
+                Err(RunFault::Write),
+                &[radio.as_slice()],
+                &[desk.as_slice()],
+            ) {
+                return Ok(Some(desk.len()));
+            }
+            desk.push(*byte)?;
+        }
+    }
+    Ok(None)
 }
 
 // A writer that takes 0 bytes ends the gateway like one that fails.

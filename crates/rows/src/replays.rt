@@ -1,6 +1,7 @@
 //! Replays of short scripts, of readers and writers that fail, and of lines at their longest.
 use crate::fakes::{Parts, Sips, TakesNothing};
 use crate::gateways::replay_new;
+use crate::scripts::row;
 use crate::telling::Telling;
 use anyhow::Result;
 use gateway_main::{OverRead, OverWrite, RunFault, Source, Summary};
@@ -18,7 +19,8 @@ pub(crate) fn tell(rt: &HostRuntime, telling: &mut Telling) -> Result<()> {
     tell_lengths(rt, telling)?;
     tell_ends(rt, telling)?;
     tell_reads(rt, telling)?;
-    tell_writes(rt, telling)
+    tell_writes(rt, telling)?;
+    tell_explained_writes(rt, telling)
 }
 
 /// Whether a replay comes to this, and this is written.
@@ -147,4 +149,30 @@ fn tell_writes(rt: &HostRuntime, telling: &mut Telling) -> Result<()> {
         "a writer that takes nothing",
         done == Err(RunFault::Write),
     )
+}
+
+// With explanations each write fails in turn. A wrong body: an outlet that goes on after a failed write of the line
+// that explains a packet. Printed was `at 83, differs`.
+fn tell_explained_writes(rt: &HostRuntime, telling: &mut Telling) -> Result<()> {
+    let (script, text) = row(rt, "every-kind-of-item", true)?;
+    let wrong = first_wrong_explained(rt.alloc(), script.as_slice(), text.as_slice())?;
+    telling.tell_first(
+        rt,
+        "each write of a replay that explains fails in turn",
+        wrong,
+    )
+}
+
+/// The first number of bytes that were out as a write failed, if the script's text with explanations does not break off
+/// there.
+fn first_wrong_explained(alloc: Global, script: &[u8], text: &[u8]) -> Result<Option<usize>> {
+    for out in 0..text.len() {
+        let mut taken = Vec::new(alloc);
+        let mut writer = OverWrite::new(Sips::new(&mut taken, 1, out.saturating_add(1)));
+        let done = replay_new(alloc, &mut OverRead::new(script), &mut writer, true, 99)?;
+        if done != Err(RunFault::Write) || Some(taken.as_slice()) != text.get(..out) {
+            return Ok(Some(out));
+        }
+    }
+    Ok(None)
 }
