@@ -1,4 +1,4 @@
--- What the desk was told of a device is so in every later life.
+-- What a teach line acknowledged is so in every later life.
 use Rattle.std.proofs.Common.{◌≡◌, inl, inr, length, List, [], ◌∷◌, ◌++◌, Some, refl, sym, ap, subst, ◌∙◌, arith}
 use Rattle.learned_devices.specs.declared.Device.{Device}
 use Rattle.teach_in.specs.declared.outcome.Outcome.{Outcome}

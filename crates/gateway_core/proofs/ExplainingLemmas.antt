@@ -1,4 +1,4 @@
--- The lines that explain packets tell the truth.
+-- The lines that explain packets are true.
 use Rattle.std.proofs.Common.{◌≡◌, ◌≢◌, inl, inr, ◌<◌, ℕ, Bool, true, false, List, [], ◌∷◌, Option, length}
 use Rattle.std.proofs.Common.{Some, None, refl, sym, ap, subst, ◌∙◌, arith, eqb-true, Result, Ok, Err}
 use Rattle.std.specs.Prelude.{◌==◌, ◌||◌, ◌&&◌, not, IsErr, if◌then◌else◌}
@@ -43,7 +43,7 @@ use Rattle.gateway_core.specs.Step.{PassedOver, other_effect, packet_by, packet_
 use Rattle.gateway_core.specs.Step.{accepts, reading_effect, tells_sender, told_of, unsaid}
 use Rattle.std.specs.Option.{option_map}
 
--- where the effect is that of the packet, its account tells the truth
+-- if the effect is that of the packet, its account is true
 abbrev Truth : State → Packet → Effect → Type 0
 Truth state packet e =
     (packet_effect state packet).change ≡ e.change

@@ -1,4 +1,4 @@
--- What the desk was told of a device is so in every later life.
+-- What a teach line acknowledged is so in every later life.
 use Rattle.std.specs.Prelude.{◌≡◌, ◌⊎◌, length, List, ◌∷◌, ◌++◌}
 use Rattle.std.specs.List.{AllByRecursion}
 use Rattle.std.specs.FinMap.{get}
@@ -12,7 +12,7 @@ use Rattle.gateway_core.specs.Run.{Fate}
 use Rattle.gateway_core.specs.Lives.{AreLives, IsLife, Life, LifeSpares, Spares, StopSpares}
 use Rattle.gateway_core.specs.Promises.{Promises}
 
--- at one place a life answered an item with this teach line
+-- at one place, a life answered an item with this teach line
 pub record Acknowledges (life : Life) (line : TeachLine) : Type 0 where
   pub before : List Item
   pub item : Item
@@ -30,13 +30,13 @@ pub record Acknowledges (life : Life) (line : TeachLine) : Type 0 where
   pub as_many_answers : length before ≡ length answers
   pub told : answer.desk ≡ text (Teach line)
 
--- what is told by a line that says `accepted` or `deleted`
+-- the change that a line acknowledges which says `accepted` or `deleted`
 abbrev pub acknowledged_change : Outcome → Device → Change
 acknowledged_change Accepted known = learned known
 acknowledged_change outcome known = forgotten known.id
 
--- It has the text of the line of this device, and what it tells is found so by every later life, until an item changes
--- that sender otherwise, be it taken, refused at its write, or stopped.
+-- The line has the text of that of this device. Every later life finds the acknowledged change, until an item changes
+-- that sender otherwise, whether the item is taken, refused at its write, or interrupted by a crash.
 pub record IsDurable (life : Life) (line : TeachLine) (answered : Acknowledges life line) : Type 0 where
   pub at : State
   pub known : Device

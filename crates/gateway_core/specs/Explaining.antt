@@ -1,5 +1,4 @@
--- That the line which explains a packet tells the truth: what its word means of the packet and of what was known, and
--- whose profile and maker it tells.
+-- What the word of an explanation means, of the packet and of what was known; and which profile and maker it shows.
 use Rattle.std.specs.Prelude.{◌≡◌, ◌≢◌, ◌⊎◌, ◌<◌, ⊤, false, true, length, List, [], IsErr, Option, Some, None}
 use Rattle.std.specs.Prelude.{Ok, Err}
 use Rattle.esp3_frames.specs.Packet.{Packet}
@@ -47,18 +46,18 @@ pub record IsDataOf (state : State) (packet : Packet) (t : Telegram) (known : De
   pub data_alone : teach_in_of t ≡ Plain
   pub is_known : device_of state.devices t.sender ≡ Some known
 
--- the line tells the profile and the maker of this device, and else those of a query alone
+-- the line shows the profile and the maker of this device; without one it shows only those of a query, if there is one
 abbrev pub NamesDevice : Account → Option Device → Type 0
 NamesDevice account None = (account.eep ≡ None) × (account.maker ≡ None)
 NamesDevice account (Some known) = (account.eep ≡ Some known.eep) × (account.maker ≡ known.maker)
 
--- data of a learned device that its profile does not read, for one of these
+-- data of a learned device that its profile does not read, for one of these faults
 abbrev pub IsUnreadable : State → Packet → Account → (Unreadable → Type 0) → Type 0
 IsUnreadable state packet account Why =
     (t : Telegram) × (known : Device) × (fault : Unreadable) × IsDataOf state packet t known
     × (read_by known.eep t ≡ Err fault) × Why fault × NamesDevice account (Some known)
 
--- What the word means, and whose profile and maker are told.
+-- what the word means, and which profile and maker are shown
 abbrev pub Means : State → Packet → Account → Why → Type 0
 Means state packet account why.Refused = ⊥
 Means state packet account why.Response =
@@ -109,7 +108,7 @@ Means state packet account (why.Told NoProfile) =
     (t : Telegram) × IsHeard state packet t × (teach_in_of t ≡ Bare) × (change_of state (Received packet) ≡ None)
     × NamesDevice account None
 
--- A packet that is taken is explained by the line of an account whose word is true.
+-- a packet that is taken is explained by the line of an account whose word is true
 pub record IsTrulyExplained (state : State) (packet : Packet) : Type 0 where
   pub account : Account
   pub explained : (answer_to state (Received packet)).explained ≡ packet_text (line_of packet account)

@@ -76,9 +76,9 @@ pub fn explanations_are_counted()
     ensures { ExplanationsAreCounted }
 {}
 
-/// The line that explains a packet that is taken tells the truth: its word is so of the packet and of what was known,
-/// and it tells the profile and the maker of the device that the packet's data are of, or that is learned by it; of any
-/// other sender those of its query alone.
+/// The line that explains a packet which is taken is true: its word holds of the packet and of what was known. It shows
+/// the profile and the maker of the device whose data the packet has, or that is learned by it; of any other sender it
+/// shows those of its query, if it has one.
 pub fn explanations_are_true()
     ensures { ExplanationsAreTrue }
 {}
@@ -117,8 +117,8 @@ pub fn lives_keep()
     ensures { LivesKeep }
 {}
 
-/// What the desk was told of a device, by a line that says `accepted` or `deleted`, is so in every later life, until an
-/// item changes that sender otherwise.
+/// What a line acknowledged with `accepted` or `deleted` is so in every later life, until an item changes that sender
+/// otherwise.
 pub fn acknowledged_is_durable()
     ensures { AcknowledgedIsDurable }
 {}

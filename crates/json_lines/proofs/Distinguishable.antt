@@ -1,4 +1,4 @@
--- No line of the desk begins as a packet line, nor a packet line as one of the desk.
+-- A line for the desk and a packet line differ, whatever follows them.
 use Rattle.std.proofs.Common.{◌≡◌, ◌≢◌, ℕ, List, ◌++◌, drop, codes, sym, ap, ◌∙◌, arith, append_assoc}
 use Rattle.std.specs.Prelude.{slice_index_or}
 use Rattle.json_lines.specs.Lines.{DeskLine, Reading, Teach, DeviceLine, ListEnd, StatusLine, ResponseLine, Done, Error}

@@ -93,9 +93,9 @@ longest_end = 38
 abbrev pub longest_packet_line : ℕ
 longest_packet_line = longest_sender + longest_content + longest_end + 5
 
--- ---- what is told is in the ranges of a packet's numbers
+-- ---- the numbers of a packet line are in the ranges of those of a packet
 
--- of a telegram: bytes, IDs of four bytes, and a maker of at most two
+-- a telegram has bytes, IDs of four bytes, and a maker of at most two
 pub record HasFieldsInRange (told : ToldTelegram) : Type 0 where
   pub dbm : IfSome told.dbm (λ byte. byte < 256)
   pub dest : IfSome told.dest (λ id. id < 2 ^ 32)

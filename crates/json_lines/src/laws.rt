@@ -23,14 +23,14 @@ pub fn words_tell_why()
     ensures { (why other : Why) → why_word why ≡ why_word other → why ≡ other }
 {}
 
-/// Packet lines with the same text tell the same: the same packet, field by field, and the same reason.
+/// Packet lines with the same text are equal: they show the same packet, field by field, and the same reason.
 pub fn packet_texts_are_injective()
     ensures { (line told : PacketLine) → HasPacketNumbersInRange line.packet → HasPacketNumbersInRange told.packet
         → packet_text line ≡ packet_text told → line ≡ told }
 {}
 
-/// Whatever follows, no line of the desk begins as a packet line, and no packet line as one of the desk: so line by line
-/// each is told from the other.
+/// Whatever follows them, a line for the desk and a packet line are never the same text. So a reader can separate them
+/// line by line.
 pub fn packet_lines_are_distinguishable()
     ensures { (line : DeskLine) (told : PacketLine) (a b : List ℕ) → text line ++ a ≢ packet_text told ++ b }
 {}
