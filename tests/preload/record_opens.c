@@ -1,0 +1,35 @@
+/* Preloaded, it writes a line for each file that the program opens to the file that RECORD_OPENS names: the path, and
+   what the file is opened for. */
+#define _GNU_SOURCE
+#include <fcntl.h>
+#include <stdarg.h>
+#include <stdio.h>
+#include <stdlib.h>
+#include <sys/syscall.h>
+#include <unistd.h>
+
+static void record(const char *path, int flags)
+{
+    static const char *const accesses[] = {"read", "write", "read-write", "none"};
+    char *records = getenv("RECORD_OPENS"), text[4352];
+    if (!records)
+        return;
+    int length = snprintf(text, sizeof text, "%s %s%s%s%s%s\n", path, accesses[flags & O_ACCMODE],
+                          flags & O_CREAT ? " create" : "", flags & O_EXCL ? " new" : "",
+                          flags & O_TRUNC ? " truncate" : "", flags & O_APPEND ? " append" : "");
+    int file = syscall(SYS_open, records, O_CREAT | O_APPEND | O_WRONLY, 0600);
+    if (write(file, text, length) == length)
+        close(file);
+}
+
+int open(const char *path, int flags, ...)
+{
+    va_list more;
+    va_start(more, flags);
+    mode_t mode = va_arg(more, mode_t);
+    va_end(more);
+    record(path, flags);
+    return syscall(SYS_open, path, flags, mode);
+}
+
+int open64(const char *, int, ...) __attribute__((alias("open")));
