@@ -1,0 +1,49 @@
+/* Preloaded, it writes a line for each growth of memory of 32,768 bytes or more to the file that RECORD_GROWTHS names:
+   how many bytes were asked for. */
+#define _GNU_SOURCE
+#include <errno.h>
+#include <fcntl.h>
+#include <stdio.h>
+#include <stdlib.h>
+#include <sys/syscall.h>
+#include <unistd.h>
+
+void *__libc_malloc(size_t);
+void *__libc_realloc(void *, size_t);
+void *__libc_memalign(size_t, size_t);
+
+static void record(size_t size)
+{
+    char *records = getenv("RECORD_GROWTHS"), text[32];
+    if (!records || size < 32768)
+        return;
+    int file = syscall(SYS_open, records, O_CREAT | O_APPEND | O_WRONLY, 0600);
+    int length = snprintf(text, sizeof text, "%zu\n", size);
+    if (write(file, text, length) == length)
+        close(file);
+}
+
+void *malloc(size_t size)
+{
+    record(size);
+    return __libc_malloc(size);
+}
+
+void *realloc(void *old, size_t size)
+{
+    record(size);
+    return __libc_realloc(old, size);
+}
+
+void *aligned_alloc(size_t align, size_t size)
+{
+    record(size);
+    return __libc_memalign(align, size);
+}
+
+int posix_memalign(void **out, size_t align, size_t size)
+{
+    record(size);
+    *out = __libc_memalign(align, size);
+    return *out ? 0 : ENOMEM;
+}
