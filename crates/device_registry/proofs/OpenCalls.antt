@@ -470,7 +470,7 @@ registries_are_recognized state = (
 )
 
 pub only_others_are_refused : {C : Type 0} (state : C → State) → OnlyOthersAreRefused state
-only_others_are_refused state conn last clean refused = (refused.other (clean last refused.survives) refl).0
+only_others_are_refused state conn last clean refused = (refused.other clean refl).0
 
 pub handed_on : {C : Type 0} (state : C → State) → HandedOn state
 handed_on state closed opened devices found clean committed has opens =

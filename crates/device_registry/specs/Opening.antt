@@ -97,14 +97,10 @@ RegistriesAreRecognized {C} state = ((trees : Trees) → IsHeld trees → (devic
     × ((old new : C) (fault : OpenFault) (devices : Devices) → HasCleanDisk (state new)
     → RefusesToOpen (state old) (state new) fault → Finds (state old).committed.trees devices → fault ≢ NotARegistry)
 
--- whatever an open makes of this connection, the disk has returned what was written
-abbrev pub StaysClean : {C : Type 0} → (C → State) → C → Type 0
-StaysClean {C} state conn =
-    (last : C) → Survives (state conn) (state last) (KeepsFound (state conn).committed.trees) → HasCleanDisk (state last)
-
--- so a database is refused as no registry only where it is none, also by an open that drops its connection
+-- A database is refused as no registry only if it is none. This holds of an open that drops its connection, too, if the
+-- disk had returned what was written when the connection was dropped.
 abbrev pub OnlyOthersAreRefused : {C : Type 0} → (C → State) → Type 0
-OnlyOthersAreRefused {C} state = (conn last : C) → StaysClean state conn
+OnlyOthersAreRefused {C} state = (conn last : C) → HasCleanDisk (state last)
     → RefusesToOpen (state conn) (state last) NotARegistry → IsOther (state conn).committed.trees
 
 -- what is closed and handed on is what the next open finds

@@ -30,8 +30,8 @@ pub fn registries_are_recognized<C: SqlConnection>()
     ensures { RegistriesAreRecognized C.state }
 {}
 
-/// A database is refused as no registry only where it is none, also by an open that drops its connection, as long as the
-/// disk returns what was written whatever becomes of that connection.
+/// A database is refused as no registry only if it is none. This holds of an open that drops its connection, too, if the
+/// disk had returned what was written when the connection was dropped.
 pub fn only_others_are_refused<C: SqlConnection>()
     ensures { OnlyOthersAreRefused C.state }
 {}
