@@ -165,7 +165,7 @@ module _ {S : Type 0} (state : S → Stored) where
 
     specified : (items : List Item) (answers : List Answer) (out : List Answer → Type 0)
         → Handles state old.handler items answers new → out answers
-        → AsSpecified state base found items out new.registry
+        → AsSpecified state base found items out new
     specified items answers out handled is_out =
         let went = handled.went clean (begun base found) begins_at in
         record {
@@ -174,7 +174,7 @@ module _ {S : Type 0} (state : S → Stored) where
           last = went.last;
           run = went.run;
           are_out = is_out;
-          known = went.at.2;
+          known = went.at;
           registries = handled.registries clean began.registries;
           left = λ left may.
               let life : Life = record {
@@ -202,16 +202,16 @@ module _ {S : Type 0} (state : S → Stored) where
     -- the items of these events
     played : (events : List Event) (answers : List Answer) (out : List Answer → Type 0)
         → Handles state old.handler (items_of old.rest events) answers new → out answers
-        → AsSpecified state base found (items_of [] events) out new.registry
+        → AsSpecified state base found (items_of [] events) out new
     played events answers out handled is_out =
-        subst (λ s. AsSpecified state base found (items_of s events) out new.registry) no_rest
+        subst (λ s. AsSpecified state base found (items_of s events) out new) no_rest
         (specified (items_of old.rest events) answers out handled is_out)
 
     -- and of more events none
     played_first : (events later all : List Event) → all ≡ events ++ later → (answers : List Answer)
         (out : List Answer → Type 0)
         → Handles state old.handler (items_of old.rest events) answers new → out answers
-        → BrokenOff state base found (items_of [] all) out new.registry
+        → BrokenOff state base found (items_of [] all) out new
     played_first events later all whole answers out handled is_out = record {
       handled = items_of [] events;
       later = items_of (bytes_in events) later;
@@ -225,7 +225,7 @@ module _ {S : Type 0} (state : S → Stored) where
       → HasCleanDisk (state new.handler.registry) → all ≡ events ++ event ∷ later
       → (b : Breaks state old new events event breaks) (out : List Answer → Type 0)
       → out (b.answered.answers ++ b.answered.last ∷ [])
-      → BrokenOff state base found (items_of [] all) out new.handler.registry
+      → BrokenOff state base found (items_of [] all) out new.handler
   broken_off base found old new events event later all began clean whole b out is_out =
       let brings = broken_brings old new events event later b in
       record {
@@ -255,7 +255,7 @@ module _ {S : Type 0} (state : S → Stored) where
           is_held = grown held text (sink.held old.2) (sink.held new.2) held_is its.out;
           specified = (
             gone.is ∙ ap Some ended,
-            subst (λ i. AsSpecified state base found (items_of [] (script i)) out new.0.handler.registry) whole
+            subst (λ i. AsSpecified state base found (items_of [] (script i)) out new.0.handler) whole
                 (played base found old.0 new.0.handler began clean (script done.input) its.answers out its.handled refl),
           );
         }
@@ -357,6 +357,8 @@ module _ {S : Type 0} (state : S → Stored) where
           lines_held = grown printed lines (desk_out.held old.4) (desk_out.held new.4) printed_is its.out.1.text;
           specified = (
             done.count,
+            done.serial,
+            done.desk,
             played base found old.0 new.0.handler began clean (events_of_turns done.read) its.answers
                 (λ answers. (radio ≡ radio_of answers) × (lines ≡ lines_of explains answers)) its.handled (refl, refl),
           );
@@ -410,7 +412,7 @@ module _ {S : Type 0} (state : S → Stored) where
         → Took read piece → Appends (serial_out.held old.3) (serial_out.held new.3) radio
         → Appends (desk_out.held old.4) (desk_out.held new.4) lines
         → ((base : ℕ) (found : Devices) → IsNew state base found old.0 → HasCleanDisk (state new.0.handler.registry)
-        → BrokenOff state base found (items_of [] (events_with read piece)) (Out radio lines) new.0.handler.registry)
+        → BrokenOff state base found (items_of [] (events_with read piece)) (Out radio lines) new.0.handler)
         → ServesAsSpecified state serial_in desk_in serial_out desk_out explains (Err fault) old new count
     until_fault fault count read piece radio lines took radio_out lines_out broken base found serial desk sent printed
         began serial_is desk_is sent_is printed_is clean =
@@ -433,7 +435,7 @@ module _ {S : Type 0} (state : S → Stored) where
           radio_held = grown sent radio (serial_out.held old.3) (serial_out.held new.3) sent_is radio_out;
           lines_held = grown printed lines (desk_out.held old.4) (desk_out.held new.4) printed_is lines_out;
           specified =
-              subst (λ events. BrokenOff state base found (items_of [] events) (Out radio lines) new.0.handler.registry)
+              subst (λ events. BrokenOff state base found (items_of [] events) (Out radio lines) new.0.handler)
               (sym (events-with_piece read piece)) (broken base found began clean);
         }
 

@@ -9,13 +9,16 @@ use Rattle.gateway_core.specs.Step.{Item, Answer, State}
 use Rattle.gateway_core.specs.Run.{Fate, Run}
 use Rattle.gateway_core.specs.Lives.{begun}
 use Rattle.gateway_core.specs.Prefixes.{AfterPrefix}
+use Rattle.gateway_core.specs.Handling.{HandlerValue, IsAt}
 use Rattle.gateway_core.specs.Calls.{Value, new_value}
 use Rattle.gateway_core.specs.Events.{items_of}
 use Rattle.byte_streams.specs.declared.sink.Sink as sinks
 use Rattle.byte_streams.specs.declared.source.Source as sources
 use Rattle.engines.specs.declared.runs.RunFault.{RunFault}
 use Rattle.engines.specs.declared.runs.Summary.{Summary}
+use Rattle.engines.specs.Reads.{ReadsWell}
 use Rattle.engines.specs.Script.{script}
+use Rattle.engines.specs.Streams.{source_value}
 use Rattle.engines.specs.Turns.{Turn, desks, events_of_turns, pieces}
 use Rattle.engines.specs.Wires.{radio_bytes}
 use Rattle.engines.specs.Written.{desk_text, written}
@@ -37,7 +40,8 @@ radio_of answers = flat_map (λ answer. radio_bytes answer.radio) answers
 abbrev pub lines_of : Bool → List Answer → List ℕ
 lines_of explains answers = flat_map (desk_text explains) answers
 
--- A gateway's registry has a state of the store, which `stored` gives.
+-- `S` is what a gateway keeps its devices in, and `stored` its state in the words of the store: for a registry over a
+-- connection that of the connection.
 module _ {S : Type 0} (stored : S → Stored) where
   -- A new gateway over a registry of these devices. It learns from nobody, has counted nothing, and no byte has come. A
   -- crash leaves these devices and nothing else.
@@ -49,31 +53,32 @@ module _ {S : Type 0} (stored : S → Stored) where
 
   -- From the devices found, each item was handled in turn: it took the step of the definitions, or it was refused, which
   -- only an item that needs memory or the store can be, and then it changed nothing but the count of refused items. The
-  -- answers are out. While the connection is open, the registry holds what is known at the end. Whatever a crash may
-  -- leave is a registry, of what was known after a prefix of the items. The prefix has every item that was acknowledged,
-  -- and the change of the next item may be there too, if its write was refused.
-  pub record AsSpecified (base : ℕ) (found : Devices) (items : List Item) (out : List Answer → Type 0) (registry : S)
-      : Type 0 where
+  -- answers are out. The gateway knows what the last step left, and while the connection is open the registry holds its
+  -- devices. Whatever a crash may leave now is a registry, of what was known after some prefix of the items. The prefix
+  -- has every item that was acknowledged. The change of the next item may be there too, if its write was refused.
+  pub record AsSpecified (base : ℕ) (found : Devices) (items : List Item) (out : List Answer → Type 0)
+      (new : HandlerValue S) : Type 0 where
     pub fates : List Fate
     pub answers : List Answer
     pub last : State
     pub run : Run (begun base found) items fates answers last
     pub are_out : out answers
-    pub known : HasDevices (stored registry) last.devices
-    pub registries : AreRegistries (stored registry).may_leave
-    pub left : (left : Devices) → MayFind (stored registry) left → AfterPrefix (begun base found) items fates left
+    pub known : IsAt stored new last
+    pub registries : AreRegistries (stored new.registry).may_leave
+    pub left : (left : Devices) → MayFind (stored new.registry) left → AfterPrefix (begun base found) items fates left
 
-  -- so it was with a prefix of the items, and no other item was handled
-  pub record BrokenOff (base : ℕ) (found : Devices) (items : List Item) (out : List Answer → Type 0) (registry : S)
-      : Type 0 where
+  -- so it was with some prefix of the items, and no other item was handled
+  pub record BrokenOff (base : ℕ) (found : Devices) (items : List Item) (out : List Answer → Type 0)
+      (new : HandlerValue S) : Type 0 where
     pub handled : List Item
     pub later : List Item
     pub whole : items ≡ handled ++ later
-    pub specified : AsSpecified base found handled out registry
+    pub specified : AsSpecified base found handled out new
 
   -- `replay`, of a new gateway, a reader that has this input left, and a writer that holds these bytes. At `Ok` the input
   -- was read to its end, and the writer was given the text of the answers to the items of the script, and nothing else.
-  -- At a fault it was given a prefix of the text of the answers to a prefix of the items.
+  -- At a fault it was given a prefix of the text of the answers to some prefix of the items. (The clauses `err`, `read`,
+  -- `write` and `too_many` of `replay` say which prefix, and when it is that fault.)
   pub record ReplaySpecified {R W : Type 0} (source : sources.Ghosts R) (sink : sinks.Ghosts W) (explains : Bool)
       (result : Result Summary RunFault) (base : ℕ) (found : Devices) (input held : List ℕ) (new : Value S × R × W)
       : Type 0 where
@@ -82,9 +87,9 @@ module _ {S : Type 0} (stored : S → Stored) where
     pub specified : MatchResult result
         (λ _. (source.left new.1 ≡ Some [])
         × AsSpecified base found (items_of [] (script input)) (λ answers. text ≡ written explains answers)
-        new.0.handler.registry)
+        new.0.handler)
         (λ _. BrokenOff base found (items_of [] (script input)) (λ answers. IsPrefix text (written explains answers))
-        new.0.handler.registry)
+        new.0.handler)
 
   abbrev pub ReplaysAsSpecified : {R W : Type 0} → sources.Ghosts R → sinks.Ghosts W → Bool → Result Summary RunFault
       → Value S × R × W → Value S × R × W → Type 0
@@ -94,11 +99,12 @@ module _ {S : Type 0} (stored : S → Stored) where
       → ReplaySpecified source sink explains result base found input held new
 
   -- `live`, of a new gateway, two readers that have these bytes left, and two writers that hold these. At `Ok` all turns
-  -- were made, and the writers were given the radio bytes and the lines of the answers to the items of the turns, and
-  -- nothing else. At a fault they were given prefixes of these, for a prefix of the items.
+  -- were made, each of one read of the serial line and one of the desk, and the writers were given the radio bytes and
+  -- the lines of the answers to the items of the turns, and nothing else. At a fault they were given prefixes of these,
+  -- for some prefix of the items. (The clauses `err` and `reads` of `live` say which.)
   pub record LiveSpecified {P Q R D : Type 0} (serial_in : sources.Ghosts P) (desk_in : sources.Ghosts Q)
       (serial_out : sinks.Ghosts R) (desk_out : sinks.Ghosts D) (explains : Bool) (result : Result Summary RunFault)
-      (count base : ℕ) (found : Devices) (serial desk sent printed : List ℕ) (new : Value S × P × Q × R × D)
+      (count base : ℕ) (found : Devices) (serial desk sent printed : List ℕ) (old new : Value S × P × Q × R × D)
       : Type 0 where
     pub turns : List Turn
     pub serial_rest : List ℕ
@@ -111,11 +117,13 @@ module _ {S : Type 0} (stored : S → Stored) where
     pub radio_held : serial_out.held new.3 ≡ Some (sent ++ radio)
     pub lines_held : desk_out.held new.4 ≡ Some (printed ++ lines)
     pub specified : MatchResult result
-        (λ _. (length turns ≡ count) × AsSpecified base found (items_of [] (events_of_turns turns))
-        (λ answers. (radio ≡ radio_of answers) × (lines ≡ lines_of explains answers)) new.0.handler.registry)
+        (λ _. (length turns ≡ count)
+        × ReadsWell (source_value serial_in old.1) (source_value serial_in new.1) (pieces turns)
+        × ReadsWell (source_value desk_in old.2) (source_value desk_in new.2) (desks turns)
+        × AsSpecified base found (items_of [] (events_of_turns turns))
+        (λ answers. (radio ≡ radio_of answers) × (lines ≡ lines_of explains answers)) new.0.handler)
         (λ _. BrokenOff base found (items_of [] (events_of_turns turns))
-        (λ answers. IsPrefix radio (radio_of answers) × IsPrefix lines (lines_of explains answers))
-        new.0.handler.registry)
+        (λ answers. IsPrefix radio (radio_of answers) × IsPrefix lines (lines_of explains answers)) new.0.handler)
 
   abbrev pub ServesAsSpecified : {P Q R D : Type 0} → sources.Ghosts P → sources.Ghosts Q → sinks.Ghosts R
       → sinks.Ghosts D → Bool → Result Summary RunFault → Value S × P × Q × R × D → Value S × P × Q × R × D → ℕ
@@ -125,4 +133,5 @@ module _ {S : Type 0} (stored : S → Stored) where
       → serial_in.left old.1 ≡ Some serial → desk_in.left old.2 ≡ Some desk
       → serial_out.held old.3 ≡ Some sent → desk_out.held old.4 ≡ Some printed
       → HasCleanDisk (stored new.0.handler.registry)
-      → LiveSpecified serial_in desk_in serial_out desk_out explains result count base found serial desk sent printed new
+      → LiveSpecified serial_in desk_in serial_out desk_out explains result count base found serial desk sent printed
+      old new

@@ -1,15 +1,19 @@
 -- What a teach line acknowledged is so in every later life.
 use Rattle.std.proofs.Common.{◌≡◌, inl, inr, length, List, [], ◌∷◌, ◌++◌, Some, refl, sym, ap, subst, ◌∙◌, arith}
+use Rattle.std.specs.List.{AllByRecursion}
 use Rattle.learned_devices.specs.declared.Device.{Device}
 use Rattle.teach_in.specs.declared.outcome.Outcome.{Outcome}
 use Rattle.teach_in.specs.declared.outcome.Outcome.TheVariants.{Accepted, Deleted}
 use Rattle.json_lines.specs.Lines.{Teach, TeachLine, text}
+use Rattle.json_lines.proofs.TeachLines.{one_teach_line}
 use Rattle.gateway_core.specs.Step.{State, Item, Answer, change_of, effect, told_of}
 use Rattle.gateway_core.specs.Run.{Fate, Run, Taken, answer_with, state_with}
 use Rattle.gateway_core.specs.Lives.{IsLife, Life, begun}
-use Rattle.gateway_core.specs.Telling.{IsDeleted, Tells}
-use Rattle.gateway_core.specs.Acknowledgements.{Acknowledges, IsDurable, AcknowledgedIsDurable, acknowledged_change}
+use Rattle.gateway_core.specs.Telling.{IsDeleted, Tells, acknowledged_change}
+use Rattle.gateway_core.specs.Acknowledgements.{Acknowledges, IsDurable, AcknowledgedIsDurable}
+use Rattle.gateway_core.specs.Ranges.{AreInRange, IsDeviceInRange, IsOfBytes, IsStateInRange}
 use Rattle.gateway_core.proofs.LifeLemmas.{lives_keep}
+use Rattle.gateway_core.proofs.RangeLemmas.{stays_in_range, learned-in, deleted-in}
 use Rattle.gateway_core.proofs.TellingLemmas.{teach_lines_are_told}
 
 -- a run up to one of its items, and the answer to that
@@ -34,15 +38,46 @@ parted old new (first ∷ before) after item [] more fate answers later answer f
 parted old new (first ∷ before) after item (its ∷ fates) more fate [] later answer f a run =
     absurd (omega (arith, a))
 
+-- the first items are of bytes, and the next one
+parted-bytes : (before after : List Item) (item : Item) → AllByRecursion IsOfBytes (before ++ item ∷ after)
+    → AllByRecursion IsOfBytes before × IsOfBytes item
+parted-bytes [] after item bytes = (tt, bytes.0)
+parted-bytes (first ∷ before) after item bytes =
+    let rest = parted-bytes before after item bytes.1 in ((bytes.0, rest.0), rest.1)
+
+-- the devices found are in range, and the items are of bytes
+abbrev BeginsInRange : Life → Type 0
+BeginsInRange life = AreInRange life.found × AllByRecursion IsOfBytes life.items
+
+-- so what is known is in range where an item is answered, and the item is of bytes
+at-item : (life : Life) (line : TeachLine) (answered : Acknowledges life line) (at : State)
+    → Run (begun life.base life.found) answered.before answered.fates answered.answers at → BeginsInRange life
+    → IsStateInRange at × IsOfBytes answered.item
+at-item life line answered at run (found, bytes) =
+    let parts =
+    parted-bytes answered.before answered.after answered.item
+    (subst (AllByRecursion IsOfBytes) answered.items_are bytes) in (
+      stays_in_range (begun life.base life.found) at answered.before answered.fates answered.answers run parts.0
+          (found, tt),
+      parts.1,
+    )
+
 kept : (life : Life) (line : TeachLine) → IsLife life → (answered : Acknowledges life line) → (outcome : Outcome)
     → line.outcome ≡ outcome → (known : Device) → text (Teach line) ≡ text (Teach (told_of known outcome))
     → (at : State) → Run (begun life.base life.found) answered.before answered.fates answered.answers at
     → answered.fate ≡ Taken → change_of at answered.item ≡ Some (acknowledged_change outcome known)
-    → IsDurable life line answered
-kept life line is answered outcome word known same at run taken asks = record {
+    → (BeginsInRange life → IsDeviceInRange known) → IsDurable life line answered
+kept life line is answered outcome word known same at run taken asks in_range = record {
   at = at;
   known = known;
+  run = run;
+  taken = taken;
+  asks = asks ∙ ap (λ o. Some (acknowledged_change o known)) (sym word);
   same_text = subst (λ o. text (Teach line) ≡ text (Teach (told_of known o))) (sym word) same;
+  in_range = λ found bytes. in_range (found, bytes);
+  line_is = λ found bytes numbers.
+      one_teach_line line (told_of known line.outcome) numbers (in_range (found, bytes))
+      (subst (λ o. text (Teach line) ≡ text (Teach (told_of known o))) (sym word) same);
   keeps = λ spared stop lives last all are.
       lives_keep life (acknowledged_change line.outcome known) lives last is (record {
         before = answered.before;
@@ -76,7 +111,11 @@ acknowledged_is_durable life line is answered word =
       | inl accepted ↦
           let (known, same, asks) = subst Of accepted tells.1 in
           kept life line is answered Accepted accepted known same part.at part.run tells.0 asks
+          (λ begins. let at = at-item life line answered part.at part.run begins in
+          learned-in part.at answered.item known at.0 at.1 asks)
       | inr deleted ↦
           let (known, same, gone, asks) = subst Of deleted tells.1 in
           kept life line is answered Deleted deleted known same part.at part.run tells.0 asks
+          (λ begins. let at = at-item life line answered part.at part.run begins in
+          deleted-in part.at answered.item known at.0 at.1 gone)
     ]

@@ -32,7 +32,7 @@ unrefused state =
       telegrams = λ t is. record {
         unsays = λ asked account. ignores account;
         reads = λ known line. refl;
-        admits = λ hears eep maker. refl;
+        admits = λ hears eep maker known planned. refl;
         deletes = λ learning asks. refl;
         refuses = λ hears need line is. refl;
       };
@@ -42,11 +42,11 @@ unrefused state =
     (λ line. record {
       denies = λ name. refl;
       finds = λ name. refl;
-      opens = λ mode. refl;
+      opens = λ mode is. refl;
       sends = λ asked bytes. refl;
       lists = refl;
       reports = refl;
-      adds = λ known. refl;
+      adds = λ known is. refl;
       drops = λ known is. refl;
       relabels = λ id label is known. refl;
     })
@@ -62,7 +62,7 @@ packets-counted state packet =
       telegrams = λ t is. record {
         unsays = λ asked account is. refl;
         reads = λ known line. refl;
-        admits = λ hears eep maker. refl;
+        admits = λ hears eep maker known planned. refl;
         deletes = λ learning asks. refl;
         refuses = λ hears need line is. refl;
       };
@@ -75,11 +75,11 @@ lines-uncounted state line =
     of_line (λ e. count_in e.account ≡ None) state line (record {
       denies = λ name. refl;
       finds = λ name. refl;
-      opens = λ mode. refl;
+      opens = λ mode is. refl;
       sends = λ asked bytes. refl;
       lists = refl;
       reports = refl;
-      adds = λ known. refl;
+      adds = λ known is. refl;
       drops = λ known is. refl;
       relabels = λ id label is known. refl;
     })
@@ -93,7 +93,7 @@ teach-counted state line packet =
       telegrams = λ t is. record {
         unsays = λ asked account is e. absurd (no_line line e);
         reads = λ known read e. absurd (other-line (Reading read) line (λ never. never) e);
-        admits = λ hears eep maker e. refl;
+        admits = λ hears eep maker known planned e. refl;
         deletes = λ learning asks e. refl;
         refuses = λ hears need line is e. refl;
       };
@@ -110,7 +110,7 @@ teach-told state packet =
       telegrams = λ t is. record {
         unsays = λ asked account is e. absurd cc;
         reads = λ known read e. absurd cc;
-        admits = λ hears eep maker e.
+        admits = λ hears eep maker known planned e.
             (told_of (record { id = t.sender; eep = eep; maker = maker; label = [] }) Accepted, append-nil _);
         deletes = λ learning asks e. (line_with t.sender (teach_in_of t) Deleted, append-nil _);
         refuses = λ hears need line is e. (line, append-nil _);
@@ -159,7 +159,7 @@ has-account state packet =
       telegrams = λ t is. record {
         unsays = λ asked account is. (account, refl, ignoring-says account.why is);
         reads = λ known line. (_, refl, (line, refl));
-        admits = λ hears eep maker. (_, refl, (_, refl, refl));
+        admits = λ hears eep maker known planned. (_, refl, (_, refl, refl));
         deletes = λ learning asks. (_, refl, (_, refl, refl));
         refuses = λ hears need line is. (_, refl, (line, refl, refl));
       };

@@ -22,7 +22,7 @@ use Rattle.teach_in.specs.declared.telegrams.Teach.{Teach}
 use Rattle.teach_in.specs.declared.telegrams.Teach.TheVariants as teach
 use Rattle.teach_in.specs.Profiles.{supported}
 use Rattle.teach_in.specs.Telegrams.{teach_in_of}
-use Rattle.teach_in.specs.Plans.{plan_of}
+use Rattle.teach_in.specs.Plans.{add, plan_of}
 use Rattle.teach_in.proofs.ForCallers.{either, LearnsByTold, Hears, AsksDeletion, Refuses, of_plan}
 use Rattle.json_lines.specs.declared.counts.Count.TheVariants as count
 use Rattle.json_lines.specs.declared.packet.Why.{Why}
@@ -122,7 +122,8 @@ pub record OfTelegram (P : Effect → Type 0) (state : State) (t : Telegram) : T
   pub unsays : (asked : Bool) (account : Account) → counted_as account.why ≡ count.Ignored → P (unsaid asked account)
   pub reads : (known : Device) (line : ReadingLine)
       → P (tells_of_packet NeedsStore (of_device known why.Read) (Reading line))
-  pub admits : Hears state.mode (teach_in_of t) → (eep : Eep) (maker : Option ℕ)
+  pub admits : Hears state.mode (teach_in_of t) → (eep : Eep) (maker : Option ℕ) (known : Bool)
+      → plan_of t state.mode known ≡ add t eep maker
       → P (accepts state (teach_in_of t) (record { id = t.sender; eep = eep; maker = maker; label = [] }))
   pub deletes : LearnsByTold state.mode → AsksDeletion (teach_in_of t) → P (deletes state (teach_in_of t) t.sender)
   pub refuses : Hears state.mode (teach_in_of t) → (need : Need) (line : TeachLine) → IsRefusal line.outcome
@@ -135,16 +136,17 @@ module _ (P : Effect → Type 0) (state : State) (t : Telegram) (each : OfTelegr
 
   of-plan : (asked known : Bool) → P (plan_effect state t asked (plan_of t state.mode known))
   of-plan asked known =
-      of_plan (λ plan. P (plan_effect state t asked plan)) t state.mode known (record {
-        silent = each.unsays asked _ (silent-ignores asked state.mode);
-        adds = λ hears eep maker.
+      of_plan (λ plan. plan_of t state.mode known ≡ plan → P (plan_effect state t asked plan)) t state.mode known
+      (record {
+        silent = λ planned. each.unsays asked _ (silent-ignores asked state.mode);
+        adds = λ hears eep maker planned.
             either P (is_full state.devices t.sender) _ _ (each.refuses hears NeedsStore _ tt)
-            (each.admits hears eep maker);
-        forgets = λ told asks. each.deletes told asks;
-        refuses = λ hears outcome is.
+            (each.admits hears eep maker known planned);
+        forgets = λ told asks planned. each.deletes told asks;
+        refuses = λ hears outcome is planned.
             each.refuses hears _ (line_with t.sender (teach_in_of t) outcome)
             (is-refusal t.sender (teach_in_of t) outcome is);
-      })
+      }) refl
 
   of-data : (known : Option Device) → P (case_effect state t (data_case known))
   of-data None = of-plan true false
@@ -192,11 +194,11 @@ sends-effect state order is = absurd cc
 pub record OfLine (P : Effect → Type 0) (state : State) (spelled : Result Order OrderFault) : Type 0 where
   pub denies : (name : ErrorName) → P (denied name)
   pub finds : (name : ErrorName) → P (tells NeedsStore (Error name ∷ []))
-  pub opens : (mode : Mode) → P (sets mode)
+  pub opens : (set : Mode) → ((eep : Eep) → set ≡ mode.LearnAs eep → spelled ≡ Ok (LearnAs eep)) → P (sets set)
   pub sends : (asked : Bool) (bytes : List ℕ) → P (sends_packet asked bytes)
   pub lists : P (tells NeedsStore (listing (all_of state.devices)))
   pub reports : P (tells NeedsMemory (StatusLine state.counts state.mode ∷ []))
-  pub adds : (known : Device) → P (learns known)
+  pub adds : (known : Device) → (spelled ≡ Ok (Add known.id known.eep)) × (known.maker ≡ None) → P (learns known)
   pub drops : (known : Device) → device_of state.devices known.id ≡ Some known → P (forgets known)
   pub relabels : (id : ℕ) (label : List ℕ) → spelled ≡ Ok (Label id label) → IsSome (device_of state.devices id)
       → P (labels id label)
@@ -234,13 +236,14 @@ module _ (P : Effect → Type 0) (state : State) where
 
   of-order : (order : Result Order OrderFault) → OfLine P state order → P (order_effect state order)
   of-order (Err fault) each = each.denies (error_of fault)
-  of-order (Ok LearnOn) each = each.opens _
-  of-order (Ok LearnOnAnswer) each = each.opens _
-  of-order (Ok (LearnAs eep)) each = of-supported each eep _ (each.opens _)
-  of-order (Ok LearnOff) each = each.opens _
+  of-order (Ok LearnOn) each = each.opens _ (λ eep is. absurd cc)
+  of-order (Ok LearnOnAnswer) each = each.opens _ (λ eep is. absurd cc)
+  of-order (Ok (LearnAs eep)) each = of-supported each eep _ (each.opens _ (λ given is. ap (λ e. Ok (LearnAs e)) cc))
+  of-order (Ok LearnOff) each = each.opens _ (λ eep is. absurd cc)
   of-order (Ok (Add id eep)) each =
       let known : Device = record { id = id; eep = eep; maker = None; label = [] } in
-      of-supported each eep _ (either P (is_full state.devices id) _ _ (each.finds error.Full) (each.adds known))
+      of-supported each eep _
+      (either P (is_full state.devices id) _ _ (each.finds error.Full) (each.adds known (refl, refl)))
   of-order (Ok (Remove id)) each =
       of-known each (device_of state.devices id) forgets
       (λ known has. each.drops known (device_of-known state.devices id known has))

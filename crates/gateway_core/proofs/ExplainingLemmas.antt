@@ -1,8 +1,9 @@
 -- The lines that explain packets are true.
 use Rattle.std.proofs.Common.{◌≡◌, ◌≢◌, inl, inr, ◌<◌, ℕ, Bool, true, false, List, [], ◌∷◌, Option, length}
 use Rattle.std.proofs.Common.{Some, None, refl, sym, ap, subst, ◌∙◌, arith, eqb-true, Result, Ok, Err}
-use Rattle.std.specs.Prelude.{◌==◌, ◌||◌, ◌&&◌, not, IsErr, if◌then◌else◌}
+use Rattle.std.specs.Prelude.{◌==◌, ◌⊎◌, ◌||◌, ◌&&◌, not, IsErr, if◌then◌else◌}
 use Rattle.std.proofs.lemmas.Bool.{eqb-false}
+use Rattle.std.proofs.lemmas.Bool.Decides.{eqb_tells}
 use Rattle.esp3_frames.specs.Packet.{Packet}
 use Rattle.erp1_telegrams.specs.declared.eep.Eep.{Eep}
 use Rattle.erp1_telegrams.specs.declared.telegram.TelegramFault.{TelegramFault}
@@ -29,15 +30,17 @@ use Rattle.teach_in.specs.Telegrams.{teach_in_of}
 use Rattle.teach_in.specs.Plans.{add, add_told, in_mode, is_learned_by, plan_asked, plan_of, row_of}
 use Rattle.teach_in.specs.Ute as ute
 use Rattle.teach_in.specs.Ute.{request_in, deletion, not_used}
-use Rattle.teach_in.proofs.ForCallers.{IsOpen, either, hears-open, of_plan}
+use Rattle.teach_in.proofs.ForCallers.{IsOpen, LearnsByTold, either, hears-open, of_plan}
 use Rattle.json_lines.specs.declared.packet.Why.{Why}
 use Rattle.json_lines.specs.declared.packet.Why.TheVariants as why
 use Rattle.gateway_core.specs.declared.account.Account.{Account}
-use Rattle.gateway_core.specs.Accounts.{because, eep_told, explanation, line_of, of_device}
+use Rattle.gateway_core.specs.Accounts.{because, destination_told, eep_told, explanation, line_of, of_device}
+use Rattle.gateway_core.specs.Accounts.{told_packet}
 use Rattle.gateway_core.specs.Accounts.{why_other, why_passed_over, why_silent}
 use Rattle.gateway_core.specs.Profiles.{read_by}
 use Rattle.gateway_core.specs.Responses.{response_from, response_in}
-use Rattle.gateway_core.specs.Explaining.{ExplanationsAreTrue, IsHeard, IsDataOf, Means, IsTeachIn}
+use Rattle.gateway_core.specs.Explaining.{DoesNotFit, ExplanationsAreTrue, IsHeard, IsDataOf, Means, IsTeachIn}
+use Rattle.gateway_core.specs.Explaining.{Shows}
 use Rattle.gateway_core.specs.Step.{State, Effect, case_effect, case_of, data_case, kind_case}
 use Rattle.gateway_core.specs.Step.{PassedOver, other_effect, packet_by, packet_effect, plan_effect}
 use Rattle.gateway_core.specs.Step.{accepts, reading_effect, tells_sender, told_of, unsaid}
@@ -185,7 +188,31 @@ module _ (t : Telegram) where
   speaks known teach.Plain is e = absurd is
   speaks known teach.Answer is e = absurd is
 
+  -- in the mode for one sender nothing is planned if the desk's profile does not fit
+  given-silent : (a b : ℕ) (known : Device) → (if a == b then Add known else Silent) ≡ Silent → a ≢ b
+  given-silent a b known = by (a == b) refl
+    where
+      by : (c : Bool) → (a == b) ≡ c → (if c then Add known else Silent) ≡ Silent → a ≢ b
+      by true is e = absurd cc
+      by false is e = eqb-false a b is
+
+  does-not-fit : (known : Bool) (kind : Teach) (eep : Eep) → IsTeachIn kind → (row_of t known kind).given eep ≡ Silent
+      → DoesNotFit eep kind
+  does-not-fit known teach.Contact eep is e = given-silent eep.rorg 0xD5 _ e
+  does-not-fit known teach.Bare eep is e = given-silent eep.rorg 0xA5 _ e
+  does-not-fit known (teach.FourByte query) eep is e = given-silent eep.rorg 0xA5 _ e
+  does-not-fit known (teach.Ute query) eep is e = tt
+  does-not-fit known teach.Plain eep is e = absurd is
+  does-not-fit known teach.Answer eep is e = absurd is
+
 -- ---- a telegram
+
+not-closed : (now : Mode) → IsOpen now → now ≢ mode.Closed
+not-closed now is_open closed = subst IsOpen closed is_open
+
+told-open : (now : Mode) → LearnsByTold now → now ≢ mode.Closed
+told-open now (inl is) closed = absurd (let e = sym is ∙ closed in cc)
+told-open now (inr is) closed = absurd (let e = sym is ∙ closed in cc)
 
 others : (a b c : Bool) → (a || not (b || c)) ≡ true → a ≡ false → (b ≡ false) × (c ≡ false)
 others true b c is isnt = absurd cc
@@ -210,15 +237,15 @@ module _ (state : State) (packet : Packet) (t : Telegram) (carried : telegram_of
           (t, carried, eqb-false t.sender 0xFFFF_FFFF is, eqb-false t.dest 0xFFFF_FFFF both.0, both.1, (refl, refl))
 
   module _ (heard : IsHeard state packet t) where
-    refused : (outcome : Outcome) → RefusalMeans (teach_in_of t) outcome
+    refused : (outcome : Outcome) → RefusalMeans (teach_in_of t) outcome → state.mode ≢ mode.Closed
         → (change : (packet_effect state packet).change ≡ None)
         → Means state packet (because (why.Told outcome)) (why.Told outcome)
-    refused Unsupported means change = (t, means.0, heard, means.1, means.2, change, (refl, refl))
-    refused General means change = (t, means.0, heard, means.1, means.2, change, (refl, refl))
-    refused NoProfile means change = (t, heard, means, change, (refl, refl))
-    refused Accepted means change = absurd means
-    refused Deleted means change = absurd means
-    refused Full means change = absurd means
+    refused Unsupported means opened change = (t, means.0, heard, opened, means.1, means.2, change, (refl, refl))
+    refused General means opened change = (t, means.0, heard, opened, means.1, means.2, change, (refl, refl))
+    refused NoProfile means opened change = (t, heard, opened, means, change, (refl, refl))
+    refused Accepted means opened change = absurd means
+    refused Deleted means opened change = absurd means
+    refused Full means opened change = absurd means
 
     of-planned : (asked known : Bool)
         → (plan_of t state.mode known ≡ Silent → Truth state packet (plan_effect state t asked Silent))
@@ -231,12 +258,16 @@ module _ (state : State) (packet : Packet) (t : Telegram) (carried : telegram_of
               let device : Device = record { id = t.sender; eep = eep; maker = maker; label = [] } in
               let is_open = hears-open state.mode (teach_in_of t) hears in
               by-room device (is_full state.devices t.sender) refl refl is_open;
-          forgets = λ told (query, asks, wants) is change.
-              (because (why.Told Deleted), refl, (t, query, heard, asks, wants, change, (refl, refl)));
+          forgets = λ told (query, asks, wants) is change. (
+            because (why.Told Deleted),
+            refl,
+            (t, query, heard, told-open state.mode told, asks, wants, change, (refl, refl)),
+          );
           refuses = λ hears outcome cause is change. (
             because (why.Told outcome),
             refl,
-            refused outcome (refuse-means t known (teach_in_of t) state.mode outcome is) change,
+            refused outcome (refuse-means t known (teach_in_of t) state.mode outcome is)
+                (not-closed state.mode (hears-open state.mode (teach_in_of t) hears)) change,
           );
         }) refl
       where
@@ -245,7 +276,7 @@ module _ (state : State) (packet : Packet) (t : Telegram) (carried : telegram_of
             → Truth state packet (if full then tells_sender state (teach_in_of t) (told_of device Full)
             else accepts state (teach_in_of t) device)
         by-room device true is same is_open change =
-            (because (why.Told Full), refl, (t, heard, is, change, (refl, refl)))
+            (because (why.Told Full), refl, (t, heard, not-closed state.mode is_open, is, change, (refl, refl)))
         by-room device false is same is_open change = (
           of_device device (why.Told Accepted),
           refl,
@@ -254,7 +285,7 @@ module _ (state : State) (packet : Packet) (t : Telegram) (carried : telegram_of
             device,
             heard,
             same,
-            (λ closed. subst IsOpen closed is_open),
+            not-closed state.mode is_open,
             change,
             (refl, refl),
           ),
@@ -268,8 +299,11 @@ module _ (state : State) (packet : Packet) (t : Telegram) (carried : telegram_of
         by : (mode : Mode) → state.mode ≡ mode → in_mode (row_of t known (teach_in_of t)) mode ≡ Silent
             → Truth state packet (unsaid false (because (why_silent false mode)))
         by mode.Closed is silent change = (because why.WindowClosed, refl, (t, heard, teaches, is, (refl, refl)))
-        by (mode.LearnAs eep) is silent change =
-            (because why.OtherMode, refl, (t, heard, teaches, (eep, is), (refl, refl)))
+        by (mode.LearnAs eep) is silent change = (
+          because why.OtherMode,
+          refl,
+          (t, heard, teaches, (eep, is, does-not-fit t known (teach_in_of t) eep teaches silent), (refl, refl)),
+        )
         by mode.Learn is silent change = absurd (speaks t known (teach_in_of t) teaches silent)
         by mode.LearnAnswer is silent change = absurd (speaks t known (teach_in_of t) teaches silent)
 
@@ -325,11 +359,41 @@ of-packet : (state : State) (packet : Packet) (telegram : Result Telegram Telegr
 of-packet state packet (Ok t) is = of-telegram state packet t is
 of-packet state packet (Err fault) is = of-other state packet fault is
 
+-- ---- the line
+
+shown-destination : (t : Telegram) → ((t.dest ≡ 0xFFFF_FFFF) × (destination_told t.dest ≡ None))
+    ⊎ ((t.dest ≢ 0xFFFF_FFFF) × (destination_told t.dest ≡ Some t.dest))
+shown-destination t = elim (eqb_tells t.dest 0xFFFF_FFFF) [
+  | inl (test, is) ↦ inl (is, ap (λ b. if b then None else Some t.dest) test)
+  | inr (test, other) ↦ inr (other, ap (λ b. if b then None else Some t.dest) test)
+]
+
+shows : (packet : Packet) (account : Account) (carried : Result Telegram TelegramFault) → telegram_of packet ≡ carried
+    → Shows packet account (told_packet packet carried account)
+shows packet account (Ok t) is = (
+  t,
+  is,
+  record {
+    id = refl;
+    dest = shown-destination t;
+    dbm = refl;
+    rorg = refl;
+    payload = refl;
+    status = refl;
+    eep = refl;
+    maker = refl;
+  },
+)
+shows packet account (Err fault) is = (subst IsErr (sym is) refl, refl, refl)
+
 pub explanations_are_true : ExplanationsAreTrue
 explanations_are_true state packet =
     let (account, is, means) = of-packet state packet (telegram_of packet) refl refl in
     record {
       account = account;
+      line = line_of packet account;
       explained = ap (λ o. explanation (option_map (line_of packet) o)) is;
+      word = refl;
+      shows = shows packet account (telegram_of packet) refl;
       means = means;
     }

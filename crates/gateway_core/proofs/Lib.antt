@@ -1,4 +1,5 @@
 pub mod BeginningLemmas
+pub mod ByteLemmas
 pub mod CallLemmas
 pub mod CountLemmas
 pub mod DeviceLemmas
@@ -6,10 +7,12 @@ pub mod EffectLemmas
 pub mod EventLemmas
 pub mod ExplainingLemmas
 pub mod ForCallers
+pub mod HeldLemmas
 pub mod LifeLemmas
 pub mod LongLineLemmas
 pub mod PrefixLemmas
 pub mod QueryLemmas
+pub mod RangeLemmas
 pub mod RestLemmas
 pub mod RunLemmas
 pub mod StopLemmas

@@ -25,7 +25,7 @@ same_key q = grind (arith, nat_tests)
 other_key : (q a : ℕ) → a ≢ q → eq_by_cmp nat_cmp q a ≡ false
 other_key q a h = grind (arith, nat_tests)
 
-get-entered : (devices : Devices) (id : ℕ) (o : Option Learned) (q : ℕ)
+pub get-entered : (devices : Devices) (id : ℕ) (o : Option Learned) (q : ℕ)
     → get (entered devices id o) q ≡ cond (eq_by_cmp nat_cmp q id) o (get devices q)
 get-entered devices id (Some it) q = get-insert nat_cmp_total devices id it q
 get-entered devices id None q = get-remove nat_cmp_total devices id q
@@ -111,7 +111,7 @@ item-promises state item =
       telegrams = λ t carried. record {
         unsays = λ asked account is change e. absurd cc;
         reads = λ known line change e. absurd cc;
-        admits = λ hears eep maker change e. asked _ (_, refl, refl, refl) change e;
+        admits = λ hears eep maker known planned change e. asked _ (_, refl, refl, refl) change e;
         deletes = λ learning asks change e. asked (forgotten t.sender) refl change e;
         refuses = λ hears need line is change e. absurd cc;
       };
@@ -121,11 +121,11 @@ item-promises state item =
     (λ line. record {
       denies = λ name change e. absurd cc;
       finds = λ name change e. absurd cc;
-      opens = λ mode change e. absurd cc;
+      opens = λ mode is change e. absurd cc;
       sends = λ asked bytes change e. absurd cc;
       lists = λ change e. absurd cc;
       reports = λ change e. absurd cc;
-      adds = λ known change e. asked (learned known) (_, refl, refl, refl) change e;
+      adds = λ known is change e. asked (learned known) (_, refl, refl, refl) change e;
       drops = λ known is change e. asked (forgotten known.id) refl change e;
       relabels = λ id label is known change e.
           asked (relabelled id label) (labelled (get state.devices id) id label known) change e;

@@ -78,7 +78,7 @@ packet-replies state packet bytes =
           reply-is state t state.mode (teach_in_of t) outcome bytes refl refl in record {
             unsays = λ asked account is e. absurd cc;
             reads = λ known line e. absurd cc;
-            admits = λ hears eep maker e.
+            admits = λ hears eep maker learned planned e.
                 let known : Device = record { id = t.sender; eep = eep; maker = maker; label = [] } in
                 (t, carried, told_of known Accepted, append-nil _, replies Accepted hears e);
             deletes = λ learning (query, asked, wants) e.
@@ -98,11 +98,11 @@ line-sends state bytes line =
     of_line (λ e. e.radio ≡ Some bytes → texts e.desk ≡ text Done) state line (record {
       denies = λ name e. absurd cc;
       finds = λ name e. absurd cc;
-      opens = λ mode e. absurd cc;
+      opens = λ mode is e. absurd cc;
       sends = λ asked sent_as e. append-nil _;
       lists = λ e. absurd cc;
       reports = λ e. absurd cc;
-      adds = λ known e. absurd cc;
+      adds = λ known is e. absurd cc;
       drops = λ known is e. absurd cc;
       relabels = λ id label is known e. absurd cc;
     })

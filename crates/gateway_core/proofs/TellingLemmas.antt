@@ -118,7 +118,7 @@ packet-tells state line packet =
       telegrams = λ t carried. record {
         unsays = λ asked account is e. absurd (no_line line e);
         reads = λ known read e. absurd (other-line (Reading read) line (λ never. never) e);
-        admits = λ hears eep maker e.
+        admits = λ hears eep maker learned planned e.
             let known : Device = record { id = t.sender; eep = eep; maker = maker; label = [] } in
             told Gone line (accepts state (teach_in_of t) known) known Accepted e (λ is. (known, is, refl));
         deletes = λ learning asks e. deleted-tells state packet t line carried asks e;
@@ -138,11 +138,11 @@ line-tells state line ordered =
     of_line (λ e. texts e.desk ≡ text (Teach line) → Tells Gone e line line.outcome) state ordered (record {
       denies = λ name e. absurd (other-line (Error name) line (λ never. never) e);
       finds = λ name e. absurd (other-line (Error name) line (λ never. never) e);
-      opens = λ mode e. absurd (other-line Done line (λ never. never) e);
+      opens = λ mode is e. absurd (other-line Done line (λ never. never) e);
       sends = λ asked bytes e. absurd (other-line Done line (λ never. never) e);
       lists = λ e. absurd (listing-other (all_of state.devices) line e);
       reports = λ e. absurd (other-line (StatusLine state.counts state.mode) line (λ never. never) e);
-      adds = λ known e. told Gone line (learns known) known Accepted e (λ is. (known, is, refl));
+      adds = λ known spells e. told Gone line (learns known) known Accepted e (λ is. (known, is, refl));
       drops = λ known has e. told Gone line (forgets known) known Deleted e (λ is. (known, is, has, refl));
       relabels = λ id label is known e. absurd (other-line Done line (λ never. never) e);
     })
@@ -175,7 +175,7 @@ packet-answers state packet change =
       telegrams = λ t carried. record {
         unsays = λ asked account is e. absurd cc;
         reads = λ known line e. absurd cc;
-        admits = λ hears eep maker e.
+        admits = λ hears eep maker learned planned e.
             let known : Device = record { id = t.sender; eep = eep; maker = maker; label = [] } in
             (told_of known Accepted, append-nil _, (known, refl, refl));
         deletes = λ learning asks e. deleted-answers state packet t carried asks;
@@ -199,11 +199,11 @@ line-answers state line change =
     of_line (λ e. e.change ≡ Some change → Answers Gone e ⊎ Labels state line e change) state line (record {
       denies = λ name e. absurd cc;
       finds = λ name e. absurd cc;
-      opens = λ mode e. absurd cc;
+      opens = λ mode is e. absurd cc;
       sends = λ asked bytes e. absurd cc;
       lists = λ e. absurd cc;
       reports = λ e. absurd cc;
-      adds = λ known e. inl (told_of known Accepted, append-nil _, (known, refl, refl));
+      adds = λ known spells e. inl (told_of known Accepted, append-nil _, (known, refl, refl));
       drops = λ known is e. inl (told_of known Deleted, append-nil _, (known, refl, is, refl));
       relabels = λ id label is known e.
           inr (id, label, is, known, ap (λ o. unwrap_or o change) (sym e), append-nil _);

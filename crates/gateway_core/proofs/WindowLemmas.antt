@@ -51,7 +51,7 @@ packet-changes state packet =
       telegrams = λ t carried. record {
         unsays = λ asked account is. inr (inr (refl, refl));
         reads = λ known line. inr (inr (refl, refl));
-        admits = λ hears eep maker.
+        admits = λ hears eep maker learned planned.
             let known : Device = record { id = t.sender; eep = eep; maker = maker; label = [] } in
             let learning = hears-open state.mode (teach_in_of t) hears in
             inl (t, carried, known, refl, refl, not-closed state.mode learning, hears, refl);

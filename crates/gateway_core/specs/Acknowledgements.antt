@@ -1,16 +1,17 @@
 -- What a teach line acknowledged is so in every later life.
-use Rattle.std.specs.Prelude.{◌≡◌, ◌⊎◌, length, List, ◌∷◌, ◌++◌}
+use Rattle.std.specs.Prelude.{◌≡◌, ◌⊎◌, length, List, ◌∷◌, ◌++◌, Some}
 use Rattle.std.specs.List.{AllByRecursion}
 use Rattle.std.specs.FinMap.{get}
 use Rattle.learned_devices.specs.declared.Device.{Device}
-use Rattle.device_registry.specs.Devices.{Devices, Change, learned, forgotten}
-use Rattle.teach_in.specs.declared.outcome.Outcome.{Outcome}
+use Rattle.device_registry.specs.Devices.{Devices}
 use Rattle.teach_in.specs.declared.outcome.Outcome.TheVariants.{Accepted, Deleted}
-use Rattle.json_lines.specs.Lines.{Teach, TeachLine, text}
-use Rattle.gateway_core.specs.Step.{State, Item, Answer, state_after, told_of}
-use Rattle.gateway_core.specs.Run.{Fate}
-use Rattle.gateway_core.specs.Lives.{AreLives, IsLife, Life, LifeSpares, Spares, StopSpares}
+use Rattle.json_lines.specs.Lines.{HasNumbersInRange, Teach, TeachLine, text}
+use Rattle.gateway_core.specs.Step.{State, Item, Answer, change_of, state_after, told_of}
+use Rattle.gateway_core.specs.Run.{Fate, Run, Taken}
+use Rattle.gateway_core.specs.Lives.{AreLives, IsLife, Life, LifeSpares, Spares, StopSpares, begun}
 use Rattle.gateway_core.specs.Promises.{Promises}
+use Rattle.gateway_core.specs.Ranges.{AreInRange, IsDeviceInRange, IsOfBytes}
+use Rattle.gateway_core.specs.Telling.{acknowledged_change}
 
 -- at one place, a life answered an item with this teach line
 pub record Acknowledges (life : Life) (line : TeachLine) : Type 0 where
@@ -30,22 +31,25 @@ pub record Acknowledges (life : Life) (line : TeachLine) : Type 0 where
   pub as_many_answers : length before ≡ length answers
   pub told : answer.desk ≡ text (Teach line)
 
--- the change that a line acknowledges which says `accepted` or `deleted`
-abbrev pub acknowledged_change : Outcome → Device → Change
-acknowledged_change Accepted known = learned known
-acknowledged_change outcome known = forgotten known.id
-
--- The line has the text of that of this device. Every later life finds the acknowledged change, until an item changes
--- that sender otherwise, whether the item is taken, refused at its write, or interrupted by a crash.
+-- The item asks for the acknowledged change, of this device, from what the run made of the items before it. The line has
+-- the text of the line of this device. Every later life finds the change, until an item changes that sender otherwise,
+-- whether the item is taken, refused at its write, or interrupted by a crash. If the devices found are in range and the
+-- data of packets are bytes, the device is in range; and a line in range is the line of this device.
 pub record IsDurable (life : Life) (line : TeachLine) (answered : Acknowledges life line) : Type 0 where
   pub at : State
   pub known : Device
+  pub run : Run (begun life.base life.found) answered.before answered.fates answered.answers at
+  pub taken : answered.fate ≡ Taken
+  pub asks : change_of at answered.item ≡ Some (acknowledged_change line.outcome known)
   pub same_text : text (Teach line) ≡ text (Teach (told_of known line.outcome))
   pub keeps : Spares (acknowledged_change line.outcome known) (state_after at answered.item) answered.after answered.more
       → StopSpares (acknowledged_change line.outcome known) life.last life.stopped
       → (lives : List Life) (last : Devices) → AllByRecursion (LifeSpares (acknowledged_change line.outcome known)) lives
       → AreLives life.left lives last
       → Promises (acknowledged_change line.outcome known).deed (get last (acknowledged_change line.outcome known).sender)
+  pub in_range : AreInRange life.found → AllByRecursion IsOfBytes life.items → IsDeviceInRange known
+  pub line_is : AreInRange life.found → AllByRecursion IsOfBytes life.items → HasNumbersInRange line
+      → line ≡ told_of known line.outcome
 
 abbrev pub AcknowledgedIsDurable : Type 0
 AcknowledgedIsDurable = (life : Life) (line : TeachLine) → IsLife life → (answered : Acknowledges life line)

@@ -1,6 +1,7 @@
 -- What the word of an explanation means, of the packet and of what was known; and which profile and maker it shows.
 use Rattle.std.specs.Prelude.{◌≡◌, ◌≢◌, ◌⊎◌, ◌<◌, ⊤, false, true, length, List, [], IsErr, Option, Some, None}
 use Rattle.std.specs.Prelude.{Ok, Err}
+use Rattle.std.specs.Option.{option_or}
 use Rattle.esp3_frames.specs.Packet.{Packet}
 use Rattle.erp1_telegrams.specs.declared.eep.Eep.{Eep}
 use Rattle.erp1_telegrams.specs.Address.{is_own, is_passed_over}
@@ -22,8 +23,12 @@ use Rattle.teach_in.specs.Ute.{request_in, deletion, not_used}
 use Rattle.json_lines.specs.declared.packet.Why.{Why}
 use Rattle.json_lines.specs.declared.packet.Why.TheVariants as why
 use Rattle.json_lines.specs.PacketLines.{packet_text}
+use Rattle.json_lines.specs.ToldTelegram.{ToldTelegram}
+use Rattle.json_lines.specs.declared.packet.PacketLine.{PacketLine}
+use Rattle.json_lines.specs.declared.packet.ToldPacket.{ToldPacket}
+use Rattle.json_lines.specs.declared.packet.ToldPacket.TheVariants as told
 use Rattle.gateway_core.specs.declared.account.Account.{Account}
-use Rattle.gateway_core.specs.Accounts.{eep_told, line_of}
+use Rattle.gateway_core.specs.Accounts.{eep_told, maker_told}
 use Rattle.gateway_core.specs.Profiles.{read_by}
 use Rattle.gateway_core.specs.Step.{State, Received, answer_to, change_of}
 
@@ -46,10 +51,18 @@ pub record IsDataOf (state : State) (packet : Packet) (t : Telegram) (known : De
   pub data_alone : teach_in_of t ≡ Plain
   pub is_known : device_of state.devices t.sender ≡ Some known
 
--- the line shows the profile and the maker of this device; without one it shows only those of a query, if there is one
+-- the account has the profile and the maker of this device, or of none
 abbrev pub NamesDevice : Account → Option Device → Type 0
 NamesDevice account None = (account.eep ≡ None) × (account.maker ≡ None)
 NamesDevice account (Some known) = (account.eep ≡ Some known.eep) × (account.maker ≡ known.maker)
+
+-- the desk's profile does not fit a telegram of teach-in, by its RORG; of UTE queries it fits none
+abbrev pub DoesNotFit : Eep → Teach → Type 0
+DoesNotFit eep Contact = eep.rorg ≢ 0xD5
+DoesNotFit eep Bare = eep.rorg ≢ 0xA5
+DoesNotFit eep (FourByte query) = eep.rorg ≢ 0xA5
+DoesNotFit eep (Ute query) = ⊤
+DoesNotFit eep kind = ⊥
 
 -- data of a learned device that its profile does not read, for one of these faults
 abbrev pub IsUnreadable : State → Packet → Account → (Unreadable → Type 0) → Type 0
@@ -57,7 +70,7 @@ IsUnreadable state packet account Why =
     (t : Telegram) × (known : Device) × (fault : Unreadable) × IsDataOf state packet t known
     × (read_by known.eep t ≡ Err fault) × Why fault × NamesDevice account (Some known)
 
--- what the word means, and which profile and maker are shown
+-- what the word means, and of which device the account has the profile and the maker
 abbrev pub Means : State → Packet → Account → Why → Type 0
 Means state packet account why.Refused = ⊥
 Means state packet account why.Response =
@@ -77,7 +90,7 @@ Means state packet account why.WindowClosed =
     (t : Telegram) × IsHeard state packet t × IsTeachIn (teach_in_of t) × (state.mode ≡ Closed) × NamesDevice account None
 Means state packet account why.OtherMode =
     (t : Telegram) × IsHeard state packet t × IsTeachIn (teach_in_of t)
-    × ((eep : Eep) × (state.mode ≡ LearnAs eep)) × NamesDevice account None
+    × ((eep : Eep) × (state.mode ≡ LearnAs eep) × DoesNotFit eep (teach_in_of t)) × NamesDevice account None
 Means state packet account why.UnknownSender =
     (t : Telegram) × IsHeard state packet t × (teach_in_of t ≡ Plain) × (device_of state.devices t.sender ≡ None)
     × NamesDevice account None
@@ -92,26 +105,47 @@ Means state packet account (why.Told Accepted) =
     (t : Telegram) × (known : Device) × IsHeard state packet t × (known.id ≡ t.sender) × (state.mode ≢ Closed)
     × (change_of state (Received packet) ≡ Some (learned known)) × NamesDevice account (Some known)
 Means state packet account (why.Told Deleted) =
-    (t : Telegram) × (query : UteQuery) × IsHeard state packet t × (teach_in_of t ≡ Ute query)
+    (t : Telegram) × (query : UteQuery) × IsHeard state packet t × (state.mode ≢ Closed) × (teach_in_of t ≡ Ute query)
     × (request_in query ≡ deletion) × (change_of state (Received packet) ≡ Some (forgotten t.sender))
     × NamesDevice account None
 Means state packet account (why.Told Full) =
-    (t : Telegram) × IsHeard state packet t × (is_full state.devices t.sender ≡ true)
+    (t : Telegram) × IsHeard state packet t × (state.mode ≢ Closed) × (is_full state.devices t.sender ≡ true)
     × (change_of state (Received packet) ≡ None) × NamesDevice account None
 Means state packet account (why.Told Unsupported) =
-    (t : Telegram) × (eep : Eep) × IsHeard state packet t × (eep_told (teach_in_of t) ≡ Some eep)
+    (t : Telegram) × (eep : Eep) × IsHeard state packet t × (state.mode ≢ Closed) × (eep_told (teach_in_of t) ≡ Some eep)
     × (supported eep ≡ false) × (change_of state (Received packet) ≡ None) × NamesDevice account None
 Means state packet account (why.Told General) =
-    (t : Telegram) × (query : UteQuery) × IsHeard state packet t × (teach_in_of t ≡ Ute query)
+    (t : Telegram) × (query : UteQuery) × IsHeard state packet t × (state.mode ≢ Closed) × (teach_in_of t ≡ Ute query)
     × (request_in query ≡ not_used) × (change_of state (Received packet) ≡ None) × NamesDevice account None
 Means state packet account (why.Told NoProfile) =
-    (t : Telegram) × IsHeard state packet t × (teach_in_of t ≡ Bare) × (change_of state (Received packet) ≡ None)
+    (t : Telegram) × IsHeard state packet t × (state.mode ≢ Closed) × (teach_in_of t ≡ Bare) × (change_of state (Received packet) ≡ None)
     × NamesDevice account None
 
--- a packet that is taken is explained by the line of an account whose word is true
+-- A telegram is shown with its parts. Its profile and maker are those of its query, if it is one, and otherwise those of
+-- the account.
+pub record IsShown (t : Telegram) (account : Account) (shown : ToldTelegram) : Type 0 where
+  pub id : shown.id ≡ t.sender
+  pub dest : ((t.dest ≡ 0xFFFF_FFFF) × (shown.dest ≡ None)) ⊎ ((t.dest ≢ 0xFFFF_FFFF) × (shown.dest ≡ Some t.dest))
+  pub dbm : shown.dbm ≡ t.dbm
+  pub rorg : shown.rorg ≡ t.rorg
+  pub payload : shown.payload ≡ t.payload
+  pub status : shown.status ≡ t.status
+  pub eep : shown.eep ≡ option_or (eep_told (teach_in_of t)) account.eep
+  pub maker : shown.maker ≡ option_or (maker_told (teach_in_of t)) account.maker
+
+-- the line shows the telegram that the packet carries, or the packet's type and the length of its data
+abbrev pub Shows : Packet → Account → ToldPacket → Type 0
+Shows packet account (told.Telegram shown) = (t : Telegram) × (telegram_of packet ≡ Ok t) × IsShown t account shown
+Shows packet account (told.Other kind size) =
+    IsErr (telegram_of packet) × (kind ≡ packet.kind) × (size ≡ length packet.body)
+
+-- a packet that is taken is explained by a line that shows it, with a word that is true
 pub record IsTrulyExplained (state : State) (packet : Packet) : Type 0 where
   pub account : Account
-  pub explained : (answer_to state (Received packet)).explained ≡ packet_text (line_of packet account)
+  pub line : PacketLine
+  pub explained : (answer_to state (Received packet)).explained ≡ packet_text line
+  pub word : line.why ≡ account.why
+  pub shows : Shows packet account line.packet
   pub means : Means state packet account account.why
 
 abbrev pub ExplanationsAreTrue : Type 0

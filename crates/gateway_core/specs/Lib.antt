@@ -11,6 +11,7 @@ pub mod Promises
 pub mod Lives
 pub mod Prefixes
 pub mod Telling
+pub mod Ranges
 pub mod Acknowledgements
 pub mod Accounts
 pub mod Beginnings

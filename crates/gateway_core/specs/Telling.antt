@@ -43,6 +43,11 @@ Tells Gone e line Deleted =
     × Gone known × (e.change ≡ Some (forgotten known.id))
 Tells Gone e line outcome = (e.change ≡ None) × (e.mode ≡ None)
 
+-- the change that a line with `accepted` or `deleted` tells of this device
+abbrev pub acknowledged_change : Outcome → Device → Change
+acknowledged_change Accepted known = learned known
+acknowledged_change outcome known = forgotten known.id
+
 -- a teach line is told only where the item is taken, and of what it does
 abbrev pub TeachLinesAreTold : Type 0
 TeachLinesAreTold = (state : State) (item : Item) (fate : Fate) (line : TeachLine)

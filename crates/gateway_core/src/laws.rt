@@ -11,6 +11,8 @@ ghost use Rattle.gateway_core.specs.Explaining.{ExplanationsAreTrue};
 ghost use Rattle.gateway_core.specs.Handling.{Handles, KnowsState, HandlerValue};
 ghost use Rattle.gateway_core.specs.Lives.{LivesKeep};
 ghost use Rattle.gateway_core.specs.Prefixes.{LeftIsPrefix, SafeIsPrefix, ToldStandBefore};
+ghost use Rattle.gateway_core.specs.Ranges.{ItemsAreOfBytes, LeavesInRange, RegistriesAreInRange, StaysInRange};
+ghost use Rattle.gateway_core.specs.Ranges.{TellsInRange};
 ghost use Rattle.gateway_core.specs.Run.{RefusalsAreCounted, SameRefusals};
 ghost use Rattle.gateway_core.specs.Step.{Answer, Item};
 ghost use Rattle.gateway_core.specs.Stops.{IsOneOf, SafeJoins};
@@ -118,9 +120,25 @@ pub fn lives_keep()
 {}
 
 /// What a line acknowledged with `accepted` or `deleted` is so in every later life, until an item changes that sender
-/// otherwise.
+/// otherwise. If the devices found are in range and the data of packets are bytes, the device is in range; and a line in
+/// range is the line of this device.
 pub fn acknowledged_is_durable()
     ensures { AcknowledgedIsDurable }
+{}
+
+/// If what is known is in range and the data of each packet are bytes, it stays in range, a life leaves devices in
+/// range, and a teach line with `accepted` or `deleted` has the text of that of a device in range. The data of each
+/// packet are bytes if the stream is one of bytes.
+pub fn numbers_stay_in_range()
+    ensures items { ItemsAreOfBytes }
+    ensures stays { StaysInRange }
+    ensures leaves { LeavesInRange }
+    ensures tells { TellsInRange }
+{}
+
+/// The devices that a registry holds are in range, and so are those that a stop may leave and those that an open finds.
+pub fn registries_are_in_range<C: SqlConnection>()
+    ensures { RegistriesAreInRange C.state }
 {}
 
 /// What a stop may leave is what was known after a first part of the items, perhaps with the change of the next one,

@@ -1,0 +1,136 @@
+-- Numbers that are read of bits and of bytes, and the packets of a stream of bytes.
+use Rattle.std.proofs.Common.{◌≡◌, ℕ, zero, suc, ◌*◌, ◌<◌, ◌≤◌, ◌^◌, List, [], ◌∷◌, ◌++◌, length, take, drop, map}
+use Rattle.std.proofs.Common.{sym, subst, arith, append_assoc, lit<}
+use Rattle.std.specs.Prelude.{slice_index}
+use Rattle.std.specs.Int.{w32, from_be_bytes}
+use Rattle.std.specs.List.{All, AllByRecursion}
+use Rattle.std.proofs.lemmas.Nat.{mul-le}
+use Rattle.std.proofs.Math.Nat.{pow-suc, pow-le-pow_right}
+use Rattle.bit_fields.specs.Bits.{byte_bits, bits, number, field}
+use Rattle.esp3_frames.specs.Check.{check}
+use Rattle.esp3_frames.specs.Packet.{Packet, IsPacket, header}
+use Rattle.esp3_frames.specs.Frames.{packets_in}
+use Rattle.esp3_frames.specs.Framing.{Framing}
+use Rattle.esp3_frames.specs.Framing.Framing.{ends, skips, finds}
+use Rattle.esp3_frames.proofs.ForCallers.{framing_of}
+use Rattle.gateway_core.specs.Step.{Item, Received}
+use Rattle.gateway_core.specs.Events.{Piece, Line, brought, bytes_in, items_of}
+use Rattle.gateway_core.specs.Ranges.{IsOfBytes, ItemsAreOfBytes}
+
+-- ---- a field of so many bits is below the power of two
+
+-- each is 0 or 1
+abbrev AreBits : List ℕ → Type 0
+AreBits [] = Unit {0}
+AreBits (x ∷ xs) = (x < 2) × AreBits xs
+
+bits-are : (bytes : List ℕ) → AreBits (bits bytes)
+unfolding bits byte_bits
+bits-are [] = tt
+bits-are (b ∷ bytes) = (
+  omega arith,
+  (
+    omega arith,
+    (omega arith, (omega arith, (omega arith, (omega arith, (omega arith, (omega arith, bits-are bytes)))))),
+  ),
+)
+
+drop-bits : (k : ℕ) (xs : List ℕ) → AreBits xs → AreBits (drop k xs)
+drop-bits zero xs are = are
+drop-bits (suc k) [] are = tt
+drop-bits (suc k) (x ∷ xs) are = drop-bits k xs are.1
+
+take-bits : (k : ℕ) (xs : List ℕ) → AreBits xs → AreBits (take k xs)
+take-bits zero xs are = tt
+take-bits (suc k) [] are = tt
+take-bits (suc k) (x ∷ xs) are = (are.0, take-bits k xs are.1)
+
+take-few : (k : ℕ) (xs : List ℕ) → length (take k xs) ≤ k
+take-few zero xs = omega arith
+take-few (suc k) [] = omega arith
+take-few (suc k) (x ∷ xs) = omega (arith, take-few k xs)
+
+number-below : (xs : List ℕ) → AreBits xs → number xs < 2 ^ length xs
+unfolding number
+number-below [] are = lit< tt
+number-below (x ∷ xs) are =
+    let rest : number xs < 2 ^ length xs = number-below xs are.1 in
+    let twice : 2 ^ suc (length xs) ≡ 2 ^ length xs * 2 = pow-suc 2 (length xs) in
+    let first : x * 2 ^ length xs ≤ 1 * 2 ^ length xs =
+    mul-le x (2 ^ length xs) 1 (2 ^ length xs) (omega (arith, are.0)) (omega arith) in
+    rw twice (omega arith)
+
+pub field-below : (bytes : List ℕ) (offset len : ℕ) → field bytes offset len < 2 ^ len
+unfolding field
+field-below bytes offset len =
+    let part = take len (drop offset (bits bytes)) in
+    let below : number part < 2 ^ length part =
+    number-below part (take-bits len (drop offset (bits bytes)) (drop-bits offset (bits bytes) (bits-are bytes))) in
+    let few : length part ≤ len = take-few len (drop offset (bits bytes)) in
+    let up : 2 ^ length part ≤ 2 ^ len = pow-le-pow_right {n = 2} (omega arith) (omega arith) in
+    omega (arith, below, up)
+
+-- ---- bytes
+
+pub four-below : (id : List ℕ) → slice_index id 0 < 256 → slice_index id 1 < 256 → slice_index id 2 < 256
+    → slice_index id 3 < 256 → from_be_bytes w32 id < 2 ^ 32
+four-below id a b c d = omega (arith, a, b, c, d)
+
+-- they are bytes
+abbrev pub AreBytes : List ℕ → Type 0
+AreBytes = All (λ byte. byte < 256)
+
+pub front-bytes : (front behind : List ℕ) → AreBytes (front ++ behind) → AreBytes front
+front-bytes [] behind all k d inside = absurd (omega (arith, inside))
+front-bytes (x ∷ front) behind all zero d inside = all 0 d (omega arith)
+front-bytes (x ∷ front) behind all (suc k) d inside =
+    front-bytes front behind (λ i e h. all (suc i) e (omega (arith, h))) k d (omega (arith, inside))
+
+pub back-bytes : (front behind : List ℕ) → AreBytes (front ++ behind) → AreBytes behind
+back-bytes [] behind all = all
+back-bytes (x ∷ front) behind all = back-bytes front behind (λ k d h. all (suc k) d (omega (arith, h)))
+
+-- ---- a stream of bytes
+
+abbrev HasByteData : Packet → Type 0
+HasByteData packet = AreBytes packet.body
+
+found-bytes : (w front s : List ℕ) (p : Packet) → IsPacket p front → w ≡ front ++ s → AreBytes w
+    → HasByteData p × AreBytes s
+found-bytes w front s p whole is all =
+    let parts : AreBytes (front ++ s) = subst AreBytes is all in
+    let packet = subst AreBytes whole.bytes (front-bytes front s parts) in
+    let behind = back-bytes (0x55 ∷ header p ++ check (header p) ∷ []) (p.body ++ p.opt ++ check (p.body ++ p.opt) ∷ [])
+    packet in (
+      front-bytes p.body p.opt (front-bytes (p.body ++ p.opt) (check (p.body ++ p.opt) ∷ []) behind),
+      back-bytes front s parts,
+    )
+
+framed-bytes : {s : List ℕ} {ps : List Packet} {rest : List ℕ} → Framing s ps rest → AreBytes s
+    → AllByRecursion HasByteData ps
+framed-bytes (ends may) all = tt
+framed-bytes (skips never framing) all = framed-bytes framing (λ k d h. all (suc k) d (omega (arith, h)))
+framed-bytes (finds whole is framing) all =
+    let parts = found-bytes _ _ _ _ whole is all in (parts.0, framed-bytes framing parts.1)
+
+drop-packets : (n : ℕ) (packets : List Packet) → AllByRecursion HasByteData packets
+    → AllByRecursion HasByteData (drop n packets)
+drop-packets zero packets all = all
+drop-packets (suc n) [] all = tt
+drop-packets (suc n) (packet ∷ packets) all = drop-packets n packets all.1
+
+joined-items : (packets : List Packet) (items : List Item) → AllByRecursion HasByteData packets
+    → AllByRecursion IsOfBytes items → AllByRecursion IsOfBytes (map Received packets ++ items)
+joined-items [] items all more = more
+joined-items (packet ∷ packets) items all more = (all.0, joined-items packets items all.1 more)
+
+pub items_are_of_bytes : ItemsAreOfBytes
+items_are_of_bytes stream [] all = tt
+items_are_of_bytes stream (Piece bytes ∷ events) all =
+    let grouped : AreBytes ((stream ++ bytes) ++ bytes_in events) =
+    subst AreBytes (sym (append_assoc stream bytes (bytes_in events))) all in
+    joined-items (brought stream bytes) (items_of (stream ++ bytes) events)
+    (drop-packets (length (packets_in stream)) (packets_in (stream ++ bytes))
+    (framed-bytes (framing_of (stream ++ bytes)) (front-bytes (stream ++ bytes) (bytes_in events) grouped)))
+    (items_are_of_bytes (stream ++ bytes) events grouped)
+items_are_of_bytes stream (Line line ∷ events) all = (tt, items_are_of_bytes stream events all)

@@ -1,0 +1,81 @@
+-- The ranges of the numbers of devices: what is learned is in range, and so is the device that a teach line tells.
+use Rattle.std.specs.Prelude.{◌≡◌, ◌⊎◌, ℕ, ◌<◌, ◌^◌, List, ◌++◌, Some, IfSome, IsTrue}
+use Rattle.std.specs.List.{All, AllByRecursion}
+use Rattle.sqlite.specs.State.{State as Stored, HasCleanDisk}
+use Rattle.erp1_telegrams.specs.declared.eep.Eep.{Eep}
+use Rattle.learned_devices.specs.declared.Device.{Device}
+use Rattle.device_registry.specs.Devices.{Devices, device_of}
+use Rattle.device_registry.specs.Holding.{HasDevices, MayFind, Opens}
+use Rattle.teach_in.specs.declared.mode.Mode.{Mode}
+use Rattle.teach_in.specs.declared.mode.Mode.TheVariants.{LearnAs}
+use Rattle.teach_in.specs.declared.outcome.Outcome.TheVariants.{Accepted, Deleted}
+use Rattle.json_lines.specs.Lines.{HasNumbersInRange, Teach, TeachLine, text}
+use Rattle.gateway_core.specs.Step.{State, Item, Received, Ordered, Answer, change_of, told_of}
+use Rattle.gateway_core.specs.Run.{Fate, Run, answer_with}
+use Rattle.gateway_core.specs.Events.{Event, bytes_in, items_of}
+use Rattle.gateway_core.specs.Lives.{Life, IsLife}
+use Rattle.gateway_core.specs.Telling.{acknowledged_change}
+
+-- a profile has three bytes
+abbrev pub IsProfileInRange : Eep → Type 0
+IsProfileInRange eep = (eep.rorg < 256) × (eep.func < 256) × (eep.typ < 256)
+
+-- an ID has four bytes, and the number of a maker, if it is known, at most two
+abbrev pub IsDeviceInRange : Device → Type 0
+IsDeviceInRange known =
+    IsProfileInRange known.eep × (known.id < 2 ^ 32) × IfSome known.maker (λ maker. maker < 2 ^ 16)
+
+-- each learned device is in range
+abbrev pub AreInRange : Devices → Type 0
+AreInRange devices = (id : ℕ) → IfSome (device_of devices id) IsDeviceInRange
+
+-- What a registry holds while the disk has returned what was written, what a stop may leave of it, and what an open
+-- finds: these devices are in range.
+pub record RegistriesAreInRange {C : Type 0} (state : C → Stored) : Type 0 where
+  pub held : (c : C) (devices : Devices) → HasCleanDisk (state c) → IsTrue (state c).is_open
+      → HasDevices (state c) devices → AreInRange devices
+  pub left : (c : C) (devices : Devices) → MayFind (state c) devices → AreInRange devices
+  pub opened : (old new : C) (devices : Devices) → Opens (state old) (state new) devices → AreInRange devices
+
+-- the profile that the desk has given is in range
+abbrev pub IsModeInRange : Mode → Type 0
+IsModeInRange (LearnAs eep) = IsProfileInRange eep
+IsModeInRange mode = Unit {0}
+
+abbrev pub IsStateInRange : State → Type 0
+IsStateInRange state = AreInRange state.devices × IsModeInRange state.mode
+
+-- The data of a packet are bytes. A line needs no premise: whatever it is, the digits that are read in it spell bytes.
+abbrev pub IsOfBytes : Item → Type 0
+IsOfBytes (Received packet) = All (λ byte. byte < 256) packet.body
+IsOfBytes (Ordered line) = Unit {0}
+
+-- the packets of a stream of bytes are of bytes
+abbrev pub ItemsAreOfBytes : Type 0
+ItemsAreOfBytes = (stream : List ℕ) (events : List Event) → All (λ byte. byte < 256) (stream ++ bytes_in events)
+    → AllByRecursion IsOfBytes (items_of stream events)
+
+-- Items of bytes keep the state in range, whatever their fates.
+abbrev pub StaysInRange : Type 0
+StaysInRange = (old new : State) (items : List Item) (fates : List Fate) (answers : List Answer)
+    → Run old items fates answers new → AllByRecursion IsOfBytes items → IsStateInRange old → IsStateInRange new
+
+-- A life with items of bytes leaves devices in range, if those that it found were in range.
+abbrev pub LeavesInRange : Type 0
+LeavesInRange = (life : Life) → IsLife life → AreInRange life.found → AllByRecursion IsOfBytes life.items
+    → IfSome life.stopped IsOfBytes → AreInRange life.left
+
+-- The teach line has the text of that of this device, which is in range, and the item makes the change that the line
+-- tells. If the numbers of the line are in range, it is the line of this device.
+pub record IsOfDevice (state : State) (item : Item) (line : TeachLine) : Type 0 where
+  pub known : Device
+  pub in_range : IsDeviceInRange known
+  pub change : change_of state item ≡ Some (acknowledged_change line.outcome known)
+  pub same_text : text (Teach line) ≡ text (Teach (told_of known line.outcome))
+  pub line_is : HasNumbersInRange line → line ≡ told_of known line.outcome
+
+-- In a state in range, an item of bytes is answered with `accepted` or `deleted` only of such a device.
+abbrev pub TellsInRange : Type 0
+TellsInRange = (state : State) (item : Item) (fate : Fate) (line : TeachLine) → IsStateInRange state → IsOfBytes item
+    → (answer_with state item fate).desk ≡ text (Teach line)
+    → (line.outcome ≡ Accepted) ⊎ (line.outcome ≡ Deleted) → IsOfDevice state item line
