@@ -1,11 +1,9 @@
 -- What `replay` and `live` do is as specified, of a new gateway.
-use Rattle.std.proofs.Common.{◌≡◌, ◌≢◌, ◌==◌, inl, inr, ℕ, zero, suc, ◌<◌, Bool, true, false, List, [], ◌∷◌, ◌++◌}
-use Rattle.std.proofs.Common.{length, map, drop, Option, Some, None, Ok, Err, append-nil, append_assoc, refl, sym, ap}
-use Rattle.std.proofs.Common.{subst, ◌∙◌, arith, ◌⊎◌}
-use Rattle.std.specs.Prelude.{All}
+use Rattle.std.proofs.Common.{◌≡◌, inl, inr, ℕ, Bool, List, [], ◌∷◌, ◌++◌}
+use Rattle.std.proofs.Common.{map, Option, Some, None, Ok, Err, append-nil, append_assoc, refl, sym, ap}
+use Rattle.std.proofs.Common.{subst, ◌∙◌}
 use Rattle.std.specs.List.{concat, flat_map}
 use Rattle.std.specs.Io.KnownBytes.{Appends, Consumes, IsAtEnd}
-use Rattle.std.proofs.Math.Seq.{drop-append_seam}
 use Rattle.std.proofs.lemmas.List.{map-append}
 use Rattle.std.proofs.lemmas.List.Folds.{concat-append}
 use Rattle.std.proofs.lemmas.List.Concat.{flat_map-append}
@@ -16,7 +14,7 @@ use Rattle.gateway_core.specs.Step.{Item, Answer, Received, Ordered}
 use Rattle.gateway_core.specs.Stops.{Safe, nothing_left, left_by}
 use Rattle.gateway_core.specs.Lives.{Life, begun}
 use Rattle.gateway_core.specs.Handling.{HandlerValue, Handles, IsAt}
-use Rattle.gateway_core.specs.Calls.{Value, new_value}
+use Rattle.gateway_core.specs.Calls.{Value}
 use Rattle.gateway_core.specs.Events.{Event, Piece, Line, brought, bytes_in, items_of}
 use Rattle.gateway_core.proofs.ForCallers.{brought-append, items_of-append, left_is_prefix, safe-weaker}
 use Rattle.byte_streams.specs.Writes.{AppendsPart}
@@ -25,16 +23,16 @@ use Rattle.byte_streams.specs.declared.source.Source as sources
 use Rattle.engines.specs.declared.runs.RunFault.{RunFault}
 use Rattle.engines.specs.declared.runs.RunFault.TheVariants.{Read, Write, TooManyTurns}
 use Rattle.engines.specs.declared.runs.Summary.{Summary}
-use Rattle.engines.specs.Headline.{AsSpecified, BrokenOff, IsNew, IsPrefix, LiveSpecified, ReadInTurns, ReplaySpecified}
+use Rattle.engines.specs.Headline.{AsSpecified, BrokenOff, IsNew, IsPrefix, ReplaySpecified}
 use Rattle.engines.specs.Headline.{ReplaysAsSpecified, ServesAsSpecified, lines_of, radio_of}
-use Rattle.engines.specs.LiveGateway.{BreaksAtOrder, BreaksTurn, Serves, ServesUntil, ServesUntilRead, ServesUntilWrite}
+use Rattle.engines.specs.LiveGateway.{BreaksTurn, Serves, ServesUntil, ServesUntilRead, ServesUntilWrite}
 use Rattle.engines.specs.LiveGateway.{LiveValue, NextReadFails, events_with, live_at, pieces_with}
-use Rattle.engines.specs.Played.{Breaks, IsBegun, Plays, PlaysEnded}
-use Rattle.engines.specs.Script.{HasEnded, IsOneLine, script, with_end}
+use Rattle.engines.specs.Played.{Breaks, IsBegun}
+use Rattle.engines.specs.Script.{script, with_end}
 use Rattle.engines.specs.ScriptReplay.{Replays, ReplaysEnded, ReplaysUntil, ReplaysUntilWrite, replay_at}
 use Rattle.engines.specs.Turns.{Turn, desks, events_of_turns, pieces}
 use Rattle.engines.specs.Wires.{radio_bytes, wires}
-use Rattle.engines.specs.Written.{WritesAll, WritesPart, desk_text, text_of, written}
+use Rattle.engines.specs.Written.{WritesPart, desk_text, text_of, written}
 use Rattle.engines.proofs.LineLemmas.{script-behind}
 use Rattle.engines.proofs.TurnLemmas.{events_of_piece, pieces-more, desks-more}
 

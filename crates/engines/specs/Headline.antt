@@ -1,6 +1,6 @@
 -- The headline: what a gateway writes by `replay` and by `live`, what it knows afterwards, and what a crash leaves of
 -- it. The contracts of the two functions say it, for every answer; that of `start` says how a gateway begins.
-use Rattle.std.specs.Prelude.{◌≡◌, ℕ, Bool, List, [], ◌∷◌, ◌++◌, length, Option, Some, Result, MatchResult}
+use Rattle.std.specs.Prelude.{◌≡◌, ℕ, Bool, List, [], ◌++◌, length, Some, Result, MatchResult}
 use Rattle.std.specs.List.{concat, flat_map}
 use Rattle.sqlite.specs.State.{State as Stored, HasCleanDisk}
 use Rattle.device_registry.specs.Devices.{Devices}
