@@ -1,5 +1,5 @@
-/* Preloaded, it writes a line for each growth of memory of 32,768 bytes or more to the file that RECORD_GROWTHS names:
-   how many bytes were asked for. */
+/* A preloaded library. For each allocation of 32,768 bytes or more it appends a line to the file that RECORD_GROWTHS
+   names: the number of bytes requested. */
 #define _GNU_SOURCE
 #include <errno.h>
 #include <fcntl.h>

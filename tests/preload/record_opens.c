@@ -1,5 +1,5 @@
-/* Preloaded, it writes a line for each file that the program opens to the file that RECORD_OPENS names: the path, and
-   what the file is opened for. */
+/* A preloaded library. For each file that the program opens it appends a line to the file that RECORD_OPENS names: the
+   path, and the access for which the file is opened. */
 #define _GNU_SOURCE
 #include <fcntl.h>
 #include <stdarg.h>
