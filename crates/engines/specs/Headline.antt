@@ -51,11 +51,11 @@ module _ {S : Type 0} (stored : S → Stored) where
     pub registries : AreRegistries (stored gateway.handler.registry).may_leave
     pub left : (left : Devices) → MayFind (stored gateway.handler.registry) left → left ≡ found
 
-  -- From the devices found, each item was handled in turn: it took the step of the definitions, or it was refused, which
-  -- only an item that needs memory or the store can be, and then it changed nothing but the count of refused items. The
-  -- answers are out. The gateway knows what the last step left, and while the connection is open the registry holds its
-  -- devices. Whatever a crash may leave now is a registry, of what was known after some prefix of the items. The prefix
-  -- has every item that was acknowledged. The change of the next item may be there too, if its write was refused.
+  -- From the devices found, the items were handled in turn. Each took the step of the definitions, or it was refused. Only
+  -- an item that needs memory or the store can be refused; then only the count of refused items changed. The answers are
+  -- out. The gateway knows what the last step left; while the connection is open, the registry holds its devices. Any
+  -- crash state is a registry, of what was known after some prefix of the items. The prefix has every acknowledged item.
+  -- The change of the next item may be there too, if its write was refused.
   pub record AsSpecified (base : ℕ) (found : Devices) (items : List Item) (out : List Answer → Type 0)
       (new : HandlerValue S) : Type 0 where
     pub fates : List Fate

@@ -1,4 +1,4 @@
--- What a teach line acknowledged is so in every later life.
+-- A change that a teach line acknowledged holds in every later life.
 use Rattle.std.proofs.Common.{◌≡◌, inl, inr, length, List, [], ◌∷◌, ◌++◌, Some, refl, sym, ap, subst, ◌∙◌, arith}
 use Rattle.std.specs.List.{AllByRecursion}
 use Rattle.learned_devices.specs.declared.Device.{Device}

@@ -1,4 +1,4 @@
--- What a teach line acknowledged is so in every later life.
+-- A change that a teach line acknowledged holds in every later life.
 use Rattle.std.specs.Prelude.{◌≡◌, ◌⊎◌, length, List, ◌∷◌, ◌++◌, Some}
 use Rattle.std.specs.List.{AllByRecursion}
 use Rattle.std.specs.FinMap.{get}
@@ -31,10 +31,10 @@ pub record Acknowledges (life : Life) (line : TeachLine) : Type 0 where
   pub as_many_answers : length before ≡ length answers
   pub told : answer.desk ≡ text (Teach line)
 
--- The item asks for the acknowledged change, of this device, from what the run made of the items before it. The line has
--- the text of the line of this device. Every later life finds the change, until an item changes that sender otherwise,
--- whether the item is taken, refused at its write, or interrupted by a crash. If the devices found are in range and the
--- data of packets are bytes, the device is in range; and a line in range is the line of this device.
+-- The item asks for the acknowledged change of this device, in the state that the run reached before it. The line has the
+-- text of this device's line. Every later life finds the change, until an item changes that sender otherwise, whether
+-- that item is taken, refused at its write, or interrupted by a crash. If the devices found are in range and the data of
+-- packets are bytes, the device is in range. A line in range is then the line of this device.
 pub record IsDurable (life : Life) (line : TeachLine) (answered : Acknowledges life line) : Type 0 where
   pub at : State
   pub known : Device

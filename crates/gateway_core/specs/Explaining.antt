@@ -1,4 +1,4 @@
--- What the word of an explanation means, of the packet and of what was known; and which profile and maker it shows.
+-- The meaning of each word that explains a packet, given the packet and what was known; and what the line shows.
 use Rattle.std.specs.Prelude.{◌≡◌, ◌≢◌, ◌⊎◌, ◌<◌, ⊤, false, true, length, List, [], IsErr, Option, Some, None}
 use Rattle.std.specs.Prelude.{Ok, Err}
 use Rattle.std.specs.Option.{option_or}
@@ -32,12 +32,12 @@ use Rattle.gateway_core.specs.Accounts.{eep_told, maker_told}
 use Rattle.gateway_core.specs.Profiles.{read_by}
 use Rattle.gateway_core.specs.Step.{State, Received, answer_to, change_of}
 
--- the packet carries this telegram, which is not passed over
+-- the packet carries this telegram, which is addressed to us
 pub record IsHeard (state : State) (packet : Packet) (t : Telegram) : Type 0 where
   pub carried : telegram_of packet ≡ Ok t
   pub heard : is_passed_over state.base t ≡ false
 
--- a telegram of teach-in that is no reply
+-- a teach-in telegram that is not a reply
 abbrev pub IsTeachIn : Teach → Type 0
 IsTeachIn Contact = ⊤
 IsTeachIn Bare = ⊤
@@ -56,7 +56,7 @@ abbrev pub NamesDevice : Account → Option Device → Type 0
 NamesDevice account None = (account.eep ≡ None) × (account.maker ≡ None)
 NamesDevice account (Some known) = (account.eep ≡ Some known.eep) × (account.maker ≡ known.maker)
 
--- the desk's profile does not fit a telegram of teach-in, by its RORG; of UTE queries it fits none
+-- the desk's profile does not fit a teach-in telegram, by its RORG; no profile fits a UTE query
 abbrev pub DoesNotFit : Eep → Teach → Type 0
 DoesNotFit eep Contact = eep.rorg ≢ 0xD5
 DoesNotFit eep Bare = eep.rorg ≢ 0xA5
@@ -70,7 +70,7 @@ IsUnreadable state packet account Why =
     (t : Telegram) × (known : Device) × (fault : Unreadable) × IsDataOf state packet t known
     × (read_by known.eep t ≡ Err fault) × Why fault × NamesDevice account (Some known)
 
--- what the word means, and of which device the account has the profile and the maker
+-- what the word means, and whose profile and maker the account holds
 abbrev pub Means : State → Packet → Account → Why → Type 0
 Means state packet account why.Refused = ⊥
 Means state packet account why.Response =
@@ -139,7 +139,7 @@ Shows packet account (told.Telegram shown) = (t : Telegram) × (telegram_of pack
 Shows packet account (told.Other kind size) =
     IsErr (telegram_of packet) × (kind ≡ packet.kind) × (size ≡ length packet.body)
 
--- a packet that is taken is explained by a line that shows it, with a word that is true
+-- the line that explains a packet that is taken shows the packet, and its word is true
 pub record IsTrulyExplained (state : State) (packet : Packet) : Type 0 where
   pub account : Account
   pub line : PacketLine

@@ -29,8 +29,8 @@ IsDeviceInRange known =
 abbrev pub AreInRange : Devices → Type 0
 AreInRange devices = (id : ℕ) → IfSome (device_of devices id) IsDeviceInRange
 
--- What a registry holds while the disk has returned what was written, what a stop may leave of it, and what an open
--- finds: these devices are in range.
+-- These devices are in range: those that a registry holds while the disk has returned what was written, those that a
+-- crash may leave, and those that an open finds.
 pub record RegistriesAreInRange {C : Type 0} (state : C → Stored) : Type 0 where
   pub held : (c : C) (devices : Devices) → HasCleanDisk (state c) → IsTrue (state c).is_open
       → HasDevices (state c) devices → AreInRange devices
@@ -65,8 +65,8 @@ abbrev pub LeavesInRange : Type 0
 LeavesInRange = (life : Life) → IsLife life → AreInRange life.found → AllByRecursion IsOfBytes life.items
     → IfSome life.stopped IsOfBytes → AreInRange life.left
 
--- The teach line has the text of that of this device, which is in range, and the item makes the change that the line
--- tells. If the numbers of the line are in range, it is the line of this device.
+-- The teach line has the text of the line of this device, which is in range. The item makes the change that the line
+-- reports. If the numbers of the line are in range, it is the line of this device.
 pub record IsOfDevice (state : State) (item : Item) (line : TeachLine) : Type 0 where
   pub known : Device
   pub in_range : IsDeviceInRange known
@@ -74,7 +74,7 @@ pub record IsOfDevice (state : State) (item : Item) (line : TeachLine) : Type 0 
   pub same_text : text (Teach line) ≡ text (Teach (told_of known line.outcome))
   pub line_is : HasNumbersInRange line → line ≡ told_of known line.outcome
 
--- In a state in range, an item of bytes is answered with `accepted` or `deleted` only of such a device.
+-- in a state in range, an item of bytes gets `accepted` or `deleted` only for such a device
 abbrev pub TellsInRange : Type 0
 TellsInRange = (state : State) (item : Item) (fate : Fate) (line : TeachLine) → IsStateInRange state → IsOfBytes item
     → (answer_with state item fate).desk ≡ text (Teach line)

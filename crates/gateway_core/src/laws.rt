@@ -79,8 +79,8 @@ pub fn explanations_are_counted()
 {}
 
 /// The line that explains a packet which is taken is true: its word holds of the packet and of what was known. It shows
-/// the profile and the maker of the device whose data the packet has, or that is learned by it; of any other sender it
-/// shows those of its query, if it has one.
+/// the profile and the maker of its query, if it is one, and otherwise those of the device that sent the data or that is
+/// learned.
 pub fn explanations_are_true()
     ensures { ExplanationsAreTrue }
 {}
@@ -119,16 +119,15 @@ pub fn lives_keep()
     ensures { LivesKeep }
 {}
 
-/// What a line acknowledged with `accepted` or `deleted` is so in every later life, until an item changes that sender
-/// otherwise. If the devices found are in range and the data of packets are bytes, the device is in range; and a line in
-/// range is the line of this device.
+/// A change acknowledged with `accepted` or `deleted` holds in every later life, until an item changes that sender
+/// otherwise. If the devices found are in range and the data of packets are bytes, the device is in range. A line in
+/// range is then the line of this device.
 pub fn acknowledged_is_durable()
     ensures { AcknowledgedIsDurable }
 {}
 
-/// If what is known is in range and the data of each packet are bytes, it stays in range, a life leaves devices in
-/// range, and a teach line with `accepted` or `deleted` has the text of that of a device in range. The data of each
-/// packet are bytes if the stream is one of bytes.
+/// If the stream consists of bytes, so do the data of each packet. Then what is known stays in range if it was, a life
+/// leaves devices in range, and a teach line with `accepted` or `deleted` has the text of the line of a device in range.
 pub fn numbers_stay_in_range()
     ensures items { ItemsAreOfBytes }
     ensures stays { StaysInRange }

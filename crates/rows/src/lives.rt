@@ -353,7 +353,7 @@ fn tell_writes_that_fail(rt: &HostRuntime, telling: &mut Telling) -> Result<()> 
     Ok(())
 }
 
-// With explanations each write to the desk fails in turn. The wrong body of `replays` printed `at 0, differs` here.
+// With explanations, each write to the desk fails in turn. The mutant of `replays` prints `at 0, differs` here.
 fn tell_explained_writes_that_fail(rt: &HostRuntime, telling: &mut Telling) -> Result<()> {
     let wrong = first_wrong_explained(rt.alloc())?;
     telling.tell_first(
@@ -363,8 +363,8 @@ fn tell_explained_writes_that_fail(rt: &HostRuntime, telling: &mut Telling) -> R
     )
 }
 
-/// The first number of bytes that the desk had as a write failed, if its text does not break off there, or if not just
-/// the radio bytes up to there are out.
+/// Returns the first number of bytes written to the desk before a failure at which its text does not break off there, or
+/// the radio bytes are not exactly those up to there.
 fn first_wrong_explained(alloc: Global) -> Result<Option<usize>> {
     // what goes out by radio, and what the desk is told after it
     let parts: [(&[u8], &[u8]); 5] = [

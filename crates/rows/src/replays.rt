@@ -151,8 +151,8 @@ fn tell_writes(rt: &HostRuntime, telling: &mut Telling) -> Result<()> {
     )
 }
 
-// With explanations each write fails in turn. A wrong body: an outlet that goes on after a failed write of the line
-// that explains a packet. Printed was `at 83, differs`.
+// With explanations, each write fails in turn. Mutant: an outlet that goes on after a failed write of the line that
+// explains a packet. It prints `at 83, differs`.
 fn tell_explained_writes(rt: &HostRuntime, telling: &mut Telling) -> Result<()> {
     let (script, text) = row(rt, "every-kind-of-item", true)?;
     let wrong = first_wrong_explained(rt.alloc(), script.as_slice(), text.as_slice())?;
@@ -163,8 +163,8 @@ fn tell_explained_writes(rt: &HostRuntime, telling: &mut Telling) -> Result<()> 
     )
 }
 
-/// The first number of bytes that were out as a write failed, if the script's text with explanations does not break off
-/// there.
+/// Returns the first number of bytes written before a failure at which the script's text with explanations does not
+/// break off there.
 fn first_wrong_explained(alloc: Global, script: &[u8], text: &[u8]) -> Result<Option<usize>> {
     for out in 0..text.len() {
         let mut taken = Vec::new(alloc);
