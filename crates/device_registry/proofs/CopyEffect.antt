@@ -29,7 +29,8 @@ use Rattle.device_registry.proofs.StatementTexts.{program_of, copy_query}
 use Rattle.device_registry.proofs.SenderTests.{overlay_is}
 use Rattle.device_registry.proofs.ListDevicesAnswer.{envs}
 use Rattle.device_registry.proofs.TablesAlone.{StandsAlone}
-use Rattle.device_registry.proofs.RowWrites.{went, same_value, cast_int, cast_none, cast_label, SparesOthers, spares, spares_as}
+use Rattle.device_registry.proofs.RowWrites.{went, same_value, cast_int, cast_none, cast_label, SparesOthers}
+use Rattle.device_registry.proofs.RowWrites.{spares, spares_as}
 
 -- ---- the rows that are copied
 

@@ -98,7 +98,8 @@ beside tree low same = omega (arith, low, same)
 
 no_index_there : (schema : Schema) (trees : Trees) → IsSound schema trees → IsNoIndex schema catalog_tree
 no_index_there schema trees sound = all_from _ schema.indexes (λ i has.
-    beside i.tree (zipped_left (IsIndexRow schema.tables) _ schema.indexes i sound.lists.listed.indexes has).2.described.low)
+    beside i.tree (zipped_left (IsIndexRow schema.tables) _ schema.indexes i sound.lists.listed.indexes
+    has).2.described.low)
 
 table_beside : (schema : Schema) (trees : Trees) (t : Table) → IsSound schema trees → Has schema.tables t
     → t.tree ≢ catalog_tree
@@ -160,64 +161,68 @@ room_for_known db devices id it had known =
     one_less (len devices) (len (remove devices id)) (len-remove nat_cmp_total devices id
     ∙ ap (λ (o : Option Learned). cond (is_some o) (len devices - 1) (len devices)) known) (few_devices db devices had)
 
-module _ (before after : Database) (devices : Devices) (had : Registers before devices) (sound : IsDatabase before) where
-  meta_beside : had.registry.tables.meta ≢ catalog_tree
-  meta_beside = table_beside before.schema before.trees (meta_table had.registry.tables.meta) sound (has_got
-      before.schema.tables had.registry.tables.meta_at (meta_table had.registry.tables.meta)
-      had.registry.tables.meta_stands.there)
+module _ (before after : Database) (devices : Devices) (had : Registers before devices) (sound : IsDatabase before)
+  where
+    meta_beside : had.registry.tables.meta ≢ catalog_tree
+    meta_beside = table_beside before.schema before.trees (meta_table had.registry.tables.meta) sound (has_got
+        before.schema.tables had.registry.tables.meta_at (meta_table had.registry.tables.meta)
+        had.registry.tables.meta_stands.there)
 
-  devices_beside : had.registry.tables.devices ≢ catalog_tree
-  devices_beside = table_beside before.schema before.trees (device_table Second had.registry.tables.devices) sound
-      (has_got before.schema.tables had.registry.tables.devices_at (device_table Second had.registry.tables.devices)
-      had.registry.tables.devices_stand.there)
+    devices_beside : had.registry.tables.devices ≢ catalog_tree
+    devices_beside = table_beside before.schema before.trees (device_table Second had.registry.tables.devices) sound
+        (has_got before.schema.tables had.registry.tables.devices_at (device_table Second had.registry.tables.devices)
+        had.registry.tables.devices_stand.there)
 
-  pub put_registers : (id : ℕ) (it : Learned) → IsShort it.eep → is_full devices id ≡ false
-      → after.schema ≡ before.schema → IsPut before.schema had.registry.tables.devices id it before.trees after.trees
-      → Registers after (insert devices id it)
-  put_registers id it short room schema put =
-      let r = had.registry in
-      let all =
-      subst (AllByRecursion IsDevice) (sym put.rows) (put_are_devices _ (stored id it) put.device
-      (all_without_are_devices (before.trees r.tables.devices) put.gone r.whole.rows)) in
-      let once =
-      subst RowidsDiffer (sym put.rows) (apart_put (stored id it) _ put.fresh
-      (all_without_once (before.trees r.tables.devices) put.gone r.whole.once)) in
-      let is : devices_in (after.trees r.tables.devices) ≡ insert devices id it =
-      ap devices_in put.rows ∙ devices_replaced (before.trees r.tables.devices) put.gone id it short r.whole.rows
-      put.same ∙ ap (λ m. insert m id it) had.is in
-      let size : length (after.trees r.tables.devices) ≡ len (insert devices id it) =
-      sym (len_is (after.trees r.tables.devices) all once) ∙ ap len is in
-      let few : len (insert devices id it) ≤ 1000 =
-      one_more (contains_key devices id) (len devices) _ _ (len-insert nat_cmp_total devices id it)
-      (len-remove nat_cmp_total devices id) room (few_devices before devices had) in
-      registers_after before r after (insert devices id it) schema
-      (put.others.objects devices_beside (no_index_there before.schema before.trees sound)) r.whole.row
-      (put.others.tables r.tables.meta_at (meta_table r.tables.meta) r.tables.meta_stands.there r.tables.apart ∙ r.whole.one)
-      r.whole.numbered all once (subst (λ n. n ≤ 1000) (sym size) few) is
+    pub put_registers : (id : ℕ) (it : Learned) → IsShort it.eep → is_full devices id ≡ false
+        → after.schema ≡ before.schema → IsPut before.schema had.registry.tables.devices id it before.trees after.trees
+        → Registers after (insert devices id it)
+    put_registers id it short room schema put =
+        let r = had.registry in
+        let all =
+        subst (AllByRecursion IsDevice) (sym put.rows) (put_are_devices _ (stored id it) put.device
+        (all_without_are_devices (before.trees r.tables.devices) put.gone r.whole.rows)) in
+        let once =
+        subst RowidsDiffer (sym put.rows) (apart_put (stored id it) _ put.fresh
+        (all_without_once (before.trees r.tables.devices) put.gone r.whole.once)) in
+        let is : devices_in (after.trees r.tables.devices) ≡ insert devices id it =
+        ap devices_in put.rows ∙ devices_replaced (before.trees r.tables.devices) put.gone id it short r.whole.rows
+        put.same ∙ ap (λ m. insert m id it) had.is in
+        let size : length (after.trees r.tables.devices) ≡ len (insert devices id it) =
+        sym (len_is (after.trees r.tables.devices) all once) ∙ ap len is in
+        let few : len (insert devices id it) ≤ 1000 =
+        one_more (contains_key devices id) (len devices) _ _ (len-insert nat_cmp_total devices id it)
+        (len-remove nat_cmp_total devices id) room (few_devices before devices had) in
+        registers_after before r after (insert devices id it) schema
+        (put.others.objects devices_beside (no_index_there before.schema before.trees sound)) r.whole.row
+        (put.others.tables r.tables.meta_at (meta_table r.tables.meta) r.tables.meta_stands.there r.tables.apart
+        ∙ r.whole.one)
+        r.whole.numbered all once (subst (λ n. n ≤ 1000) (sym size) few) is
 
-  pub forgotten_registers : (id : ℕ) → after.schema ≡ before.schema
-      → IsForgotten id (before.trees had.registry.tables.devices) (after.trees had.registry.tables.devices)
-      → SparesOthers before.schema had.registry.tables.devices before.trees after.trees
-      → Registers after (remove devices id)
-  forgotten_registers id schema gone others =
-      let r = had.registry in
-      let is : devices_in (after.trees r.tables.devices) ≡ remove devices id =
-      gone.map_is ∙ ap (λ m. remove m id) had.is in
-      let size : length (after.trees r.tables.devices) ≡ len (remove devices id) =
-      sym (len_is (after.trees r.tables.devices) gone.rows gone.once) ∙ ap len is in
-      let few : len (remove devices id) ≤ 1000 = omega (arith, fewer devices id, few_devices before devices had) in
-      registers_after before r after (remove devices id) schema
-      (others.objects devices_beside (no_index_there before.schema before.trees sound)) r.whole.row
-      (others.tables r.tables.meta_at (meta_table r.tables.meta) r.tables.meta_stands.there r.tables.apart ∙ r.whole.one)
-      r.whole.numbered gone.rows gone.once (subst (λ n. n ≤ 1000) (sym size) few) is
+    pub forgotten_registers : (id : ℕ) → after.schema ≡ before.schema
+        → IsForgotten id (before.trees had.registry.tables.devices) (after.trees had.registry.tables.devices)
+        → SparesOthers before.schema had.registry.tables.devices before.trees after.trees
+        → Registers after (remove devices id)
+    forgotten_registers id schema gone others =
+        let r = had.registry in
+        let is : devices_in (after.trees r.tables.devices) ≡ remove devices id =
+        gone.map_is ∙ ap (λ m. remove m id) had.is in
+        let size : length (after.trees r.tables.devices) ≡ len (remove devices id) =
+        sym (len_is (after.trees r.tables.devices) gone.rows gone.once) ∙ ap len is in
+        let few : len (remove devices id) ≤ 1000 = omega (arith, fewer devices id, few_devices before devices had) in
+        registers_after before r after (remove devices id) schema
+        (others.objects devices_beside (no_index_there before.schema before.trees sound)) r.whole.row
+        (others.tables r.tables.meta_at (meta_table r.tables.meta) r.tables.meta_stands.there r.tables.apart
+        ∙ r.whole.one)
+        r.whole.numbered gone.rows gone.once (subst (λ n. n ≤ 1000) (sym size) few) is
 
-  pub renewed_registers : after.schema ≡ before.schema → after.trees had.registry.tables.meta ≡ version_row ∷ []
-      → SparesOthers before.schema had.registry.tables.meta before.trees after.trees → Registers after devices
-  renewed_registers schema version others =
-      let r = had.registry in
-      let same : after.trees r.tables.devices ≡ before.trees r.tables.devices = others.tables r.tables.devices_at
-      (device_table Second r.tables.devices) r.tables.devices_stand.there (λ e. r.tables.apart (sym e)) in
-      registers_after before r after devices schema
-      (others.objects meta_beside (no_index_there before.schema before.trees sound)) version_row version (record { key = refl; number = refl })
-      (subst (AllByRecursion IsDevice) (sym same) r.whole.rows) (subst RowidsDiffer (sym same) r.whole.once)
-      (subst (λ rows. length rows ≤ most_devices) (sym same) r.whole.few) (ap devices_in same ∙ had.is)
+    pub renewed_registers : after.schema ≡ before.schema → after.trees had.registry.tables.meta ≡ version_row ∷ []
+        → SparesOthers before.schema had.registry.tables.meta before.trees after.trees → Registers after devices
+    renewed_registers schema version others =
+        let r = had.registry in
+        let same : after.trees r.tables.devices ≡ before.trees r.tables.devices = others.tables r.tables.devices_at
+        (device_table Second r.tables.devices) r.tables.devices_stand.there (λ e. r.tables.apart (sym e)) in
+        registers_after before r after devices schema
+        (others.objects meta_beside (no_index_there before.schema before.trees sound)) version_row version
+        (record { key = refl; number = refl })
+        (subst (AllByRecursion IsDevice) (sym same) r.whole.rows) (subst RowidsDiffer (sym same) r.whole.once)
+        (subst (λ rows. length rows ≤ most_devices) (sym same) r.whole.few) (ap devices_in same ∙ had.is)

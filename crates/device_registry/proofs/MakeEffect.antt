@@ -192,7 +192,8 @@ makes a b c d i j k clear sound first second third =
     numbers c.now.schema t.meta_at t.meta c.step_limit (mode_of c) c.now.trees
     (statement_of write_version_text (understood c.now.schema write_version_text)) three.tally d.now t.meta_stands.there
     (meta_alone c.now.schema t) none three.changed in
-    let kept : d.now.trees t.devices ≡ [] = put.2.tables t.devices_at (device_table Second t.devices) t.devices_stand.there
+    let kept : d.now.trees t.devices ≡ [] = put.2.tables t.devices_at (device_table Second t.devices)
+    t.devices_stand.there
     (λ e. t.apart (sym e)) ∙ ap c.now.trees it.devices_is ∙ after.1 in
     let now = subst (λ s. StandIn s t.meta t.devices) (sym put.0)
     (record { tables = t; meta_is = refl; devices_is = refl }) in (

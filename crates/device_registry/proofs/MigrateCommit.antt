@@ -69,7 +69,8 @@ module _ {S : Type 0} (g : Ghosts S) (old start mid : Held S) (is : start ≡ re
         done.1,
         λ table has not_meta not_devices.
             let alone = all_has _ (state g old).now.schema.tables table was.tables.alone has in
-            others_kept (state g (record old { in_transaction = true })) (state g one.0) (state g two.0) (state g three.0)
+            others_kept (state g (record old { in_transaction = true })) (state g one.0) (state g two.0)
+            (state g three.0)
             (state g four.0) one.1 two.1 three.1 four.1 was was_sound one.2 two.2 three.2 four.2 table has
             (apart_by_name meta_name was.tables.meta table alone.0 not_meta)
             (apart_by_name (device_name First) was.tables.devices table alone.1 (not_devices First)),

@@ -19,12 +19,14 @@ use Rattle.device_registry.specs.declared.table.Version.{Version}
 use Rattle.device_registry.specs.declared.table.Version.TheVariants.{First, Second}
 use Rattle.device_registry.specs.Devices.{Devices}
 use Rattle.device_registry.specs.Table.{meta_name, device_name}
-use Rattle.device_registry.specs.Stored.{HasTables, IsWhole, IsRegistry, AreListed, RegistersAs, HoldsAs, Holds, IsHeld, IsFree}
+use Rattle.device_registry.specs.Stored.{HasTables, IsWhole, IsRegistry, AreListed, RegistersAs, HoldsAs, Holds}
+use Rattle.device_registry.specs.Stored.{IsHeld, IsFree}
 use Rattle.device_registry.specs.Table.Rows.{devices_in, rows_of}
 use Rattle.sqlite_rules.specs.Lists.{Has}
 use Rattle.device_registry.specs.Holding.{AreRegistries, Finds, Opens}
 use Rattle.device_registry.specs.Ready.{Shows, IsReady, KeepsOthers, KeepsRows}
-use Rattle.device_registry.specs.Opening.{IsAtRest, IsPrepared, IsOwn, KeepsFound, IsOther, RegistriesAreRecognized, OnlyOthersAreRefused, CrashedFilesAreFound}
+use Rattle.device_registry.specs.Opening.{IsAtRest, IsPrepared, IsOwn, KeepsFound, IsOther, RegistriesAreRecognized}
+use Rattle.device_registry.specs.Opening.{OnlyOthersAreRefused, CrashedFilesAreFound}
 use Rattle.device_registry.specs.Opening.{RefusesToOpen, FoundAgain, HandedOn, RefusedOpensKeep, ClosedFilesAreFound}
 use Rattle.device_registry.specs.Places.{is_clear}
 use Rattle.sqlite_catalog.specs.Listing.{IsSound}

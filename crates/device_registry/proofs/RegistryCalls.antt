@@ -485,7 +485,8 @@ module _ (old mid : State) (id : ℕ) where
 
     -- a row written over the same devices
     pub written_after : {C : Type 0} (state : C → State) (last : C) (change : Change) {T E : Type 0} (r : Result T E)
-        → (HasCleanDisk mid → (devices : Devices) → HasDevices mid devices → OnOk r (WritesRow state last change devices))
+        → (HasCleanDisk mid → (devices : Devices) → HasDevices mid devices → OnOk r
+        (WritesRow state last change devices))
         → HasCleanDisk mid → (devices : Devices) → HasDevices old devices → OnOk r (WritesRow state last change devices)
     written_after state last change r written clean devices has = written clean devices (kept clean devices has).now
 

@@ -291,7 +291,8 @@ module _ (db : Database) (sound : IsDatabase db) (t : HasTables First db.schema)
           spared = subst AreSpared (sym is) (kept SparesOurs spares_in_added);
           alone =
               subst (λ (s : Schema). AllByRecursion
-              (λ table. KeepsTree meta_name t.meta table × KeepsTree (device_name Second) fresh table) s.tables) (sym is)
+              (λ table. KeepsTree meta_name t.meta table × KeepsTree (device_name Second) fresh table) s.tables)
+              (sym is)
               (all_both (KeepsTree meta_name t.meta) (KeepsTree (device_name Second) fresh)
               (λ table. KeepsTree meta_name t.meta table × KeepsTree (device_name Second) fresh table) (λ x p q. (p, q))
               dropped.tables meta_lone.keeps left_lone.keeps);

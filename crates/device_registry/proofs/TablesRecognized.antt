@@ -293,7 +293,8 @@ module _ (db : Database) (sound : IsDatabase db) where
         → same_name other name ≡ true → row ≡ table_row.0
     one_object row other there is same =
         let alike : map to_ascii_lowercase (name_in row) ≡ map to_ascii_lowercase (name_in table_row.0) =
-        ap (map to_ascii_lowercase) (ap bytes is) ∙ (lowered other name).0 same ∙ sym ((lowered table.name name).0 named)
+        ap (map to_ascii_lowercase) (ap bytes is) ∙ (lowered other name).0 same
+        ∙ sym ((lowered table.name name).0 named)
         ∙ sym (ap (map to_ascii_lowercase) (ap bytes table_row.3.described.name_is)) in
         one_row objects row table_row.0 apart there table_row.1 alike
 

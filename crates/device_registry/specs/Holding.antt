@@ -58,8 +58,8 @@ abbrev pub IsCommitted : State → Type 0
 IsCommitted s = HasCleanDisk s → IsTrue s.is_open → (devices : Devices) → HasDevices s devices
     → Holds s.committed.trees devices
 
--- a database with these trees is a registry of these devices, of either version, or has none of the tables yet, and they
--- can be made, which is to hold none
+-- a database with these trees is a registry of these devices, of either version, or has none of the tables yet, and
+-- they can be made, which is to hold none
 abbrev pub Finds : Trees → Devices → Type 0
 Finds trees devices = ((version : Version) × HoldsAs version trees devices) ⊎ (IsFree trees × (devices ≡ empty))
 
@@ -75,14 +75,14 @@ abbrev pub RefusesToLearn : State → State → Device → Devices → LearnFaul
 RefusesToLearn old new it devices Full = IsTrue (is_full devices it.id) × Keeps old new devices
 RefusesToLearn old new it devices (Refused fault) = Pends old new (learned it) devices
 
--- What was done to the state is what the text does that writes the version row as it stands, and changes one row.
--- Outside a transaction that is a commit. It is not nothing: the store counts the row. A rollback behind it would leave
--- the same.
+-- The state was changed exactly by the text that writes the version row unchanged, which counts one row. Outside a
+-- transaction this is a commit. It is not nothing, because the store counts the row. A later rollback would leave the
+-- same.
 abbrev pub IsRenewed : State → State → Type 0
 IsRenewed old new = Executes renew_text [] old new (Ok 1)
 
--- The last thing done to the state is the statement that puts in the row of the change's sender, over the same devices.
--- It is not nothing: the store counts the row.
+-- The last operation on the state is the statement that upserts the row of the change's sender, over the same devices.
+-- It is not nothing, because the store counts the row.
 pub record WritesRow {C : Type 0} (state : C → State) (new : C) (change : Change) (devices : Devices) : Type 0 where
   pub row : Learned
   pub is : after (get devices change.sender) change.deed ≡ Some row

@@ -43,14 +43,14 @@ pub record IsOwn (version : Version) (trees : Trees) : Type 0 where
   pub sound : IsDatabase db
   pub registry : IsRegistry version db
 
--- the trees of a registry of the devices that are found in others
+-- the trees of a registry of the devices that are found in other trees
 pub record KeepsFound (found left : Trees) : Type 0 where
   pub devices : Devices
   pub finds : Finds found devices
   pub holds : Holds left devices
 
--- no devices are found in the trees: they are those of no registry as this program leaves it, of either version, nor of
--- a database in which the tables can be made
+-- No devices are found in the trees: they are neither those of a registry of either version, as this program leaves it,
+-- nor those of a database in which the tables can be created.
 abbrev pub IsOther : Trees → Type 0
 IsOther trees = (devices : Devices) → ¬ Finds trees devices
 
@@ -91,7 +91,7 @@ RefusedOpensKeep {C} state = (old new : C) (fault : OpenFault) → HasCleanDisk 
     × ((devices : Devices) → MayFindNext (state new) devices → MayFindNext (state old) devices
     ⊎ (IsTrue (state old).is_open × Finds (state old).committed.trees devices))
 
--- What is found is never refused as no registry, and of a registry that was opened whatever a stop leaves is found.
+-- What is found is never refused as no registry. Whatever a crash leaves of an opened registry is found.
 abbrev pub RegistriesAreRecognized : {C : Type 0} → (C → State) → Type 0
 RegistriesAreRecognized {C} state = ((trees : Trees) → IsHeld trees → (devices : Devices) × Finds trees devices)
     × ((old new : C) (fault : OpenFault) (devices : Devices) → HasCleanDisk (state new)
@@ -117,8 +117,8 @@ ClosedFilesAreFound {D} g =
     → Finds (file_state opened).committed.trees devices
     × ((found : Devices) → Finds (file_state opened).committed.trees found → found ≡ devices)
 
--- Where two files hold what a stop could leave in them, an open of these files finds devices that this stop could leave.
--- (`next_run` of the crate `sqlite` says so of the trees; a store numbers its pages while its disk is clean.)
+-- If two files hold what a crash could leave in them, an open of these files finds devices that this crash could leave.
+-- (`next_run` of the crate `sqlite` says this of the trees; a store numbers its pages while its disk is clean.)
 abbrev pub CrashedFilesAreFound : {D : Type 0} → Ghosts D → Type 0
 CrashedFilesAreFound {D} g =
     (stopped opened : Held (FileStore D g)) (image : _) → IsTrue (view stopped.store).is_numbered

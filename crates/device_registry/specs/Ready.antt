@@ -55,7 +55,7 @@ pub record KeepsRows (old new : State) : Type 0 where
   pub schema : new.now.schema ≡ old.now.schema
   pub rows : (table : Table) → Has old.now.schema.tables table → new.now.trees table.tree ≡ old.now.trees table.tree
 
--- each table that has none of our names, of whatever version, is there still, with the rows that it had
+-- each table with none of our names, of whatever version, is still there, with its rows
 abbrev pub KeepsOthers : Database → Database → Type 0
 KeepsOthers old new = (table : Table) → Has old.schema.tables table → same_name table.name meta_name ≡ false
     → ((version : Version) → same_name table.name (device_name version) ≡ false)

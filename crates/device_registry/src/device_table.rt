@@ -55,8 +55,8 @@ impl<C: SqlConnection> DeviceTable<C> {
         requires { HasCleanDisk (C.state self.old) → (devices : Devices) → HasDevices (C.state self.old) devices →
             after (get devices device.id) (Learn device.eep device.maker) ≡ Some (known_of device) }
         ensures learns { Learns (C.state self.old) (C.state self.new) device result }
-        ensures written { HasCleanDisk (C.state self.new) → (devices : Devices) → HasDevices (C.state self.old) devices →
-            OnOk result (WritesRow C.state self.new (learned device) devices) }
+        ensures written { HasCleanDisk (C.state self.new) → (devices : Devices) →
+            HasDevices (C.state self.old) devices → OnOk result (WritesRow C.state self.new (learned device) devices) }
         ensures ready { HasCleanDisk (C.state self.new) → OnOk result (AreReady (C.state self.old)
             (C.state self.new)) }
         ensures ready_if_full { HasCleanDisk (C.state self.new) → result ≡ Err LearnFault.Full →
@@ -76,8 +76,9 @@ impl<C: SqlConnection> DeviceTable<C> {
         requires known { HasCleanDisk (C.state self.old) → (devices : Devices) → HasDevices (C.state self.old) devices →
             after (get devices device.id) (Relabel device.label) ≡ Some (known_of device) }
         ensures relabels { Relabels (C.state self.old) (C.state self.new) device.id device.label result }
-        ensures written { HasCleanDisk (C.state self.new) → (devices : Devices) → HasDevices (C.state self.old) devices →
-            OnOk result (WritesRow C.state self.new (relabelled device.id device.label) devices) }
+        ensures written { HasCleanDisk (C.state self.new) → (devices : Devices) →
+            HasDevices (C.state self.old) devices → OnOk result (WritesRow C.state self.new
+            (relabelled device.id device.label) devices) }
         ensures ready { HasCleanDisk (C.state self.new) → OnOk result (AreReady (C.state self.old)
             (C.state self.new)) }
     {

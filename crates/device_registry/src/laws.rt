@@ -24,14 +24,14 @@ pub fn refused_opens_keep<C: SqlConnection>()
     ensures { RefusedOpensKeep C.state }
 {}
 
-/// Whatever a stop leaves of a registry is found by the next open, and no open refuses what is found as no registry: a
-/// registry of either version as this program leaves it, or a database in which the tables can be made.
+/// The next open finds whatever a crash leaves of a registry. No open refuses as no registry what is found: a registry
+/// of either version as this program leaves it, or a database in which the tables can be created.
 pub fn registries_are_recognized<C: SqlConnection>()
     ensures { RegistriesAreRecognized C.state }
 {}
 
-/// A database is refused as no registry only if it is none. This holds of an open that drops its connection, too, if the
-/// disk had returned what was written when the connection was dropped.
+/// A database is refused as no registry only if it is none. This holds of an open that drops its connection, too, if
+/// the disk had returned what was written when the connection was dropped.
 pub fn only_others_are_refused<C: SqlConnection>()
     ensures { OnlyOthersAreRefused C.state }
 {}
@@ -41,7 +41,7 @@ pub fn handed_on<C: SqlConnection>()
     ensures { HandedOn C.state }
 {}
 
-/// What a stop left in two files is what an open of them finds: devices that this stop could leave, of a registry.
+/// An open of two files finds what a crash left in them: devices that this crash could leave, of a registry.
 pub fn crashed_files_are_found<D: Disk>()
     ensures { CrashedFilesAreFound D.Disk }
 {}

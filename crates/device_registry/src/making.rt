@@ -14,7 +14,8 @@ use crate::table::statements::{CREATE_DEVICE, CREATE_META, WRITE_VERSION};
 use crate::transaction::run_listed;
 use sqlite::{Alter, Connection, Error};
 
-/// Makes the two tables and writes the version row, in one transaction, and sees that they are listed with our texts.
+/// Makes the two tables and writes the version row, in one transaction, and checks that SQLite lists them with our
+/// texts.
 pub fn make<S: Alter>(conn: &mut Connection<S>) -> Result<(), Error>
     requires idle { conn.old.in_transaction ≡ false }
     requires clear { HasCleanDisk (state S.Store conn.old) → IsTrue (is_clear (state S.Store conn.old).now.schema) ×

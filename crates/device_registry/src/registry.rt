@@ -121,8 +121,8 @@ impl<C: SqlConnection> RegistryOver<C> {
         requires { HasCleanDisk (C.state self.old) → (devices : Devices) → HasDevices (C.state self.old) devices →
             after (get devices device.id) (Learn device.eep device.maker) ≡ Some (known_of device) }
         ensures learns { Learns (C.state self.old) (C.state self.new) device result }
-        ensures written { HasCleanDisk (C.state self.new) → (devices : Devices) → HasDevices (C.state self.old) devices →
-            OnOk result (WritesRow C.state self.new (learned device) devices) }
+        ensures written { HasCleanDisk (C.state self.new) → (devices : Devices) →
+            HasDevices (C.state self.old) devices → OnOk result (WritesRow C.state self.new (learned device) devices) }
     {
         let id = device.id;
         let copy = device.copied();
@@ -141,13 +141,13 @@ impl<C: SqlConnection> RegistryOver<C> {
     }
 
     /// Learns a device, in place of what was known of its sender. A known sender keeps its label; another gets the
-    /// empty one, which the device has here. `Full` says that 1,000 others are learned. A device that stands already is
-    /// written again.
+    /// empty one, which the device has here. `Full` says that 1,000 others are learned. A device that is already
+    /// stored is written again.
     pub fn learn(&mut self, device: Device) -> Result<Receipt, LearnFault>
         requires { device.label ≡ [] }
         ensures learns { Learns (C.state self.old) (C.state self.new) device result }
-        ensures written { HasCleanDisk (C.state self.new) → (devices : Devices) → HasDevices (C.state self.old) devices →
-            OnOk result (WritesRow C.state self.new (learned device) devices) }
+        ensures written { HasCleanDisk (C.state self.new) → (devices : Devices) →
+            HasDevices (C.state self.old) devices → OnOk result (WritesRow C.state self.new (learned device) devices) }
     {
         let known = self.known(device.id)?;
         self.learn_kept(keeping_label(device, known))
@@ -159,8 +159,9 @@ impl<C: SqlConnection> RegistryOver<C> {
         requires known { HasCleanDisk (C.state self.old) → (devices : Devices) → HasDevices (C.state self.old) devices
             → after (get devices device.id) (Relabel device.label) ≡ Some (known_of device) }
         ensures relabels { Relabels (C.state self.old) (C.state self.new) device.id device.label result }
-        ensures written { HasCleanDisk (C.state self.new) → (devices : Devices) → HasDevices (C.state self.old) devices →
-            OnOk result (WritesRow C.state self.new (relabelled device.id device.label) devices) }
+        ensures written { HasCleanDisk (C.state self.new) → (devices : Devices) →
+            HasDevices (C.state self.old) devices → OnOk result (WritesRow C.state self.new
+            (relabelled device.id device.label) devices) }
     {
         let id = device.id;
         let labelled = device.copied();
@@ -182,8 +183,9 @@ impl<C: SqlConnection> RegistryOver<C> {
     pub fn relabel(&mut self, id: u32, text: &str) -> Result<bool, StoreFault>
         requires { is_label text.now ≡ true }
         ensures relabels { Relabels (C.state self.old) (C.state self.new) id text.now result }
-        ensures written { HasCleanDisk (C.state self.new) → (devices : Devices) → HasDevices (C.state self.old) devices →
-            IfOk result (λ known. IsTrue known → WritesRow C.state self.new (relabelled id text.now) devices) }
+        ensures written { HasCleanDisk (C.state self.new) → (devices : Devices) →
+            HasDevices (C.state self.old) devices → IfOk result (λ known. IsTrue known → WritesRow C.state self.new
+            (relabelled id text.now) devices) }
     {
         match self.known(id)? {
             Some(known) => self.relabel_known(with_label(id, known, text)),

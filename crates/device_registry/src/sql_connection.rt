@@ -80,7 +80,8 @@ pub trait SqlConnection {
         requires clear { HasCleanDisk (state self.old) → IsTrue (is_clear (state self.old).now.schema) ×
             IsDatabase (state self.old).now }
         ensures made { HasCleanDisk (state self.new) → OnOk result (Shows (state self.new) empty) }
-        ensures others { HasCleanDisk (state self.new) → OnOk result (KeepsOthers (state self.old).now (state self.new).now) }
+        ensures others { HasCleanDisk (state self.new) → OnOk result (KeepsOthers (state self.old).now
+            (state self.new).now) }
         ensures stop { Survives (state self.old) (state self.new) (λ trees. Holds trees empty) }
         ensures remains { HasCleanDisk (state self.new) → OnErr result (Remains (state self.old) (state self.new)) };
 
@@ -91,7 +92,8 @@ pub trait SqlConnection {
             IsDatabase (state self.old).now }
         ensures made { HasCleanDisk (state self.new) → OnOk result ((devices : Devices) →
             RegistersAs First (state self.old).now devices → Shows (state self.new) devices) }
-        ensures others { HasCleanDisk (state self.new) → OnOk result (KeepsOthers (state self.old).now (state self.new).now) }
+        ensures others { HasCleanDisk (state self.new) → OnOk result (KeepsOthers (state self.old).now
+            (state self.new).now) }
         ensures stop { Survives (state self.old) (state self.new) (λ trees. (devices : Devices) →
             RegistersAs First (state self.old).now devices → Holds trees devices) }
         ensures remains { HasCleanDisk (state self.new) → OnErr result (Remains (state self.old) (state self.new)) };

@@ -75,7 +75,8 @@ module _ (says : Answer → List ℕ) (answers : List Answer) (last : Answer) wh
       → IsPrefix (flat_map says answers ++ part) (flat_map says (answers ++ last ∷ []))
   part_prefix part missing whole = record {
     rest = missing;
-    whole = one_more ∙ ap (λ t. flat_map says answers ++ t) whole ∙ sym (append_assoc (flat_map says answers) part missing);
+    whole = one_more ∙ ap (λ t. flat_map says answers ++ t) whole
+        ∙ sym (append_assoc (flat_map says answers) part missing);
   }
 
 -- ---- turns
@@ -91,7 +92,8 @@ unfolding with_piece
 events-with_piece read None = refl
 events-with_piece read (Some piece) = events_of_piece read piece
 
-pieces-with_piece : (read : List Turn) (piece : Option (List ℕ)) → pieces (with_piece read piece) ≡ pieces_with read piece
+pieces-with_piece : (read : List Turn) (piece : Option (List ℕ))
+    → pieces (with_piece read piece) ≡ pieces_with read piece
 unfolding with_piece
 pieces-with_piece read None = refl
 pieces-with_piece read (Some piece) = pieces-more read (record { piece = piece; desk = [] })
@@ -254,7 +256,8 @@ module _ {S : Type 0} (state : S → Stored) where
           specified = (
             gone.is ∙ ap Some ended,
             subst (λ i. AsSpecified state base found (items_of [] (script i)) out new.0.handler) whole
-                (played base found old.0 new.0.handler began clean (script done.input) its.answers out its.handled refl),
+                (played base found old.0 new.0.handler began clean (script done.input) its.answers out its.handled
+                refl),
           );
         }
 
@@ -273,7 +276,8 @@ module _ {S : Type 0} (state : S → Stored) where
         record {
           text = text;
           is_held = grown held text (sink.held old.2) (sink.held new.2) held_is its.out;
-          specified = played_first base found old.0 new.0.handler began clean (script ended) (script more) (script input)
+          specified = played_first base found old.0 new.0.handler began clean (script ended) (script more)
+              (script input)
               whole its.answers (λ answers. IsPrefix text (written explains answers)) its.handled (whole_prefix text);
         }
 
@@ -371,7 +375,8 @@ module _ {S : Type 0} (state : S → Stored) where
       radio_is : IsPrefix radio (radio_of (answers ++ last ∷ []))
       lines_are : IsPrefix lines (lines_of explains (answers ++ last ∷ []))
 
-    part_is_out : (answers : List Answer) (last : Answer) → (wires explains).breaks (at old).sinks (at new).sinks answers last
+    part_is_out : (answers : List Answer) (last : Answer) → (wires explains).breaks (at old).sinks (at new).sinks
+        answers last
         → PartIsOut answers last
     part_is_out answers last breaks =
         let of_radio = λ (answer : Answer). radio_bytes answer.radio in
@@ -448,7 +453,8 @@ module _ {S : Type 0} (state : S → Stored) where
         (sym (append-nil (events_with done.read done.piece))) its.answers _ its.handled
         (whole_prefix (radio_of its.answers), whole_prefix (lines_of explains its.answers)))
       where
-        took : (read : List Turn) (piece : Option (List ℕ)) → NextReadFails (at old) (at new) read piece → Took read piece
+        took : (read : List Turn) (piece : Option (List ℕ)) → NextReadFails (at old) (at new) read piece → Took read
+            piece
         took read None fails = (fails.0.gave.all, fails.1.gave.all)
         took read (Some piece) fails = (fails.0.gave.all, fails.1.gave.all)
 
@@ -459,13 +465,15 @@ module _ {S : Type 0} (state : S → Stored) where
         breaks : List Answer → Answer → Type 0
         breaks = (wires explains).breaks (at old).sinks (at new).sinks
 
-        at_event : (read : List Turn) (piece : Option (List ℕ)) → Took read piece → (events later : List Event) (event : Event)
+        at_event : (read : List Turn) (piece : Option (List ℕ)) → Took read piece → (events later : List Event)
+            (event : Event)
             → events_with read piece ≡ events ++ event ∷ later → Breaks state old.0 new.0 events event breaks
             → ServesAsSpecified state serial_in desk_in serial_out desk_out explains (Err Write) old new count
         at_event read piece took events later event whole b =
             let part = part_is_out b.answered.answers b.answered.last b.answered.out in
             until_fault Write count read piece part.radio part.lines took part.radio_out part.lines_out
-            (λ base found began clean. broken_off base found old.0 new.0 events event later (events_with read piece) began
+            (λ base found began clean. broken_off base found old.0 new.0 events event later (events_with read piece)
+            began
             clean whole b (Out part.radio part.lines) (part.radio_is, part.lines_are))
 
         by : (piece : Option (List ℕ))
@@ -474,9 +482,11 @@ module _ {S : Type 0} (state : S → Stored) where
             → ServesAsSpecified state serial_in desk_in serial_out desk_out explains (Err Write) old new count
         by None serial broken =
             let events = events_with broken.before (Some broken.last.piece) ++ broken.done in
-            at_event done.read None (serial, done.desk.gave.all) events broken.later broken.order broken.whole broken.broken
+            at_event done.read None (serial, done.desk.gave.all) events broken.later broken.order broken.whole
+            broken.broken
         by (Some piece) serial broken =
-            at_event done.read (Some piece) (serial, done.desk.gave.all) (events_of_turns done.read) [] (Piece piece) refl
+            at_event done.read (Some piece) (serial, done.desk.gave.all) (events_of_turns done.read) [] (Piece piece)
+            refl
             broken
 
     pub served_until : (count : ℕ) (fault : RunFault) → ServesUntil state at explains old new fault

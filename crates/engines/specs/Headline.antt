@@ -51,11 +51,11 @@ module _ {S : Type 0} (stored : S → Stored) where
     pub registries : AreRegistries (stored gateway.handler.registry).may_leave
     pub left : (left : Devices) → MayFind (stored gateway.handler.registry) left → left ≡ found
 
-  -- From the devices found, the items were handled in turn. Each took the step of the definitions, or it was refused. Only
-  -- an item that needs memory or the store can be refused; then only the count of refused items changed. The answers are
-  -- out. The gateway knows what the last step left; while the connection is open, the registry holds its devices. Any
-  -- crash state is a registry, of what was known after some prefix of the items. The prefix has every acknowledged item.
-  -- The change of the next item may be there too, if its write was refused.
+  -- From the devices found, the items were handled in turn. Each took the step of the definitions, or it was refused.
+  -- Only an item that needs memory or the store can be refused; then only the count of refused items changed. The
+  -- answers are out. The gateway knows what the last step left; while the connection is open, the registry holds its
+  -- devices. Any crash state is a registry, of what was known after some prefix of the items. The prefix has every
+  -- acknowledged item. The change of the next item may be there too, if its write was refused.
   pub record AsSpecified (base : ℕ) (found : Devices) (items : List Item) (out : List Answer → Type 0)
       (new : HandlerValue S) : Type 0 where
     pub fates : List Fate
@@ -75,10 +75,10 @@ module _ {S : Type 0} (stored : S → Stored) where
     pub whole : items ≡ handled ++ later
     pub specified : AsSpecified base found handled out new
 
-  -- `replay`, of a new gateway, a reader that has this input left, and a writer that holds these bytes. At `Ok` the input
-  -- was read to its end, and the writer was given the text of the answers to the items of the script, and nothing else.
-  -- At a fault it was given a prefix of the text of the answers to some prefix of the items. (The clauses `err`, `read`,
-  -- `write` and `too_many` of `replay` say which prefix, and when it is that fault.)
+  -- `replay`, of a new gateway, a reader that has this input left, and a writer that holds these bytes. At `Ok` the
+  -- input was read to its end, and the writer was given the text of the answers to the items of the script, and nothing
+  -- else. At a fault it was given a prefix of the text of the answers to some prefix of the items. (The clauses `err`,
+  -- `read`, `write` and `too_many` of `replay` say which prefix, and when it is that fault.)
   pub record ReplaySpecified {R W : Type 0} (source : sources.Ghosts R) (sink : sinks.Ghosts W) (explains : Bool)
       (result : Result Summary RunFault) (base : ℕ) (found : Devices) (input held : List ℕ) (new : Value S × R × W)
       : Type 0 where
@@ -98,10 +98,10 @@ module _ {S : Type 0} (stored : S → Stored) where
       → sink.held old.2 ≡ Some held → HasCleanDisk (stored new.0.handler.registry)
       → ReplaySpecified source sink explains result base found input held new
 
-  -- `live`, of a new gateway, two readers that have these bytes left, and two writers that hold these. At `Ok` all turns
-  -- were made, each of one read of the serial line and one of the desk, and the writers were given the radio bytes and
-  -- the lines of the answers to the items of the turns, and nothing else. At a fault they were given prefixes of these,
-  -- for some prefix of the items. (The clauses `err` and `reads` of `live` say which.)
+  -- `live`, of a new gateway, two readers that have these bytes left, and two writers that hold these. At `Ok` all
+  -- turns were made, each of one read of the serial line and one of the desk, and the writers were given the radio
+  -- bytes and the lines of the answers to the items of the turns, and nothing else. At a fault they were given prefixes
+  -- of these, for some prefix of the items. (The clauses `err` and `reads` of `live` say which.)
   pub record LiveSpecified {P Q R D : Type 0} (serial_in : sources.Ghosts P) (desk_in : sources.Ghosts Q)
       (serial_out : sinks.Ghosts R) (desk_out : sinks.Ghosts D) (explains : Bool) (result : Result Summary RunFault)
       (count base : ℕ) (found : Devices) (serial desk sent printed : List ℕ) (old new : Value S × P × Q × R × D)

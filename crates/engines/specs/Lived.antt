@@ -10,7 +10,8 @@ use Rattle.gateway_core.specs.Step.{Item, Answer}
 use Rattle.engines.specs.Played.{Plays, Breaks}
 use Rattle.engines.specs.Started.{Starts}
 
--- in whatever a crash leaves, the next open finds devices; a life that found these and handled these items may leave them
+-- in whatever a crash leaves, the next open finds devices; a life that found these and handled these items may leave
+-- them
 abbrev pub LeavesWhatALifeMay : State → ℕ → Devices → List Item → List Answer → Type 0
 LeavesWhatALifeMay now base found items answers = (trees : _) → now.may_leave trees
     → (left : Devices) × Finds trees left × LeavesALife base found items answers None left

@@ -310,7 +310,11 @@ module _ (state : State) (packet : Packet) (t : Telegram) (carried : telegram_of
     -- data
     of-reading : (known : Device) → IsDataOf state packet t known → (readings : Result (List Entry) Unreadable)
         → read_by known.eep t ≡ readings → Truth state packet (reading_effect t known readings)
-    of-reading known of (Ok readings) is change = (of_device known why.Read, refl, (t, known, readings, of, is, (refl, refl)))
+    of-reading known of (Ok readings) is change = (
+      of_device known why.Read,
+      refl,
+      (t, known, readings, of, is, (refl, refl)),
+    )
     of-reading known of (Err unreadable.NotSupported) is change =
         (of_device known why.OtherMessage, refl, (t, known, _, of, is, inr refl, (refl, refl)))
     of-reading known of (Err unreadable.WrongKind) is change =

@@ -31,10 +31,10 @@ pub record Acknowledges (life : Life) (line : TeachLine) : Type 0 where
   pub as_many_answers : length before ≡ length answers
   pub told : answer.desk ≡ text (Teach line)
 
--- The item asks for the acknowledged change of this device, in the state that the run reached before it. The line has the
--- text of this device's line. Every later life finds the change, until an item changes that sender otherwise, whether
--- that item is taken, refused at its write, or interrupted by a crash. If the devices found are in range and the data of
--- packets are bytes, the device is in range. A line in range is then the line of this device.
+-- The item asks for the acknowledged change of this device, in the state that the run reached before it. The line has
+-- the text of this device's line. Every later life finds the change, until an item changes that sender otherwise,
+-- whether that item is taken, refused at its write, or interrupted by a crash. If the devices found are in range and
+-- the data of packets are bytes, the device is in range. A line in range is then the line of this device.
 pub record IsDurable (life : Life) (line : TeachLine) (answered : Acknowledges life line) : Type 0 where
   pub at : State
   pub known : Device
@@ -42,11 +42,14 @@ pub record IsDurable (life : Life) (line : TeachLine) (answered : Acknowledges l
   pub taken : answered.fate ≡ Taken
   pub asks : change_of at answered.item ≡ Some (acknowledged_change line.outcome known)
   pub same_text : text (Teach line) ≡ text (Teach (told_of known line.outcome))
-  pub keeps : Spares (acknowledged_change line.outcome known) (state_after at answered.item) answered.after answered.more
+  pub keeps : Spares (acknowledged_change line.outcome known) (state_after at answered.item)
+      answered.after answered.more
       → StopSpares (acknowledged_change line.outcome known) life.last life.stopped
-      → (lives : List Life) (last : Devices) → AllByRecursion (LifeSpares (acknowledged_change line.outcome known)) lives
+      → (lives : List Life) (last : Devices)
+      → AllByRecursion (LifeSpares (acknowledged_change line.outcome known)) lives
       → AreLives life.left lives last
-      → Promises (acknowledged_change line.outcome known).deed (get last (acknowledged_change line.outcome known).sender)
+      → Promises (acknowledged_change line.outcome known).deed
+      (get last (acknowledged_change line.outcome known).sender)
   pub in_range : AreInRange life.found → AllByRecursion IsOfBytes life.items → IsDeviceInRange known
   pub line_is : AreInRange life.found → AllByRecursion IsOfBytes life.items → HasNumbersInRange line
       → line ≡ told_of known line.outcome

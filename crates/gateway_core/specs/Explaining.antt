@@ -87,7 +87,8 @@ Means state packet account why.ForOthers =
 Means state packet account why.TeachInReply =
     (t : Telegram) × IsHeard state packet t × (teach_in_of t ≡ Answer) × NamesDevice account None
 Means state packet account why.WindowClosed =
-    (t : Telegram) × IsHeard state packet t × IsTeachIn (teach_in_of t) × (state.mode ≡ Closed) × NamesDevice account None
+    (t : Telegram) × IsHeard state packet t × IsTeachIn (teach_in_of t) × (state.mode ≡ Closed)
+    × NamesDevice account None
 Means state packet account why.OtherMode =
     (t : Telegram) × IsHeard state packet t × IsTeachIn (teach_in_of t)
     × ((eep : Eep) × (state.mode ≡ LearnAs eep) × DoesNotFit eep (teach_in_of t)) × NamesDevice account None
@@ -112,17 +113,18 @@ Means state packet account (why.Told Full) =
     (t : Telegram) × IsHeard state packet t × (state.mode ≢ Closed) × (is_full state.devices t.sender ≡ true)
     × (change_of state (Received packet) ≡ None) × NamesDevice account None
 Means state packet account (why.Told Unsupported) =
-    (t : Telegram) × (eep : Eep) × IsHeard state packet t × (state.mode ≢ Closed) × (eep_told (teach_in_of t) ≡ Some eep)
-    × (supported eep ≡ false) × (change_of state (Received packet) ≡ None) × NamesDevice account None
+    (t : Telegram) × (eep : Eep) × IsHeard state packet t × (state.mode ≢ Closed)
+    × (eep_told (teach_in_of t) ≡ Some eep) × (supported eep ≡ false) × (change_of state (Received packet) ≡ None)
+    × NamesDevice account None
 Means state packet account (why.Told General) =
     (t : Telegram) × (query : UteQuery) × IsHeard state packet t × (state.mode ≢ Closed) × (teach_in_of t ≡ Ute query)
     × (request_in query ≡ not_used) × (change_of state (Received packet) ≡ None) × NamesDevice account None
 Means state packet account (why.Told NoProfile) =
-    (t : Telegram) × IsHeard state packet t × (state.mode ≢ Closed) × (teach_in_of t ≡ Bare) × (change_of state (Received packet) ≡ None)
-    × NamesDevice account None
+    (t : Telegram) × IsHeard state packet t × (state.mode ≢ Closed) × (teach_in_of t ≡ Bare)
+    × (change_of state (Received packet) ≡ None) × NamesDevice account None
 
--- A telegram is shown with its parts. Its profile and maker are those of its query, if it is one, and otherwise those of
--- the account.
+-- A telegram is shown with its parts. Its profile and maker are those of its query, if it is one, and otherwise those
+-- of the account.
 pub record IsShown (t : Telegram) (account : Account) (shown : ToldTelegram) : Type 0 where
   pub id : shown.id ≡ t.sender
   pub dest : ((t.dest ≡ 0xFFFF_FFFF) × (shown.dest ≡ None)) ⊎ ((t.dest ≢ 0xFFFF_FFFF) × (shown.dest ≡ Some t.dest))

@@ -79,8 +79,8 @@ pub fn explanations_are_counted()
 {}
 
 /// The line that explains a packet which is taken is true: its word holds of the packet and of what was known. It shows
-/// the profile and the maker of its query, if it is one, and otherwise those of the device that sent the data or that is
-/// learned.
+/// the profile and the maker of its query, if it is one, and otherwise those of the device that sent the data or that
+/// is learned.
 pub fn explanations_are_true()
     ensures { ExplanationsAreTrue }
 {}
@@ -127,7 +127,8 @@ pub fn acknowledged_is_durable()
 {}
 
 /// If the stream consists of bytes, so do the data of each packet. Then what is known stays in range if it was, a life
-/// leaves devices in range, and a teach line with `accepted` or `deleted` has the text of the line of a device in range.
+/// leaves devices in range, and a teach line with `accepted` or `deleted` has the text of the line of a device in
+/// range.
 pub fn numbers_stay_in_range()
     ensures items { ItemsAreOfBytes }
     ensures stays { StaysInRange }

@@ -117,7 +117,11 @@ no-hex (byte ∷ rest) h =
     )
 
 no-quotes : (t : List ℕ) → NoComma t → NoComma (in_quotes t)
-no-quotes t free = ((λ e. absurd (omega (arith, e))), no-append t (codes "\"") free ((λ e. absurd (omega (arith, e))), tt))
+no-quotes t free = (
+  (λ e. absurd (omega (arith, e))),
+  no-append t (codes "\"") free
+      ((λ e. absurd (omega (arith, e))), tt),
+)
 
 not-dash : (c : ℕ) → c ≡ 45 → c ≢ 44
 not-dash c is e = absurd (omega (arith, is, e))
@@ -171,7 +175,8 @@ quoted-differs t e =
     absurd (omega (arith, first))
 
 same-quoted : (a b : List ℕ) → in_quotes a ≡ in_quotes b → a ≡ b
-same-quoted a b e = append_cancel_right a b (codes "\"") (append_cancel_left (codes "\"") (a ++ codes "\"") (b ++ codes "\"") e)
+same-quoted a b e = append_cancel_right a b (codes "\"") (append_cancel_left (codes "\"") (a ++ codes "\"")
+    (b ++ codes "\"") e)
 
 -- a signal strength
 strength-differs : (byte : ℕ) → byte < 256 → dbm_text byte ≢ codes "null"

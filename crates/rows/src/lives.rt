@@ -363,8 +363,8 @@ fn tell_explained_writes_that_fail(rt: &HostRuntime, telling: &mut Telling) -> R
     )
 }
 
-/// Returns the first number of bytes written to the desk before a failure at which its text does not break off there, or
-/// the radio bytes are not exactly those up to there.
+/// Returns the first number of bytes written to the desk before a failure at which its text does not break off there,
+/// or the radio bytes are not exactly those up to there.
 fn first_wrong_explained(alloc: Global) -> Result<Option<usize>> {
     // what goes out by radio, and what the desk is told after it
     let parts: [(&[u8], &[u8]); 5] = [

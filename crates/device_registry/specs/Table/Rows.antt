@@ -97,7 +97,7 @@ abbrev pub stored : ℕ → Learned → Row
 stored id it =
     Int (pos id) ∷ Null ∷ Int (pos (eep_number it.eep)) ∷ Int (maker_number it.maker) ∷ Text it.label ∷ []
 
--- the values with which the statement puts that row in
+-- the parameters of the statement that upserts that row
 abbrev pub put_params : ℕ → Learned → Row
 put_params id it =
     Int (pos id) ∷ Int (pos (eep_number it.eep)) ∷ Int (maker_number it.maker) ∷ Text it.label ∷ []

@@ -35,7 +35,8 @@ returns-clause-stop g c =
     c.transaction-migrating.ensures.begun c.in_ok-run_listed.ensures.inside c.requires.first c.commit.result
     (state g.S.Store c.commit.new.self.0) c.commit.ensures.survives in
     let same : c.commit.new.self.0 ≡ c.conn-2-1.given.0 = search rules in
-    subst (λ (h : Held _). Survives old (state g.S.Store h) (λ trees. (devices : Devices) → RegistersAs First old.now devices
+    subst (λ (h : Held _). Survives old (state g.S.Store h) (λ trees. (devices : Devices) → RegistersAs First old.now
+    devices
     → Holds trees devices)) same got
 
 pub returns-clause-remains : goal.returns-clause-remains

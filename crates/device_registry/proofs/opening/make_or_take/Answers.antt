@@ -115,7 +115,8 @@ returns-in_ok-renew-in-Some-Second-clause-rows g c =
 
 pub returns-in_ok-renew-in-Some-Second-clause-written : goal.returns-in_ok-renew-in-Some-Second-clause-written
 returns-in_ok-renew-in-Some-Second-clause-written g c =
-    renewed_by c.in_ok-renew-in-Some-Second.field-0 (took Second c.in-Some-Second.is c.in-Some-Second.field-0-is c.requires.rest
+    renewed_by c.in_ok-renew-in-Some-Second.field-0 (took Second c.in-Some-Second.is c.in-Some-Second.field-0-is
+    c.requires.rest
     c.version_of.ensures.stop c.in_ok-version_of.ensures.found)
     c.version_of.ensures.stop c.renew.ensures.stop c.in_ok-renew-in-Some-Second.ensures.runs
 

@@ -52,4 +52,5 @@ returns-clause-same g c clean =
     let early : HasCleanDisk mid = omega (arith, clean, c.rows_for.ensures.survives.clean) in
     answered_same find_text c.in_ok-find.find.text (asked c.args.id) (g.C.SqlConnection.state c.args.conn.now) mid
     (g.C.SqlConnection.state c.rows_for.new.conn) (λ v. v.items) c.rows_for.result (c.in_ok-find.ensures.same early)
-    (c.in_ok-find.ensures.text early) (find_plain mid (c.in_ok-find.ensures.ready early)) (c.rows_for.ensures.shown clean)
+    (c.in_ok-find.ensures.text early) (find_plain mid (c.in_ok-find.ensures.ready early))
+    (c.rows_for.ensures.shown clean)

@@ -265,11 +265,13 @@ returns-clause-as_specified g c =
 
 pub returns-in_default-clause-as_specified : goal.returns-in_default-clause-as_specified
 returns-in_default-clause-as_specified g c =
-    replayed_until g.S.DeviceStore.stored g.R.Source g.W.Sink c.args.explains _ _ Write (returns-in_default-clause-err g c)
+    replayed_until g.S.DeviceStore.stored g.R.Source g.W.Sink c.args.explains _ _ Write
+    (returns-in_default-clause-err g c)
 
 pub returns-in_default-take_bytes-clause-as_specified : goal.returns-in_default-take_bytes-clause-as_specified
 returns-in_default-take_bytes-clause-as_specified g c =
-    replayed_until g.S.DeviceStore.stored g.R.Source g.W.Sink c.args.explains _ _ Write (returns-in_default-take_bytes-clause-err g c)
+    replayed_until g.S.DeviceStore.stored g.R.Source g.W.Sink c.args.explains _ _ Write
+    (returns-in_default-take_bytes-clause-err g c)
 
 pub returns-then-length-eq0-clause-as_specified : goal.returns-then-length-eq0-clause-as_specified
 returns-then-length-eq0-clause-as_specified g c =

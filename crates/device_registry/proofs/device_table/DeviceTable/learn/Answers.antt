@@ -93,7 +93,8 @@ invariant_of-self-2 g c =
     let makes = puts_it old mid stays c.self.invariant change (known_of c.args.device)
     (rw (← c.self.view_is) at c.requires) in
     let turns = c.put.ensures.turns change makes in
-    made_well old mid new change c.put.result stays c.self.invariant turns (c.in_ok-changed.ensures.turns change makes).made
+    made_well old mid new change c.put.result stays c.self.invariant turns
+    (c.in_ok-changed.ensures.turns change makes).made
     (λ clean. (c.in_ok-has_no_room.ensures.full clean).0)
 
 pub returns-clause-learns : goal.returns-clause-learns

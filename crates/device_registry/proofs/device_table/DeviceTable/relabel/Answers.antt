@@ -54,7 +54,8 @@ returns-clause-relabels g c =
     (rw (← c.self.view_is) at c.requires.known) in
     let turns = c.put.ensures.turns change makes in
     rw (← c.self.view_is) (relabel_made old new c.put.result c.self.invariant c.args.device.id c.args.device.label
-    turns (known_of c.args.device) (c.in_ok-put.ensures.turns change makes).made (rw (← c.self.view_is) at c.requires.ready)
+    turns (known_of c.args.device) (c.in_ok-put.ensures.turns change makes).made
+    (rw (← c.self.view_is) at c.requires.ready)
     (λ trees is_open. g.met.C.SqlConnection.settled c.put.new.conn trees is_open)
     (rw (← c.self.view_is) at c.requires.known))
 

@@ -46,5 +46,6 @@ returns-clause-written g c clean =
     subst (λ change. (devices : Devices) → HasDevices old devices → OnOk c.learn_kept.result (WritesRow
     g.C.SqlConnection.state c.learn_kept.new.self change devices)) same
     (written_after old mid c.args.device.id c.in_ok-known.known c.in_ok-known.ensures.looks_up
-    (g.C.SqlConnection.state c.learn_kept.new.self) g.C.SqlConnection.state c.learn_kept.new.self (learned c.keeping_label.result) c.learn_kept.result
+    (g.C.SqlConnection.state c.learn_kept.new.self) g.C.SqlConnection.state c.learn_kept.new.self
+    (learned c.keeping_label.result) c.learn_kept.result
     (λ _. c.learn_kept.ensures.written clean) (c.learn_kept.ensures.learns.clean clean))

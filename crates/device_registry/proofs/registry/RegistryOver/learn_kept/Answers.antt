@@ -13,7 +13,8 @@ invariant_of-self g c = (
   c.learn.ensures.learns.registries,
   changed_recalled (g.C.SqlConnection.state c.self.inside.table) (g.C.SqlConnection.state c.learn.new.self)
       (learned c.args.device)
-      (Some c.copied-copy.result) c.self.inside.cache.entries c.forget_entry.new.cache.entries c.remember.new.cache.entries
+      (Some c.copied-copy.result) c.self.inside.cache.entries c.forget_entry.new.cache.entries
+      c.remember.new.cache.entries
       c.learn.ensures.learns.clean c.in-Ok.ensures.ready
       (λ clean devices has. (c.in-Ok.ensures.learns.devices clean devices has).1)
       (λ clean devices has. ap (λ it. Some it) c.copied-copy.ensures
