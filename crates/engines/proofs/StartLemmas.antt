@@ -1,10 +1,11 @@
 -- How a gateway begins over a registry that was opened, and why none does.
-use Rattle.std.proofs.Common.{◌≡◌, ℕ, Bool, true, false, refl, sym, subst}
+use Rattle.std.proofs.Common.{◌≡◌, ℕ, Bool, true, false, IsTrue, refl, sym, subst}
 use Rattle.std.specs.Prelude.{if◌then◌else◌}
 use Rattle.sqlite.specs.State.{State, HasCleanDisk}
 use Rattle.esp3_frames.proofs.ForCallers.{empty_may_become}
 use Rattle.device_registry.specs.Devices.{Devices}
 use Rattle.device_registry.specs.Holding.{AreRegistries, Finds, Opens}
+use Rattle.device_registry.specs.Ready.{IsReady}
 use Rattle.device_registry.specs.Opening.{RefusesToOpen}
 use Rattle.device_registry.specs.declared.fault.OpenFault.{OpenFault}
 use Rattle.device_registry.specs.declared.fault.OpenFault.TheVariants.{NotARegistry, Refused}
@@ -41,16 +42,19 @@ pub new_gateway : {C : Type 0} (state : C → State) (database registry : C) (ba
     → new ≡ new_value base registry
     → (HasCleanDisk (state registry) → AreRegistries (state registry).may_leave)
     → (HasCleanDisk (state registry) → (devices : Devices) × Opens (state database) (state registry) devices)
-    → HasCleanDisk (state new.handler.registry)
+    → (HasCleanDisk (state registry) → IsReady (state registry)) → HasCleanDisk (state new.handler.registry)
     → (found : Devices) × Finds (state database).committed.trees found × IsNew state base found new
-new_gateway {C} state database registry base new is registries opens =
+    × IsTrue (state new.handler.registry).is_open
+new_gateway {C} state database registry base new is registries opens ready =
     let P : Value C → Type 0 = λ v. HasCleanDisk (state v.handler.registry)
-    → (found : Devices) × Finds (state database).committed.trees found × IsNew state base found v in
+    → (found : Devices) × Finds (state database).committed.trees found × IsNew state base found v
+    × IsTrue (state v.handler.registry).is_open in
     subst P (sym is) (λ clean.
     let opened = opens clean in (
       opened.0,
       opened.1.found,
       record { value = refl; known = opened.1.now; registries = registries clean; left = opened.1.stop },
+      (ready clean).shows.is_open,
     ))
 
 memory_or_store : {C : Type 0} (state : C → State) (database : C) (is_memory : Bool)

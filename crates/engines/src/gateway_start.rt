@@ -1,5 +1,5 @@
 //! A gateway over a database.
-ghost use Rattle.std.specs.Prelude.{◌≡◌, ◌≤◌, false, true, IfErr, IfOk};
+ghost use Rattle.std.specs.Prelude.{◌≡◌, ◌≤◌, false, true, IfErr, IfOk, IsTrue};
 ghost use Rattle.sqlite.specs.State.{HasCleanDisk};
 ghost use Rattle.erp1_telegrams.specs.Address;
 ghost use Rattle.device_registry.specs.Devices.{Devices};
@@ -29,9 +29,10 @@ pub fn start<C: SqlConnection + Drop>(
     requires base { Address.is_base base ≡ true }
     requires room { (1 ≤ remembered) × (remembered ≤ 1024) }
     requires idle { (C.state conn).in_transaction ≡ false }
-    // How the headline begins: with the devices that were committed last.
+    // How the headline begins: with the devices that were committed last, over an open connection.
     ensures begins { IfOk result (λ gateway. HasCleanDisk (C.state gateway.handler.registry) → (found : Devices)
-        × Finds (C.state conn).committed.trees found × IsNew C.state base found gateway) }
+        × Finds (C.state conn).committed.trees found × IsNew C.state base found gateway
+        × IsTrue (C.state gateway.handler.registry).is_open) }
     ensures new { IfOk result (λ gateway. gateway ≡ new_value base gateway.handler.registry) }
     ensures idle { IfOk result IsIdle }
     ensures starts { IfOk result (λ gateway. HasCleanDisk (C.state gateway.handler.registry) →

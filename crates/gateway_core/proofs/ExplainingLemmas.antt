@@ -40,7 +40,7 @@ use Rattle.gateway_core.specs.Accounts.{why_other, why_passed_over, why_silent}
 use Rattle.gateway_core.specs.Profiles.{read_by}
 use Rattle.gateway_core.specs.Responses.{response_from, response_in}
 use Rattle.gateway_core.specs.Explaining.{DoesNotFit, ExplanationsAreTrue, IsHeard, IsDataOf, Means, IsTeachIn}
-use Rattle.gateway_core.specs.Explaining.{Shows}
+use Rattle.gateway_core.specs.Explaining.{IsPlanned, Shows}
 use Rattle.gateway_core.specs.Step.{State, Effect, case_effect, case_of, data_case, kind_case}
 use Rattle.gateway_core.specs.Step.{PassedOver, other_effect, packet_by, packet_effect, plan_effect}
 use Rattle.gateway_core.specs.Step.{accepts, reading_effect, tells_sender, told_of, unsaid}
@@ -238,14 +238,16 @@ module _ (state : State) (packet : Packet) (t : Telegram) (carried : telegram_of
 
   module _ (heard : IsHeard state packet t) where
     refused : (outcome : Outcome) → RefusalMeans (teach_in_of t) outcome → state.mode ≢ mode.Closed
-        → (change : (packet_effect state packet).change ≡ None)
+        → IsPlanned state t (Refuse outcome) → (change : (packet_effect state packet).change ≡ None)
         → Means state packet (because (why.Told outcome)) (why.Told outcome)
-    refused Unsupported means opened change = (t, means.0, heard, opened, means.1, means.2, change, (refl, refl))
-    refused General means opened change = (t, means.0, heard, opened, means.1, means.2, change, (refl, refl))
-    refused NoProfile means opened change = (t, heard, opened, means, change, (refl, refl))
-    refused Accepted means opened change = absurd means
-    refused Deleted means opened change = absurd means
-    refused Full means opened change = absurd means
+    refused Unsupported means opened planned change =
+        (t, means.0, heard, opened, means.1, means.2, planned, change, (refl, refl))
+    refused General means opened planned change =
+        (t, means.0, heard, opened, means.1, means.2, planned, change, (refl, refl))
+    refused NoProfile means opened planned change = (t, heard, opened, means, planned, change, (refl, refl))
+    refused Accepted means opened planned change = absurd means
+    refused Deleted means opened planned change = absurd means
+    refused Full means opened planned change = absurd means
 
     of-planned : (asked known : Bool)
         → (plan_of t state.mode known ≡ Silent → Truth state packet (plan_effect state t asked Silent))
@@ -257,27 +259,30 @@ module _ (state : State) (packet : Packet) (t : Telegram) (carried : telegram_of
           adds = λ hears eep maker is.
               let device : Device = record { id = t.sender; eep = eep; maker = maker; label = [] } in
               let is_open = hears-open state.mode (teach_in_of t) hears in
-              by-room device (is_full state.devices t.sender) refl refl is_open;
+              by-room device (is_full state.devices t.sender) refl refl is_open (known, is);
           forgets = λ told (query, asks, wants) is change. (
             because (why.Told Deleted),
             refl,
-            (t, query, heard, told-open state.mode told, asks, wants, change, (refl, refl)),
+            (t, query, heard, told-open state.mode told, asks, wants, (known, is), change, (refl, refl)),
           );
           refuses = λ hears outcome cause is change. (
             because (why.Told outcome),
             refl,
             refused outcome (refuse-means t known (teach_in_of t) state.mode outcome is)
-                (not-closed state.mode (hears-open state.mode (teach_in_of t) hears)) change,
+                (not-closed state.mode (hears-open state.mode (teach_in_of t) hears)) (known, is) change,
           );
         }) refl
       where
         by-room : (device : Device) (full : Bool) → is_full state.devices t.sender ≡ full → device.id ≡ t.sender
-            → IsOpen state.mode
+            → IsOpen state.mode → IsPlanned state t (Add device)
             → Truth state packet (if full then tells_sender state (teach_in_of t) (told_of device Full)
             else accepts state (teach_in_of t) device)
-        by-room device true is same is_open change =
-            (because (why.Told Full), refl, (t, heard, not-closed state.mode is_open, is, change, (refl, refl)))
-        by-room device false is same is_open change = (
+        by-room device true is same is_open planned change = (
+          because (why.Told Full),
+          refl,
+          (t, device, heard, same, not-closed state.mode is_open, planned, is, change, (refl, refl)),
+        )
+        by-room device false is same is_open planned change = (
           of_device device (why.Told Accepted),
           refl,
           (
@@ -286,6 +291,7 @@ module _ (state : State) (packet : Packet) (t : Telegram) (carried : telegram_of
             heard,
             same,
             not-closed state.mode is_open,
+            planned,
             change,
             (refl, refl),
           ),
@@ -328,7 +334,7 @@ module _ (state : State) (packet : Packet) (t : Telegram) (carried : telegram_of
         → Truth state packet (case_effect state t (data_case known))
     of-data None plain is =
         of-planned true false (λ silent change.
-        (because why.UnknownSender, refl, (t, heard, plain, is, (refl, refl))))
+        (because why.UnknownSender, refl, (t, heard, plain, is, change, (refl, refl))))
     of-data (Some known) plain is =
         of-reading known (record { hears = heard; data_alone = plain; is_known = is }) (read_by known.eep t) refl
 

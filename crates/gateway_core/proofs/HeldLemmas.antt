@@ -12,6 +12,8 @@ use Rattle.sqlite.specs.declared.types.Value.TheVariants.{Int}
 use Rattle.sqlite.specs.State.{State}
 use Rattle.sqlite.specs.Effect.{Database}
 use Rattle.sqlite.specs.Order.{Row}
+use Rattle.sqlite_trees.specs.Tree.{Trees}
+use Rattle.device_registry.specs.Holding.{Finds}
 use Rattle.device_registry.specs.Devices.{Learned, Devices, device}
 use Rattle.device_registry.specs.Stored.{RegistersAs}
 use Rattle.device_registry.specs.declared.table.Version.{Version}
@@ -44,13 +46,16 @@ registers-in : {version : Version} {db : Database} {devices : Devices} → Regis
     → AreInRange devices
 registers-in registers = subst AreInRange registers.is (rows-in _ registers.registry.whole.rows)
 
+found-in : {trees : Trees} {devices : Devices} → Finds trees devices → AreInRange devices
+found-in found = elim found [
+  | inl (version, holds) ↦ registers-in holds.registers
+  | inr (free, none) ↦ subst AreInRange (sym none) empty-in
+]
+
 pub registries_are_in_range : {C : Type 0} (state : C → State) → RegistriesAreInRange state
 registries_are_in_range state = record {
   held = λ c devices clean is_open has. registers-in (has clean is_open);
   left = λ c devices (trees, leaves, holds). registers-in holds.registers;
-  opened =
-      λ old new devices opens. elim opens.found [
-        | inl (version, holds) ↦ registers-in holds.registers
-        | inr (free, none) ↦ subst AreInRange (sym none) empty-in
-      ];
+  found = λ trees devices found. found-in found;
+  opened = λ old new devices opens. found-in opens.found;
 }

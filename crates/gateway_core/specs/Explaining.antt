@@ -1,5 +1,5 @@
 -- The meaning of each word that explains a packet, given the packet and what was known; and what the line shows.
-use Rattle.std.specs.Prelude.{◌≡◌, ◌≢◌, ◌⊎◌, ◌<◌, ⊤, false, true, length, List, [], IsErr, Option, Some, None}
+use Rattle.std.specs.Prelude.{Bool, ◌≡◌, ◌≢◌, ◌⊎◌, ◌<◌, ⊤, false, true, length, List, [], IsErr, Option, Some, None}
 use Rattle.std.specs.Prelude.{Ok, Err}
 use Rattle.std.specs.Option.{option_or}
 use Rattle.esp3_frames.specs.Packet.{Packet}
@@ -17,6 +17,9 @@ use Rattle.teach_in.specs.declared.outcome.Outcome.TheVariants.{NoProfile}
 use Rattle.teach_in.specs.declared.telegrams.Teach.{Teach}
 use Rattle.teach_in.specs.declared.telegrams.Teach.TheVariants.{Answer, Bare, Contact, FourByte, Plain, Ute}
 use Rattle.teach_in.specs.declared.ute.UteQuery.{UteQuery}
+use Rattle.teach_in.specs.declared.plans.Plan.{Plan}
+use Rattle.teach_in.specs.declared.plans.Plan.TheVariants.{Add, Forget, Refuse}
+use Rattle.teach_in.specs.Plans.{plan_of}
 use Rattle.teach_in.specs.Profiles.{supported}
 use Rattle.teach_in.specs.Telegrams.{teach_in_of}
 use Rattle.teach_in.specs.Ute.{request_in, deletion, not_used}
@@ -56,6 +59,10 @@ abbrev pub NamesDevice : Account → Option Device → Type 0
 NamesDevice account None = (account.eep ≡ None) × (account.maker ≡ None)
 NamesDevice account (Some known) = (account.eep ≡ Some known.eep) × (account.maker ≡ known.maker)
 
+-- the table of verdicts plans this about the sender of the telegram, as a known one or as an unknown one
+abbrev pub IsPlanned : State → Telegram → Plan → Type 0
+IsPlanned state t plan = (known : Bool) × (plan_of t state.mode known ≡ plan)
+
 -- the desk's profile does not fit a teach-in telegram, by its RORG; no profile fits a UTE query
 abbrev pub DoesNotFit : Eep → Teach → Type 0
 DoesNotFit eep Contact = eep.rorg ≢ 0xD5
@@ -94,7 +101,7 @@ Means state packet account why.OtherMode =
     × ((eep : Eep) × (state.mode ≡ LearnAs eep) × DoesNotFit eep (teach_in_of t)) × NamesDevice account None
 Means state packet account why.UnknownSender =
     (t : Telegram) × IsHeard state packet t × (teach_in_of t ≡ Plain) × (device_of state.devices t.sender ≡ None)
-    × NamesDevice account None
+    × (change_of state (Received packet) ≡ None) × NamesDevice account None
 Means state packet account why.Read =
     (t : Telegram) × (known : Device) × (readings : List Entry) × IsDataOf state packet t known
     × (read_by known.eep t ≡ Ok readings) × NamesDevice account (Some known)
@@ -104,24 +111,27 @@ Means state packet account why.OtherMessage =
     IsUnreadable state packet account (λ fault. (fault ≡ unreadable.OtherMessage) ⊎ (fault ≡ unreadable.NotSupported))
 Means state packet account (why.Told Accepted) =
     (t : Telegram) × (known : Device) × IsHeard state packet t × (known.id ≡ t.sender) × (state.mode ≢ Closed)
-    × (change_of state (Received packet) ≡ Some (learned known)) × NamesDevice account (Some known)
+    × IsPlanned state t (Add known) × (change_of state (Received packet) ≡ Some (learned known))
+    × NamesDevice account (Some known)
 Means state packet account (why.Told Deleted) =
     (t : Telegram) × (query : UteQuery) × IsHeard state packet t × (state.mode ≢ Closed) × (teach_in_of t ≡ Ute query)
-    × (request_in query ≡ deletion) × (change_of state (Received packet) ≡ Some (forgotten t.sender))
+    × (request_in query ≡ deletion) × IsPlanned state t (Forget t.sender) × (change_of state (Received packet) ≡ Some (forgotten t.sender))
     × NamesDevice account None
 Means state packet account (why.Told Full) =
-    (t : Telegram) × IsHeard state packet t × (state.mode ≢ Closed) × (is_full state.devices t.sender ≡ true)
+    (t : Telegram) × (known : Device) × IsHeard state packet t × (known.id ≡ t.sender) × (state.mode ≢ Closed)
+    × IsPlanned state t (Add known) × (is_full state.devices t.sender ≡ true)
     × (change_of state (Received packet) ≡ None) × NamesDevice account None
 Means state packet account (why.Told Unsupported) =
     (t : Telegram) × (eep : Eep) × IsHeard state packet t × (state.mode ≢ Closed)
-    × (eep_told (teach_in_of t) ≡ Some eep) × (supported eep ≡ false) × (change_of state (Received packet) ≡ None)
-    × NamesDevice account None
+    × (eep_told (teach_in_of t) ≡ Some eep) × (supported eep ≡ false) × IsPlanned state t (Refuse Unsupported)
+    × (change_of state (Received packet) ≡ None) × NamesDevice account None
 Means state packet account (why.Told General) =
     (t : Telegram) × (query : UteQuery) × IsHeard state packet t × (state.mode ≢ Closed) × (teach_in_of t ≡ Ute query)
-    × (request_in query ≡ not_used) × (change_of state (Received packet) ≡ None) × NamesDevice account None
+    × (request_in query ≡ not_used) × IsPlanned state t (Refuse General)
+    × (change_of state (Received packet) ≡ None) × NamesDevice account None
 Means state packet account (why.Told NoProfile) =
     (t : Telegram) × IsHeard state packet t × (state.mode ≢ Closed) × (teach_in_of t ≡ Bare)
-    × (change_of state (Received packet) ≡ None) × NamesDevice account None
+    × IsPlanned state t (Refuse NoProfile) × (change_of state (Received packet) ≡ None) × NamesDevice account None
 
 -- A telegram is shown with its parts. Its profile and maker are those of its query, if it is one, and otherwise those
 -- of the account.

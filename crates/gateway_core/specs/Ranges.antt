@@ -2,10 +2,11 @@
 use Rattle.std.specs.Prelude.{◌≡◌, ◌⊎◌, ℕ, ◌<◌, ◌^◌, List, ◌++◌, Some, IfSome, IsTrue}
 use Rattle.std.specs.List.{All, AllByRecursion}
 use Rattle.sqlite.specs.State.{State as Stored, HasCleanDisk}
+use Rattle.sqlite_trees.specs.Tree.{Trees}
 use Rattle.erp1_telegrams.specs.declared.eep.Eep.{Eep}
 use Rattle.learned_devices.specs.declared.Device.{Device}
 use Rattle.device_registry.specs.Devices.{Devices, device_of}
-use Rattle.device_registry.specs.Holding.{HasDevices, MayFind, Opens}
+use Rattle.device_registry.specs.Holding.{Finds, HasDevices, MayFind, Opens}
 use Rattle.teach_in.specs.declared.mode.Mode.{Mode}
 use Rattle.teach_in.specs.declared.mode.Mode.TheVariants.{LearnAs}
 use Rattle.teach_in.specs.declared.outcome.Outcome.TheVariants.{Accepted, Deleted}
@@ -29,12 +30,13 @@ IsDeviceInRange known =
 abbrev pub AreInRange : Devices → Type 0
 AreInRange devices = (id : ℕ) → IfSome (device_of devices id) IsDeviceInRange
 
--- These devices are in range: those that a registry holds while the disk has returned what was written, those that a
--- crash may leave, and those that an open finds.
+-- These devices are in range: those that a registry holds, while the disk has returned what was written and the
+-- connection is open; those that a crash may leave; and those that an open or a start finds.
 pub record RegistriesAreInRange {C : Type 0} (state : C → Stored) : Type 0 where
   pub held : (c : C) (devices : Devices) → HasCleanDisk (state c) → IsTrue (state c).is_open
       → HasDevices (state c) devices → AreInRange devices
   pub left : (c : C) (devices : Devices) → MayFind (state c) devices → AreInRange devices
+  pub found : (trees : Trees) (devices : Devices) → Finds trees devices → AreInRange devices
   pub opened : (old new : C) (devices : Devices) → Opens (state old) (state new) devices → AreInRange devices
 
 -- the profile that the desk has given is in range

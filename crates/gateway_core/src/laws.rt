@@ -79,8 +79,8 @@ pub fn explanations_are_counted()
 {}
 
 /// The line that explains a packet which is taken is true: its word holds of the packet and of what was known. It shows
-/// the profile and the maker of its query, if it is one, and otherwise those of the device that sent the data or that
-/// is learned.
+/// the profile and the maker of the query, if the packet is one. Otherwise it shows those of a device that is learned by
+/// the packet, or whose data it has and are looked at, and no others.
 pub fn explanations_are_true()
     ensures { ExplanationsAreTrue }
 {}
@@ -126,9 +126,9 @@ pub fn acknowledged_is_durable()
     ensures { AcknowledgedIsDurable }
 {}
 
-/// If the stream consists of bytes, so do the data of each packet. Then what is known stays in range if it was, a life
-/// leaves devices in range, and a teach line with `accepted` or `deleted` has the text of the line of a device in
-/// range.
+/// If the stream consists of bytes, so do the data of each packet. Then what is known stays in range if it was; a life
+/// leaves devices in range if those that it found were; and in a state in range, a teach line with `accepted` or
+/// `deleted` has the text of the line of a device in range.
 pub fn numbers_stay_in_range()
     ensures items { ItemsAreOfBytes }
     ensures stays { StaysInRange }
@@ -136,7 +136,8 @@ pub fn numbers_stay_in_range()
     ensures tells { TellsInRange }
 {}
 
-/// The devices that a registry holds are in range, and so are those that a stop may leave and those that an open finds.
+/// The devices that a registry holds while its connection is open are in range, and so are those that a crash may leave
+/// and those that an open or a start finds.
 pub fn registries_are_in_range<C: SqlConnection>()
     ensures { RegistriesAreInRange C.state }
 {}

@@ -23,4 +23,4 @@ pub returns-clause-begins : goal.returns-clause-begins
 returns-clause-begins g c =
     new_gateway g.C.SqlConnection.state c.args.conn c.in_ok-registry.registry c.args.base
     c.in_ok-gateway_over.field-0 c.in_ok-gateway_over.ensures c.in_ok-registry.ensures.registries
-    c.in_ok-registry.ensures.opens
+    c.in_ok-registry.ensures.opens c.in_ok-registry.ensures.ready
