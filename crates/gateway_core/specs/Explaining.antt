@@ -115,7 +115,8 @@ Means state packet account (why.Told Accepted) =
     × NamesDevice account (Some known)
 Means state packet account (why.Told Deleted) =
     (t : Telegram) × (query : UteQuery) × IsHeard state packet t × (state.mode ≢ Closed) × (teach_in_of t ≡ Ute query)
-    × (request_in query ≡ deletion) × IsPlanned state t (Forget t.sender) × (change_of state (Received packet) ≡ Some (forgotten t.sender))
+    × (request_in query ≡ deletion) × IsPlanned state t (Forget t.sender)
+    × (change_of state (Received packet) ≡ Some (forgotten t.sender))
     × NamesDevice account None
 Means state packet account (why.Told Full) =
     (t : Telegram) × (known : Device) × IsHeard state packet t × (known.id ≡ t.sender) × (state.mode ≢ Closed)

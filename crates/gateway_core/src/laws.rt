@@ -79,8 +79,8 @@ pub fn explanations_are_counted()
 {}
 
 /// The line that explains a packet which is taken is true: its word holds of the packet and of what was known. It shows
-/// the profile and the maker of the query, if the packet is one. Otherwise it shows those of a device that is learned by
-/// the packet, or whose data it has and are looked at, and no others.
+/// the profile and the maker of the query, if the packet is one. Otherwise it shows those of a device that is learned
+/// by the packet, or whose data it has and are looked at, and no others.
 pub fn explanations_are_true()
     ensures { ExplanationsAreTrue }
 {}
