@@ -1,7 +1,7 @@
 -- The lines that explain packets are true.
 use Rattle.std.proofs.Common.{◌≡◌, ◌≢◌, inl, inr, ◌<◌, ℕ, Bool, true, false, List, [], ◌∷◌, Option, length}
 use Rattle.std.proofs.Common.{Some, None, refl, sym, ap, subst, ◌∙◌, arith, eqb-true, Result, Ok, Err}
-use Rattle.std.specs.Prelude.{◌==◌, ◌⊎◌, ◌||◌, ◌&&◌, not, IsErr, if◌then◌else◌}
+use Rattle.std.specs.Prelude.{◌==◌, ◌⊎◌, ◌||◌, ◌&&◌, not, IsErr, if◌then◌else◌, is_some}
 use Rattle.std.proofs.lemmas.Bool.{eqb-false}
 use Rattle.std.proofs.lemmas.Bool.Decides.{eqb_tells}
 use Rattle.esp3_frames.specs.Packet.{Packet}
@@ -43,7 +43,7 @@ use Rattle.gateway_core.specs.Explaining.{DoesNotFit, ExplanationsAreTrue, IsHea
 use Rattle.gateway_core.specs.Explaining.{IsPlanned, Shows}
 use Rattle.gateway_core.specs.Step.{State, Effect, case_effect, case_of, data_case, kind_case}
 use Rattle.gateway_core.specs.Step.{PassedOver, other_effect, packet_by, packet_effect, plan_effect}
-use Rattle.gateway_core.specs.Step.{accepts, reading_effect, tells_sender, told_of, unsaid}
+use Rattle.gateway_core.specs.Step.{accepts, is_learned, reading_effect, tells_sender, told_of, unsaid}
 use Rattle.std.specs.Option.{option_map}
 
 -- if the effect is that of the packet, its account is true
@@ -249,40 +249,43 @@ module _ (state : State) (packet : Packet) (t : Telegram) (carried : telegram_of
     refused Deleted means opened planned change = absurd means
     refused Full means opened planned change = absurd means
 
-    of-planned : (asked known : Bool)
+    of-planned : (asked known : Bool) → is_learned state.devices t.sender ≡ known
         → (plan_of t state.mode known ≡ Silent → Truth state packet (plan_effect state t asked Silent))
         → Truth state packet (plan_effect state t asked (plan_of t state.mode known))
-    of-planned asked known silent =
+    of-planned asked known same silent =
         of_plan (λ plan. plan_of t state.mode known ≡ plan → Truth state packet (plan_effect state t asked plan)) t
         state.mode known (record {
           silent = silent;
           adds = λ hears eep maker is.
               let device : Device = record { id = t.sender; eep = eep; maker = maker; label = [] } in
               let is_open = hears-open state.mode (teach_in_of t) hears in
-              by-room device (is_full state.devices t.sender) refl refl is_open (known, is);
+              by-room device (is_full state.devices t.sender) refl refl is_open (planned ∙ is);
           forgets = λ told (query, asks, wants) is change. (
             because (why.Told Deleted),
             refl,
-            (t, query, heard, told-open state.mode told, asks, wants, (known, is), change, (refl, refl)),
+            (t, query, heard, told-open state.mode told, asks, wants, planned ∙ is, change, (refl, refl)),
           );
           refuses = λ hears outcome cause is change. (
             because (why.Told outcome),
             refl,
             refused outcome (refuse-means t known (teach_in_of t) state.mode outcome is)
-                (not-closed state.mode (hears-open state.mode (teach_in_of t) hears)) (known, is) change,
+                (not-closed state.mode (hears-open state.mode (teach_in_of t) hears)) (planned ∙ is) change,
           );
         }) refl
       where
+        planned : IsPlanned state t (plan_of t state.mode known)
+        planned = ap (plan_of t state.mode) same
+
         by-room : (device : Device) (full : Bool) → is_full state.devices t.sender ≡ full → device.id ≡ t.sender
             → IsOpen state.mode → IsPlanned state t (Add device)
             → Truth state packet (if full then tells_sender state (teach_in_of t) (told_of device Full)
             else accepts state (teach_in_of t) device)
-        by-room device true is same is_open planned change = (
+        by-room device true is same is_open is_planned change = (
           because (why.Told Full),
           refl,
-          (t, device, heard, same, not-closed state.mode is_open, planned, is, change, (refl, refl)),
+          (t, device, heard, same, not-closed state.mode is_open, is_planned, is, change, (refl, refl)),
         )
-        by-room device false is same is_open planned change = (
+        by-room device false is same is_open is_planned change = (
           of_device device (why.Told Accepted),
           refl,
           (
@@ -291,16 +294,16 @@ module _ (state : State) (packet : Packet) (t : Telegram) (carried : telegram_of
             heard,
             same,
             not-closed state.mode is_open,
-            planned,
+            is_planned,
             change,
             (refl, refl),
           ),
         )
 
     -- telegrams of teach-in
-    of-taught : (known : Bool) → IsTeachIn (teach_in_of t)
+    of-taught : (known : Bool) → is_learned state.devices t.sender ≡ known → IsTeachIn (teach_in_of t)
         → Truth state packet (plan_effect state t false (plan_of t state.mode known))
-    of-taught known teaches = of-planned false known (by state.mode refl)
+    of-taught known same teaches = of-planned false known same (by state.mode refl)
       where
         by : (mode : Mode) → state.mode ≡ mode → in_mode (row_of t known (teach_in_of t)) mode ≡ Silent
             → Truth state packet (unsaid false (because (why_silent false mode)))
@@ -333,7 +336,7 @@ module _ (state : State) (packet : Packet) (t : Telegram) (carried : telegram_of
     of-data : (known : Option Device) → teach_in_of t ≡ teach.Plain → device_of state.devices t.sender ≡ known
         → Truth state packet (case_effect state t (data_case known))
     of-data None plain is =
-        of-planned true false (λ silent change.
+        of-planned true false (ap is_some is) (λ silent change.
         (because why.UnknownSender, refl, (t, heard, plain, is, change, (refl, refl))))
     of-data (Some known) plain is =
         of-reading known (record { hears = heard; data_alone = plain; is_known = is }) (read_by known.eep t) refl
@@ -341,10 +344,10 @@ module _ (state : State) (packet : Packet) (t : Telegram) (carried : telegram_of
     of-kind : (kind : Teach) (known : Option Device) → teach_in_of t ≡ kind
         → device_of state.devices t.sender ≡ known → Truth state packet (case_effect state t (kind_case kind known))
     of-kind teach.Answer known is has = λ change. (because why.TeachInReply, refl, (t, heard, is, (refl, refl)))
-    of-kind teach.Contact known is has = of-taught _ (subst IsTeachIn (sym is) tt)
-    of-kind teach.Bare known is has = of-taught _ (subst IsTeachIn (sym is) tt)
-    of-kind (teach.FourByte query) known is has = of-taught _ (subst IsTeachIn (sym is) tt)
-    of-kind (teach.Ute query) known is has = of-taught _ (subst IsTeachIn (sym is) tt)
+    of-kind teach.Contact known is has = of-taught _ refl (subst IsTeachIn (sym is) tt)
+    of-kind teach.Bare known is has = of-taught _ refl (subst IsTeachIn (sym is) tt)
+    of-kind (teach.FourByte query) known is has = of-taught _ refl (subst IsTeachIn (sym is) tt)
+    of-kind (teach.Ute query) known is has = of-taught _ refl (subst IsTeachIn (sym is) tt)
     of-kind teach.Plain known is has = of-data known is has
 
   of-telegram : Truth state packet (case_effect state t (case_of state t))

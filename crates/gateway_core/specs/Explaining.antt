@@ -1,5 +1,5 @@
 -- The meaning of each word that explains a packet, given the packet and what was known; and what the line shows.
-use Rattle.std.specs.Prelude.{Bool, ◌≡◌, ◌≢◌, ◌⊎◌, ◌<◌, ⊤, false, true, length, List, [], IsErr, Option, Some, None}
+use Rattle.std.specs.Prelude.{◌≡◌, ◌≢◌, ◌⊎◌, ◌<◌, ⊤, false, true, length, List, [], IsErr, Option, Some, None}
 use Rattle.std.specs.Prelude.{Ok, Err}
 use Rattle.std.specs.Option.{option_or}
 use Rattle.esp3_frames.specs.Packet.{Packet}
@@ -33,7 +33,7 @@ use Rattle.json_lines.specs.declared.packet.ToldPacket.TheVariants as told
 use Rattle.gateway_core.specs.declared.account.Account.{Account}
 use Rattle.gateway_core.specs.Accounts.{eep_told, maker_told}
 use Rattle.gateway_core.specs.Profiles.{read_by}
-use Rattle.gateway_core.specs.Step.{State, Received, answer_to, change_of}
+use Rattle.gateway_core.specs.Step.{State, Received, answer_to, change_of, is_learned}
 
 -- the packet carries this telegram, which is addressed to us
 pub record IsHeard (state : State) (packet : Packet) (t : Telegram) : Type 0 where
@@ -59,9 +59,9 @@ abbrev pub NamesDevice : Account → Option Device → Type 0
 NamesDevice account None = (account.eep ≡ None) × (account.maker ≡ None)
 NamesDevice account (Some known) = (account.eep ≡ Some known.eep) × (account.maker ≡ known.maker)
 
--- the table of verdicts plans this about the sender of the telegram, as a known one or as an unknown one
+-- the table of verdicts plans this about the sender of the telegram, by the mode and by whether it is learned
 abbrev pub IsPlanned : State → Telegram → Plan → Type 0
-IsPlanned state t plan = (known : Bool) × (plan_of t state.mode known ≡ plan)
+IsPlanned state t plan = plan_of t state.mode (is_learned state.devices t.sender) ≡ plan
 
 -- the desk's profile does not fit a teach-in telegram, by its RORG; no profile fits a UTE query
 abbrev pub DoesNotFit : Eep → Teach → Type 0
