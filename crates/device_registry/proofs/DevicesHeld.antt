@@ -1,6 +1,7 @@
 -- What a database holds is one thing, and how it changes where rows are written.
 use Rattle.std.proofs.Common.{is_some, ◌<◌, ℤ}
-use Rattle.std.proofs.Common.{◌≡◌, ◌≢◌, ℕ, ◌≤◌, ◌+◌, ◌-◌, Bool, true, false, cond, nat_le, refl, List, [], ◌∷◌}
+use Rattle.std.proofs.Common.{◌≡◌, ◌≢◌, ℕ, ◌≤◌, ◌+◌, ◌-◌, Bool, true, false, cond, nat_le}
+use Rattle.std.proofs.Common.{refl, List, [], ◌∷◌}
 use Rattle.std.proofs.Common.{length, map, Some, Option, slice_get, sym, ap, subst, ◌∙◌, arith}
 use Rattle.std.proofs.lemmas.Bool.Decides.{nat_tests}
 use Rattle.std.proofs.lemmas.Cmp.{nat_cmp_total}
@@ -92,7 +93,7 @@ listed_still version before after same listed =
       sql = it.sql;
     }
 
--- no table and no index lies in the tree of the list
+-- no table and no index is stored in the tree of the list
 beside : (tree : ℕ) → tree < 65536 → tree ≢ catalog_tree
 beside tree low same = omega (arith, low, same)
 

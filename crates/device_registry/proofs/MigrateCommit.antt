@@ -46,7 +46,7 @@ IsMade old was db =
     (AreListed Second db.trees → Registers db (devices_in (rows_of First (old.trees was.tables.devices))))
     × IsDatabase db × KeepsOthers old db
 
--- a table with none of our names lies in none of our trees
+-- a table with none of our names is stored in none of our trees
 apart_by_name : (name : List ℕ) (tree : ℕ) (table : Table) → KeepsTree name tree table
     → same_name table.name name ≡ false → table.tree ≢ tree
 apart_by_name name tree table keeps other same = absurd (let e = sym (keeps same) ∙ other in cc)

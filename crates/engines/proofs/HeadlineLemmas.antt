@@ -47,7 +47,7 @@ grown held text old new is appends = by new (subst (λ o. Appends o new text) is
     by None never = absurd never
     by (Some bytes) same = ap Some same
 
--- of which some were taken
+-- some of these bytes were read, and the rest is left
 record Lost (all taken : List ℕ) (new : Option (List ℕ)) : Type 0 where
   rest : List ℕ
   is : new ≡ Some rest
@@ -81,7 +81,7 @@ module _ (says : Answer → List ℕ) (answers : List Answer) (last : Answer) wh
 
 -- ---- turns
 
--- a turn of which only the piece was read
+-- a turn in which only the piece was read
 with_piece : List Turn → Option (List ℕ) → List Turn
 with_piece read None = read
 with_piece read (Some piece) = read ++ record { piece = piece; desk = [] } ∷ []

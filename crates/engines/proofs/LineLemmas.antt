@@ -68,7 +68,7 @@ pub only_line : (line : List ℕ) → IsOneLine line → All IsOneLine (line ∷
 only_line line h zero d l = h
 only_line line h (suc k) d l = absurd (omega arith)
 
--- the lines of which the last ends here
+-- lines that end here
 record EndedLines (bytes : List ℕ) : Type 0 where
   ls : List (List ℕ)
   each : All IsOneLine ls

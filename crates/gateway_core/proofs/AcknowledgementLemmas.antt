@@ -105,7 +105,7 @@ acknowledged_is_durable life line is answered word =
     answered.fates answered.more answered.fate answered.answers answered.later answered.answer answered.as_many_fates
     answered.as_many_answers whole in
     let tells = teach_lines_are_told part.at answered.item answered.fate line
-    (ap (λ (a : Answer). a.desk) (sym part.is) ∙ answered.told) in
+    (ap (λ (a : Answer). a.desk) (sym part.is) ∙ answered.reported) in
     let Of = Tells (IsDeleted part.at answered.item) (effect part.at answered.item) line in
     elim word [
       | inl accepted ↦

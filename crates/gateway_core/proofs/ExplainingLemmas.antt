@@ -114,9 +114,9 @@ RefusalMeans kind NoProfile = kind ≡ teach.Bare
 RefusalMeans kind outcome = ⊥
 
 module _ (t : Telegram) where
-  told-refuses : (kind : Teach) (eep : Eep) (maker : ℕ) (outcome : Outcome) → eep_told kind ≡ Some eep
+  query-refuses : (kind : Teach) (eep : Eep) (maker : ℕ) (outcome : Outcome) → eep_told kind ≡ Some eep
       → add_told t eep maker ≡ Refuse outcome → RefusalMeans kind outcome
-  told-refuses kind eep maker outcome is = by (supported eep) refl
+  query-refuses kind eep maker outcome is = by (supported eep) refl
     where
       by : (b : Bool) → supported eep ≡ b
           → (if b then add t eep (Some maker) else Refuse Unsupported) ≡ Refuse outcome → RefusalMeans kind outcome
@@ -136,7 +136,7 @@ module _ (t : Telegram) where
           subst (RefusalMeans (teach.Ute query)) (ap outcome_in e)
           (query, refl, eqb-true (request_in query) not_used is)
       by false false is e =
-          told-refuses (teach.Ute query) (ute.eep_in query) (ute.maker_in query) outcome refl e
+          query-refuses (teach.Ute query) (ute.eep_in query) (ute.maker_in query) outcome refl e
 
   given-refuses : {X : Type 0} (b : Bool) (known : Device) (outcome : Outcome)
       → (if b then Add known else Silent) ≡ Refuse outcome → X
@@ -158,9 +158,9 @@ module _ (t : Telegram) where
   refuse-means known teach.Bare mode.LearnAnswer outcome e = subst (RefusalMeans teach.Bare) (ap outcome_in e) refl
   refuse-means known teach.Bare (mode.LearnAs eep) outcome e = given-refuses (eep.rorg == 0xA5) _ outcome e
   refuse-means known (teach.FourByte query) mode.Learn outcome e =
-      told-refuses (teach.FourByte query) (four_byte.eep_in query) (four_byte.maker_in query) outcome refl e
+      query-refuses (teach.FourByte query) (four_byte.eep_in query) (four_byte.maker_in query) outcome refl e
   refuse-means known (teach.FourByte query) mode.LearnAnswer outcome e =
-      told-refuses (teach.FourByte query) (four_byte.eep_in query) (four_byte.maker_in query) outcome refl e
+      query-refuses (teach.FourByte query) (four_byte.eep_in query) (four_byte.maker_in query) outcome refl e
   refuse-means known (teach.FourByte query) (mode.LearnAs eep) outcome e =
       given-refuses (eep.rorg == 0xA5) _ outcome e
   refuse-means known (teach.Ute query) mode.Learn outcome e = asked-refuses query outcome e
@@ -175,16 +175,16 @@ module _ (t : Telegram) where
   refuse-means known teach.Answer (mode.LearnAs eep) outcome e = absurd cc
 
   -- in a window for all senders something is planned for each telegram of teach-in
-  told-speaks : (eep : Eep) (maker : ℕ) → add_told t eep maker ≢ Silent
-  told-speaks eep maker = either (λ p. p ≢ Silent) (supported eep) _ _ (λ e. absurd cc) (λ e. absurd cc)
+  query-speaks : (eep : Eep) (maker : ℕ) → add_told t eep maker ≢ Silent
+  query-speaks eep maker = either (λ p. p ≢ Silent) (supported eep) _ _ (λ e. absurd cc) (λ e. absurd cc)
 
   speaks : (known : Bool) (kind : Teach) → IsTeachIn kind → (row_of t known kind).told ≢ Silent
   speaks known teach.Contact is e = absurd cc
   speaks known teach.Bare is e = absurd cc
-  speaks known (teach.FourByte query) is e = told-speaks _ _ e
+  speaks known (teach.FourByte query) is e = query-speaks _ _ e
   speaks known (teach.Ute query) is e =
       either (λ p. p ≢ Silent) (request_in query == deletion) _ _ (λ f. absurd cc)
-      (either (λ p. p ≢ Silent) (request_in query == not_used) _ _ (λ f. absurd cc) (told-speaks _ _)) e
+      (either (λ p. p ≢ Silent) (request_in query == not_used) _ _ (λ f. absurd cc) (query-speaks _ _)) e
   speaks known teach.Plain is e = absurd is
   speaks known teach.Answer is e = absurd is
 
@@ -210,9 +210,9 @@ module _ (t : Telegram) where
 not-closed : (now : Mode) → IsOpen now → now ≢ mode.Closed
 not-closed now is_open closed = subst IsOpen closed is_open
 
-told-open : (now : Mode) → LearnsByTold now → now ≢ mode.Closed
-told-open now (inl is) closed = absurd (let e = sym is ∙ closed in cc)
-told-open now (inr is) closed = absurd (let e = sym is ∙ closed in cc)
+query-open : (now : Mode) → LearnsByTold now → now ≢ mode.Closed
+query-open now (inl is) closed = absurd (let e = sym is ∙ closed in cc)
+query-open now (inr is) closed = absurd (let e = sym is ∙ closed in cc)
 
 others : (a b c : Bool) → (a || not (b || c)) ≡ true → a ≡ false → (b ≡ false) × (c ≡ false)
 others true b c is isnt = absurd cc
@@ -260,10 +260,10 @@ module _ (state : State) (packet : Packet) (t : Telegram) (carried : telegram_of
               let device : Device = record { id = t.sender; eep = eep; maker = maker; label = [] } in
               let is_open = hears-open state.mode (teach_in_of t) hears in
               by-room device (is_full state.devices t.sender) refl refl is_open (planned ∙ is);
-          forgets = λ told (query, asks, wants) is change. (
+          forgets = λ learning (query, asks, wants) is change. (
             because (why.Told Deleted),
             refl,
-            (t, query, heard, told-open state.mode told, asks, wants, planned ∙ is, change, (refl, refl)),
+            (t, query, heard, query-open state.mode learning, asks, wants, planned ∙ is, change, (refl, refl)),
           );
           refuses = λ hears outcome cause is change. (
             because (why.Told outcome),

@@ -78,7 +78,7 @@ abbrev IsPlanInRange : Plan → Type 0
 IsPlanInRange (Add known) = IsProfileInRange known.eep × IsMakerInRange known.maker
 IsPlanInRange plan = Unit {0}
 
--- what a query tells
+-- what a query carries
 asked-in : (query : UteQuery) → IsProfileInRange (eep_in query) × IsMakerInRange (Some (maker_in query))
 asked-in query = (
   (
@@ -93,21 +93,21 @@ maker-below : (query : FourByteQuery) → four_byte.maker_in query < 2 ^ 16
 maker-below query = omega (arith, field-below query.payload 13 11)
 
 module _ (t : Telegram) where
-  told-in : (known : Bool) (kind : Kind) → IsPlanInRange (row_of t known kind).told
-  told-in known Contact = ((omega arith, omega arith, omega arith), tt)
-  told-in known Bare = tt
-  told-in known (FourByte query) =
+  by-query-in : (known : Bool) (kind : Kind) → IsPlanInRange (row_of t known kind).told
+  by-query-in known Contact = ((omega arith, omega arith, omega arith), tt)
+  by-query-in known Bare = tt
+  by-query-in known (FourByte query) =
       either IsPlanInRange (supported (four_byte.eep_in query)) _ _ (
         (omega arith, omega (arith, field-below query.payload 0 6), omega (arith, field-below query.payload 6 7)),
         maker-below query,
       )
       tt
-  told-in known Plain = tt
-  told-in known (Ute query) =
+  by-query-in known Plain = tt
+  by-query-in known (Ute query) =
       either IsPlanInRange (request_in query == deletion) _ _ tt
       (either IsPlanInRange (request_in query == not_used) _ _ tt
       (either IsPlanInRange (supported (eep_in query)) _ _ (asked-in query) tt))
-  told-in known Answer = tt
+  by-query-in known Answer = tt
 
   given-in : (known : Bool) (kind : Kind) (eep : Eep) → IsProfileInRange eep
       → IsPlanInRange ((row_of t known kind).given eep)
@@ -122,8 +122,8 @@ module _ (t : Telegram) where
 
   planned-in : (mode : Mode) (known : Bool) → IsModeInRange mode → IsPlanInRange (plan_of t mode known)
   planned-in Closed known is = tt
-  planned-in mode.Learn known is = told-in known (teach_in_of t)
-  planned-in LearnAnswer known is = told-in known (teach_in_of t)
+  planned-in mode.Learn known is = by-query-in known (teach_in_of t)
+  planned-in LearnAnswer known is = by-query-in known (teach_in_of t)
   planned-in (LearnAs eep) known is = given-in known (teach_in_of t) eep is
 
 -- ---- an order
@@ -342,7 +342,7 @@ leaves_in_range life is found bytes stopped =
           (stays_in_range start life.last life.items life.fates life.answers is.run bytes (found, tt))
     ]
 
--- ---- what a teach line tells
+-- ---- what a teach line reports
 
 pub learned-in : (state : State) (item : Item) (known : Device) → IsStateInRange state → IsOfBytes item
     → change_of state item ≡ Some (learned known) → IsDeviceInRange known
@@ -354,10 +354,10 @@ pub deleted-in : (state : State) (item : Item) (known : Device) → IsStateInRan
 deleted-in state (Ordered line) known in_range bytes is =
     subst (λ (o : Option Device). IfSome o IsDeviceInRange) is (in_range.0 known.id)
 deleted-in state (Received packet) known in_range bytes (t, carried, id, query, asked, wants, eep, maker) =
-    let told = asked-in query in (
-      subst IsProfileInRange (sym eep) told.0,
+    let carried_in = asked-in query in (
+      subst IsProfileInRange (sym eep) carried_in.0,
       subst (λ n. n < 2 ^ 32) (sym id) (sender-below packet t carried bytes),
-      subst IsMakerInRange (sym maker) told.1,
+      subst IsMakerInRange (sym maker) carried_in.1,
     )
 
 of_device : (state : State) (item : Item) (line : TeachLine) (outcome : Outcome) (known : Device)

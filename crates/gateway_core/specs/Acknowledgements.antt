@@ -29,7 +29,7 @@ pub record Acknowledges (life : Life) (line : TeachLine) : Type 0 where
   pub answers_are : life.answers ≡ answers ++ answer ∷ later
   pub as_many_fates : length before ≡ length fates
   pub as_many_answers : length before ≡ length answers
-  pub told : answer.desk ≡ text (Teach line)
+  pub reported : answer.desk ≡ text (Teach line)
 
 -- The item asks for the acknowledged change of this device, in the state that the run reached before it. The line has
 -- the text of this device's line. Every later life finds the change, until an item changes that sender otherwise,

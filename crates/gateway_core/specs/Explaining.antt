@@ -29,7 +29,7 @@ use Rattle.json_lines.specs.PacketLines.{packet_text}
 use Rattle.json_lines.specs.ToldTelegram.{ToldTelegram}
 use Rattle.json_lines.specs.declared.packet.PacketLine.{PacketLine}
 use Rattle.json_lines.specs.declared.packet.ToldPacket.{ToldPacket}
-use Rattle.json_lines.specs.declared.packet.ToldPacket.TheVariants as told
+use Rattle.json_lines.specs.declared.packet.ToldPacket.TheVariants as shown_as
 use Rattle.gateway_core.specs.declared.account.Account.{Account}
 use Rattle.gateway_core.specs.Accounts.{eep_told, maker_told}
 use Rattle.gateway_core.specs.Profiles.{read_by}
@@ -148,8 +148,8 @@ pub record IsShown (t : Telegram) (account : Account) (shown : ToldTelegram) : T
 
 -- the line shows the telegram that the packet carries, or the packet's type and the length of its data
 abbrev pub Shows : Packet → Account → ToldPacket → Type 0
-Shows packet account (told.Telegram shown) = (t : Telegram) × (telegram_of packet ≡ Ok t) × IsShown t account shown
-Shows packet account (told.Other kind size) =
+Shows packet account (shown_as.Telegram shown) = (t : Telegram) × (telegram_of packet ≡ Ok t) × IsShown t account shown
+Shows packet account (shown_as.Other kind size) =
     IsErr (telegram_of packet) × (kind ≡ packet.kind) × (size ≡ length packet.body)
 
 -- the line that explains a packet that is taken shows the packet, and its word is true

@@ -1,4 +1,4 @@
--- The ranges of the numbers of devices: what is learned is in range, and so is the device that a teach line tells.
+-- The ranges of the numbers of devices: what is learned is in range, and so is the device that a teach line reports.
 use Rattle.std.specs.Prelude.{◌≡◌, ◌⊎◌, ℕ, ◌<◌, ◌^◌, List, ◌++◌, Some, IfSome, IsTrue}
 use Rattle.std.specs.List.{All, AllByRecursion}
 use Rattle.sqlite.specs.State.{State as Stored, HasCleanDisk}

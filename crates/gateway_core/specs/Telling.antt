@@ -43,7 +43,7 @@ Tells Gone e line Deleted =
     × Gone known × (e.change ≡ Some (forgotten known.id))
 Tells Gone e line outcome = (e.change ≡ None) × (e.mode ≡ None)
 
--- the change that a line with `accepted` or `deleted` tells of this device
+-- the change of this device that a line with `accepted` or `deleted` reports
 abbrev pub acknowledged_change : Outcome → Device → Change
 acknowledged_change Accepted known = learned known
 acknowledged_change outcome known = forgotten known.id

@@ -26,35 +26,35 @@ reading-goes_on line more =
     ∙ ap (λ (t : List ℕ). slice_index_or t 1 0)
     (behind-comma (or_null dbm_text line.dbm) _ (strength-alone line.dbm))
 
-telegram-goes_on : (told : ToldTelegram) (why : Why) (more : List ℕ)
-    → slice_index_or (behind (drop 7 (packet_text (record { packet = Telegram told; why = why }) ++ more))) 1 0 ≡ 100
-telegram-goes_on told why more =
-    ap (λ (t : List ℕ). slice_index_or (behind t) 1 0) (regrouped (or_null dbm_text told.dbm) _ more)
+telegram-goes_on : (shown : ToldTelegram) (why : Why) (more : List ℕ)
+    → slice_index_or (behind (drop 7 (packet_text (record { packet = Telegram shown; why = why }) ++ more))) 1 0 ≡ 100
+telegram-goes_on shown why more =
+    ap (λ (t : List ℕ). slice_index_or (behind t) 1 0) (regrouped (or_null dbm_text shown.dbm) _ more)
     ∙ ap (λ (t : List ℕ). slice_index_or t 1 0)
-    (behind-comma (or_null dbm_text told.dbm) _ (strength-alone told.dbm))
+    (behind-comma (or_null dbm_text shown.dbm) _ (strength-alone shown.dbm))
 
 third : (s t : List ℕ) → s ≡ t → slice_index_or s 2 0 ≡ slice_index_or t 2 0
 third s t e = ap (λ (u : List ℕ). slice_index_or u 2 0) e
 
-pub distinguishable : (line : DeskLine) (told : PacketLine) (a b : List ℕ) → text line ++ a ≢ packet_text told ++ b
-distinguishable line told = one line told.packet told.why
+pub distinguishable : (line : DeskLine) (packet : PacketLine) (a b : List ℕ) → text line ++ a ≢ packet_text packet ++ b
+distinguishable line packet = one line packet.packet packet.why
   where
     one : (line : DeskLine) (packet : ToldPacket) (why : Why) (a b : List ℕ)
         → text line ++ a ≢ packet_text (record { packet = packet; why = why }) ++ b
-    one (Reading line) (Telegram told) why a b e =
+    one (Reading line) (Telegram shown) why a b e =
         let h : 101 ≡ 100 =
         sym (reading-goes_on line a) ∙ ap (λ (t : List ℕ). slice_index_or (behind (drop 7 t)) 1 0) e
-        ∙ telegram-goes_on told why b in
+        ∙ telegram-goes_on shown why b in
         absurd (omega (arith, h))
-    one (Teach line) (Telegram told) why a b e = let h : 101 ≡ 100 = third _ _ e in absurd (omega (arith, h))
-    one (DeviceLine known) (Telegram told) why a b e = let h : 101 ≡ 100 = third _ _ e in absurd (omega (arith, h))
-    one (ListEnd count) (Telegram told) why a b e = let h : 99 ≡ 100 = third _ _ e in absurd (omega (arith, h))
-    one (StatusLine counts mode) (Telegram told) why a b e =
+    one (Teach line) (Telegram shown) why a b e = let h : 101 ≡ 100 = third _ _ e in absurd (omega (arith, h))
+    one (DeviceLine known) (Telegram shown) why a b e = let h : 101 ≡ 100 = third _ _ e in absurd (omega (arith, h))
+    one (ListEnd count) (Telegram shown) why a b e = let h : 99 ≡ 100 = third _ _ e in absurd (omega (arith, h))
+    one (StatusLine counts mode) (Telegram shown) why a b e =
         let h : 105 ≡ 100 = third _ _ e in absurd (omega (arith, h))
-    one (ResponseLine response) (Telegram told) why a b e =
+    one (ResponseLine response) (Telegram shown) why a b e =
         let h : 99 ≡ 100 = third _ _ e in absurd (omega (arith, h))
-    one Done (Telegram told) why a b e = let h : 116 ≡ 100 = third _ _ e in absurd (omega (arith, h))
-    one (Error name) (Telegram told) why a b e = let h : 101 ≡ 100 = third _ _ e in absurd (omega (arith, h))
+    one Done (Telegram shown) why a b e = let h : 116 ≡ 100 = third _ _ e in absurd (omega (arith, h))
+    one (Error name) (Telegram shown) why a b e = let h : 101 ≡ 100 = third _ _ e in absurd (omega (arith, h))
     one (Reading line) (Other kind size) why a b e = let h : 100 ≡ 107 = third _ _ e in absurd (omega (arith, h))
     one (Teach line) (Other kind size) why a b e = let h : 101 ≡ 107 = third _ _ e in absurd (omega (arith, h))
     one (DeviceLine known) (Other kind size) why a b e =

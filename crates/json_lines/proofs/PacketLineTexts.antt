@@ -208,15 +208,15 @@ pub record Values : Type 0 where
   pub status : List ℕ
 
 abbrev values : ToldTelegram → Values
-values told = record {
-  dbm = or_null dbm_text told.dbm;
-  dest = or_null id_string told.dest;
-  eep = or_null profile_text told.eep;
-  id = id_string told.id;
-  maker = or_null decimal told.maker;
-  payload = in_quotes (encode_upper told.payload);
-  rorg = in_quotes (byte_text told.rorg);
-  status = in_quotes (byte_text told.status);
+values shown = record {
+  dbm = or_null dbm_text shown.dbm;
+  dest = or_null id_string shown.dest;
+  eep = or_null profile_text shown.eep;
+  id = id_string shown.id;
+  maker = or_null decimal shown.maker;
+  payload = in_quotes (encode_upper shown.payload);
+  rorg = in_quotes (byte_text shown.rorg);
+  status = in_quotes (byte_text shown.status);
 }
 
 -- none of them has a comma
@@ -247,16 +247,16 @@ maker-alone : (known : Option ℕ) → NoComma (or_null decimal known)
 maker-alone None = no-null
 maker-alone (Some maker) = no-decimal maker
 
-no-commas : (told : ToldTelegram) → HasFieldsInRange told → NoCommas (values told)
-no-commas told range = record {
-  dbm = strength-alone told.dbm;
-  dest = dest-alone told.dest;
-  eep = eep-alone told.eep range.eep;
-  id = no-id told.id;
-  maker = maker-alone told.maker;
-  payload = no-quotes (encode_upper told.payload) (no-hex told.payload range.payload);
-  rorg = no-quotes (byte_text told.rorg) (no-byte told.rorg range.rorg);
-  status = no-quotes (byte_text told.status) (no-byte told.status range.status);
+no-commas : (shown : ToldTelegram) → HasFieldsInRange shown → NoCommas (values shown)
+no-commas shown range = record {
+  dbm = strength-alone shown.dbm;
+  dest = dest-alone shown.dest;
+  eep = eep-alone shown.eep range.eep;
+  id = no-id shown.id;
+  maker = maker-alone shown.maker;
+  payload = no-quotes (encode_upper shown.payload) (no-hex shown.payload range.payload);
+  rorg = no-quotes (byte_text shown.rorg) (no-byte shown.rorg range.rorg);
+  status = no-quotes (byte_text shown.status) (no-byte shown.status range.status);
 }
 
 -- a line of a telegram, member by member
@@ -302,14 +302,14 @@ telegram-pieces dbm dest eep id maker payload rorg status word =
     simp (append_assoc, append-nil) (ap (λ t. codes "{\"dbm\":" ++ t)
     (append_assoc _ (codes "}") (codes "\n") ∙ push dbm (codes ",\"dest\":") _ _ dests))
 
-telegram-line : (told : ToldTelegram) (why : Why)
-    → packet_text (record { packet = Telegram told; why = why }) ≡ line_of_values (values told) (why_word why)
-telegram-line told why =
-    telegram-pieces (or_null dbm_text told.dbm) (or_null id_string told.dest) (or_null profile_text told.eep)
-    (id_string told.id) (or_null decimal told.maker) (in_quotes (encode_upper told.payload))
-    (in_quotes (byte_text told.rorg)) (in_quotes (byte_text told.status)) (why_word why)
+telegram-line : (shown : ToldTelegram) (why : Why)
+    → packet_text (record { packet = Telegram shown; why = why }) ≡ line_of_values (values shown) (why_word why)
+telegram-line shown why =
+    telegram-pieces (or_null dbm_text shown.dbm) (or_null id_string shown.dest) (or_null profile_text shown.eep)
+    (id_string shown.id) (or_null decimal shown.maker) (in_quotes (encode_upper shown.payload))
+    (in_quotes (byte_text shown.rorg)) (in_quotes (byte_text shown.status)) (why_word why)
 
--- a member of two lines, and what stands behind it
+-- a member of two lines, and the text after it
 member : (name a b x y : List ℕ) → NoComma a → NoComma b → name ++ (a ++ 44 ∷ x) ≡ name ++ (b ++ 44 ∷ y)
     → (a ≡ b) × (x ≡ y)
 member name a b x y in_a in_b e = peel a b x y in_a in_b (append_cancel_left name (a ++ 44 ∷ x) (b ++ 44 ∷ y) e)
@@ -356,28 +356,28 @@ same-values v w one other in_v in_w e =
       why = same-word one other status.1;
     }
 
--- ---- a telegram is told by one line
+-- ---- one line shows a telegram
 
-same-told : (told said : ToldTelegram) (one other : Why) → HasFieldsInRange told → HasFieldsInRange said
-    → SameValues (values told) (values said) one other → told ≡ said
-same-told told said one other in_told in_said same =
-    of-fields told said
-    (same-known dbm_text (λ byte. byte < 256) told.dbm said.dbm in_told.dbm in_said.dbm strength-differs same-strength
+same-shown : (shown said : ToldTelegram) (one other : Why) → HasFieldsInRange shown → HasFieldsInRange said
+    → SameValues (values shown) (values said) one other → shown ≡ said
+same-shown shown said one other in_shown in_said same =
+    of-fields shown said
+    (same-known dbm_text (λ byte. byte < 256) shown.dbm said.dbm in_shown.dbm in_said.dbm strength-differs same-strength
     same.dbm)
-    (same-known id_string (λ id. id < 2 ^ 32) told.dest said.dest in_told.dest in_said.dest
+    (same-known id_string (λ id. id < 2 ^ 32) shown.dest said.dest in_shown.dest in_said.dest
     (λ id below. quoted-differs (id_text id))
     (λ a b in_a in_b e. same-id a b in_a in_b (same-quoted (id_text a) (id_text b) e)) same.dest)
-    (same-known profile_text (λ eep. (eep.rorg < 256) × (eep.func < 256) × (eep.typ < 256)) told.eep said.eep
-    in_told.eep in_said.eep (λ eep range. quoted-differs (eep_text eep))
+    (same-known profile_text (λ eep. (eep.rorg < 256) × (eep.func < 256) × (eep.typ < 256)) shown.eep said.eep
+    in_shown.eep in_said.eep (λ eep range. quoted-differs (eep_text eep))
     (λ a b in_a in_b e. same-eep a b in_a in_b (same-quoted (eep_text a) (eep_text b) e)) same.eep)
-    (same-id told.id said.id in_told.id in_said.id (same-quoted (id_text told.id) (id_text said.id) same.id))
-    (same-maker told.maker said.maker in_told.maker in_said.maker same.maker)
-    (same-bytes told.payload said.payload in_told.payload in_said.payload
-    (same-quoted (encode_upper told.payload) (encode_upper said.payload) same.payload))
-    (same-byte told.rorg said.rorg in_told.rorg in_said.rorg
-    (same-quoted (byte_text told.rorg) (byte_text said.rorg) same.rorg))
-    (same-byte told.status said.status in_told.status in_said.status
-    (same-quoted (byte_text told.status) (byte_text said.status) same.status))
+    (same-id shown.id said.id in_shown.id in_said.id (same-quoted (id_text shown.id) (id_text said.id) same.id))
+    (same-maker shown.maker said.maker in_shown.maker in_said.maker same.maker)
+    (same-bytes shown.payload said.payload in_shown.payload in_said.payload
+    (same-quoted (encode_upper shown.payload) (encode_upper said.payload) same.payload))
+    (same-byte shown.rorg said.rorg in_shown.rorg in_said.rorg
+    (same-quoted (byte_text shown.rorg) (byte_text said.rorg) same.rorg))
+    (same-byte shown.status said.status in_shown.status in_said.status
+    (same-quoted (byte_text shown.status) (byte_text said.status) same.status))
   where
     of-fields : (a b : ToldTelegram) → a.dbm ≡ b.dbm → a.dest ≡ b.dest → a.eep ≡ b.eep → a.id ≡ b.id
         → a.maker ≡ b.maker → a.payload ≡ b.payload → a.rorg ≡ b.rorg → a.status ≡ b.status → a ≡ b
@@ -410,9 +410,9 @@ other-line kind size why = other-pieces (decimal kind) (decimal size) (why_word 
 
 -- ---- each line
 
-pub one_packet_line : (line told : PacketLine) → HasPacketNumbersInRange line.packet
-    → HasPacketNumbersInRange told.packet → packet_text line ≡ packet_text told → line ≡ told
-one_packet_line line told = one line.packet told.packet line.why told.why
+pub one_packet_line : (line other : PacketLine) → HasPacketNumbersInRange line.packet
+    → HasPacketNumbersInRange other.packet → packet_text line ≡ packet_text other → line ≡ other
+one_packet_line line other = one line.packet other.packet line.why other.why
   where
     one : (a b : ToldPacket) (why by : Why) → HasPacketNumbersInRange a → HasPacketNumbersInRange b
         → packet_text (record { packet = a; why = why }) ≡ packet_text (record { packet = b; why = by })
@@ -422,7 +422,7 @@ one_packet_line line told = one line.packet told.packet line.why told.why
         let same = same-values (values a) (values b) why by (no-commas a in_a) (no-commas b in_b)
         (sym (telegram-line a why) ∙ e ∙ telegram-line b by) in
         ap (λ t. let x : PacketLine = record { packet = Telegram t; why = why } in x)
-        (same-told a b why by in_a in_b same)
+        (same-shown a b why by in_a in_b same)
         ∙ ap (λ w. let x : PacketLine = record { packet = Telegram b; why = w } in x) same.why
     one (Other kind size) (Other type many) why by in_a in_b e =
         let h = sym (other-line kind size why) ∙ e ∙ other-line type many by in

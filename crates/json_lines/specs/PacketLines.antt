@@ -96,16 +96,16 @@ longest_packet_line = longest_sender + longest_content + longest_end + 5
 -- ---- the numbers of a packet line are in the ranges of those of a packet
 
 -- a telegram has bytes, IDs of four bytes, and a maker of at most two
-pub record HasFieldsInRange (told : ToldTelegram) : Type 0 where
-  pub dbm : IfSome told.dbm (λ byte. byte < 256)
-  pub dest : IfSome told.dest (λ id. id < 2 ^ 32)
-  pub eep : IfSome told.eep (λ eep. (eep.rorg < 256) × (eep.func < 256) × (eep.typ < 256))
-  pub id : told.id < 2 ^ 32
-  pub maker : IfSome told.maker (λ maker. maker < 2 ^ 16)
-  pub payload : IsBytes told.payload
-  pub rorg : told.rorg < 256
-  pub status : told.status < 256
+pub record HasFieldsInRange (shown : ToldTelegram) : Type 0 where
+  pub dbm : IfSome shown.dbm (λ byte. byte < 256)
+  pub dest : IfSome shown.dest (λ id. id < 2 ^ 32)
+  pub eep : IfSome shown.eep (λ eep. (eep.rorg < 256) × (eep.func < 256) × (eep.typ < 256))
+  pub id : shown.id < 2 ^ 32
+  pub maker : IfSome shown.maker (λ maker. maker < 2 ^ 16)
+  pub payload : IsBytes shown.payload
+  pub rorg : shown.rorg < 256
+  pub status : shown.status < 256
 
 abbrev pub HasPacketNumbersInRange : ToldPacket → Type 0
-HasPacketNumbersInRange (Telegram told) = HasFieldsInRange told
+HasPacketNumbersInRange (Telegram shown) = HasFieldsInRange shown
 HasPacketNumbersInRange (Other kind size) = (kind < 256) × (size < 2 ^ 16)

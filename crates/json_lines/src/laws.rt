@@ -25,14 +25,14 @@ pub fn words_tell_why()
 
 /// Packet lines with the same text are equal: they show the same packet, field by field, and the same reason.
 pub fn packet_texts_are_injective()
-    ensures { (line told : PacketLine) → HasPacketNumbersInRange line.packet → HasPacketNumbersInRange told.packet
-        → packet_text line ≡ packet_text told → line ≡ told }
+    ensures { (line other : PacketLine) → HasPacketNumbersInRange line.packet → HasPacketNumbersInRange other.packet
+        → packet_text line ≡ packet_text other → line ≡ other }
 {}
 
 /// Whatever follows them, a line for the desk and a packet line are never the same text. So a reader can separate them
 /// line by line.
 pub fn packet_lines_are_distinguishable()
-    ensures { (line : DeskLine) (told : PacketLine) (a b : List ℕ) → text line ++ a ≢ packet_text told ++ b }
+    ensures { (line : DeskLine) (packet : PacketLine) (a b : List ℕ) → text line ++ a ≢ packet_text packet ++ b }
 {}
 
 /// The room of a packet line is the length of the longest.

@@ -366,7 +366,7 @@ fn tell_explained_writes_that_fail(rt: &HostRuntime, telling: &mut Telling) -> R
 /// Returns the first number of bytes written to the desk before a failure at which its text does not break off there,
 /// or the radio bytes are not exactly those up to there.
 fn first_wrong_explained(alloc: Global) -> Result<Option<usize>> {
-    // what goes out by radio, and what the desk is told after it
+    // the bytes that the radio gets, and the lines that the desk gets after them
     let parts: [(&[u8], &[u8]); 5] = [
         (b"", CONTACT_EXPLAINED),
         (b"", OK),
@@ -376,9 +376,9 @@ fn first_wrong_explained(alloc: Global) -> Result<Option<usize>> {
     ];
     let mut radio = Vec::new(alloc);
     let mut desk = Vec::new(alloc);
-    for (sent, told) in parts {
+    for (sent, lines) in parts {
         radio.extend_from_slice(sent)?;
-        for byte in told {
+        for byte in lines {
             let served = serve_explained(alloc, 1, desk.len().saturating_add(1))?;
             if !served.is(
                 Err(RunFault::Write),
