@@ -9,13 +9,13 @@ use Rattle.esp3_frames.specs.Framing.{MayBecomePacket}
 use Rattle.esp3_frames.proofs.ForCallers.{frames_of-may_become}
 use Rattle.gateway_core.specs.Step.{Item, Received, Ordered, Answer}
 use Rattle.gateway_core.specs.Handling.{HandlerValue}
-use Rattle.gateway_core.specs.Calls.{Value, Moves, Next, Byte, Order}
-use Rattle.gateway_core.specs.Events.{Piece, Line, items_of}
+use Rattle.gateway_core.specs.Calls.{Value, Moves, Next, Bytes, Order}
+use Rattle.gateway_core.specs.Events.{Event, Piece, Line, bytes_in, items_of}
 use Rattle.gateway_core.proofs.ForCallers.{brought-rest, cuts_do_not_matter, rest_goes_on, items_behind, rest_behind}
 use Rattle.json_lines.specs.Counts.{count_with}
 use Rattle.engines.specs.Outlets.{Way}
 use Rattle.engines.specs.declared.engine.Engine.{Engine}
-use Rattle.engines.specs.Played.{IsIdle, Answers, AnswersPart}
+use Rattle.engines.specs.Played.{IsIdle, IsBegun, Answers, AnswersPart}
 use Rattle.engines.specs.EngineSteps.{Drains, DrainsPart, EngineBreaks, EnginePlays, Takes}
 use Rattle.gateway_core.proofs.ForCallers.{count_on}
 use Rattle.engines.proofs.AnswerLemmas.{answers_nothing, answers_one, answers-append, part_one, answers-part}
@@ -84,11 +84,11 @@ module _ {S : Type 0} (stored : S → Stored) {O : Type 0} (way : Way O) where
 module _ {O S : Type 0} (stored : S → Stored) (way : Way O) where
   -- ---- a piece
 
-  -- a byte, and the packets that it makes ready
-  items_of-byte : (old mid : Value S) (byte : ℕ) → IsIdle old → Moves stored old (Byte byte) mid
-      → items_of old.rest (Piece (byte ∷ []) ∷ []) ≡ map Received mid.ready
-  items_of-byte old mid byte idle (none, state, ready, rest, shown) =
-      items_of-piece old.rest (byte ∷ []) idle.rest ∙ ap (λ (ps : List Packet). map Received ps) (sym ready)
+  -- bytes, and the packets that they make ready
+  items_of-bytes : (old mid : Value S) (run : List ℕ) → IsIdle old → Moves stored old (Bytes run) mid
+      → items_of old.rest (Piece run ∷ []) ≡ map Received mid.ready
+  items_of-bytes old mid run idle (none, state, ready, rest, shown) =
+      items_of-piece old.rest run idle.rest ∙ ap (λ (ps : List Packet). map Received ps) (sym ready)
 
   pub takes_nothing : (old : Engine O S) → IsIdle old.gateway.now → old.items < 2 ^ 64
       → Takes stored way old old (Piece [] ∷ [])
@@ -103,82 +103,116 @@ module _ {O S : Type 0} (stored : S → Stored) (way : Way O) where
         counted = rw none (omega arith);
       }
 
-  -- one byte more of a piece, and the packets that it brings
-  pub takes_more : (old now new : Engine O S) (mid : Value S) (bytes : List ℕ) (byte : ℕ)
-      → Takes stored way old now (Piece bytes ∷ []) → Moves stored now.gateway.now (Byte byte) mid
-      → new.gateway.now.ready ≡ []
-      → Drains stored mid new.gateway.now (way.puts now.outlet new.outlet) now.items new.items
-      → Takes stored way old new (Piece (bytes ++ byte ∷ []) ∷ [])
-  takes_more old now new mid bytes byte before moved none drained =
+  -- a run of bytes, and the packets that it brings
+  pub takes_run : (old new : Engine O S) (mid : Value S) (run : List ℕ) → IsIdle old.gateway.now
+      → Moves stored old.gateway.now (Bytes run) mid → new.gateway.now.ready ≡ []
+      → Drains stored mid new.gateway.now (way.puts old.outlet new.outlet) old.items new.items
+      → Takes stored way old new (Piece run ∷ [])
+  takes_run old new mid run idle moved none drained =
       let rest = old.gateway.now.rest in
-      let after = now.gateway.now.rest in
       let ended = new.gateway.now in
-      let out = way.puts now.outlet new.outlet in
       let all : mid.ready ≡ drained.packets =
       drained.ready ∙ ap (λ (ps : List Packet). drained.packets ++ ps) none ∙ append-nil drained.packets in
-      let is : items_of after (Piece (byte ∷ []) ∷ []) ≡ map Received drained.packets =
-      items_of-byte now.gateway.now mid byte before.played.idle moved
-      ∙ ap (λ (ps : List Packet). map Received ps) all in
-      let rests : ended.rest ≡ rest_of (after ++ byte ∷ []) = drained.rest ∙ moved.3 in
-      let answered : Answers stored now.gateway.now.handler ended.handler
-      (items_of after (Piece (byte ∷ []) ∷ [])) out =
-      rw is (let P : HandlerValue S → Type 0 = λ s. Answers stored s ended.handler (map Received drained.packets) out in
-      subst P moved.1 drained.answered) in
-      let next : EnginePlays stored way now new (Piece (byte ∷ []) ∷ []) = record {
-        answered = answered;
-        rest = rests;
-        idle = record { ready = none; rest = rw rests (rest_goes_on (after ++ byte ∷ [])) };
-      } in
+      let is : items_of rest (Piece run ∷ []) ≡ map Received drained.packets =
+      items_of-bytes old.gateway.now mid run idle moved ∙ ap (λ (ps : List Packet). map Received ps) all in
+      let rests : ended.rest ≡ rest_of (rest ++ run) = drained.rest ∙ moved.3 in
+      record {
+        played = record {
+          answered =
+              rw is (let P : HandlerValue S → Type 0 =
+                  λ s. Answers stored s ended.handler (map Received drained.packets) (way.puts old.outlet new.outlet)
+              in subst P moved.1 drained.answered);
+          rest = rests ∙ ap (λ w. rest_of (rest ++ w)) (sym (append-nil run));
+          idle = record { ready = none; rest = rw rests (rest_goes_on (rest ++ run)) };
+        };
+        counted = rw (is, length-map) drained.counted;
+      }
+
+  -- a piece in two parts
+  pub takes_both : (old now new : Engine O S) (bytes run : List ℕ) → Takes stored way old now (Piece bytes ∷ [])
+      → Takes stored way now new (Piece run ∷ []) → Takes stored way old new (Piece (bytes ++ run) ∷ [])
+  takes_both old now new bytes run before next =
+      let rest = old.gateway.now.rest in
+      let after = now.gateway.now.rest in
       let joined =
-      plays-append stored way old now new (Piece bytes ∷ []) (Piece (byte ∷ []) ∷ []) before.played next in
-      let items = items-joined rest bytes (byte ∷ []) in
-      let behind = items_behind rest after (Piece bytes ∷ []) (Piece (byte ∷ []) ∷ []) before.played.rest in
+      plays-append stored way old now new (Piece bytes ∷ []) (Piece run ∷ []) before.played next.played in
+      let items = items-joined rest bytes run in
+      let behind = items_behind rest after (Piece bytes ∷ []) (Piece run ∷ []) before.played.rest in
       record {
         played = record {
           answered = rw items joined.answered;
-          rest = joined.rest ∙ ap (λ w. rest_of (rest ++ w)) (sym (append_assoc bytes (byte ∷ []) []));
+          rest = joined.rest ∙ ap (λ w. rest_of (rest ++ w)) (sym (append_assoc bytes run []));
           idle = joined.idle;
         };
         counted =
-            rw (items, behind, length-append, is, length-map)
-            (count_on old.items now.items new.items _ (length drained.packets) before.counted drained.counted);
+            rw (items, behind, length-append)
+            (count_on old.items now.items new.items _ (length (items_of after (Piece run ∷ []))) before.counted
+            next.counted);
       }
 
-  -- an answer does not get out at the packets of one byte
-  pub takes_part : (old now new : Engine O S) (mid : Value S) (bytes : List ℕ) (byte : ℕ) (later piece : List ℕ)
-      → Takes stored way old now (Piece bytes ∷ []) → Moves stored now.gateway.now (Byte byte) mid
-      → DrainsPart stored mid new.gateway.now (way.breaks now.outlet new.outlet)
-      → piece ≡ (bytes ++ byte ∷ []) ++ later → EngineBreaks stored way old new [] (Piece piece)
-  takes_part old now new mid bytes byte later piece before moved drained whole =
+  -- an answer does not get out at the packets of a run of bytes
+  pub breaks_in_run : (old new : Engine O S) (mid : Value S) (run later piece : List ℕ) → IsIdle old.gateway.now
+      → Moves stored old.gateway.now (Bytes run) mid
+      → DrainsPart stored mid new.gateway.now (way.breaks old.outlet new.outlet)
+      → piece ≡ run ++ later → EngineBreaks stored way old new [] (Piece piece)
+  breaks_in_run old new mid run later piece idle moved drained whole =
+      let rest = old.gateway.now.rest in
+      let ended = new.gateway.now in
+      let brought = map Received drained.packets in
+      record {
+        begun = Piece run;
+        begins = (later, whole);
+        items = brought;
+        own = brought;
+        behind = refl;
+        some = let more = drained.some in omega (arith, more, length-map drained.packets Received);
+        stand = items_of-bytes old.gateway.now mid run idle moved
+            ∙ ap (λ (ps : List Packet). map Received ps) drained.ready
+            ∙ map-append Received drained.packets ended.ready;
+        rest = drained.rest ∙ moved.3 ∙ ap (λ w. rest_of (rest ++ w)) (sym (append-nil run));
+        answered =
+            let P : HandlerValue S
+            → Type 0 = λ s. AnswersPart stored s ended.handler brought (way.breaks old.outlet new.outlet) in
+            subst P moved.1 drained.answered;
+      }
+
+  -- a first part of a piece is a piece
+  begun-piece : (piece : List ℕ) (begun : Event) → IsBegun (Piece piece) begun
+      → (run : List ℕ) × (begun ≡ Piece run) × (later : List ℕ) × (piece ≡ run ++ later)
+  begun-piece piece (Piece run) (later, is) = (run, refl, later, is)
+  begun-piece piece (Line line) begins = absurd begins
+
+  -- an answer does not get out in the second part of a piece
+  pub breaks_behind : (old now new : Engine O S) (bytes others : List ℕ) → Takes stored way old now (Piece bytes ∷ [])
+      → EngineBreaks stored way now new [] (Piece others) → EngineBreaks stored way old new [] (Piece (bytes ++ others))
+  breaks_behind old now new bytes others before broken =
       let rest = old.gateway.now.rest in
       let after = now.gateway.now.rest in
       let ended = new.gateway.now in
-      let brought = map Received drained.packets in
-      let is : items_of after (Piece (byte ∷ []) ∷ []) ≡ brought ++ map Received ended.ready =
-      items_of-byte now.gateway.now mid byte before.played.idle moved
-      ∙ ap (λ (ps : List Packet). map Received ps) drained.ready ∙ map-append Received drained.packets ended.ready in
       let first = items_of rest (Piece bytes ∷ []) in
+      let part = begun-piece others broken.begun broken.begins in
+      let run = part.0 in
+      let behind = broken.behind in
       record {
-        begun = Piece (bytes ++ byte ∷ []);
-        begins = (later, whole);
-        items = first ++ brought;
-        own = first ++ brought;
+        begun = Piece (bytes ++ run);
+        begins = (part.2, ap (λ w. bytes ++ w) part.3 ∙ sym (append_assoc bytes run part.2));
+        items = first ++ broken.items;
+        own = first ++ broken.items;
         behind = refl;
         some =
-            let more = drained.some in
-            omega (arith, more, length-append first brought, length-map drained.packets Received);
-        stand = items-joined rest bytes (byte ∷ [])
-            ∙ items_behind rest after (Piece bytes ∷ []) (Piece (byte ∷ []) ∷ []) before.played.rest
-            ∙ ap (λ (is : List Item). first ++ is) is ∙ sym (append_assoc first brought (map Received ended.ready));
-        rest = drained.rest ∙ moved.3
-            ∙ rest_behind rest after (Piece bytes ∷ []) (Piece (byte ∷ []) ∷ []) before.played.rest
-            ∙ ap (λ w. rest_of (rest ++ w)) (sym (append_assoc bytes (byte ∷ []) []));
+            let some = broken.some in
+            omega (arith, some, ap (λ (is : List Item). length is) behind, length-append first broken.items);
+        stand = items-joined rest bytes run
+            ∙ items_behind rest after (Piece bytes ∷ []) (Piece run ∷ []) before.played.rest
+            ∙ ap (λ (e : Event). first ++ items_of after (e ∷ [])) (sym part.1)
+            ∙ ap (λ (is : List Item). first ++ is) broken.stand
+            ∙ sym (append_assoc first broken.items (map Received ended.ready));
+        rest = broken.rest ∙ ap (λ (e : Event). rest_of (after ++ bytes_in (e ∷ []))) part.1
+            ∙ rest_behind rest after (Piece bytes ∷ []) (Piece run ∷ []) before.played.rest
+            ∙ ap (λ w. rest_of (rest ++ w)) (sym (append_assoc bytes run []));
         answered =
-            answers-part stored way old.gateway.now.handler now.gateway.now.handler ended.handler first brought
-            old.outlet now.outlet new.outlet before.played.answered
-            (let P : HandlerValue S
-            → Type 0 = λ s. AnswersPart stored s ended.handler brought (way.breaks now.outlet new.outlet) in
-            subst P moved.1 drained.answered);
+            answers-part stored way old.gateway.now.handler now.gateway.now.handler ended.handler first broken.items
+            old.outlet now.outlet new.outlet before.played.answered broken.answered;
       }
 
   -- ---- an order

@@ -2,12 +2,23 @@
 use Rattle.std.proofs.Common.{◌≡◌, ℕ, ◌+◌, ◌-◌, ◌<◌, ◌≤◌, List, [], ◌∷◌, ◌++◌, length, get_or, take}
 use Rattle.std.proofs.Common.{drop, ap, refl, sym, ◌∙◌, append_assoc, arith, min, true, zero, suc}
 use Rattle.std.specs.Prelude.{◌==◌, slice_index}
-use Rattle.std.proofs.Math.Seq.{take-append-add}
+use Rattle.std.proofs.Math.Seq.{take-append-add, take-add}
 use Rattle.std.proofs.lemmas.Bool.{eqb-true}
-use Rattle.std.proofs.lemmas.List.{take-append-drop, take_min, take_more}
+use Rattle.std.proofs.lemmas.List.{take-append-drop, take_min, take_more, take_all, length-drop}
 
 pub split_at : (xs : List ℕ) (i : ℕ) → i < length xs → xs ≡ (take i xs ++ get_or xs i 0 ∷ []) ++ drop (i + 1) xs
 split_at xs i below = sym (take-append-drop (i + 1) xs) ∙ ap (λ s. s ++ drop (i + 1) xs) (take_more xs i 0 below)
+
+-- some first elements, and some of those behind them
+pub take_run : (xs : List ℕ) (i n : ℕ) → take (i + n) xs ≡ take i xs ++ take n (take (length xs - i) (drop i xs))
+take_run xs i n =
+    take-add i n xs
+    ∙ ap (λ ys. take i xs ++ take n ys) (sym (take_all (length xs - i) (drop i xs) (omega (arith, length-drop i xs))))
+
+pub split_rest : (xs : List ℕ) (i : ℕ) → take i xs ++ take (length xs - i) (drop i xs) ≡ xs
+split_rest xs i =
+    ap (λ ys. take i xs ++ ys) (take_all (length xs - i) (drop i xs) (omega (arith, length-drop i xs)))
+    ∙ take-append-drop i xs
 
 -- an element that is known, and what stands round it
 pub split_round : (xs : List ℕ) (i x : ℕ) → i < length xs → (slice_index xs i == x) ≡ true

@@ -1,12 +1,12 @@
 //! An engine: it takes pieces of the serial stream, orders of the desk and lines of a script, and puts out what a
 //! gateway answers.
-ghost use Rattle.std.specs.Prelude.{◌≡◌, ◌≤◌, [], ◌∷◌, length, drop, OnOk, OnErr, MatchResult};
+ghost use Rattle.std.specs.Prelude.{◌≡◌, ◌<◌, ◌≤◌, [], ◌∷◌, length, take, drop, IfOk, OnOk, OnErr, MatchResult};
 ghost use Rattle.hex.specs.Hex.{decode_of};
 ghost use Rattle.json_lines.specs.Counts.{one_more};
 ghost use Rattle.gateway_core.specs.Events.{Line as LineEvent, Piece as PieceEvent};
 ghost use Rattle.gateway_core.specs.Replies.{answer_of};
 ghost use Rattle.gateway_core.specs.Step.{explained_by, longest_line};
-ghost use Rattle.engines.specs.EngineSteps.{Drains, DrainsPart, TakesOrBreaks};
+ghost use Rattle.engines.specs.EngineSteps.{Drains, DrainsPart, EngineBreaks, Takes, TakesOrBreaks};
 ghost use Rattle.engines.specs.Outlets.{Puts};
 ghost use Rattle.engines.specs.Played.{IsIdle};
 ghost use Rattle.engines.specs.Script.{event_of, spelled};
@@ -37,13 +37,36 @@ impl<O: Outlet, S: DeviceStore> Engine<'_, O, S> {
     {
         // It tells the proof that the count is a `u64`.
         let _start = self.items;
-        for byte in piece {
-            self.gateway.byte(*byte);
-            if self.gateway.is_ready() {
-                self.drain()?;
-            }
+        let mut count = 0;
+        while count < piece.len() {
+            count += self.take_run(&piece[count..])?;
         }
         Ok(())
+    }
+
+    /// Takes the packet that stands whole at the front of these bytes, or else the bytes up to the one that makes
+    /// packets ready, answers the packets that they bring, and returns how many bytes it took.
+    fn take_run(&mut self, bytes: &[u8]) -> Result<usize, Failed>
+        requires idle { IsIdle self.old.gateway.now }
+        requires some { 0 < length bytes.now }
+        ensures gateway { self.new.gateway.ghost_name ≡ self.old.gateway.ghost_name }
+        ensures loans { O.loans self.new.outlet ≡ O.loans self.old.outlet }
+        ensures within { IfOk result (λ count. (0 < count) × (count ≤ length bytes.now)) }
+        ensures taken { MatchResult result
+            (λ count. Takes S.stored O.way self.old self.new (PieceEvent (take count bytes.now) ∷ []))
+            (λ _. EngineBreaks S.stored O.way self.old self.new [] (PieceEvent bytes.now)) }
+    {
+        // It tells the proof that the count is a `u64`.
+        let _start = self.items;
+        if let Some((reply, count)) = self.gateway.handle_first(bytes) {
+            self.answer_packet(&reply)?;
+            return Ok(count);
+        }
+        let count = self.gateway.bytes(bytes);
+        if self.gateway.is_ready() {
+            self.drain()?;
+        }
+        Ok(count)
     }
 
     /// Answers the packets that wait.

@@ -3,16 +3,17 @@ use Rattle.std.proofs.Common.{◌≡◌, ◌≢◌, ℕ, zero, suc, ◌+◌, ◌
 use Rattle.std.proofs.Common.{◌==◌, eqb, get_or, List, [], ◌∷◌, ◌++◌, length, take, drop, refl, sym, ap, ◌∙◌, subst}
 use Rattle.std.proofs.Common.{arith, length-append, ◌⊎◌, inl, inr}
 use Rattle.std.proofs.Math.Seq.{take-append_seam}
-use Rattle.std.proofs.lemmas.List.{append-nil}
+use Rattle.std.proofs.lemmas.List.{append-nil, take-append-drop}
 use Rattle.std.proofs.lemmas.Bool.{ne_eqb}
 use Rattle.esp3_frames.specs.Packet.{longest_packet, Packet, IsPacket}
+use Rattle.esp3_frames.specs.Framing.{BeginsWithPacket}
 use Rattle.esp3_frames.specs.Framing.Framing.{ends, finds}
 use Rattle.esp3_frames.specs.Frames.{Front, front_of, Frames, frames_after, frames_of, packets_in}
 use Rattle.esp3_frames.specs.Frames.{rest_of}
 use Rattle.esp3_frames.specs.Frames.Front.{Never, Partial, Whole}
-use Rattle.esp3_frames.proofs.PacketLemmas.{packet_length}
+use Rattle.esp3_frames.proofs.PacketLemmas.{packet_length, one_reading, begins_not_may}
 use Rattle.esp3_frames.proofs.FrontLemmas.{front_partial, front_whole}
-use Rattle.esp3_frames.proofs.FramingLemmas.{only_framing, stepped, empty_may_become}
+use Rattle.esp3_frames.proofs.FramingLemmas.{only_framing, stepped, empty_may_become, front_never}
 
 -- one of three things stands there
 pub cases_front : (f : Front) → (f ≡ Never) ⊎ ((f ≡ Partial) ⊎ ((p : Packet) × (f ≡ Whole p)))
@@ -97,3 +98,23 @@ front-empty = refl
 -- the packets of a text that is one packet
 pub packets_in-one : (p : Packet) (w : List ℕ) → IsPacket p w → packets_in w ≡ p ∷ []
 packets_in-one p w h = sym (only_framing w (p ∷ []) [] (finds h (sym (append-nil w)) (ends empty_may_become))).0
+
+pub same_front : (w : List ℕ) (p q : Packet) → front_of w ≡ Whole p → front_of w ≡ Whole q → p ≡ q
+same_front w p q is was = let e = sym is ∙ was in cc
+
+-- a text that is one packet has this packet at its front
+pub front-packet : (p : Packet) (w : List ℕ) → IsPacket p w → front_of w ≡ Whole p
+front-packet p w h =
+    let begins : BeginsWithPacket w =
+    record { packet = p; front = w; rest = []; whole = h; is = sym (append-nil w) } in
+    elim (cases_front (front_of w)) [
+      | inl never ↦ absurd ((front_never w never).0 begins)
+      | inr some ↦ elim some [
+        | inl partial ↦ absurd (begins_not_may w begins (front_partial w partial))
+        | inr whole ↦
+            let n : ℕ = length whole.0.body + length whole.0.opt + 7 in
+            let same = one_reading whole.0 p (take n w) w (drop n w) (whole_length w whole.0 whole.1).2 h
+            (sym (take-append-drop n w)) in
+            whole.1 ∙ ap Whole same.0
+      ]
+    ]

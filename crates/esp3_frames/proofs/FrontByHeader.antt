@@ -5,7 +5,7 @@ use Rattle.std.proofs.Common.{arith}
 use Rattle.std.specs.Prelude.{Result, Ok, Err}
 use Rattle.std.proofs.lemmas.Bool.{and_parts, and_from, le-leb, lt-leb, eq-eqb, ne_eqb}
 use Rattle.esp3_frames.specs.Check.{check}
-use Rattle.esp3_frames.specs.Packet.{lengths_fit}
+use Rattle.esp3_frames.specs.Packet.{lengths_fit, Packet}
 use Rattle.esp3_frames.specs.Frames.{may_begin, Front, front_behind, front_of}
 use Rattle.esp3_frames.specs.Frames.Front.{Never, Partial, Whole}
 use Rattle.esp3_frames.specs.Outcome.{header_in, header_of}
@@ -22,6 +22,14 @@ front-short (s ∷ g ∷ l ∷ []) h = refl
 front-short (s ∷ g ∷ l ∷ o ∷ []) h = refl
 front-short (s ∷ g ∷ l ∷ o ∷ k ∷ []) h = refl
 front-short (s ∷ g ∷ l ∷ o ∷ k ∷ c ∷ w) h = absurd (omega arith)
+
+-- so a part of a header is no whole packet
+chosen-no_whole : (t : Bool) (p : Packet) → cond t Partial Never ≢ Whole p
+chosen-no_whole true p e = absurd cc
+chosen-no_whole false p e = absurd cc
+
+pub short-no_whole : (b : List ℕ) → length b < 6 → (p : Packet) → front_of b ≢ Whole p
+short-no_whole b h p e = chosen-no_whole (may_begin b) p (sym (front-short b h) ∙ e)
 
 chosen : (t : Bool) (x : Front) → t ≡ true → cond t x Never ≡ x
 chosen true x e = refl

@@ -10,5 +10,5 @@ mod packet;
 pub use check::{check8, check8_between, check8_next};
 pub use packet::{
     Header, HeaderFault, LONGEST_DATA, LONGEST_OPTIONAL_DATA, LONGEST_PACKET, PacketFault,
-    PacketRef, SYNC_BYTE, lengths_fit, read_header, read_packet, write_packet,
+    PacketRef, SYNC_BYTE, first_packet, lengths_fit, read_header, read_packet, write_packet,
 };

@@ -1,5 +1,7 @@
 //! Headers and packets, read and written whole.
-ghost use Rattle.std.specs.Prelude.{◌≡◌, ℕ, ◌+◌, ◌*◌, ◌-◌, ◌++◌, IfSome, IfNone, OnOk, OnErr};
+ghost use Rattle.std.specs.Prelude.{◌≡◌, ◌≢◌, ℕ, ◌+◌, ◌*◌, ◌-◌, ◌++◌, length, IfSome, IfNone, OnOk, OnErr};
+ghost use Rattle.esp3_frames.specs.Frames.{front_of};
+ghost use Rattle.esp3_frames.specs.Frames.Front.{Whole};
 ghost use Rattle.esp3_frames.specs.Packet;
 ghost use Rattle.esp3_frames.specs.Packet.{Packet, IsPacket, spelling};
 ghost use Rattle.esp3_frames.specs.Outcome.{packet_of, header_of, write_outcome};
@@ -88,6 +90,31 @@ pub struct PacketRef<'a> {
     pub opt: &'a [u8],
 }
 
+/// The packet that stands whole at the front of a slice, and how many bytes it has. `None` says that none does.
+///
+/// EnOcean Serial Protocol 3, "Packet structure".
+pub fn first_packet(b: &[u8]) -> Option<(PacketRef<'_>, usize)>
+    ensures some { IfSome result (λ r. (front_of b.now ≡ Whole (packet_of r.0))
+        × (r.1 ≡ length r.0.body.now + length r.0.opt.now + 7)) }
+    ensures none { IfNone result ((p : Packet) → front_of b.now ≢ Whole p) }
+{
+    let (front, rest) = b.split_first_chunk::<6>()?;
+    let Ok(header) = read_header(front) else {
+        return None;
+    };
+    let len = header.data_len as usize + header.opt_len as usize;
+    if rest.len() <= len || rest[len] != check8(&rest[..len]) {
+        return None;
+    }
+    let (body, opt) = rest[..len].split_at(header.data_len as usize);
+    let packet = PacketRef {
+        kind: header.kind,
+        body,
+        opt,
+    };
+    Some((packet, len + 7))
+}
+
 /// Reads a slice that is one packet, from its sync byte to its last check byte. Any other slice gives `None`.
 ///
 /// EnOcean Serial Protocol 3, "Packet structure".
@@ -95,20 +122,10 @@ pub fn read_packet(b: &[u8]) -> Option<PacketRef<'_>>
     ensures some { IfSome result (λ r. IsPacket (packet_of r) b.now) }
     ensures none { IfNone result ((p : Packet) → ¬ IsPacket p b.now) }
 {
-    let (front, rest) = b.split_first_chunk::<6>()?;
-    let Ok(header) = read_header(front) else {
-        return None;
-    };
-    let len = header.data_len as usize + header.opt_len as usize;
-    if rest.len() != len + 1 || rest[len] != check8(&rest[..len]) {
-        return None;
+    match first_packet(b) {
+        Some((packet, len)) if len == b.len() => Some(packet),
+        _ => None,
     }
-    let (body, opt) = rest[..len].split_at(header.data_len as usize);
-    Some(PacketRef {
-        kind: header.kind,
-        body,
-        opt,
-    })
 }
 
 /// Why a packet is not written. They are looked for in this order.

@@ -1,13 +1,24 @@
 -- What a framer's bytes hold, by what stands at their front.
-use Rattle.std.proofs.Common.{◌≡◌, ◌≢◌, ℕ, zero, suc, ◌<◌, Bool, true, false, List, [], ◌∷◌, ◌++◌, length, drop}
+use Rattle.std.proofs.Common.{◌≡◌, ◌≢◌, ℕ, zero, suc, ◌+◌, ◌≤◌, ◌<◌, take, subst, append_assoc, Bool, true, false, List, [], ◌∷◌, ◌++◌, length, drop}
 use Rattle.std.proofs.Common.{get_or, refl, sym, ap, ◌∙◌, arith, length-drop, inl, inr}
 use Rattle.std.specs.Prelude.{IsTrue}
+use Rattle.std.proofs.lemmas.Bool.{cases_lt}
+use Rattle.std.proofs.lemmas.List.{append-nil, nil_from_length, take_more, take_all, take-take, get_or-take}
+use Rattle.std.specs.Prelude.{Err}
+use Rattle.esp3_frames.specs.Outcome.{header_of}
+use Rattle.esp3_frames.specs.declared.packet.HeaderFault.{HeaderFault}
+use Rattle.esp3_frames.proofs.ForCallers.{front-bad}
+use Rattle.std.proofs.Math.Seq.{take-add, drop-length}
+use Rattle.std.proofs.Common.{◌-◌, length-take}
 use Rattle.std.specs.Bool.{OnTrue, OnFalse}
-use Rattle.esp3_frames.specs.Packet.{Packet}
+use Rattle.esp3_frames.specs.Packet.{Packet, IsPacket}
+use Rattle.esp3_frames.specs.Framing.{MayBecomePacket, ends, finds}
+use Rattle.std.proofs.Common.{length-append}
+use Rattle.std.proofs.lemmas.List.{take-append-drop}
 use Rattle.esp3_resync.specs.Settled.{ReachesSync}
 use Rattle.esp3_frames.specs.Frames.{front_of, Frames, frames_after, frames_of}
 use Rattle.esp3_frames.specs.Frames.Front.{Never, Partial, Whole}
-use Rattle.esp3_frames.proofs.ForCallers.{cases_front, frames-never, frames-skipped, frames-partial, frames-whole}
+use Rattle.esp3_frames.proofs.ForCallers.{only_framing, empty_may_become, front_partial, frames_of-may_become, framing_in_parts, cases_front, frames-never, frames-skipped, frames-partial, frames-whole}
 
 -- where no packet is ready, a text whose front may become one is its own rest
 pub unready : (s : List ℕ) → front_of s ≢ Never → length (frames_of s).ready ≡ 0
@@ -64,3 +75,121 @@ pub frames_of_more : (w v : List ℕ) (f : Frames) (b : ℕ) → front_of w ≢ 
 frames_of_more w v f b n e none is =
     let u = unready w n (ap (λ (x : Frames). length x.ready) e ∙ none) in
     ap frames_of (is ∙ ap (λ (y : List ℕ). y ++ b ∷ []) (sym u.1 ∙ ap (λ (x : Frames). x.rest) e))
+
+-- frames are their packets and their rest
+frames_same : (f g : Frames) → f.ready ≡ g.ready → f.rest ≡ g.rest → f ≡ g
+frames_same f g e d =
+    ap (λ (ps : List Packet). record { ready = ps; rest = f.rest }) e
+    ∙ ap (λ (r : List ℕ). record { ready = g.ready; rest = r }) d
+
+-- where no packet is ready, the frames go on from the rest
+go_on : (s t : List ℕ) → length (frames_of s).ready ≡ 0 → frames_of ((frames_of s).rest ++ t) ≡ frames_of (s ++ t)
+go_on s t none =
+    let parts = framing_in_parts s t in
+    let nil : (frames_of s).ready ≡ [] = nil_from_length (frames_of s).ready none in
+    sym (frames_same _ _ (parts.0 ∙ ap (λ (ps : List Packet). ps ++ (frames_of ((frames_of s).rest ++ t)).ready) nil)
+    parts.1)
+
+-- a framer with no packet ready holds the frames of its rest
+pub idle : (w : List ℕ) (f : Frames) → front_of w ≢ Never → frames_of w ≡ f → length f.ready ≡ 0
+    → f ≡ frames_of (f.rest ++ [])
+idle w f n e none =
+    let u = unready w n (ap (λ (x : Frames). length x.ready) e ∙ none) in
+    sym e ∙ ap frames_of (sym u.1 ∙ ap (λ (x : Frames). x.rest) e ∙ sym (append-nil f.rest))
+
+-- the frames of a part of some bytes, and of more of them
+module _ (r b : List ℕ) (i : ℕ) (f : Frames) (is : f ≡ frames_of (r ++ take i b)) (none : length f.ready ≡ 0) where
+  further : (t : List ℕ) (g : Frames) → g ≡ frames_of (f.rest ++ t) → g ≡ frames_of ((r ++ take i b) ++ t)
+  further t g next =
+      next ∙ ap (λ (y : Frames). frames_of (y.rest ++ t)) is
+      ∙ go_on (r ++ take i b) t (ap (λ (y : Frames). length y.ready) (sym is) ∙ none)
+
+  pub run_more : (n : ℕ) (g : Frames) → g ≡ frames_of (f.rest ++ take n (take (length b - i) (drop i b)))
+      → g ≡ frames_of (r ++ take (i + n) b)
+  run_more n g next =
+      let behind : take (length b - i) (drop i b) ≡ drop i b =
+      take_all (length b - i) (drop i b) (omega (arith, length-drop i b)) in
+      let t = take n (drop i b) in
+      further t g (next ∙ ap (λ (y : List ℕ). frames_of (f.rest ++ take n y)) behind)
+      ∙ ap frames_of (append_assoc r (take i b) t ∙ ap (λ (y : List ℕ). r ++ y) (sym (take-add i n b)))
+
+  pub byte_more : (g : Frames) → i < length b → g ≡ frames_of (f.rest ++ get_or b i 0 ∷ [])
+      → g ≡ frames_of (r ++ take (i + 1) b)
+  byte_more g below next =
+      let x = get_or b i 0 ∷ [] in
+      further x g next
+      ∙ ap frames_of (append_assoc r (take i b) x ∙ ap (λ (y : List ℕ). r ++ y) (sym (take_more b i 0 below)))
+
+-- where a part of some bytes makes no packet ready, no part of it does
+pub quiet_before : (r b : List ℕ) (i k : ℕ) → length (frames_of (r ++ take i b)).ready ≡ 0 → k ≤ i
+    → length (frames_of (r ++ take k b)).ready ≡ 0
+quiet_before r b i k none within =
+    let t = take (i - k) (drop k b) in
+    let split : i ≡ k + (i - k) = omega arith in
+    let parts : r ++ take i b ≡ (r ++ take k b) ++ t =
+    ap (λ n. r ++ take n b) split ∙ ap (λ (y : List ℕ). r ++ y) (take-add k (i - k) b)
+    ∙ sym (append_assoc r (take k b) t) in
+    let framed = (framing_in_parts (r ++ take k b) t).0 in
+    let first = (frames_of (r ++ take k b)).ready in
+    let others = (frames_of ((frames_of (r ++ take k b)).rest ++ t)).ready in
+    omega (
+      arith,
+      none,
+      ap (λ (y : List ℕ). length (frames_of y).ready) parts,
+      ap (λ (ps : List Packet). length ps) framed,
+      length-append first others,
+    )
+
+pub none_ready : (b : Bool) (n : ℕ) → b ≡ false → (0 < n → IsTrue b) → n ≡ 0
+none_ready false zero e h = refl
+none_ready false (suc n) e h = let z = h (omega arith) in absurd cc
+none_ready true n e h = absurd cc
+
+-- where no packet is ready, a framer's bytes are its rest, and a part of a packet
+pub held : (w : List ℕ) (f : Frames) → front_of w ≢ Never → frames_of w ≡ f → length f.ready ≡ 0
+    → (front_of w ≡ Partial) × (w ≡ f.rest)
+held w f n e none =
+    let u = unready w n (ap (λ (x : Frames). length x.ready) e ∙ none) in
+    (u.0, sym u.1 ∙ ap (λ (x : Frames). x.rest) e)
+
+-- bytes before the first sync byte hold no packet, and nothing is left of them
+pub frames_of-noise : (b : List ℕ) (n : ℕ) → ((i : ℕ) → i < n → get_or b i 0 ≢ 0x55)
+    → frames_of (take n b) ≡ record { ready = []; rest = [] }
+frames_of-noise b n none =
+    let t = take n b in
+    let here : (i : ℕ) → i < length t → get_or t i 0 ≢ 0x55 =
+    λ i below.
+        let j : i < n = omega (arith, below, length-take n b) in λ same. none i j (sym (get_or-take n b i 0 j) ∙ same)
+    in
+    sym (frames-skipped t (length t) (omega arith) here) ∙ ap frames_of (drop-length t) ∙ frames_of-empty
+
+-- nor do those before the second, if the first begins no header
+pub frames_of-false_sync : (b : List ℕ) (n : ℕ) (e : HeaderFault) → 5 ≤ n → n < length b
+    → header_of (take 6 b) ≡ Err e → ((i : ℕ) → i < n → get_or (drop 1 b) i 0 ≢ 0x55)
+    → frames_of (take (1 + n) b) ≡ record { ready = []; rest = [] }
+frames_of-false_sync [] n e long within bad none = absurd (omega arith)
+frames_of-false_sync (x ∷ s) n e long within bad none =
+    let t : List ℕ = x ∷ take n s in
+    let more : 1 + n ≡ suc n = omega arith in
+    let first : take 6 t ≡ take 6 (x ∷ s) = take-take 6 (suc n) (x ∷ s) (omega arith) in
+    let never = front-bad t e (omega (arith, length-take n s)) (ap header_of first ∙ bad) in
+    ap (λ k. frames_of (take k (x ∷ s))) more ∙ sym (frames-never t never).1 ∙ frames_of-noise s n none
+
+-- bytes that bring nothing change nothing where nothing is held
+pub noise_taken : (w t : List ℕ) (f : Frames) → w ≡ [] → w ≡ f.rest → frames_of w ≡ f
+    → frames_of t ≡ record { ready = []; rest = [] } → f ≡ frames_of (f.rest ++ t)
+noise_taken w t f nil is e none =
+    sym e ∙ ap frames_of nil ∙ frames_of-empty ∙ sym none ∙ ap (λ (r : List ℕ). frames_of (r ++ t)) (sym nil ∙ is)
+
+-- a packet, and nothing behind it
+pub frames_of-one : (p : Packet) (w : List ℕ) → IsPacket p w → frames_of w ≡ record { ready = p ∷ []; rest = [] }
+frames_of-one p w h =
+    let only = only_framing w (p ∷ []) [] (finds h (sym (append-nil w)) (ends empty_may_become)) in
+    frames_same (frames_of w) (record { ready = p ∷ []; rest = [] }) (sym only.0) (sym only.1)
+
+pub lent : (p : Packet) (w : List ℕ) (f : Frames) (t : List ℕ) → w ≡ [] → w ≡ f.rest → IsPacket p t
+    → frames_of (f.rest ++ t) ≡ record { ready = p ∷ []; rest = f.rest }
+lent p w f t nil is h =
+    let none : [] ≡ f.rest = sym nil ∙ is in
+    ap (λ (r : List ℕ). frames_of (r ++ t)) (sym none) ∙ frames_of-one p t h
+    ∙ ap (λ (r : List ℕ). record { ready = p ∷ []; rest = r }) none

@@ -2,8 +2,8 @@
 use Rattle.std.proofs.Common.{◌≡◌, ◌≢◌, ℕ, ◌+◌, ◌<◌, ◌≤◌, Bool, true, false, cond, List, ◌++◌, length, take}
 use Rattle.std.proofs.Common.{drop, get_or, sym, ap, ◌∙◌, arith, length-append, length-take, length-drop, inl, inr}
 use Rattle.std.specs.Prelude.{Some}
-use Rattle.std.proofs.lemmas.List.{get_or-drop, take-append-le}
-use Rattle.std.proofs.lemmas.Bool.{cases_eq}
+use Rattle.std.proofs.lemmas.List.{get_or-drop, take-append-le, take-take}
+use Rattle.std.proofs.lemmas.Bool.{cases_eq, cases_lt}
 use Rattle.esp3_frames.specs.Check.{check}
 use Rattle.esp3_frames.specs.Packet.{longest_packet}
 use Rattle.esp3_frames.specs.Frames.{Front, front_of, front_behind, may_begin}
@@ -68,6 +68,13 @@ module _ (w : List ℕ) (h : Header) (has : HasHeader w (Some h)) where
     | inr wrong ↦ absurd (n (refused long wrong))
   ]
 
+  -- a part of it is not longer than all but its last byte
+  pub part_fits : front_of w ≡ Partial → length w ≤ announced_len h + 6
+  part_fits p = elim (cases_lt (announced_len h + 6) (length w)) [
+    | inl more ↦ absurd (let z = sym p ∙ whole more (λ n. let y = sym p ∙ n in cc) in cc)
+    | inr less ↦ less
+  ]
+
 -- a whole packet at the front, by its header
 module _ (w : List ℕ) (h : Header) (is : front_of w ≡ Whole (packet_at h w)) where
   pub whole_sum : length (packet_at h w).body + length (packet_at h w).opt ≡ announced_len h
@@ -86,3 +93,12 @@ module _ (w : List ℕ) (h : Header) (is : front_of w ≡ Whole (packet_at h w))
   pub whole_parts : (announced_len h + 7 ≤ length w) × (announced_len h + 7 ≤ longest_packet)
   whole_parts =
       let n = whole_length w (packet_at h w) is in (omega (arith, n.0, whole_sum), omega (arith, n.1, whole_sum))
+
+-- the first bytes of a packet, by its header
+pub begun : (b : List ℕ) (h : Header) (n : ℕ) → HasHeader b (Some h) → 6 ≤ n → n ≤ length b → n ≤ announced_len h + 6
+    → HasHeader (take n b) (Some h) × (front_of (take n b) ≡ Partial)
+begun b h n has some within short =
+    let long : 6 ≤ length (take n b) = omega (arith, length-take n b) in
+    let first : take 6 (take n b) ≡ take 6 b = take-take 6 n b some in
+    let there : HasHeader (take n b) (Some h) = (long, ap header_of first ∙ has.1) in
+    (there, waits (take n b) h there (omega (arith, length-take n b)))

@@ -1,5 +1,5 @@
 //! A framer takes the bytes of a serial line one by one, and hands out the packets that they make.
-ghost use Rattle.std.specs.Prelude.{◌≡◌, ◌+◌, ◌<◌, ◌≤◌, ◌↔◌, [], ◌∷◌, ◌++◌, length};
+ghost use Rattle.std.specs.Prelude.{◌≡◌, ◌+◌, ℕ, ◌<◌, ◌≤◌, ◌↔◌, [], ◌∷◌, ◌++◌, length, take};
 ghost use Rattle.std.specs.Prelude.{Some, None, IsTrue, IfOk, IfSome};
 ghost use Rattle.std.specs.Bool.{OnTrue, OnFalse};
 ghost use Rattle.std.specs.Option.{option_map};
@@ -9,8 +9,9 @@ ghost use Rattle.esp3_frames.specs.Outcome.{packet_of};
 ghost use Rattle.esp3_frames.specs.Packet.{Packet, longest_data};
 
 use crate::front::{announced_len, is_refused, is_whole, settle, settle_behind};
+use crate::runs::{header_at, noise_len, push_announced, push_header};
 use crate::window::Window;
-use esp3_frames::{Header, LONGEST_PACKET, PacketRef, SYNC_BYTE};
+use esp3_frames::{Header, LONGEST_PACKET, PacketRef, SYNC_BYTE, first_packet};
 use std::alloc::{AllocError, Global};
 use std::marker::Model;
 
@@ -122,6 +123,69 @@ impl Framer {
             Some(_) => self.header = settle_behind(&mut self.window),
             None => self.header = settle(&mut self.window),
         }
+    }
+
+    /// Takes the next bytes of the stream up to the one that makes a packet ready, or all if none does, and returns how
+    /// many it took. It takes no memory.
+    pub fn push_run(&mut self, bytes: &[u8]) -> usize
+        requires { length self.old.ready ≡ 0 }
+        ensures within { result ≤ length bytes.now }
+        ensures some { 0 < length bytes.now → 0 < result }
+        ensures taken { self.new ≡ frames_of (self.old.rest ++ take result bytes.now) }
+        ensures up_to { length self.new.ready ≡ 0 → result ≡ length bytes.now }
+        ensures before { (k : ℕ) → k < result → length (frames_of (self.old.rest ++ take k bytes.now)).ready ≡ 0 }
+    {
+        // It tells the proof what the framer holds at the start.
+        let _held = &self.window;
+        let mut count = 0;
+        while count < bytes.len() {
+            let quiet = self.push_quiet(&bytes[count..]);
+            count += quiet;
+            if quiet == 0 {
+                self.push(bytes[count]);
+                count += 1;
+                if self.is_ready() {
+                    return count;
+                }
+            }
+        }
+        count
+    }
+
+    // Takes some of the next bytes of the stream at once, if it is known that they make no packet ready, and returns how
+    // many.
+    fn push_quiet(&mut self, bytes: &[u8]) -> usize
+        requires { length self.old.ready ≡ 0 }
+        ensures within { result ≤ length bytes.now }
+        ensures taken { self.new ≡ frames_of (self.old.rest ++ take result bytes.now) }
+        ensures none { length self.new.ready ≡ 0 }
+    {
+        match self.header {
+            Some(header) => push_announced(&mut self.window, header, bytes),
+            None if self.window.is_empty() => match header_at(bytes) {
+                Some(header) => {
+                    self.header = Some(header);
+                    push_header(&mut self.window, header, bytes)
+                }
+                None => noise_len(bytes),
+            },
+            None => 0,
+        }
+    }
+
+    /// The packet that stands whole at the front of the next bytes of the stream, and how many bytes it has, if no byte
+    /// is held. If these bytes were pushed and the packet was taken, the framer would be as it is. It copies nothing.
+    pub fn lend<'b>(&self, bytes: &'b [u8]) -> Option<(PacketRef<'b>, usize)>
+        requires { length self.now.ready ≡ 0 }
+        ensures within { IfSome result (λ r. (0 < r.1) × (r.1 ≤ length bytes.now)) }
+        ensures short { IfSome result (λ r. length r.0.body.now ≤ longest_data) }
+        ensures taken { IfSome result (λ r. frames_of (self.now.rest ++ take r.1 bytes.now)
+            ≡ record { ready = packet_of r.0 ∷ []; rest = self.now.rest }) }
+    {
+        if !self.window.is_empty() {
+            return None;
+        }
+        first_packet(bytes)
     }
 
     /// Hands out the first packet that is ready, and says whether there was one. With none it changes nothing. It takes

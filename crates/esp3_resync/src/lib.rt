@@ -3,6 +3,7 @@
 
 mod framer;
 mod front;
+mod runs;
 mod window;
 
 pub use framer::{Framer, PacketBuf};

@@ -1,8 +1,10 @@
 //! The bytes that a framer holds, in a ring, with a running check byte beside each.
-ghost use Rattle.std.specs.Prelude.{◌≡◌, ◌+◌, ◌<◌, ◌≤◌, [], ◌∷◌, ◌++◌, length, take, drop};
+ghost use Rattle.std.specs.Prelude.{◌≡◌, ℕ, ◌+◌, ◌<◌, ◌≤◌, [], ◌∷◌, ◌++◌, length, take, drop};
 ghost use Rattle.std.specs.Prelude.{slice_index_or, vec_capacity, ◌==◌, OnSome, IfNone, IfOk};
+ghost use Rattle.circular_buffer.specs.Buffer.{Buffer, buffer};
 ghost use Rattle.esp3_frames.specs.Check.{check};
 ghost use Rattle.esp3_frames.specs.Packet.{longest_packet};
+ghost use Rattle.esp3_resync.specs.Running.{Running};
 ghost use Rattle.esp3_resync.specs.Settled.{ReachesSync};
 
 use circular_buffer::HeapCircularBuffer;
@@ -15,6 +17,20 @@ fn byte_or(ring: &HeapCircularBuffer<u8>, i: usize, other: u8) -> u8
     ensures { result ≡ slice_index_or ring.now.items i other }
 {
     ring.get(i).copied().unwrap_or(other)
+}
+
+// Goes on with a running check over some bytes: keeps beside each the check byte of all before it, and answers that of
+// all.
+fn note_checks(checks: &mut HeapCircularBuffer<u8>, check: u8, bytes: &[u8]) -> u8
+    ensures { (b : Buffer ℕ) → Running b checks.old check → length b.items + length bytes.now ≤ longest_packet
+        → Running (buffer (b.items ++ bytes.now) b.capacity) checks.new result }
+{
+    let mut all = check;
+    for byte in bytes {
+        let _fits = checks.try_push_back(all);
+        all = check8_next(all, *byte);
+    }
+    all
 }
 
 /// At most as many bytes of a stream as the longest packet has, taken in at the back and let go at the front.
@@ -108,6 +124,15 @@ impl Window {
         let _fits = self.bytes.try_push_back(b);
         let _fits_too = self.checks.try_push_back(self.check);
         self.check = check8_next(self.check, b);
+    }
+
+    /// Takes in some bytes.
+    pub fn extend(&mut self, bytes: &[u8])
+        requires { length self.old + length bytes.now ≤ longest_packet }
+        ensures { self.new ≡ self.old ++ bytes.now }
+    {
+        let _count = self.bytes.fill_from_slice(bytes);
+        self.check = note_checks(&mut self.checks, self.check, bytes);
     }
 
     /// Lets go `count` bytes at the front.

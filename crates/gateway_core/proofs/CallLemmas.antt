@@ -8,7 +8,7 @@ use Rattle.esp3_frames.specs.Frames.{packets_in, rest_of}
 use Rattle.esp3_frames.proofs.ForCallers.{framing_in_parts, frames_of-may_become, empty_may_become}
 use Rattle.gateway_core.specs.Step.{Item, Received, Ordered}
 use Rattle.gateway_core.specs.Handling.{HandlerValue, Handles}
-use Rattle.gateway_core.specs.Calls.{Value, Call, Byte, Next, Order, Moves, AllMove, bytes_of, answers_of, AreItems}
+use Rattle.gateway_core.specs.Calls.{Value, Call, Bytes, Next, Order, Moves, AllMove, bytes_of, answers_of, AreItems}
 use Rattle.gateway_core.specs.Calls.{CallsAreARun}
 use Rattle.gateway_core.proofs.RunLemmas.{handles-nothing, handles-append}
 
@@ -28,16 +28,16 @@ module _ {S : Type 0} (stored : S → Stored) where
     pub in_order : AreItems calls handled items
     pub run : Handles stored old.handler items (answers_of calls) new.handler
 
-  stands_after_byte : (stream : List ℕ) (before : List Packet) (old mid : Value S) (byte : ℕ) → Stands stream before old
-      → Moves stored old (Byte byte) mid → Stands (stream ++ byte ∷ []) before mid
-  stands_after_byte stream before old mid byte stands (none, same, ready, rest, shown) =
-      let parts = framing_in_parts stream (byte ∷ []) in
+  stands_after_bytes : (stream : List ℕ) (before : List Packet) (old mid : Value S) (bytes : List ℕ) → Stands stream before old
+      → Moves stored old (Bytes bytes) mid → Stands (stream ++ bytes) before mid
+  stands_after_bytes stream before old mid bytes stands (none, same, ready, rest, shown) =
+      let parts = framing_in_parts stream bytes in
       record {
         packets =
-            parts.0 ∙ ap (λ ps. ps ++ packets_in (rest_of stream ++ byte ∷ []))
+            parts.0 ∙ ap (λ ps. ps ++ packets_in (rest_of stream ++ bytes))
             (stands.packets ∙ ap (λ ps. before ++ ps) none ∙ append-nil before)
-            ∙ ap (λ r. before ++ packets_in (r ++ byte ∷ [])) stands.rest ∙ ap (λ ps. before ++ ps) (sym ready);
-        rest = parts.1 ∙ ap (λ r. rest_of (r ++ byte ∷ [])) stands.rest ∙ sym rest;
+            ∙ ap (λ r. before ++ packets_in (r ++ bytes)) stands.rest ∙ ap (λ ps. before ++ ps) (sym ready);
+        rest = parts.1 ∙ ap (λ r. rest_of (r ++ bytes)) stands.rest ∙ sym rest;
       }
 
   goes_on : (stream : List ℕ) (before : List Packet) (old : Value S) (calls : List Call) (new : Value S)
@@ -51,12 +51,12 @@ module _ {S : Type 0} (stored : S → Stored) where
     run = let P : Value S → Type 0 =
         λ v. Handles stored old.handler [] [] v.handler in subst P (sym move) (handles-nothing stored old.handler);
   }
-  goes_on stream before old (Byte byte ∷ calls) new stands (mid, move, moves) =
+  goes_on stream before old (Bytes bytes ∷ calls) new stands (mid, move, moves) =
       let on =
-      goes_on (stream ++ byte ∷ []) before mid calls new (stands_after_byte stream before old mid byte stands move)
+      goes_on (stream ++ bytes) before mid calls new (stands_after_bytes stream before old mid bytes stands move)
       moves in
-      let along : (stream ++ byte ∷ []) ++ bytes_of calls ≡ stream ++ (byte ∷ bytes_of calls) =
-      append_assoc stream (byte ∷ []) (bytes_of calls) in
+      let along : (stream ++ bytes) ++ bytes_of calls ≡ stream ++ (bytes ++ bytes_of calls) =
+      append_assoc stream bytes (bytes_of calls) in
       record {
         handled = on.handled;
         items = on.items;

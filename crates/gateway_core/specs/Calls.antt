@@ -26,17 +26,17 @@ new_value base registry = record { handler = new_handler base registry; ready = 
 
 -- a call, with what it was given and what it answered
 pub data Call : Type 0 where
-  Byte : (byte : ℕ) → Call
+  Bytes : (bytes : List ℕ) → Call
   Next : (answer : Option Answer) → Call
   Order : (line : List ℕ) (answer : Answer) → Call
 
 module _ {S : Type 0} (stored : S → Stored) where
   -- the call takes the gateway from old to new
   abbrev pub Moves : Value S → Call → Value S → Type 0
-  -- a byte goes behind the rest, which is framed anew; this is allowed where no packet waits
-  Moves old (Byte byte) new =
-      (old.ready ≡ []) × (new.handler ≡ old.handler) × (new.ready ≡ packets_in (old.rest ++ byte ∷ []))
-      × (new.rest ≡ rest_of (old.rest ++ byte ∷ [])) × (new.explained ≡ old.explained)
+  -- bytes go behind the rest, which is framed anew; this is allowed where no packet waits
+  Moves old (Bytes bytes) new =
+      (old.ready ≡ []) × (new.handler ≡ old.handler) × (new.ready ≡ packets_in (old.rest ++ bytes))
+      × (new.rest ≡ rest_of (old.rest ++ bytes)) × (new.explained ≡ old.explained)
   -- the first packet that waits is handled, and explained
   Moves old (Next (Some answer)) new =
       (packet : Packet) × (old.ready ≡ packet ∷ new.ready) × (new.rest ≡ old.rest)
@@ -58,14 +58,14 @@ module _ {S : Type 0} (stored : S → Stored) where
 -- the bytes that were given
 abbrev pub bytes_of : List Call → List ℕ
 bytes_of [] = []
-bytes_of (Byte byte ∷ calls) = byte ∷ bytes_of calls
+bytes_of (Bytes bytes ∷ calls) = bytes ++ bytes_of calls
 bytes_of (Next answer ∷ calls) = bytes_of calls
 bytes_of (Order line answer ∷ calls) = bytes_of calls
 
 -- the answers that were given
 abbrev pub answers_of : List Call → List Answer
 answers_of [] = []
-answers_of (Byte byte ∷ calls) = answers_of calls
+answers_of (Bytes bytes ∷ calls) = answers_of calls
 answers_of (Next None ∷ calls) = answers_of calls
 answers_of (Next (Some answer) ∷ calls) = answer ∷ answers_of calls
 answers_of (Order line answer ∷ calls) = answer ∷ answers_of calls
@@ -73,7 +73,7 @@ answers_of (Order line answer ∷ calls) = answer ∷ answers_of calls
 -- the calls' items, in the order of the calls, where these packets were handled
 abbrev pub AreItems : List Call → List Packet → List Item → Type 0
 AreItems [] packets items = (packets ≡ []) × (items ≡ [])
-AreItems (Byte byte ∷ calls) packets items = AreItems calls packets items
+AreItems (Bytes bytes ∷ calls) packets items = AreItems calls packets items
 AreItems (Next None ∷ calls) packets items = AreItems calls packets items
 AreItems (Next (Some answer) ∷ calls) (packet ∷ packets) (item ∷ items) =
     (item ≡ Received packet) × AreItems calls packets items

@@ -1,11 +1,14 @@
 //! The gateway.
-ghost use Rattle.std.specs.Prelude.{◌≡◌, ◌≢◌, ◌↔◌, [], IfOk, MatchBool, false};
+ghost use Rattle.std.specs.Prelude.{◌≡◌, ◌≢◌, ◌↔◌, ◌<◌, ◌≤◌, ℕ, [], ◌∷◌, ◌++◌, length, take, false};
+ghost use Rattle.std.specs.Prelude.{IfOk, IfSome, IfNone, MatchBool, Some};
 ghost use Rattle.std.specs.Option.{option_copied, option_map};
+ghost use Rattle.esp3_frames.specs.Frames.{packets_in};
 ghost use Rattle.esp3_frames.specs.Framing.{MayBecomePacket};
 ghost use Rattle.device_registry.specs.Holding.{HandsOn};
 ghost use Rattle.erp1_telegrams.specs.Address;
 ghost use Rattle.gateway_core.specs.Accounts.{explanation};
-ghost use Rattle.gateway_core.specs.Calls.{Byte as ByteCall, Moves, Next as NextCall, Order as OrderCall, new_value};
+ghost use Rattle.gateway_core.specs.Calls.{Bytes as BytesCall, Next as NextCall, Order as OrderCall};
+ghost use Rattle.gateway_core.specs.Calls.{Moves, Value, new_value};
 ghost use Rattle.gateway_core.specs.Replies.{answer_of};
 ghost use Rattle.gateway_core.specs.Step.{explained_by};
 
@@ -103,9 +106,37 @@ impl<S: DeviceStore> GatewayOver<S> {
     /// Takes the next byte of the serial line. One byte can make several packets ready. It takes no memory.
     pub fn byte(&mut self, b: u8)
         requires { self.old.ready ≡ [] }
-        ensures { Moves S.stored self.old (ByteCall b) self.new }
+        ensures { Moves S.stored self.old (BytesCall (b ∷ [])) self.new }
     {
         self.framer.push(b);
+    }
+
+    /// Takes the next bytes of the serial line up to the one that makes a packet ready, or all if none does, and returns
+    /// how many it took. It takes no memory.
+    pub fn bytes(&mut self, bytes: &[u8]) -> usize
+        requires { self.old.ready ≡ [] }
+        ensures within { result ≤ length bytes.now }
+        ensures some { 0 < length bytes.now → 0 < result }
+        ensures taken { Moves S.stored self.old (BytesCall (take result bytes.now)) self.new }
+        ensures up_to { self.new.ready ≡ [] → result ≡ length bytes.now }
+        ensures before { (k : ℕ) → k < result → packets_in (self.old.rest ++ take k bytes.now) ≡ [] }
+    {
+        self.framer.push_run(bytes)
+    }
+
+    /// Handles the packet that stands whole at the front of the next bytes of the serial line, if no byte before them
+    /// waits, and returns its reply and how many bytes it has. It does what `bytes` and `next` do, without a copy. `None`
+    /// says that there is no such packet; nothing is taken then.
+    pub fn handle_first(&mut self, bytes: &[u8]) -> Option<(Reply, usize)>
+        requires { self.old.ready ≡ [] }
+        ensures within { IfSome result (λ r. (0 < r.1) × (r.1 ≤ length bytes.now)) }
+        ensures taken { IfSome result (λ r. (mid : Value S) × Moves S.stored self.old (BytesCall (take r.1 bytes.now)) mid
+            × Moves S.stored mid (NextCall (Some (explained_by self.new.explained (answer_of r.0)))) self.new) }
+        ensures ready { IfSome result (λ r. self.new.ready ≡ []) }
+        ensures none { IfNone result (self.new ≡ self.old) }
+    {
+        let (packet, count) = self.framer.lend(bytes)?;
+        Some((self.handler.packet(&packet, &mut self.last), count))
     }
 
     /// Handles the first packet that waits. `None` says that none does. What explains the packet, `last_packet` tells.
@@ -117,9 +148,7 @@ impl<S: DeviceStore> GatewayOver<S> {
             return None;
         }
         let packet = self.packet.packet()?;
-        let (reply, handled) = self.handler.packet(&packet);
-        self.last = handled;
-        Some(reply)
+        Some(self.handler.packet(&packet, &mut self.last))
     }
 
     /// The packet that was handled last, which tells why what was done with it was done. `None` says that none was. It

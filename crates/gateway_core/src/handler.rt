@@ -115,21 +115,23 @@ impl<S: DeviceStore> Handler<S> {
         }
     }
 
-    /// Handles a packet of the serial line, and hands out what explains it.
-    pub fn packet(&mut self, packet: &PacketRef<'_>) -> (Reply, Option<HandledPacket>)
+    /// Handles a packet of the serial line, and writes to `last` what explains it.
+    pub fn packet(&mut self, packet: &PacketRef<'_>, last: &mut Option<HandledPacket>) -> Reply
         requires { length packet.now.body.now ≤ longest_data }
         ensures { Handles S.stored self.old (Received (packet_of packet.now) ∷ [])
-            (explaining result.1 (answer_of result.0) ∷ []) self.new }
+            (explaining last.new (answer_of result) ∷ []) self.new }
     {
         let Ok(telegram) = read(packet) else {
             let tried = self.try_other(packet);
             let (reply, account) = self.reply_to(tried);
-            return (reply, HandledPacket::of_other(packet, account));
+            *last = HandledPacket::of_other(packet, account);
+            return reply;
         };
         let teach = classify(&telegram);
         let tried = self.try_telegram(&telegram, &teach);
         let (reply, account) = self.reply_to(tried);
-        (reply, HandledPacket::of_telegram(telegram, teach, account))
+        *last = HandledPacket::of_telegram(telegram, teach, account);
+        reply
     }
 
     /// Handles a line of the desk.

@@ -1,40 +1,30 @@
-use Rattle.std.proofs.Common.{◌≡◌, ℕ, ◌+◌, List, take, drop, arith, sym, ap, subst, ◌∙◌}
+use Rattle.std.proofs.Common.{◌≡◌, ℕ, ◌+◌, ◌≤◌, List, length, take, arith, sym, ap, subst, ◌∙◌}
+use Rattle.std.proofs.lemmas.List.{take_all}
 use Rattle.esp3_frames.specs.Packet.{Packet, IsPacket}
-use Rattle.esp3_frames.proofs.HeaderLemmas.{made, read_some, read_none, six_first}
+use Rattle.esp3_frames.specs.Frames.{front_of}
+use Rattle.esp3_frames.specs.Outcome.{packet_of}
+use Rattle.esp3_frames.proofs.PacketLemmas.{packet_length}
+use Rattle.esp3_frames.proofs.FramesByFront.{whole_length, front-packet, same_front}
 use Rattle.esp3_frames.proofs.packet.read_packet.Goals as goal
-use Rattle.esp3_frames.proofs.packet.read_packet.Goals.{then-rest-len-via-then-rest-len}
-use Rattle.esp3_frames.proofs.packet.read_packet.Goals.{then-rest-len-via-else-rest-len+then-rest-len-2}
+use Rattle.esp3_frames.proofs.packet.read_packet.Goals.{in_default-via-in-Some+else-len-b, in_default-via-in_default}
 
-pub returns-then-rest-len-clause-none : goal.returns-then-rest-len-clause-none
-returns-then-rest-len-clause-none c p h =
-    let cases = c.in_ok-front.ensures.cases in
-    let s = six_first c.args.b.now c.in_ok-front.front.now c.in_ok-front.rest.now
-    (omega (arith, cases.2)) cases.0 cases.1 in
-    let r = read_none c.args.b.now c.in_ok-front.front.now c.in_ok-front.rest.now c.in-Ok.header p s.0 s.1
-    (sym c.in-Ok.ensures) h in
-    elim c.then-rest-len.branch [
-      | then-rest-len-via-then-rest-len w ↦ w.if-rest-len.true r.0
-      | then-rest-len-via-else-rest-len+then-rest-len-2 w ↦ w.if-rest-len-2.true (r.1 ∙ sym w.check8.ensures)
+pub returns-in-Some-clause-some : goal.returns-in-Some-clause-some
+returns-in-Some-clause-some c =
+    let b = c.args.b.now in
+    let p = packet_of c.in-Some.packet in
+    let n : ℕ = length p.body + length p.opt + 7 in
+    let all : length b ≤ n = omega (arith, c.in-Some.ensures.some.1, c.if-len-b.true) in
+    subst (IsPacket p) (take_all n b all) (whole_length b p c.in-Some.ensures.some.0).2
+
+pub returns-in_default-clause-none : goal.returns-in_default-clause-none
+returns-in_default-clause-none c = λ p is.
+    let b = c.args.b.now in
+    let whole = front-packet p b is in
+    elim c.in_default.branch [
+      | in_default-via-in-Some+else-len-b w ↦
+          let q = packet_of w.in-Some.packet in
+          let same : q ≡ p = same_front b q p w.in-Some.ensures.some.0 whole in
+          w.if-len-b.false
+          (w.in-Some.ensures.some.1 ∙ ap (λ (r : Packet). length r.body + length r.opt + 7) same ∙ sym (packet_length p b is))
+      | in_default-via-in_default w ↦ w.in_default.ensures.none p whole
     ]
-
-pub returns-clause-some : goal.returns-clause-some
-unfolding made
-returns-clause-some c =
-    let cases = c.in_ok-front.ensures.cases in
-    let x = c.in-Ok.header in
-    let w = c.in_ok-front.rest.now in
-    let n = x.data_len + x.opt_len in
-    let s = six_first c.args.b.now c.in_ok-front.front.now c.in_ok-front.rest.now
-    (omega (arith, cases.2)) cases.0 cases.1 in
-    let r = read_some c.args.b.now c.in_ok-front.front.now w x s.0 s.1 (sym c.in-Ok.ensures)
-    c.if-rest-len.false (c.if-rest-len-2.false ∙ c.check8.ensures) in
-    let e : made x.kind x.data_len x.opt_len w ≡ record {
-      kind = x.kind;
-      body = c.split_at.result.0.now;
-      opt = c.split_at.result.1.now;
-    } =
-    ap (λ (y : List ℕ). let p : Packet = record { kind = x.kind; body = y; opt = drop x.data_len (take n w) } in p)
-    (sym c.split_at.ensures.front)
-    ∙ ap (λ (y : List ℕ). let p : Packet = record { kind = x.kind; body = c.split_at.result.0.now; opt = y } in p)
-    (sym c.split_at.ensures.back) in
-    subst (λ (p : Packet). IsPacket p c.args.b.now) e r
