@@ -11,6 +11,7 @@ ghost use Rattle.engines.specs.Outlets.{Puts};
 ghost use Rattle.engines.specs.Played.{IsIdle};
 ghost use Rattle.engines.specs.Script.{event_of, spelled};
 
+use crate::digits::decode;
 use crate::outlet::Outlet;
 use byte_streams::Failed;
 use gateway_core::{DeviceStore, GatewayOver, LONGEST_LINE, Reply};
@@ -125,7 +126,7 @@ impl<O: Outlet, S: DeviceStore> Engine<'_, O, S> {
         let digits = &line[2..];
         let mut bytes = [0u8; LONGEST_PIECE];
         let piece = &mut bytes[..digits.len() / 2];
-        if hex::decode_to_slice(digits, piece).is_ok() {
+        if decode(digits, piece) {
             self.take_piece(piece)
         } else {
             self.take_order(line)

@@ -3,6 +3,7 @@
 #![tactic(auto)]
 
 mod desk_text;
+mod digits;
 pub mod ending;
 mod engine;
 pub mod fault;
