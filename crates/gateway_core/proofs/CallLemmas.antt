@@ -1,5 +1,6 @@
 -- The calls of a gateway are a run.
-use Rattle.std.proofs.Common.{◌≡◌, ℕ, List, [], ◌∷◌, ◌++◌, refl, ap, sym, subst, ◌∙◌, append_assoc}
+use Rattle.std.proofs.Common.{◌≡◌, ℕ, suc, ◌<◌, List, [], ◌∷◌, ◌++◌, length, take, refl, ap, sym, subst, ◌∙◌}
+use Rattle.std.proofs.Common.{append_assoc, arith}
 use Rattle.std.proofs.Common.{append-nil, Some}
 use Rattle.std.proofs.Common.{None}
 use Rattle.sqlite.specs.State.{State as Stored}
@@ -9,7 +10,7 @@ use Rattle.esp3_frames.proofs.ForCallers.{framing_in_parts, frames_of-may_become
 use Rattle.gateway_core.specs.Step.{Item, Received, Ordered}
 use Rattle.gateway_core.specs.Handling.{HandlerValue, Handles}
 use Rattle.gateway_core.specs.Calls.{Value, Call, Bytes, Next, Order, Moves, AllMove, bytes_of, answers_of, AreItems}
-use Rattle.gateway_core.specs.Calls.{CallsAreARun}
+use Rattle.gateway_core.specs.Calls.{CallsAreARun, RunsAreBytes}
 use Rattle.gateway_core.proofs.RunLemmas.{handles-nothing, handles-append}
 
 module _ {S : Type 0} (stored : S → Stored) where
@@ -121,3 +122,37 @@ module _ {S : Type 0} (stored : S → Stored) where
         in_order = on.in_order;
         run = on.run;
       }
+
+  -- the first byte of a run, and the others from what it leaves
+  pub runs_are_bytes : RunsAreBytes stored
+  runs_are_bytes old new [] some none moved = absurd (omega arith)
+  runs_are_bytes old new (byte ∷ []) some none moved = (new, moved, refl)
+  runs_are_bytes old new (byte ∷ next ∷ bytes) some none (idle, same, ready, rest, shown) =
+      let first : List ℕ = old.rest ++ byte ∷ [] in
+      let mid : Value S = record {
+        handler = old.handler;
+        ready = packets_in first;
+        rest = rest_of first;
+        explained = old.explained;
+      } in
+      let quiet : packets_in first ≡ [] = none 1 (omega arith) in
+      let along : (others : List ℕ) → first ++ others ≡ old.rest ++ byte ∷ others =
+      λ others. append_assoc old.rest (byte ∷ []) others in
+      let behind : (others : List ℕ) → packets_in (rest_of first ++ others) ≡ packets_in (old.rest ++ byte ∷ others) =
+      λ others.
+          ap (λ (ps : List Packet). ps ++ packets_in (rest_of first ++ others)) (sym quiet)
+          ∙ sym (framing_in_parts first others).0 ∙ ap packets_in (along others)
+      in
+      let later : (k : ℕ) → k < length (next ∷ bytes) → packets_in (mid.rest ++ take k (next ∷ bytes)) ≡ [] =
+      λ k below. behind (take k (next ∷ bytes)) ∙ none (suc k) (omega arith) in (
+        mid,
+        (idle, refl, refl, refl, refl),
+        runs_are_bytes mid new (next ∷ bytes) (omega arith) later
+            (
+              quiet,
+              same,
+              ready ∙ sym (behind (next ∷ bytes)),
+              rest ∙ ap rest_of (sym (along (next ∷ bytes))) ∙ (framing_in_parts first (next ∷ bytes)).1,
+              shown,
+            ),
+      )

@@ -1,5 +1,5 @@
 -- What a gateway's value is, how each call moves it, and what all calls together do.
-use Rattle.std.specs.Prelude.{◌≡◌, ℕ, List, [], ◌∷◌, ◌++◌, Option, Some, None}
+use Rattle.std.specs.Prelude.{◌≡◌, ℕ, ◌<◌, List, [], ◌∷◌, ◌++◌, length, take, Option, Some, None}
 use Rattle.sqlite.specs.State.{State as Stored}
 use Rattle.esp3_frames.specs.Packet.{Packet}
 use Rattle.esp3_frames.specs.Frames.{packets_in, rest_of}
@@ -95,3 +95,14 @@ pub record IsARun {S : Type 0} (stored : S → Stored) (old : Value S) (calls : 
 abbrev pub CallsAreARun : {S : Type 0} → (S → Stored) → Type 0
 CallsAreARun {S} stored = (base : ℕ) (registry : S) (calls : List Call) (new : Value S) →
     AllMove stored (new_value base registry) calls new → IsARun stored (new_value base registry) calls new
+
+-- a call for each of these bytes
+abbrev pub one_by_one : List ℕ → List Call
+one_by_one [] = []
+one_by_one (byte ∷ bytes) = Bytes (byte ∷ []) ∷ one_by_one bytes
+
+-- one call that takes some bytes, of which only the last may make a packet ready, does what a call for each of them does
+abbrev pub RunsAreBytes : {S : Type 0} → (S → Stored) → Type 0
+RunsAreBytes {S} stored = (old new : Value S) (bytes : List ℕ) → 0 < length bytes →
+    ((k : ℕ) → k < length bytes → packets_in (old.rest ++ take k bytes) ≡ []) →
+    Moves stored old (Bytes bytes) new → AllMove stored old (one_by_one bytes) new

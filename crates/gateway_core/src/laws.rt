@@ -4,7 +4,7 @@ ghost use Rattle.esp3_frames.specs.Frames.{packets_in, rest_of};
 ghost use Rattle.device_registry.specs.Devices.{Devices};
 ghost use Rattle.device_registry.specs.Holding.{MayFind};
 ghost use Rattle.gateway_core.specs.Beginnings.{CallsLeaveALife, ClosesLeaveALife, EndsLeaveALife, StopsLeaveALife};
-ghost use Rattle.gateway_core.specs.Calls.{CallsAreARun};
+ghost use Rattle.gateway_core.specs.Calls.{CallsAreARun, RunsAreBytes};
 ghost use Rattle.gateway_core.specs.Counting.{ExplanationsAreCounted, TakenAreCounted};
 ghost use Rattle.gateway_core.specs.Events.{CutsAreAnsweredAlike, CutsDoNotMatter, Event, brought, bytes_in, items_of};
 ghost use Rattle.gateway_core.specs.Explaining.{ExplanationsAreTrue};
@@ -89,6 +89,12 @@ pub fn explanations_are_true()
 /// the packets of the bytes given, and the answers are a run on packets and lines in the order of the calls.
 pub fn calls_are_a_run<S: DeviceStore>()
     ensures { CallsAreARun S.stored }
+{}
+
+/// A call that takes a run of bytes does what a call for each of them does, if none before the last makes a packet ready.
+/// So `GatewayOver::bytes` does what `GatewayOver::byte` does for each byte that it takes.
+pub fn runs_are_bytes<S: DeviceStore>()
+    ensures { RunsAreBytes S.stored }
 {}
 
 /// What is safe for a second list of items, behind what is safe for a first, is safe for both joined.
