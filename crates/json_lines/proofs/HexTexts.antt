@@ -1,17 +1,16 @@
 -- Hexadecimal digits, and so the texts of IDs, profiles and bytes, are ASCII and need no escape in a JSON string.
 use Rattle.std.proofs.Common.{◌≡◌, ℕ, zero, suc, ◌<◌, ◌/◌, ◌%◌, ◌++◌, List, [], ◌∷◌, Bool, true, codes}
-use Rattle.std.proofs.Common.{◌&&◌, ◌==◌, map, slice_index, inl, inr, IsAscii, refl, ap₂, ◌∙◌, arith}
-use Rattle.std.specs.Char.{to_ascii_uppercase}
+use Rattle.std.proofs.Common.{◌&&◌, slice_index, length, take, get_or, inl, inr, IsAscii, refl, ap, ap₂, ◌∙◌, arith}
 use Rattle.std.specs.List.{AllByRecursion}
 use Rattle.std.specs.Prelude.{nat_lt}
-use Rattle.std.proofs.lemmas.Bool.{and_parts, cases_lt, ltb-true, eqb-true}
+use Rattle.std.proofs.lemmas.Bool.{and_parts, cases_lt, ltb-true}
 use Rattle.std.proofs.lemmas.Grind.{flat_map-append}
 use Rattle.std.proofs.lemmas.Str.{IsAscii-append}
 use Rattle.std.proofs.lemmas.Str.Ascii.{IsAscii-from_reads}
 use Rattle.std.specs.Int.{w8, w32, to_be_bytes}
 use Rattle.json.specs.Print.{escape_byte}
 use Rattle.json.proofs.Printed.Strings.{escape_byte_plain}
-use Rattle.hex.specs.Hex.{lower_digits, upper_digits, encode_with, encode_lower, encode_upper, IsBytes}
+use Rattle.hex.specs.Hex.{upper_digits, encode_with, encode_upper, IsBytes}
 use Rattle.hex.proofs.HexLemmas.{IsAscii-encode_with}
 use Rattle.erp1_telegrams.specs.declared.eep.Eep.{Eep}
 use Rattle.json_lines.specs.Lines.{byte_text, id_text, eep_text, as_text}
@@ -19,26 +18,22 @@ use Rattle.json_lines.specs.LineData.{IsPlain}
 
 -- ---- one digit
 
--- the tests of a digit: it lies between the quotation mark and the backslash, and it is the lower-case one raised;
--- each computes
+-- a digit lies between the quotation mark and the backslash; it computes
 abbrev is_between : ℕ → Bool
 is_between digit = nat_lt 34 (slice_index upper_digits digit) && nat_lt (slice_index upper_digits digit) 92
 
-abbrev is_raised : ℕ → Bool
-is_raised digit = to_ascii_uppercase (slice_index lower_digits digit) == slice_index upper_digits digit
+-- the first n digits do
+abbrev are_between : ℕ → Bool
+are_between zero = true
+are_between (suc n) = is_between n && are_between n
 
--- both tests of the first n digits
-abbrev all_pass : ℕ → Bool
-all_pass zero = true
-all_pass (suc n) = (is_between n && is_raised n) && all_pass n
-
--- a digit below n has passed them
-all_pass-at : (n digit : ℕ) → all_pass n ≡ true → digit < n → (is_between digit && is_raised digit) ≡ true
-all_pass-at zero digit h below = absurd (omega arith)
-all_pass-at (suc n) digit h below =
-    let parts = and_parts (is_between n && is_raised n) (all_pass n) h in
+-- so each digit below n does
+are_between-at : (n digit : ℕ) → are_between n ≡ true → digit < n → is_between digit ≡ true
+are_between-at zero digit h below = absurd (omega arith)
+are_between-at (suc n) digit h below =
+    let parts = and_parts (is_between n) (are_between n) h in
     elim (cases_lt digit n) [
-      | inl lower ↦ all_pass-at n digit parts.1 lower
+      | inl lower ↦ are_between-at n digit parts.1 lower
       | inr top ↦
           let e : digit ≡ n = omega arith in
           rw e parts.0
@@ -46,17 +41,11 @@ all_pass-at (suc n) digit h below =
 
 between : (digit : ℕ) → digit < 16 → (34 < slice_index upper_digits digit) × (slice_index upper_digits digit < 92)
 between digit below =
-    let passed = and_parts (is_between digit) (is_raised digit) (all_pass-at 16 digit refl below) in
     let parts = and_parts (nat_lt 34 (slice_index upper_digits digit)) (nat_lt (slice_index upper_digits digit) 92)
-    passed.0 in (
+    (are_between-at 16 digit refl below) in (
       ltb-true 34 (slice_index upper_digits digit) parts.0,
       ltb-true (slice_index upper_digits digit) 92 parts.1,
     )
-
-raised : (digit : ℕ) → digit < 16 → to_ascii_uppercase (slice_index lower_digits digit) ≡ slice_index upper_digits digit
-raised digit below =
-    let passed = and_parts (is_between digit) (is_raised digit) (all_pass-at 16 digit refl below) in
-    eqb-true (to_ascii_uppercase (slice_index lower_digits digit)) (slice_index upper_digits digit) passed.1
 
 plain-digit : (digit : ℕ) → digit < 16
     → escape_byte (slice_index upper_digits digit) ≡ slice_index upper_digits digit ∷ []
@@ -65,19 +54,6 @@ plain-digit digit below =
     escape_byte_plain (slice_index upper_digits digit) (λ e. omega arith) (λ e. omega arith) (omega arith)
 
 -- ---- the digits of bytes
-
--- the digits are the lower-case ones raised
-pub upper-encode_lower : (bytes : List ℕ) → IsBytes bytes
-    → map to_ascii_uppercase (encode_lower bytes) ≡ encode_upper bytes
-unfolding encode_with
-upper-encode_lower [] h = refl
-upper-encode_lower (byte ∷ rest) h =
-    let below : byte < 256 = h 0 in
-    rw (
-      raised (byte / 16) (omega arith),
-      raised (byte % 16) (omega arith),
-      upper-encode_lower rest (λ i. h (suc i)),
-    ) refl
 
 pub plain_bytes : (bytes : List ℕ) → IsBytes bytes → IsPlain (encode_upper bytes)
 unfolding encode_with
@@ -89,6 +65,18 @@ plain_bytes (byte ∷ rest) h =
       plain-digit (byte % 16) (omega arith),
       plain_bytes rest (λ i. h (suc i)),
     ) refl
+
+-- the digits of one byte more
+pub encode_upper-more : (bytes : List ℕ) (i : ℕ) → IsBytes bytes → i < length bytes
+    → encode_upper (take (suc i) bytes) ≡ encode_upper (take i bytes) ++ byte_text (get_or bytes i 0)
+unfolding encode_with
+encode_upper-more [] i h below = absurd (omega arith)
+encode_upper-more (byte ∷ rest) zero h below =
+    let fits : byte % 256 ≡ byte = omega (arith, h 0) in
+    rw fits refl
+encode_upper-more (byte ∷ rest) (suc i) h below =
+    ap (λ (digits : List ℕ). slice_index upper_digits (byte / 16) ∷ slice_index upper_digits (byte % 16) ∷ digits)
+    (encode_upper-more rest i (λ k. h (suc k)) (omega arith))
 
 ascii-upper_digits : IsAscii upper_digits
 ascii-upper_digits = IsAscii-from_reads upper_digits 16 (omega arith) (λ k below.
@@ -116,7 +104,7 @@ on_eep P append dash of_byte eep =
     append (byte_text eep.rorg ++ codes "-" ++ byte_text eep.func ++ codes "-") (byte_text eep.typ)
     (append (byte_text eep.rorg ++ codes "-" ++ byte_text eep.func) (codes "-") func dash) (of_byte eep.typ)
 
-plain-append : (a b : List ℕ) → IsPlain a → IsPlain b → IsPlain (a ++ b)
+pub plain-append : (a b : List ℕ) → IsPlain a → IsPlain b → IsPlain (a ++ b)
 plain-append a b ha hb = flat_map-append escape_byte a b ∙ ap₂ (λ x y. x ++ y) ha hb
 
 plain-byte : (byte : ℕ) → IsPlain (byte_text byte)
@@ -150,7 +138,7 @@ ascii-dash = all_below 128 (codes "-") (omega arith) (omega arith, tt)
 ascii-as : IsAscii (codes "as ")
 ascii-as = all_below 128 (codes "as ") (omega arith) (omega arith, (omega arith, (omega arith, tt)))
 
-ascii-byte : (byte : ℕ) → IsAscii (byte_text byte)
+pub ascii-byte : (byte : ℕ) → IsAscii (byte_text byte)
 ascii-byte byte = ascii-encode_upper _
 
 pub ascii-eep : (eep : Eep) → IsAscii (eep_text eep)

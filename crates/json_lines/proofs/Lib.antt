@@ -3,7 +3,7 @@ pub mod HexTexts
 pub mod LineTexts
 pub mod PacketLineTexts
 pub mod PacketTexts
-pub mod Sent
+pub mod ReadingTexts
 pub mod Distinguishable
 pub mod TeachLines
 pub mod TeachTexts

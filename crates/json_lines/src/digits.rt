@@ -1,20 +1,21 @@
 //! IDs and profiles as digits in place, which takes no memory.
 
-ghost use Rattle.std.specs.Prelude.{◌≡◌, ◌*◌, length, IsAscii};
-ghost use Rattle.hex.specs.Hex.{encode_upper};
+ghost use Rattle.std.specs.Prelude.{◌≡◌, IsAscii};
 ghost use Rattle.json_lines.specs.Lines.{as_text, byte_text, eep_text, id_text};
 
 use erp1_telegrams::Eep;
 
-// The bytes as upper-case hexadecimal digits.
-pub(crate) fn put_upper(bytes: &[u8], digits: &mut [u8])
-    requires { length digits.old ≡ 2 * length bytes.now }
-    ensures text { digits.new ≡ encode_upper bytes.now }
-    ensures ascii { IsAscii digits.new }
+// The hexadecimal digits, in upper case.
+static DIGITS: [u8; 16] = *b"0123456789ABCDEF";
+
+// The digits of a byte.
+pub(crate) fn byte_digits(byte: u8) -> [u8; 2]
+    ensures text { result ≡ byte_text byte }
+    ensures ascii { IsAscii result }
 {
-    // It fits, so there is no error.
-    let _ = hex::encode_to_slice(bytes, digits);
-    digits.make_ascii_uppercase();
+    let high = DIGITS[usize::from(byte / 16)];
+    let low = DIGITS[usize::from(byte % 16)];
+    [high, low]
 }
 
 // The digits of an ID.
@@ -22,19 +23,14 @@ pub(crate) fn id_digits(id: u32) -> [u8; 8]
     ensures text { result ≡ id_text id }
     ensures ascii { IsAscii result }
 {
-    let mut digits = [0; 8];
-    put_upper(&id.to_be_bytes(), &mut digits);
-    digits
-}
-
-// The digits of a byte.
-pub(crate) fn byte_digits(byte: u8) -> [u8; 2]
-    ensures text { result ≡ byte_text byte }
-    ensures ascii { IsAscii result }
-{
-    let mut digits = [0; 2];
-    put_upper(&byte.to_be_bytes(), &mut digits);
-    digits
+    let [first, second, third, fourth] = id.to_be_bytes();
+    let first = byte_digits(first);
+    let second = byte_digits(second);
+    let third = byte_digits(third);
+    let fourth = byte_digits(fourth);
+    [
+        first[0], first[1], second[0], second[1], third[0], third[1], fourth[0], fourth[1],
+    ]
 }
 
 // The digits of a profile, with `-` between its numbers.

@@ -31,6 +31,13 @@ impl Line {
         }
     }
 
+    // The line of these bytes.
+    pub(crate) fn new(bytes: Vec<u8>) -> Line
+        ensures { result ≡ bytes.items }
+    {
+        Line { bytes }
+    }
+
     // Puts another line behind it.
     pub(crate) fn append(&mut self, other: &Line) -> Result<(), AllocError>
         ensures { OnOk result (self.new ≡ self.old ++ other.now) }
@@ -55,7 +62,7 @@ pub(crate) fn line_of<T: Serialize>(alloc: Global, told: &T) -> Result<Line, All
     match serde_json::to_vec(alloc, told) {
         Ok(mut bytes) => {
             bytes.push(b'\n')?;
-            Ok(Line { bytes })
+            Ok(Line::new(bytes))
         }
         Err(_) => Err(AllocError),
     }

@@ -1,25 +1,12 @@
-//! What several lines tell: numbers, IDs, profiles and makers, each sent to a serializer.
+//! What several lines tell: IDs, profiles and makers, each sent to a serializer.
 
 ghost use Rattle.std.specs.Prelude.{OnOk};
-ghost use Rattle.serde_json.specs.Data.{number};
 ghost use Rattle.serde_json.specs.Events.{SendsValue};
-ghost use Rattle.serde_json.specs.Find.{of_integer};
 ghost use Rattle.json_lines.specs.LineData.{id_data, number_data, or_null, profile_data};
 
 use crate::digits::{eep_digits, id_digits, text_of};
 use erp1_telegrams::Eep;
 use serde::Serializer;
-
-// A number with a sign. serde_json calls one that is not below 0 unsigned, and so does this.
-pub(crate) fn put_integer<S: Serializer>(n: i64, out: &mut S) -> Result<(), S::Error>
-    ensures { OnOk result (SendsValue (number (of_integer n)) (S.written out.old) (S.written out.new)) }
-{
-    if n >= 0 {
-        out.u64(n as u64)
-    } else {
-        out.i64(n)
-    }
-}
 
 // An ID.
 pub(crate) fn put_id<S: Serializer>(id: u32, out: &mut S) -> Result<(), S::Error>

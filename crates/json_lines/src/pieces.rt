@@ -6,7 +6,7 @@ ghost use Rattle.hex.specs.Hex.{encode_upper};
 ghost use Rattle.json_lines.specs.Lines.{byte_text, dbm_text, in_quotes, or_null, profile_text};
 ghost use Rattle.json_lines.specs.PacketLines.{id_string, longest_packet_line};
 
-use crate::digits::{byte_digits, eep_digits, id_digits, put_upper};
+use crate::digits::{byte_digits, eep_digits, id_digits};
 use arrayvec::ArrayVec;
 use erp1_telegrams::Eep;
 use itoa::Buffer;
@@ -128,8 +128,9 @@ pub(crate) fn put_payload(payload: &ArrayVec<u8, 14>, out: &mut Text)
     ensures items { out.new.items ≡ out.old.items ++ in_quotes (encode_upper payload.now.items) }
     ensures len { array_vec_len out.new ≤ array_vec_len out.old + 30 }
 {
-    let mut room = [0; 28];
-    let digits = &mut room[..2 * payload.len()];
-    put_upper(payload.as_slice(), digits);
-    put_string(digits, out);
+    out.push(b'"');
+    for byte in payload.as_slice() {
+        put(&byte_digits(*byte), out);
+    }
+    out.push(b'"');
 }

@@ -1,134 +1,172 @@
-//! The line of a telegram's readings.
+//! The line of a telegram's readings. Almost every packet makes one, so it is written directly, and not by `serde_json`
+//! as the other lines are.
 
-ghost use Rattle.std.specs.Prelude.{◌≡◌, IfOk, OnOk};
-ghost use Rattle.serde_json.specs.Data.{array};
-ghost use Rattle.serde_json.specs.Events.{SendsValue};
+ghost use Rattle.std.specs.Prelude.{◌≡◌, ◌++◌, codes, decimal, IfOk, OnOk};
+ghost use Rattle.std.specs.Bool.{OnTrue};
+ghost use Rattle.std.specs.Fmt.{signed_decimal};
+ghost use Rattle.std.specs.List.{join_by};
+ghost use Rattle.json.specs.Print.{escape, quoted};
 ghost use Rattle.profiles_rps.specs.Reading.{entries, entry_of, value, word};
 ghost use Rattle.exact_values.specs.Fraction.{ratio};
 ghost use Rattle.json_lines.specs.Lines as lines;
-ghost use Rattle.json_lines.specs.LineData.{dbm_data, entries_data, entry_data, named_data, number_data};
-ghost use Rattle.json_lines.specs.LineData.{object_of, or_null, pair_members, reading_members};
+ghost use Rattle.json_lines.specs.Lines.{dbm_text, entry_text, id_text, in_quotes, member_text, named_text, or_null};
+ghost use Rattle.json_lines.specs.Lines.{profile_text};
+ghost use Rattle.json_lines.specs.LineData.{IsPlain};
 
-use crate::line::{Line, line_of};
-use crate::parts::{put_id, put_integer, put_profile};
+use crate::digits::{eep_digits, id_digits};
+use crate::line::Line;
 use erp1_telegrams::{Eep, Telegram};
 use exact_values::Fraction;
+use itoa::Buffer;
+use json::Writer;
 use profiles_rps::{Reading, Readings, What};
-use serde::{Described, Serialize, Serializer};
 use std::alloc::{AllocError, Global};
 
+// The length in bytes of the longest line that a profile makes: A5-08-03 at -255 dBm, with the readings
+// `{"den":50,"name":"SVC","num":101,"unit":"V"},{"den":1,"name":"ILL","num":1002,"unit":"lx"},`
+// `{"den":51,"name":"TMP","num":-1514,"unit":"C"},{"name":"PIRS","word":"off"},{"name":"OCC","word":"released"}`.
+const LONGEST_USUAL_LINE: usize = 276;
+
+// A number with a sign.
+fn put_integer(n: i64, out: &mut Vec<u8>) -> Result<(), AllocError>
+    ensures { OnOk result (out.new.items ≡ out.old.items ++ signed_decimal n) }
+{
+    out.extend_from_slice(Buffer::new().format(n).as_bytes())
+}
+
 // The signal strength, or null.
-fn put_dbm<S: Serializer>(dbm: Option<u8>, out: &mut S) -> Result<(), S::Error>
-    ensures { OnOk result (SendsValue (or_null dbm_data dbm) (S.written out.old) (S.written out.new)) }
+fn put_dbm(dbm: Option<u8>, out: &mut Vec<u8>) -> Result<(), AllocError>
+    ensures { OnOk result (out.new.items ≡ out.old.items ++ or_null dbm_text dbm) }
 {
     match dbm {
         Some(byte) => put_integer(0 - i64::from(byte), out),
-        None => out.unit(),
+        None => out.extend_from_slice(b"null"),
+    }
+}
+
+// The profile and the ID of the sender: the text from the signal strength to the first reading.
+fn sender_piece(eep: Eep, id: u32) -> [u8; 46]
+    ensures { result ≡ codes "," ++ member_text (codes "eep", profile_text eep)
+        ++ codes "," ++ member_text (codes "id", in_quotes (id_text id)) ++ codes ",\"readings\":[" }
+{
+    let mut piece = *b",\"eep\":\"........\",\"id\":\"........\",\"readings\":[";
+    piece[8..16].copy_from_slice(&eep_digits(eep));
+    piece[24..32].copy_from_slice(&id_digits(id));
+    piece
+}
+
+// Whether a text needs no escape. It is false for a space and for `!` too, which saves a comparison for each byte: no
+// profile has a text with one.
+fn is_plain(text: &[u8]) -> bool
+    ensures { OnTrue result (IsPlain text.now) }
+{
+    for &byte in text {
+        if byte <= b'"' || byte == b'\\' {
+            return false;
+        }
+    }
+    true
+}
+
+// A text between quotation marks, with its escapes.
+fn quoted(alloc: Global, text: &str) -> Result<Vec<u8>, AllocError>
+    ensures { IfOk result (λ bytes. bytes.items ≡ quoted text.now) }
+{
+    let mut writer = Writer::new(Vec::new(alloc));
+    writer.string(text)?;
+    Ok(writer.into_inner())
+}
+
+// A text with its escapes, where it may need some. No profile has such a text.
+#[cold]
+fn put_escaped(text: &str, out: &mut Vec<u8>) -> Result<(), AllocError>
+    ensures { OnOk result (out.new.items ≡ out.old.items ++ escape text.now) }
+{
+    let quoted = quoted(*out.allocator(), text)?;
+    out.extend_from_slice(&quoted[1..quoted.len() - 1])
+}
+
+// A text with its escapes.
+fn put_text(text: &str, out: &mut Vec<u8>) -> Result<(), AllocError>
+    ensures { OnOk result (out.new.items ≡ out.old.items ++ escape text.now) }
+{
+    if is_plain(text.as_bytes()) {
+        out.extend_from_slice(text.as_bytes())
+    } else {
+        put_escaped(text, out)
     }
 }
 
 // An exact value in its unit.
-fn put_value<S: Serializer>(
+fn put_value(
     name: &str,
     fraction: Fraction,
     unit: &str,
-    out: &mut S,
-) -> Result<(), S::Error>
-    ensures { OnOk result (SendsValue (named_data name.now (value (ratio fraction) unit.now))
-        (S.written out.old) (S.written out.new)) }
+    out: &mut Vec<u8>,
+) -> Result<(), AllocError>
+    ensures { OnOk result (out.new.items ≡ out.old.items ++ named_text name.now (value (ratio fraction) unit.now)) }
 {
-    out.begin_map(Some(4))?;
-    out.key("den")?;
+    out.extend_from_slice(b"{\"den\":")?;
     put_integer(fraction.den(), out)?;
-    out.key("name")?;
-    out.str(name)?;
-    out.key("num")?;
+    out.extend_from_slice(b",\"name\":\"")?;
+    put_text(name, out)?;
+    out.extend_from_slice(b"\",\"num\":")?;
     put_integer(fraction.num(), out)?;
-    out.key("unit")?;
-    out.str(unit)?;
-    out.end_map()
+    out.extend_from_slice(b",\"unit\":\"")?;
+    put_text(unit, out)?;
+    out.extend_from_slice(b"\"}")
 }
 
 // A word.
-fn put_word<S: Serializer>(name: &str, text: &str, out: &mut S) -> Result<(), S::Error>
-    ensures { OnOk result (SendsValue (named_data name.now (word text.now))
-        (S.written out.old) (S.written out.new)) }
+fn put_word(name: &str, text: &str, out: &mut Vec<u8>) -> Result<(), AllocError>
+    ensures { OnOk result (out.new.items ≡ out.old.items ++ named_text name.now (word text.now)) }
 {
-    out.begin_map(Some(2))?;
-    out.key("name")?;
-    out.str(name)?;
-    out.key("word")?;
-    out.str(text)?;
-    out.end_map()
+    out.extend_from_slice(b"{\"name\":\"")?;
+    put_text(name, out)?;
+    out.extend_from_slice(b"\",\"word\":\"")?;
+    put_text(text, out)?;
+    out.extend_from_slice(b"\"}")
 }
 
-// A number under this key.
-fn put_number<S: Serializer>(name: &str, key: &str, raw: u32, out: &mut S) -> Result<(), S::Error>
-    ensures { OnOk result (SendsValue (object_of (pair_members name.now key.now (number_data raw)))
-        (S.written out.old) (S.written out.new)) }
+// A number after a name and this piece, which has the key of the number.
+fn put_number(name: &str, key: &[u8], raw: u32, out: &mut Vec<u8>) -> Result<(), AllocError>
+    ensures { OnOk result (out.new.items ≡ out.old.items
+        ++ (codes "{\"name\":\"" ++ escape name.now ++ key.now ++ decimal raw ++ codes "}")) }
 {
-    out.begin_map(Some(2))?;
-    out.key("name")?;
-    out.str(name)?;
-    out.key(key)?;
-    out.u64(u64::from(raw))?;
-    out.end_map()
+    out.extend_from_slice(b"{\"name\":\"")?;
+    put_text(name, out)?;
+    out.extend_from_slice(key)?;
+    put_integer(i64::from(raw), out)?;
+    out.extend_from_slice(b"}")
 }
 
 // One reading.
-fn put_reading<S: Serializer>(reading: &Reading, out: &mut S) -> Result<(), S::Error>
-    ensures { OnOk result (SendsValue (entry_data (entry_of reading.now)) (S.written out.old) (S.written out.new)) }
+fn put_reading(reading: &Reading, out: &mut Vec<u8>) -> Result<(), AllocError>
+    ensures { OnOk result (out.new.items ≡ out.old.items ++ entry_text (entry_of reading.now)) }
 {
     let name = reading.name;
     match reading.what {
         What::Value(fraction, unit) => put_value(name, fraction, unit, out),
         What::Word(word) => put_word(name, word, out),
-        What::Raw(raw) => put_number(name, "raw", raw, out),
-        What::OutOfRange(raw) => put_number(name, "out_of_range", raw, out),
+        What::Raw(raw) => put_number(name, b"\",\"raw\":", raw, out),
+        What::OutOfRange(raw) => put_number(name, b"\",\"out_of_range\":", raw, out),
     }
 }
 
-// The readings in their order.
-fn put_readings<S: Serializer>(readings: &[Reading], out: &mut S) -> Result<(), S::Error>
-    ensures { OnOk result (SendsValue (array (entries_data (entries readings.now)))
-        (S.written out.old) (S.written out.new)) }
+// The readings in their order, with a comma between each two.
+fn put_readings(readings: &[Reading], out: &mut Vec<u8>) -> Result<(), AllocError>
+    ensures { OnOk result (out.new.items
+        ≡ out.old.items ++ join_by entry_text (codes ",") (entries readings.now)) }
 {
-    out.begin_seq(Some(readings.len()))?;
-    for reading in readings {
+    let Some((first, rest)) = readings.split_first() else {
+        return Ok(());
+    };
+    put_reading(first, out)?;
+    for reading in rest {
+        out.push(b',')?;
         put_reading(reading, out)?;
     }
-    out.end_seq()
-}
-
-// What the line tells.
-#[derive(Drop)]
-struct ReadingObject<'a> {
-    dbm: Option<u8>,
-    eep: Eep,
-    id: u32,
-    readings: &'a [Reading],
-}
-
-impl Described for ReadingObject<'_> {
-    ghost writes = { λ line. SendsValue (object_of (reading_members
-        (record { dbm = line.dbm; eep = line.eep; id = line.id; readings = entries line.readings.now }))) };
-}
-
-impl Serialize for ReadingObject<'_> {
-    fn serialize<S: Serializer>(&self, out: &mut S) -> Result<(), S::Error> {
-        out.begin_map(Some(5))?;
-        out.key("dbm")?;
-        put_dbm(self.dbm, out)?;
-        out.key("eep")?;
-        put_profile(self.eep, out)?;
-        out.key("id")?;
-        put_id(self.id, out)?;
-        out.key("readings")?;
-        put_readings(self.readings, out)?;
-        out.key("type")?;
-        out.str("reading")?;
-        out.end_map()
-    }
+    Ok(())
 }
 
 /// The line that tells what a telegram says by this profile: the signal strength in dBm (0 minus the byte that the
@@ -151,11 +189,11 @@ pub fn reading_line(
       readings = entries readings.now.items;
     }))) }
 {
-    let told = ReadingObject {
-        dbm: telegram.dbm(),
-        eep,
-        id: telegram.sender(),
-        readings: readings.as_slice(),
-    };
-    line_of(alloc, &told)
+    let mut line = Vec::with_capacity(alloc, LONGEST_USUAL_LINE)?;
+    line.extend_from_slice(b"{\"dbm\":")?;
+    put_dbm(telegram.dbm(), &mut line)?;
+    line.extend_from_slice(&sender_piece(eep, telegram.sender()))?;
+    put_readings(readings.as_slice(), &mut line)?;
+    line.extend_from_slice(b"],\"type\":\"reading\"}\n")?;
+    Ok(Line::new(line))
 }

@@ -1,8 +1,10 @@
-use Rattle.std.proofs.Common.{take}
-use Rattle.json_lines.proofs.Sent.{SendsReadings}
+use Rattle.std.proofs.Common.{◌≡◌, ◌++◌, take, codes}
+use Rattle.std.specs.List.{flat_map}
+use Rattle.profiles_rps.specs.Reading.{entries}
+use Rattle.json_lines.specs.Lines.{entry_text}
 use Rattle.json_lines.proofs.reading.put_readings.Given as goal
 
 abbrev pub invariant-loop-reading : goal.invariant-loop-reading
-invariant-loop-reading g l =
-    SendsReadings (take l.reading-index l.readings) (g.S.Serializer.written l.initial.out)
-    (g.S.Serializer.written l.out)
+invariant-loop-reading l =
+    l.out.items
+    ≡ l.initial.out.items ++ flat_map (λ entry. codes "," ++ entry_text entry) (entries (take l.reading-index l.rest))

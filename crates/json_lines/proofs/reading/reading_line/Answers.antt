@@ -1,16 +1,17 @@
-use Rattle.std.proofs.lemmas.Result.{IfOk-weaker}
-use Rattle.profiles_rps.specs.Reading.{entries}
-use Rattle.json_lines.specs.Lines.{ReadingLine}
-use Rattle.json_lines.proofs.LineTexts.{reading_told}
+use Rattle.json_lines.proofs.ReadingTexts.{line_pieces}
 use Rattle.json_lines.proofs.reading.reading_line.Goals as goal
 
 pub returns : goal.returns
-returns c =
-    let line : ReadingLine = record {
-      dbm = c.args.telegram.now.dbm;
-      eep = c.args.eep;
-      id = c.args.telegram.now.sender;
-      readings = entries c.args.readings.now.items;
-    } in
-    IfOk-weaker c.line_of.result _ _ (λ bytes h.
-    reading_told line bytes (rw (c.dbm.ensures, c.sender.ensures, c.as_slice.ensures.value) at h)) c.line_of.ensures
+returns c = rw (
+  c.new.ensures,
+  c.in_ok-extend_from_slice-3.ensures.items,
+  c.in_ok-put_readings.ensures,
+  c.in_ok-extend_from_slice-2.ensures.items,
+  c.in_ok-put_dbm.ensures,
+  c.in_ok-extend_from_slice.ensures.items,
+  c.in_ok-line.ensures.items,
+  c.sender_piece.ensures,
+  c.dbm.ensures,
+  c.sender.ensures,
+  c.as_slice.ensures.value,
+) (line_pieces _ _ _ _)
