@@ -18,31 +18,30 @@ use Rattle.json_lines.specs.LineData.{IsPlain}
 
 -- ---- one digit
 
--- a digit lies between the quotation mark and the backslash; it computes
-abbrev is_between : ℕ → Bool
-is_between digit = nat_lt 34 (slice_index upper_digits digit) && nat_lt (slice_index upper_digits digit) 92
+-- a test holds of each number below n; it computes
+abbrev pub holds_below : (ℕ → Bool) → ℕ → Bool
+holds_below test zero = true
+holds_below test (suc n) = test n && holds_below test n
 
--- the first n digits do
-abbrev are_between : ℕ → Bool
-are_between zero = true
-are_between (suc n) = is_between n && are_between n
-
--- so each digit below n does
-are_between-at : (n digit : ℕ) → are_between n ≡ true → digit < n → is_between digit ≡ true
-are_between-at zero digit h below = absurd (omega arith)
-are_between-at (suc n) digit h below =
-    let parts = and_parts (is_between n) (are_between n) h in
-    elim (cases_lt digit n) [
-      | inl lower ↦ are_between-at n digit parts.1 lower
+pub holds_below-at : (test : ℕ → Bool) (n k : ℕ) → holds_below test n ≡ true → k < n → test k ≡ true
+holds_below-at test zero k h below = absurd (omega arith)
+holds_below-at test (suc n) k h below =
+    let parts = and_parts (test n) (holds_below test n) h in
+    elim (cases_lt k n) [
+      | inl lower ↦ holds_below-at test n k parts.1 lower
       | inr top ↦
-          let e : digit ≡ n = omega arith in
+          let e : k ≡ n = omega arith in
           rw e parts.0
     ]
+
+-- a digit lies between the quotation mark and the backslash
+abbrev is_between : ℕ → Bool
+is_between digit = nat_lt 34 (slice_index upper_digits digit) && nat_lt (slice_index upper_digits digit) 92
 
 between : (digit : ℕ) → digit < 16 → (34 < slice_index upper_digits digit) × (slice_index upper_digits digit < 92)
 between digit below =
     let parts = and_parts (nat_lt 34 (slice_index upper_digits digit)) (nat_lt (slice_index upper_digits digit) 92)
-    (are_between-at 16 digit refl below) in (
+    (holds_below-at is_between 16 digit refl below) in (
       ltb-true 34 (slice_index upper_digits digit) parts.0,
       ltb-true (slice_index upper_digits digit) 92 parts.1,
     )
