@@ -1,4 +1,4 @@
-use Rattle.std.proofs.Common.{◌≡◌, take, append_assoc, append-nil, add-one, sym, arith}
+use Rattle.std.proofs.Common.{take, append_assoc, append-nil, add-one, sym, arith}
 use Rattle.hex.specs.Hex.{encode_with, encode_upper, IsBytes}
 use Rattle.json_lines.proofs.HexTexts.{encode_upper-more}
 use Rattle.json_lines.proofs.pieces.put_payload.Goals as goal
