@@ -1,20 +1,21 @@
 //! Temperature and humidity sensors.
 
 ghost use Rattle.std.specs.Prelude.{◌≡◌, option_map};
-ghost use Rattle.profiles_rps.specs.Reading.{entries};
+ghost use Rattle.std.specs.Bool.{OnFalse};
+ghost use Rattle.profiles_rps.specs.Answer.{told_if};
 ghost use Rattle.profiles_rps.specs.Profile.{rows_in};
-ghost use Rattle.profiles_rps.specs.Rows.{entries_of};
+ghost use Rattle.profiles_rps.specs.Rows.{entries_in_turn};
 ghost use Rattle.profiles_4bs.specs.Humidity.{humidity};
 
 use erp1_telegrams::Eep;
 use profiles_rps::{Readings, read_profiles};
 
-/// The readings of a payload by the rows of a profile A5-04, where there are rows.
-pub(crate) fn readings_by(eep: Eep, bytes: &[u8; 4]) -> Option<Readings>
-    ensures { option_map (λ readings. entries readings.items) result
-        ≡ option_map (entries_of bytes.now) (rows_in humidity eep) }
+/// Has `readings` be what the rows of a profile A5-04 read in a payload, if the profile has rows.
+pub(crate) fn read_into(eep: Eep, bytes: &[u8; 4], readings: &mut Readings) -> bool
+    ensures exact { told_if result readings.new.items ≡ option_map (entries_in_turn 0 bytes.now) (rows_in humidity eep) }
+    ensures none { OnFalse result (readings.new ≡ readings.old) }
 {
-    read_profiles! { eep, bytes, 4;
+    read_profiles! { readings, eep, bytes, 4;
         (0xA5, 0x04, [0x01]) => {
             "HUM" (8, 8) [] range(0, 250, 0, 1000, "%");
             "TMP" (16, 8) [(30, 1) = 1] range(0, 250, 0, 400, "C");

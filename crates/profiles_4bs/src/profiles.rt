@@ -1,10 +1,9 @@
 //! The 4BS profiles, and what a telegram says by one of them.
 
 ghost use Rattle.std.specs.Prelude.{◌≡◌, List, Ok, Err, option_map, MatchResult, OnErr};
-ghost use Rattle.std.specs.Result.{result_map_both};
-ghost use Rattle.profiles_rps.specs.Reading.{entries};
-ghost use Rattle.profiles_rps.specs.Answer.{told};
-ghost use Rattle.profiles_rps.specs.Rows.{Row, entries_of};
+ghost use Rattle.std.specs.Bool.{OnFalse};
+ghost use Rattle.profiles_rps.specs.Answer.{told, told_if};
+ghost use Rattle.profiles_rps.specs.Rows.{Row, entries_in_turn};
 ghost use Rattle.profiles_4bs.specs.Profiles.{rows_of, supported, read_by, readings_of};
 
 use crate::{
@@ -15,20 +14,24 @@ use bit_fields::get;
 use erp1_telegrams::{Eep, Telegram};
 use profiles_rps::{Readings, Unreadable};
 
-/// The readings of a payload by the rows of a profile, where there are rows. Each function has the profiles of one
-/// FUNC.
-fn readings_by(eep: Eep, bytes: &[u8; 4]) -> Option<Readings>
-    ensures { option_map (λ readings. entries readings.items) result
-        ≡ option_map (entries_of bytes.now) (rows_of eep) }
+/// Has `readings` be what the rows of a profile read in a payload, if the profile has rows. Each function has the
+/// profiles of one FUNC.
+#[tactic(auto, unfolding(crate::specs::Profiles::rows_of, profiles_rps::specs::Profile::is_one_of))]
+fn read_into(eep: Eep, bytes: &[u8; 4], readings: &mut Readings) -> bool
+    ensures exact { told_if result readings.new.items ≡ option_map (entries_in_turn 0 bytes.now) (rows_of eep) }
+    ensures none { OnFalse result (readings.new ≡ readings.old) }
 {
-    temperature::readings_by(eep, bytes)
-        .or_else(|| humidity::readings_by(eep, bytes))
-        .or_else(|| light::readings_by(eep, bytes))
-        .or_else(|| occupancy::readings_by(eep, bytes))
-        .or_else(|| light_temperature_occupancy::readings_by(eep, bytes))
-        .or_else(|| gas::readings_by(eep, bytes))
-        .or_else(|| room_operating_panel::readings_by(eep, bytes))
-        .or_else(|| meter::readings_by(eep, bytes))
+    match eep.func {
+        0x02 => temperature::read_into(eep, bytes, readings),
+        0x04 => humidity::read_into(eep, bytes, readings),
+        0x06 => light::read_into(eep, bytes, readings),
+        0x07 => occupancy::read_into(eep, bytes, readings),
+        0x08 => light_temperature_occupancy::read_into(eep, bytes, readings),
+        0x09 => gas::read_into(eep, bytes, readings),
+        0x10 => room_operating_panel::read_into(eep, bytes, readings),
+        0x12 => meter::read_into(eep, bytes, readings),
+        _ => false,
+    }
 }
 
 /// Whether telegrams of a profile are read: A5-02-01 to A5-02-0B, A5-02-10 to A5-02-1B, A5-02-20, A5-02-30, A5-04-01,
@@ -37,13 +40,13 @@ fn readings_by(eep: Eep, bytes: &[u8; 4]) -> Option<Readings>
 pub fn supports(eep: Eep) -> bool
     ensures { result ≡ supported eep }
 {
-    readings_by(eep, &[0; 4]).is_some()
+    read_into(eep, &[0; 4], &mut Readings::new())
 }
 
 /// The bytes of a data telegram of this RORG, or the first refusal.
 fn data_of(rorg: u8, telegram: &Telegram) -> Result<&[u8; 4], Unreadable>
     ensures { MatchResult result (λ bytes. (rows : List Row) →
-        read_by rorg rows telegram.now ≡ Ok (entries_of bytes.now rows))
+        read_by rorg rows telegram.now ≡ Ok (entries_in_turn 0 bytes.now rows))
         (λ refusal. (rows : List Row) → read_by rorg rows telegram.now ≡ Err refusal) }
 {
     if telegram.rorg() != rorg {
@@ -58,18 +61,6 @@ fn data_of(rorg: u8, telegram: &Telegram) -> Result<&[u8; 4], Unreadable>
     Ok(bytes)
 }
 
-/// The readings of a telegram, or the first refusal. The rows are gone through once.
-fn readings_of(eep: Eep, telegram: &Telegram) -> Result<Readings, Unreadable>
-    ensures { result_map_both (λ readings. entries readings.items) (λ refusal. refusal) result
-        ≡ readings_of eep telegram.now }
-{
-    match data_of(eep.rorg, telegram) {
-        Ok(bytes) => readings_by(eep, bytes).ok_or(Unreadable::NotSupported),
-        Err(refusal) if supports(eep) => Err(refusal),
-        Err(_) => Err(Unreadable::NotSupported),
-    }
-}
-
 /// Reads a telegram by a profile: `readings` is what it says, in the order of the profile's rows (EnOcean Equipment
 /// Profiles 2.6). On a refusal `readings` stays as it was. The refusals come in this order: `NotSupported` where the
 /// profile is not read, `WrongKind` where the telegram's RORG is not the profile's, `WrongLength` where the payload has
@@ -78,6 +69,15 @@ pub fn read(eep: Eep, telegram: &Telegram, readings: &mut Readings) -> Result<()
     ensures exact { told result readings.new.items ≡ readings_of eep telegram.now }
     ensures err { OnErr result (readings.new ≡ readings.old) }
 {
-    *readings = readings_of(eep, telegram)?;
-    Ok(())
+    match data_of(eep.rorg, telegram) {
+        Ok(bytes) => {
+            if read_into(eep, bytes, readings) {
+                Ok(())
+            } else {
+                Err(Unreadable::NotSupported)
+            }
+        }
+        Err(refusal) if supports(eep) => Err(refusal),
+        Err(_) => Err(Unreadable::NotSupported),
+    }
 }

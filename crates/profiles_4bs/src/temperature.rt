@@ -1,32 +1,33 @@
 //! Temperature sensors.
 
 ghost use Rattle.std.specs.Prelude.{◌≡◌, option_map};
-ghost use Rattle.profiles_rps.specs.Reading.{entries};
+ghost use Rattle.std.specs.Bool.{OnFalse};
+ghost use Rattle.profiles_rps.specs.Answer.{told_if};
 ghost use Rattle.profiles_rps.specs.Profile.{rows_in};
-ghost use Rattle.profiles_rps.specs.Rows.{entries_of};
+ghost use Rattle.profiles_rps.specs.Rows.{entries_in_turn};
 ghost use Rattle.profiles_4bs.specs.Temperature.{of_10_bits_each, spans_of_40_degrees};
 ghost use Rattle.profiles_4bs.specs.Temperature.{spans_of_80_degrees, temperature};
 
 use erp1_telegrams::Eep;
 use profiles_rps::{Readings, read_profiles};
 
-/// The readings of a payload by the rows of a profile A5-02, where there are rows. Each of the three functions has a
+/// Has `readings` be what the rows of a profile A5-02 read in a payload, if the profile has rows. Each of the three functions has a
 /// part of the profiles: one of all would cost more than the three to prove.
-pub(crate) fn readings_by(eep: Eep, bytes: &[u8; 4]) -> Option<Readings>
-    ensures { option_map (λ readings. entries readings.items) result
-        ≡ option_map (entries_of bytes.now) (rows_in temperature eep) }
+pub(crate) fn read_into(eep: Eep, bytes: &[u8; 4], readings: &mut Readings) -> bool
+    ensures exact { told_if result readings.new.items ≡ option_map (entries_in_turn 0 bytes.now) (rows_in temperature eep) }
+    ensures none { OnFalse result (readings.new ≡ readings.old) }
 {
-    over_40_degrees(eep, bytes)
-        .or_else(|| over_80_degrees(eep, bytes))
-        .or_else(|| by_10_bits(eep, bytes))
+    over_40_degrees(eep, bytes, readings)
+        || over_80_degrees(eep, bytes, readings)
+        || by_10_bits(eep, bytes, readings)
 }
 
 /// A5-02-01 to A5-02-0B.
-fn over_40_degrees(eep: Eep, bytes: &[u8; 4]) -> Option<Readings>
-    ensures { option_map (λ readings. entries readings.items) result
-        ≡ option_map (entries_of bytes.now) (rows_in spans_of_40_degrees eep) }
+fn over_40_degrees(eep: Eep, bytes: &[u8; 4], readings: &mut Readings) -> bool
+    ensures exact { told_if result readings.new.items ≡ option_map (entries_in_turn 0 bytes.now) (rows_in spans_of_40_degrees eep) }
+    ensures none { OnFalse result (readings.new ≡ readings.old) }
 {
-    read_profiles! { eep, bytes, 4;
+    read_profiles! { readings, eep, bytes, 4;
         (0xA5, 0x02, [0x01]) => { "TMP" (16, 8) [] range(255, 0, -400, 0, "C"); }
         (0xA5, 0x02, [0x02]) => { "TMP" (16, 8) [] range(255, 0, -300, 100, "C"); }
         (0xA5, 0x02, [0x03]) => { "TMP" (16, 8) [] range(255, 0, -200, 200, "C"); }
@@ -42,11 +43,11 @@ fn over_40_degrees(eep: Eep, bytes: &[u8; 4]) -> Option<Readings>
 }
 
 /// A5-02-10 to A5-02-1B.
-fn over_80_degrees(eep: Eep, bytes: &[u8; 4]) -> Option<Readings>
-    ensures { option_map (λ readings. entries readings.items) result
-        ≡ option_map (entries_of bytes.now) (rows_in spans_of_80_degrees eep) }
+fn over_80_degrees(eep: Eep, bytes: &[u8; 4], readings: &mut Readings) -> bool
+    ensures exact { told_if result readings.new.items ≡ option_map (entries_in_turn 0 bytes.now) (rows_in spans_of_80_degrees eep) }
+    ensures none { OnFalse result (readings.new ≡ readings.old) }
 {
-    read_profiles! { eep, bytes, 4;
+    read_profiles! { readings, eep, bytes, 4;
         (0xA5, 0x02, [0x10]) => { "TMP" (16, 8) [] range(255, 0, -600, 200, "C"); }
         (0xA5, 0x02, [0x11]) => { "TMP" (16, 8) [] range(255, 0, -500, 300, "C"); }
         (0xA5, 0x02, [0x12]) => { "TMP" (16, 8) [] range(255, 0, -400, 400, "C"); }
@@ -63,11 +64,11 @@ fn over_80_degrees(eep: Eep, bytes: &[u8; 4]) -> Option<Readings>
 }
 
 /// A5-02-20 and A5-02-30.
-fn by_10_bits(eep: Eep, bytes: &[u8; 4]) -> Option<Readings>
-    ensures { option_map (λ readings. entries readings.items) result
-        ≡ option_map (entries_of bytes.now) (rows_in of_10_bits_each eep) }
+fn by_10_bits(eep: Eep, bytes: &[u8; 4], readings: &mut Readings) -> bool
+    ensures exact { told_if result readings.new.items ≡ option_map (entries_in_turn 0 bytes.now) (rows_in of_10_bits_each eep) }
+    ensures none { OnFalse result (readings.new ≡ readings.old) }
 {
-    read_profiles! { eep, bytes, 4;
+    read_profiles! { readings, eep, bytes, 4;
         (0xA5, 0x02, [0x20]) => { "TMP" (14, 10) [] range(1023, 0, -100, 412, "C"); }
         (0xA5, 0x02, [0x30]) => { "TMP" (14, 10) [] range(1023, 0, -400, 623, "C"); }
     }

@@ -1,5 +1,5 @@
 -- What a call that reads answers, and leaves.
-use Rattle.std.specs.Prelude.{List, Result, Ok, Err}
+use Rattle.std.specs.Prelude.{Bool, List, if◌then◌else◌, Option, Some, None, Result, Ok, Err}
 use Rattle.profiles_rps.specs.Reading.{Entry, entries}
 use Rattle.profiles_rps.specs.declared.reading.Reading.{Reading}
 use Rattle.profiles_rps.specs.declared.unreadable.Unreadable.{Unreadable}
@@ -8,3 +8,7 @@ use Rattle.profiles_rps.specs.declared.unreadable.Unreadable.{Unreadable}
 abbrev pub told : Result (Unit {0}) Unreadable → List Reading → Result (List Entry) Unreadable
 told (Ok done) readings = Ok (entries readings)
 told (Err refusal) readings = Err refusal
+
+-- the readings that the call leaves, if it has read some
+abbrev pub told_if : Bool → List Reading → Option (List Entry)
+told_if has_read readings = if has_read then Some (entries readings) else None

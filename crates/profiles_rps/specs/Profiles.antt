@@ -23,7 +23,7 @@ table =
     ∷ []
 
 -- the rows of a profile, where it is read
-abbrev pub rows_of : Eep → Option (List Row)
+unfoldable pub rows_of : Eep → Option (List Row)
 rows_of eep = rows_in table eep
 
 -- a profile is supported where it has rows

@@ -1,28 +1,31 @@
 //! The macros that write what a profile reads. A row of a table is written as
 //! `"NAME" (offset, length) [condition] kind(arguments);`, where the kinds are the functions of the module `rows`.
 
-/// The readings of rows in the bytes of a payload, in the order of the rows: a `Readings`. There are at most eight
-/// rows. A condition is empty, a field as `(7, 1) = 1` or `(8, 3) > 4`, a variable of the caller as `nu = 1`, or such a
-/// variable and a field as `nu = 1 and (7, 1) = 1`. As an example, for `bytes: &[u8; 4]`:
+/// Has `readings: &mut Readings` be what rows read in the bytes of a payload, in the order of the rows. There are at most
+/// eight rows. A condition is empty, a field as `(7, 1) = 1` or `(8, 3) > 4`, a variable of the caller as `nu = 1`, or
+/// such a variable and a field as `nu = 1 and (7, 1) = 1`. As an example, for `bytes: &[u8; 4]`:
 ///
 /// ```text
-/// read_rows! { bytes, 4;
+/// read_rows! { readings, bytes, 4;
 ///     "HUM" (8, 8) [] range(0, 250, 0, 1000, "%");
 ///     "TMP" (16, 8) [(30, 1) = 1] range(0, 250, 0, 400, "C");
 /// }
 /// ```
 #[macro_export]
 macro_rules! read_rows {
-    ($bytes:ident, $n:literal; $($name:literal ($o:literal, $l:literal) $when:tt $kind:ident($($arg:expr),*);)*) => {
-        $crate::rows::readings_where(&[
-            $((
-                $crate::read_rows!(@when $bytes, $n, $when),
-                $crate::Reading {
-                    name: $name,
-                    what: $crate::rows::$kind(bit_fields::get::<$n, $o, $l>($bytes), $($arg),*),
-                },
-            ),)*
-        ])
+    (
+        $readings:ident, $bytes:ident, $n:literal;
+        $($name:literal ($o:literal, $l:literal) $when:tt $kind:ident($($arg:expr),*);)*
+    ) => {
+        $readings.clear();
+        $($crate::rows::push_where(
+            $readings,
+            $crate::read_rows!(@when $bytes, $n, $when),
+            $crate::Reading {
+                name: $name,
+                what: $crate::rows::$kind(bit_fields::get::<$n, $o, $l>($bytes), $($arg),*),
+            },
+        );)*
     };
     (@when $bytes:ident, $n:literal, []) => { true };
     (@when $bytes:ident, $n:literal, [($o:literal, $l:literal) = $v:literal]) => {
@@ -37,21 +40,26 @@ macro_rules! read_rows {
     };
 }
 
-/// The readings by the first arm that names the profile, or None: an `Option<Readings>`. An arm is written as
-/// `(RORG, FUNC, [TYPE, ..]) => { rows }`. As an example, for `eep: Eep` and `bytes: &[u8; 1]`:
+/// Has `readings: &mut Readings` be what the rows of the first arm read that names the profile: a `bool`, whether there
+/// is such an arm. If not, `readings` stays as it was. An arm is written as `(RORG, FUNC, [TYPE, ..]) => { rows }`. As an
+/// example, for `eep: Eep` and `bytes: &[u8; 1]`:
 ///
 /// ```text
-/// read_profiles! { eep, bytes, 1;
+/// read_profiles! { readings, eep, bytes, 1;
 ///     (0xD5, 0x00, [0x01]) => { "CO" (7, 1) [(4, 1) = 1] words(&[(0, "open"), (1, "closed")]); }
 /// }
 /// ```
 #[macro_export]
 macro_rules! read_profiles {
-    ($eep:ident, $bytes:ident, $n:literal; $(($rorg:literal, $func:literal, $types:tt) => { $($row:tt)* })*) => {
+    (
+        $readings:ident, $eep:ident, $bytes:ident, $n:literal;
+        $(($rorg:literal, $func:literal, $types:tt) => { $($row:tt)* })*
+    ) => {
         $(if $crate::profile::is_one_of($eep, $rorg, $func, &$types) {
-            Some($crate::read_rows! { $bytes, $n; $($row)* })
+            $crate::read_rows! { $readings, $bytes, $n; $($row)* }
+            true
         } else)* {
-            None
+            false
         }
     };
 }

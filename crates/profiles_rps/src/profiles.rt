@@ -1,10 +1,9 @@
 //! The RPS and 1BS profiles, and what a telegram says by one of them.
 
 ghost use Rattle.std.specs.Prelude.{◌≡◌, List, Ok, Err, option_map, MatchResult, OnErr};
-ghost use Rattle.std.specs.Result.{result_map_both};
-ghost use Rattle.profiles_rps.specs.Reading.{entries};
-ghost use Rattle.profiles_rps.specs.Rows.{Row, rows_entries};
-ghost use Rattle.profiles_rps.specs.Answer.{told};
+ghost use Rattle.std.specs.Bool.{OnFalse};
+ghost use Rattle.profiles_rps.specs.Rows.{Row, entries_in_turn};
+ghost use Rattle.profiles_rps.specs.Answer.{told, told_if};
 ghost use Rattle.profiles_rps.specs.Profiles.{rows_of, supported, read_by, readings_of};
 
 use crate::{Readings, Unreadable, read_profiles};
@@ -26,13 +25,14 @@ const ROCKERS_ABCD: [(u32, &str); 8] = [
     (7, "D0"),
 ];
 
-/// The readings of a payload by the rows of a profile, where there are rows.
-fn readings_by(eep: Eep, status: u8, bytes: &[u8; 1]) -> Option<Readings>
-    ensures { option_map (λ readings. entries readings.items) result
-        ≡ option_map (rows_entries status bytes.now) (rows_of eep) }
+/// Has `readings` be what the rows of a profile read in a payload, if the profile has rows.
+#[tactic(auto, unfolding(crate::specs::Profiles::rows_of))]
+fn read_into(eep: Eep, status: u8, bytes: &[u8; 1], readings: &mut Readings) -> bool
+    ensures exact { told_if result readings.new.items ≡ option_map (entries_in_turn status bytes.now) (rows_of eep) }
+    ensures none { OnFalse result (readings.new ≡ readings.old) }
 {
     let nu = get::<1, 3, 1>(&[status]);
-    read_profiles! { eep, bytes, 1;
+    read_profiles! { readings, eep, bytes, 1;
         (0xF6, 0x01, [0x01]) => {
             "PB" (3, 1) [] words(&RELEASED_OR_PRESSED);
         }
@@ -59,13 +59,13 @@ fn readings_by(eep: Eep, status: u8, bytes: &[u8; 1]) -> Option<Readings>
 pub fn supports(eep: Eep) -> bool
     ensures { result ≡ supported eep }
 {
-    readings_by(eep, 0, &[0]).is_some()
+    read_into(eep, 0, &[0], &mut Readings::new())
 }
 
 /// The byte of a data telegram of this RORG, or the first refusal.
 fn data_of(rorg: u8, telegram: &Telegram) -> Result<&[u8; 1], Unreadable>
     ensures { MatchResult result (λ bytes. (rows : List Row) →
-        read_by rorg rows telegram.now ≡ Ok (rows_entries telegram.now.status bytes.now rows))
+        read_by rorg rows telegram.now ≡ Ok (entries_in_turn telegram.now.status bytes.now rows))
         (λ refusal. (rows : List Row) → read_by rorg rows telegram.now ≡ Err refusal) }
 {
     if telegram.rorg() != rorg {
@@ -80,18 +80,6 @@ fn data_of(rorg: u8, telegram: &Telegram) -> Result<&[u8; 1], Unreadable>
     Ok(bytes)
 }
 
-/// The readings of a telegram, or the first refusal. The rows are gone through once.
-fn readings_of(eep: Eep, telegram: &Telegram) -> Result<Readings, Unreadable>
-    ensures { result_map_both (λ readings. entries readings.items) (λ refusal. refusal) result
-        ≡ readings_of eep telegram.now }
-{
-    match data_of(eep.rorg, telegram) {
-        Ok(bytes) => { readings_by(eep, telegram.status(), bytes).ok_or(Unreadable::NotSupported) }
-        Err(refusal) if supports(eep) => Err(refusal),
-        Err(_) => Err(Unreadable::NotSupported),
-    }
-}
-
 /// Reads a telegram by a profile: `readings` is what it says, in the order of the profile's rows (EnOcean Equipment
 /// Profiles 2.6). On a refusal `readings` stays as it was. The refusals come in this order: `NotSupported` where the
 /// profile is not read, `WrongKind` where the telegram's RORG is not the profile's, `WrongLength` where the payload has
@@ -100,6 +88,15 @@ pub fn read(eep: Eep, telegram: &Telegram, readings: &mut Readings) -> Result<()
     ensures exact { told result readings.new.items ≡ readings_of eep telegram.now }
     ensures err { OnErr result (readings.new ≡ readings.old) }
 {
-    *readings = readings_of(eep, telegram)?;
-    Ok(())
+    match data_of(eep.rorg, telegram) {
+        Ok(bytes) => {
+            if read_into(eep, telegram.status(), bytes, readings) {
+                Ok(())
+            } else {
+                Err(Unreadable::NotSupported)
+            }
+        }
+        Err(refusal) if supports(eep) => Err(refusal),
+        Err(_) => Err(Unreadable::NotSupported),
+    }
 }

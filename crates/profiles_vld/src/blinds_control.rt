@@ -1,8 +1,7 @@
 //! Blinds control for position and angle: the profile D2-05-00.
 
-ghost use Rattle.std.specs.Prelude.{◌≡◌};
-ghost use Rattle.std.specs.Result.{result_map_both};
-ghost use Rattle.profiles_rps.specs.Reading.{entries};
+ghost use Rattle.std.specs.Prelude.{◌≡◌, OnErr};
+ghost use Rattle.profiles_rps.specs.Answer.{told};
 ghost use Rattle.profiles_vld.specs.Profiles.{blinds_control_says};
 
 use bit_fields::get;
@@ -10,9 +9,9 @@ use profiles_rps::{Readings, Unreadable, read_rows};
 
 /// What a payload says, or the first refusal: `WrongLength` where it has not four bytes, and `OtherMessage` where its
 /// command is not 4.
-pub(crate) fn readings_of(payload: &[u8]) -> Result<Readings, Unreadable>
-    ensures { result_map_both (λ readings. entries readings.items) (λ refusal. refusal) result
-        ≡ blinds_control_says payload.now }
+pub(crate) fn read_into(payload: &[u8], readings: &mut Readings) -> Result<(), Unreadable>
+    ensures exact { told result readings.new.items ≡ blinds_control_says payload.now }
+    ensures err { OnErr result (readings.new ≡ readings.old) }
 {
     let Ok(bytes) = <&[u8; 4]>::try_from(payload) else {
         return Err(Unreadable::WrongLength);
@@ -20,10 +19,11 @@ pub(crate) fn readings_of(payload: &[u8]) -> Result<Readings, Unreadable>
     if get::<4, 28, 4>(bytes) != 4 {
         return Err(Unreadable::OtherMessage);
     }
-    Ok(read_rows! { bytes, 4;
+    read_rows! { readings, bytes, 4;
         "POS" (1, 7) [] percent_or("unknown");
         "ANG" (9, 7) [] percent_or("unknown");
         "LOCK" (21, 3) [] number();
         "CHN" (24, 4) [] number();
-    })
+    }
+    Ok(())
 }

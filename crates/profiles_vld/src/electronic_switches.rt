@@ -1,9 +1,8 @@
 //! Electronic switches and dimmers with local control: the profiles of D2-01.
 
-ghost use Rattle.std.specs.Prelude.{◌≡◌};
-ghost use Rattle.std.specs.Result.{result_map_both};
+ghost use Rattle.std.specs.Prelude.{◌≡◌, OnErr};
 ghost use Rattle.bit_fields.specs.Bits.{field};
-ghost use Rattle.profiles_rps.specs.Reading.{entries};
+ghost use Rattle.profiles_rps.specs.Answer.{told};
 ghost use Rattle.profiles_vld.specs.ElectronicSwitches.{status_response, measurement_response};
 ghost use Rattle.profiles_vld.specs.Payload.{of_length};
 ghost use Rattle.profiles_vld.specs.Profiles.{electronic_switches_say};
@@ -13,13 +12,13 @@ use profiles_rps::{Readings, Unreadable, read_rows};
 
 /// What a payload says, or the first refusal: `OtherMessage` where its command is neither 4 nor 7, and `WrongLength`
 /// where it has not the length of its command's message.
-pub(crate) fn readings_of(payload: &[u8]) -> Result<Readings, Unreadable>
-    ensures { result_map_both (λ readings. entries readings.items) (λ refusal. refusal) result
-        ≡ electronic_switches_say payload.now }
+pub(crate) fn read_into(payload: &[u8], readings: &mut Readings) -> Result<(), Unreadable>
+    ensures exact { told result readings.new.items ≡ electronic_switches_say payload.now }
+    ensures err { OnErr result (readings.new ≡ readings.old) }
 {
     match command(payload) {
-        4 => status_response(payload),
-        7 => measurement_response(payload),
+        4 => status_response(payload, readings),
+        7 => measurement_response(payload, readings),
         _ => Err(Unreadable::OtherMessage),
     }
 }
@@ -35,14 +34,14 @@ fn command(payload: &[u8]) -> u32
 }
 
 /// The readings of a state, which is the command 4. `WrongLength` where the payload has not three bytes.
-fn status_response(payload: &[u8]) -> Result<Readings, Unreadable>
-    ensures { result_map_both (λ readings. entries readings.items) (λ refusal. refusal) result
-        ≡ of_length 3 payload.now status_response }
+fn status_response(payload: &[u8], readings: &mut Readings) -> Result<(), Unreadable>
+    ensures exact { told result readings.new.items ≡ of_length 3 payload.now status_response }
+    ensures err { OnErr result (readings.new ≡ readings.old) }
 {
     let Ok(bytes) = <&[u8; 3]>::try_from(payload) else {
         return Err(Unreadable::WrongLength);
     };
-    Ok(read_rows! { bytes, 3;
+    read_rows! { readings, bytes, 3;
         "PF" (0, 1) [] number();
         "PFD" (1, 1) [] number();
         "OC" (8, 1) [] number();
@@ -50,18 +49,19 @@ fn status_response(payload: &[u8]) -> Result<Readings, Unreadable>
         "IO" (11, 5) [] number();
         "LC" (16, 1) [] number();
         "OV" (17, 7) [] percent_or("not_applicable");
-    })
+    }
+    Ok(())
 }
 
 /// The readings of a measurement, which is the command 7. `WrongLength` where the payload has not six bytes.
-fn measurement_response(payload: &[u8]) -> Result<Readings, Unreadable>
-    ensures { result_map_both (λ readings. entries readings.items) (λ refusal. refusal) result
-        ≡ of_length 6 payload.now measurement_response }
+fn measurement_response(payload: &[u8], readings: &mut Readings) -> Result<(), Unreadable>
+    ensures exact { told result readings.new.items ≡ of_length 6 payload.now measurement_response }
+    ensures err { OnErr result (readings.new ≡ readings.old) }
 {
     let Ok(bytes) = <&[u8; 6]>::try_from(payload) else {
         return Err(Unreadable::WrongLength);
     };
-    Ok(read_rows! { bytes, 6;
+    read_rows! { readings, bytes, 6;
         "IO" (11, 5) [] number();
         "UN" (8, 3) [(8, 3) > 4] reserved();
         "MV" (16, 32) [(8, 3) = 0] over(1, "Ws");
@@ -70,5 +70,6 @@ fn measurement_response(payload: &[u8]) -> Result<Readings, Unreadable>
         "MV" (16, 32) [(8, 3) = 3] over(1, "W");
         "MV" (16, 32) [(8, 3) = 4] over(1, "kW");
         "MV" (16, 32) [(8, 3) > 4] number();
-    })
+    }
+    Ok(())
 }

@@ -1,8 +1,6 @@
 //! The VLD profiles, and what a telegram says by one of them.
 
-ghost use Rattle.std.specs.Prelude.{◌≡◌, option_map, OnErr};
-ghost use Rattle.std.specs.Result.{result_map_both};
-ghost use Rattle.profiles_rps.specs.Reading.{entries};
+ghost use Rattle.std.specs.Prelude.{◌≡◌, option_map, MatchOption, OnErr};
 ghost use Rattle.profiles_rps.specs.Answer.{told};
 ghost use Rattle.profiles_vld.specs.Profiles.{profile_says, supported, readings_of};
 
@@ -10,14 +8,15 @@ use crate::{blinds_control, electronic_switches};
 use erp1_telegrams::{Eep, Telegram};
 use profiles_rps::{Readings, Unreadable};
 
-/// What a payload says by a profile, where the profile is read.
-fn readings_by(eep: Eep, payload: &[u8]) -> Option<Result<Readings, Unreadable>>
-    ensures { option_map (result_map_both (λ readings. entries readings.items) (λ refusal. refusal)) result
+/// Has `readings` be what a payload says by a profile, or the first refusal, where the profile is read.
+fn read_into(eep: Eep, payload: &[u8], readings: &mut Readings) -> Option<Result<(), Unreadable>>
+    ensures exact { option_map (λ answer. told answer readings.new.items) result
         ≡ option_map (λ says. says payload.now) (profile_says eep) }
+    ensures err { MatchOption result (readings.new ≡ readings.old) (λ answer. OnErr answer (readings.new ≡ readings.old)) }
 {
     match (eep.rorg, eep.func, eep.typ) {
-        (0xD2, 0x01, 0x00..=0x12) => Some(electronic_switches::readings_of(payload)),
-        (0xD2, 0x05, 0x00) => Some(blinds_control::readings_of(payload)),
+        (0xD2, 0x01, 0x00..=0x12) => Some(electronic_switches::read_into(payload, readings)),
+        (0xD2, 0x05, 0x00) => Some(blinds_control::read_into(payload, readings)),
         _ => None,
     }
 }
@@ -26,21 +25,7 @@ fn readings_by(eep: Eep, payload: &[u8]) -> Option<Result<Readings, Unreadable>>
 pub fn supports(eep: Eep) -> bool
     ensures { result ≡ supported eep }
 {
-    readings_by(eep, &[]).is_some()
-}
-
-/// The readings of a telegram, or the first refusal.
-fn readings_of(eep: Eep, telegram: &Telegram) -> Result<Readings, Unreadable>
-    ensures { result_map_both (λ readings. entries readings.items) (λ refusal. refusal) result
-        ≡ readings_of eep telegram.now }
-{
-    let Some(answer) = readings_by(eep, telegram.payload()) else {
-        return Err(Unreadable::NotSupported);
-    };
-    if telegram.rorg() != eep.rorg {
-        return Err(Unreadable::WrongKind);
-    }
-    answer
+    read_into(eep, &[], &mut Readings::new()).is_some()
 }
 
 /// Reads a telegram by a profile: `readings` is what it says, in the order of the profile's rows (EnOcean Equipment
@@ -53,6 +38,11 @@ pub fn read(eep: Eep, telegram: &Telegram, readings: &mut Readings) -> Result<()
     ensures exact { told result readings.new.items ≡ readings_of eep telegram.now }
     ensures err { OnErr result (readings.new ≡ readings.old) }
 {
-    *readings = readings_of(eep, telegram)?;
-    Ok(())
+    if telegram.rorg() == eep.rorg {
+        read_into(eep, telegram.payload(), readings).unwrap_or(Err(Unreadable::NotSupported))
+    } else if supports(eep) {
+        Err(Unreadable::WrongKind)
+    } else {
+        Err(Unreadable::NotSupported)
+    }
 }

@@ -1,8 +1,0 @@
-use Rattle.std.proofs.Common.{rules}
-use Rattle.profiles_vld.proofs.profiles.read.Goals as goal
-
-pub returns-in_err-readings-clause-err : goal.returns-in_err-readings-clause-err
-returns-in_err-readings-clause-err c = search rules
-
-pub returns-clause-exact : goal.returns-clause-exact
-returns-clause-exact c = search rules
