@@ -18,14 +18,12 @@ macro_rules! read_rows {
         $($name:literal ($o:literal, $l:literal) $when:tt $kind:ident($($arg:expr),*);)*
     ) => {
         $readings.clear();
-        $($crate::rows::push_where(
-            $readings,
-            $crate::read_rows!(@when $bytes, $n, $when),
-            $crate::Reading {
+        $(if $crate::read_rows!(@when $bytes, $n, $when) {
+            $readings.push($crate::Reading {
                 name: $name,
                 what: $crate::rows::$kind(bit_fields::get::<$n, $o, $l>($bytes), $($arg),*),
-            },
-        );)*
+            });
+        })*
     };
     (@when $bytes:ident, $n:literal, []) => { true };
     (@when $bytes:ident, $n:literal, [($o:literal, $l:literal) = $v:literal]) => {
