@@ -4,7 +4,7 @@ ghost use Rattle.std.specs.Prelude.{◌≡◌, option_map};
 ghost use Rattle.std.specs.Bool.{OnFalse};
 ghost use Rattle.profiles_rps.specs.Answer.{told_if};
 ghost use Rattle.profiles_rps.specs.Profile.{rows_in};
-ghost use Rattle.profiles_rps.specs.Rows.{entries_in_turn};
+ghost use Rattle.profiles_rps.specs.Rows.{entries_of};
 ghost use Rattle.profiles_4bs.specs.Gas.{gas};
 
 use erp1_telegrams::Eep;
@@ -12,7 +12,7 @@ use profiles_rps::{Readings, read_profiles};
 
 /// Has `readings` be what the rows of a profile A5-09 read in a payload, if the profile has rows.
 pub(crate) fn read_into(eep: Eep, bytes: &[u8; 4], readings: &mut Readings) -> bool
-    ensures exact { told_if result readings.new.items ≡ option_map (entries_in_turn 0 bytes.now) (rows_in gas eep) }
+    ensures exact { told_if result readings.new.items ≡ option_map (entries_of bytes.now) (rows_in gas eep) }
     ensures none { OnFalse result (readings.new ≡ readings.old) }
 {
     read_profiles! { readings, eep, bytes, 4;

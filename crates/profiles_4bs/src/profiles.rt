@@ -3,7 +3,7 @@
 ghost use Rattle.std.specs.Prelude.{◌≡◌, List, Ok, Err, option_map, MatchResult, OnErr};
 ghost use Rattle.std.specs.Bool.{OnFalse};
 ghost use Rattle.profiles_rps.specs.Answer.{told, told_if};
-ghost use Rattle.profiles_rps.specs.Rows.{Row, entries_in_turn};
+ghost use Rattle.profiles_rps.specs.Rows.{Row, entries_of};
 ghost use Rattle.profiles_4bs.specs.Profiles.{rows_of, supported, read_by, readings_of};
 
 use crate::{
@@ -18,7 +18,7 @@ use profiles_rps::{Readings, Unreadable};
 /// profiles of one FUNC.
 #[tactic(auto, unfolding(crate::specs::Profiles::rows_of, profiles_rps::specs::Profile::is_one_of))]
 fn read_into(eep: Eep, bytes: &[u8; 4], readings: &mut Readings) -> bool
-    ensures exact { told_if result readings.new.items ≡ option_map (entries_in_turn 0 bytes.now) (rows_of eep) }
+    ensures exact { told_if result readings.new.items ≡ option_map (entries_of bytes.now) (rows_of eep) }
     ensures none { OnFalse result (readings.new ≡ readings.old) }
 {
     match eep.func {
@@ -46,7 +46,7 @@ pub fn supports(eep: Eep) -> bool
 /// The bytes of a data telegram of this RORG, or the first refusal.
 fn data_of(rorg: u8, telegram: &Telegram) -> Result<&[u8; 4], Unreadable>
     ensures { MatchResult result (λ bytes. (rows : List Row) →
-        read_by rorg rows telegram.now ≡ Ok (entries_in_turn 0 bytes.now rows))
+        read_by rorg rows telegram.now ≡ Ok (entries_of bytes.now rows))
         (λ refusal. (rows : List Row) → read_by rorg rows telegram.now ≡ Err refusal) }
 {
     if telegram.rorg() != rorg {

@@ -4,7 +4,7 @@ ghost use Rattle.std.specs.Prelude.{◌≡◌, option_map};
 ghost use Rattle.std.specs.Bool.{OnFalse};
 ghost use Rattle.profiles_rps.specs.Answer.{told_if};
 ghost use Rattle.profiles_rps.specs.Profile.{rows_in};
-ghost use Rattle.profiles_rps.specs.Rows.{entries_in_turn};
+ghost use Rattle.profiles_rps.specs.Rows.{entries_of};
 ghost use Rattle.profiles_4bs.specs.Temperature.{of_10_bits_each, spans_of_40_degrees};
 ghost use Rattle.profiles_4bs.specs.Temperature.{spans_of_80_degrees, temperature};
 
@@ -14,7 +14,7 @@ use profiles_rps::{Readings, read_profiles};
 /// Has `readings` be what the rows of a profile A5-02 read in a payload, if the profile has rows. Each of the three functions has a
 /// part of the profiles: one of all would cost more than the three to prove.
 pub(crate) fn read_into(eep: Eep, bytes: &[u8; 4], readings: &mut Readings) -> bool
-    ensures exact { told_if result readings.new.items ≡ option_map (entries_in_turn 0 bytes.now) (rows_in temperature eep) }
+    ensures exact { told_if result readings.new.items ≡ option_map (entries_of bytes.now) (rows_in temperature eep) }
     ensures none { OnFalse result (readings.new ≡ readings.old) }
 {
     over_40_degrees(eep, bytes, readings)
@@ -24,7 +24,7 @@ pub(crate) fn read_into(eep: Eep, bytes: &[u8; 4], readings: &mut Readings) -> b
 
 /// A5-02-01 to A5-02-0B.
 fn over_40_degrees(eep: Eep, bytes: &[u8; 4], readings: &mut Readings) -> bool
-    ensures exact { told_if result readings.new.items ≡ option_map (entries_in_turn 0 bytes.now) (rows_in spans_of_40_degrees eep) }
+    ensures exact { told_if result readings.new.items ≡ option_map (entries_of bytes.now) (rows_in spans_of_40_degrees eep) }
     ensures none { OnFalse result (readings.new ≡ readings.old) }
 {
     read_profiles! { readings, eep, bytes, 4;
@@ -44,7 +44,7 @@ fn over_40_degrees(eep: Eep, bytes: &[u8; 4], readings: &mut Readings) -> bool
 
 /// A5-02-10 to A5-02-1B.
 fn over_80_degrees(eep: Eep, bytes: &[u8; 4], readings: &mut Readings) -> bool
-    ensures exact { told_if result readings.new.items ≡ option_map (entries_in_turn 0 bytes.now) (rows_in spans_of_80_degrees eep) }
+    ensures exact { told_if result readings.new.items ≡ option_map (entries_of bytes.now) (rows_in spans_of_80_degrees eep) }
     ensures none { OnFalse result (readings.new ≡ readings.old) }
 {
     read_profiles! { readings, eep, bytes, 4;
@@ -65,7 +65,7 @@ fn over_80_degrees(eep: Eep, bytes: &[u8; 4], readings: &mut Readings) -> bool
 
 /// A5-02-20 and A5-02-30.
 fn by_10_bits(eep: Eep, bytes: &[u8; 4], readings: &mut Readings) -> bool
-    ensures exact { told_if result readings.new.items ≡ option_map (entries_in_turn 0 bytes.now) (rows_in of_10_bits_each eep) }
+    ensures exact { told_if result readings.new.items ≡ option_map (entries_of bytes.now) (rows_in of_10_bits_each eep) }
     ensures none { OnFalse result (readings.new ≡ readings.old) }
 {
     read_profiles! { readings, eep, bytes, 4;

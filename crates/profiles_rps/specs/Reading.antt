@@ -1,5 +1,5 @@
 -- What a reading says (own choice; the values themselves are those of EnOcean Equipment Profiles 2.6).
-use Rattle.std.specs.Prelude.{ℕ, Bool, List, [], ◌∷◌, map, if◌then◌else◌}
+use Rattle.std.specs.Prelude.{ℕ, List, map}
 use Rattle.exact_values.specs.Ratio.{Ratio}
 use Rattle.exact_values.specs.Fraction.{ratio}
 use Rattle.profiles_rps.specs.declared.reading.What.{What}
@@ -32,7 +32,3 @@ entry_of r = record { name = r.name.now; meaning = meaning_of r.what }
 -- in order
 abbrev pub entries : List Reading → List Entry
 entries = map entry_of
-
--- a reading, where it holds
-abbrev pub entry_where : Bool → Reading → List Entry
-entry_where holds reading = if holds then entry_of reading ∷ [] else []

@@ -1,8 +1,8 @@
 -- The rows of a profile's table (EnOcean Equipment Profiles 2.6, the tables "Offset, Size, Data, ShortCut, .., Valid
 -- Range, Scale, Unit"): where a field stands, when it is read, and what its number means.
-use Rattle.std.specs.Prelude.{ℕ, ◌^◌, ℤ, pos, Bool, true, List, [], ◌∷◌, ◌++◌, codes, Option, Some, None, ◌==◌, ◌&&◌}
+use Rattle.std.specs.Prelude.{ℕ, ◌^◌, ℤ, pos, Bool, true, List, [], ◌∷◌, codes, Option, Some, None, ◌==◌, ◌&&◌}
 use Rattle.std.specs.Prelude.{nat_lt, if◌then◌else◌}
-use Rattle.std.specs.List.{find, flat_map, fold}
+use Rattle.std.specs.List.{find, flat_map}
 use Rattle.exact_values.specs.Ratio.{Ratio, lowest}
 use Rattle.exact_values.specs.Scale.{scaled}
 use Rattle.bit_fields.specs.Bits.{field}
@@ -110,10 +110,6 @@ row_entries status payload row =
 -- what rows read, in their order
 abbrev pub rows_entries : ℕ → List ℕ → List Row → List Entry
 rows_entries status payload rows = flat_map (row_entries status payload) rows
-
--- the same, where each row is read after the rows before it
-abbrev pub entries_in_turn : ℕ → List ℕ → List Row → List Entry
-entries_in_turn status payload rows = fold (λ before row. before ++ row_entries status payload row) [] rows
 
 -- what rows read in a payload, where none of them asks for the status
 abbrev pub entries_of : List ℕ → List Row → List Entry

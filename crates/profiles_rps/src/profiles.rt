@@ -2,7 +2,7 @@
 
 ghost use Rattle.std.specs.Prelude.{◌≡◌, List, Ok, Err, option_map, MatchResult, OnErr};
 ghost use Rattle.std.specs.Bool.{OnFalse};
-ghost use Rattle.profiles_rps.specs.Rows.{Row, entries_in_turn};
+ghost use Rattle.profiles_rps.specs.Rows.{Row, rows_entries};
 ghost use Rattle.profiles_rps.specs.Answer.{told, told_if};
 ghost use Rattle.profiles_rps.specs.Profiles.{rows_of, supported, read_by, readings_of};
 
@@ -28,7 +28,7 @@ const ROCKERS_ABCD: [(u32, &str); 8] = [
 /// Has `readings` be what the rows of a profile read in a payload, if the profile has rows.
 #[tactic(auto, unfolding(crate::specs::Profiles::rows_of))]
 fn read_into(eep: Eep, status: u8, bytes: &[u8; 1], readings: &mut Readings) -> bool
-    ensures exact { told_if result readings.new.items ≡ option_map (entries_in_turn status bytes.now) (rows_of eep) }
+    ensures exact { told_if result readings.new.items ≡ option_map (rows_entries status bytes.now) (rows_of eep) }
     ensures none { OnFalse result (readings.new ≡ readings.old) }
 {
     let nu = get::<1, 3, 1>(&[status]);
@@ -65,7 +65,7 @@ pub fn supports(eep: Eep) -> bool
 /// The byte of a data telegram of this RORG, or the first refusal.
 fn data_of(rorg: u8, telegram: &Telegram) -> Result<&[u8; 1], Unreadable>
     ensures { MatchResult result (λ bytes. (rows : List Row) →
-        read_by rorg rows telegram.now ≡ Ok (entries_in_turn telegram.now.status bytes.now rows))
+        read_by rorg rows telegram.now ≡ Ok (rows_entries telegram.now.status bytes.now rows))
         (λ refusal. (rows : List Row) → read_by rorg rows telegram.now ≡ Err refusal) }
 {
     if telegram.rorg() != rorg {

@@ -1,24 +1,12 @@
 //! What the rows of a profile's table read: a function for each kind of row.
 //! They serve the crates of profiles, and are mostly called by the macro `read_rows!`.
 
-ghost use Rattle.std.specs.Prelude.{◌≡◌, ◌≢◌, ◌+◌, ◌^◌, ◌<◌, ◌≤◌, ℤ, pos, negsuc, ◌≤ℤ◌, map, ◌++◌};
-ghost use Rattle.arrayvec.specs.ArrayVec.{array_vec_len};
-ghost use Rattle.profiles_rps.specs.Reading.{entries, entry_where, meaning_of, raw as itself, out_of_range};
+ghost use Rattle.std.specs.Prelude.{◌≡◌, ◌≢◌, ◌^◌, ◌≤◌, ℤ, pos, negsuc, ◌≤ℤ◌, map};
+ghost use Rattle.profiles_rps.specs.Reading.{meaning_of, raw as itself, out_of_range};
 ghost use Rattle.profiles_rps.specs.Rows.{value_in_range, word_beside, word_by, percentage_or, quotient};
 
-use crate::{Reading, Readings, What};
+use crate::What;
 use exact_values::scale;
-
-/// Appends a reading if its condition holds. There is room for it.
-pub fn push_where(readings: &mut Readings, holds: bool, reading: Reading)
-    requires { array_vec_len readings.old < 8 }
-    ensures items { entries readings.new.items ≡ entries readings.old.items ++ entry_where holds reading }
-    ensures len { array_vec_len readings.new ≤ array_vec_len readings.old + 1 }
-{
-    if holds {
-        readings.push(reading);
-    }
-}
 
 /// A value in `unit`: `raw_lo` stands for `tenths_lo` tenths and `raw_hi` for `tenths_hi`, linear between them. The raw
 /// bounds may stand in either order. A number outside them is out of range.

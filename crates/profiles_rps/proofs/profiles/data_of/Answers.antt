@@ -1,9 +1,8 @@
 use Rattle.std.proofs.Common.{rules}
-use Rattle.profiles_rps.proofs.RowLemmas.{in_turn}
 use Rattle.profiles_rps.proofs.profiles.data_of.Goals as goal
 
 pub returns : goal.returns
-returns c = search (rules, in_turn)
+returns c = search rules
 
 pub returns-then-rorg : goal.returns-then-rorg
 returns-then-rorg c = search rules
