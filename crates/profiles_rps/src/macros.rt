@@ -18,14 +18,17 @@ macro_rules! read_rows {
         $($name:literal ($o:literal, $l:literal) $when:tt $kind:ident($($arg:expr),*);)*
     ) => {
         $readings.clear();
-        $(if $crate::read_rows!(@when $bytes, $n, $when) {
-            $readings.push($crate::Reading {
-                name: $name,
-                what: $crate::rows::$kind(bit_fields::get::<$n, $o, $l>($bytes), $($arg),*),
-            });
-        })*
+        $($crate::read_rows!(@row $readings, $bytes, $n, $when, $crate::Reading {
+            name: $name,
+            what: $crate::rows::$kind(bit_fields::get::<$n, $o, $l>($bytes), $($arg),*),
+        });)*
     };
-    (@when $bytes:ident, $n:literal, []) => { true };
+    (@row $readings:ident, $bytes:ident, $n:literal, [], $reading:expr) => { $readings.push($reading) };
+    (@row $readings:ident, $bytes:ident, $n:literal, $when:tt, $reading:expr) => {
+        if $crate::read_rows!(@when $bytes, $n, $when) {
+            $readings.push($reading);
+        }
+    };
     (@when $bytes:ident, $n:literal, [($o:literal, $l:literal) = $v:literal]) => {
         bit_fields::get::<$n, $o, $l>($bytes) == $v
     };
