@@ -10,7 +10,7 @@ ghost use Rattle.profiles_4bs.specs.Humidity.{humidity};
 use erp1_telegrams::Eep;
 use profiles_rps::{Readings, read_profiles};
 
-/// Has `readings` be what the rows of a profile A5-04 read in a payload, if the profile has rows.
+/// Sets `readings` to what the rows of a profile A5-04 read in a payload, and returns whether the profile has rows.
 pub(crate) fn read_into(eep: Eep, bytes: &[u8; 4], readings: &mut Readings) -> bool
     ensures exact { told_if result readings.new.items ≡ option_map (entries_of bytes.now) (rows_in humidity eep) }
     ensures none { OnFalse result (readings.new ≡ readings.old) }

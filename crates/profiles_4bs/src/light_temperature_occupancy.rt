@@ -14,7 +14,7 @@ use profiles_rps::{Readings, read_profiles};
 /// The words of the motion sensor.
 const ON_OR_OFF: [(u32, &str); 2] = [(0, "on"), (1, "off")];
 
-/// Has `readings` be what the rows of a profile A5-08 read in a payload, if the profile has rows.
+/// Sets `readings` to what the rows of a profile A5-08 read in a payload, and returns whether the profile has rows.
 pub(crate) fn read_into(eep: Eep, bytes: &[u8; 4], readings: &mut Readings) -> bool
     ensures exact { told_if result readings.new.items
         ≡ option_map (entries_of bytes.now) (rows_in light_temperature_occupancy eep) }

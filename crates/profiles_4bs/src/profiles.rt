@@ -14,8 +14,8 @@ use bit_fields::get;
 use erp1_telegrams::{Eep, Telegram};
 use profiles_rps::{Readings, Unreadable};
 
-/// Has `readings` be what the rows of a profile read in a payload, if the profile has rows. Each function has the
-/// profiles of one FUNC.
+/// Sets `readings` to what the rows of a profile read in a payload, and returns whether the profile has rows. Each
+/// function has the profiles of one FUNC.
 #[tactic(auto, unfolding(crate::specs::Profiles::rows_of, profiles_rps::specs::Profile::is_one_of))]
 fn read_into(eep: Eep, bytes: &[u8; 4], readings: &mut Readings) -> bool
     ensures exact { told_if result readings.new.items ≡ option_map (entries_of bytes.now) (rows_of eep) }

@@ -11,8 +11,8 @@ ghost use Rattle.profiles_4bs.specs.Temperature.{spans_of_80_degrees, temperatur
 use erp1_telegrams::Eep;
 use profiles_rps::{Readings, read_profiles};
 
-/// Has `readings` be what the rows of a profile A5-02 read in a payload, if the profile has rows. Each of the three functions has a
-/// part of the profiles: one of all would cost more than the three to prove.
+/// Sets `readings` to what the rows of a profile A5-02 read in a payload, and returns whether the profile has rows.
+/// Each of the three functions has a part of the profiles: one of all would cost more than the three to prove.
 pub(crate) fn read_into(eep: Eep, bytes: &[u8; 4], readings: &mut Readings) -> bool
     ensures exact { told_if result readings.new.items ≡ option_map (entries_of bytes.now) (rows_in temperature eep) }
     ensures none { OnFalse result (readings.new ≡ readings.old) }
@@ -24,7 +24,8 @@ pub(crate) fn read_into(eep: Eep, bytes: &[u8; 4], readings: &mut Readings) -> b
 
 /// A5-02-01 to A5-02-0B.
 fn over_40_degrees(eep: Eep, bytes: &[u8; 4], readings: &mut Readings) -> bool
-    ensures exact { told_if result readings.new.items ≡ option_map (entries_of bytes.now) (rows_in spans_of_40_degrees eep) }
+    ensures exact { told_if result readings.new.items
+        ≡ option_map (entries_of bytes.now) (rows_in spans_of_40_degrees eep) }
     ensures none { OnFalse result (readings.new ≡ readings.old) }
 {
     read_profiles! { readings, eep, bytes, 4;
@@ -44,7 +45,8 @@ fn over_40_degrees(eep: Eep, bytes: &[u8; 4], readings: &mut Readings) -> bool
 
 /// A5-02-10 to A5-02-1B.
 fn over_80_degrees(eep: Eep, bytes: &[u8; 4], readings: &mut Readings) -> bool
-    ensures exact { told_if result readings.new.items ≡ option_map (entries_of bytes.now) (rows_in spans_of_80_degrees eep) }
+    ensures exact { told_if result readings.new.items
+        ≡ option_map (entries_of bytes.now) (rows_in spans_of_80_degrees eep) }
     ensures none { OnFalse result (readings.new ≡ readings.old) }
 {
     read_profiles! { readings, eep, bytes, 4;
@@ -65,7 +67,8 @@ fn over_80_degrees(eep: Eep, bytes: &[u8; 4], readings: &mut Readings) -> bool
 
 /// A5-02-20 and A5-02-30.
 fn by_10_bits(eep: Eep, bytes: &[u8; 4], readings: &mut Readings) -> bool
-    ensures exact { told_if result readings.new.items ≡ option_map (entries_of bytes.now) (rows_in of_10_bits_each eep) }
+    ensures exact { told_if result readings.new.items
+        ≡ option_map (entries_of bytes.now) (rows_in of_10_bits_each eep) }
     ensures none { OnFalse result (readings.new ≡ readings.old) }
 {
     read_profiles! { readings, eep, bytes, 4;

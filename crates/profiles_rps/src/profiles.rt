@@ -25,7 +25,7 @@ const ROCKERS_ABCD: [(u32, &str); 8] = [
     (7, "D0"),
 ];
 
-/// Has `readings` be what the rows of a profile read in a payload, if the profile has rows.
+/// Sets `readings` to what the rows of a profile read in a payload, and returns whether the profile has rows.
 #[tactic(auto, unfolding(crate::specs::Profiles::rows_of))]
 fn read_into(eep: Eep, status: u8, bytes: &[u8; 1], readings: &mut Readings) -> bool
     ensures exact { told_if result readings.new.items ≡ option_map (rows_entries status bytes.now) (rows_of eep) }

@@ -10,8 +10,8 @@ ghost use Rattle.profiles_vld.specs.Profiles.{electronic_switches_say};
 use bit_fields::get;
 use profiles_rps::{Readings, Unreadable, read_rows};
 
-/// What a payload says, or the first refusal: `OtherMessage` where its command is neither 4 nor 7, and `WrongLength`
-/// where it has not the length of its command's message.
+/// Sets `readings` to what a payload says, or returns the first refusal: `OtherMessage` if its command is neither 4 nor
+/// 7, and `WrongLength` if it has not the length of its command's message.
 pub(crate) fn read_into(payload: &[u8], readings: &mut Readings) -> Result<(), Unreadable>
     ensures exact { told result readings.new.items ≡ electronic_switches_say payload.now }
     ensures err { OnErr result (readings.new ≡ readings.old) }
@@ -33,7 +33,7 @@ fn command(payload: &[u8]) -> u32
     }
 }
 
-/// The readings of a state, which is the command 4. `WrongLength` where the payload has not three bytes.
+/// Sets `readings` to those of a state, which is the command 4. `WrongLength` if the payload has not three bytes.
 fn status_response(payload: &[u8], readings: &mut Readings) -> Result<(), Unreadable>
     ensures exact { told result readings.new.items ≡ of_length 3 payload.now status_response }
     ensures err { OnErr result (readings.new ≡ readings.old) }
@@ -53,7 +53,7 @@ fn status_response(payload: &[u8], readings: &mut Readings) -> Result<(), Unread
     Ok(())
 }
 
-/// The readings of a measurement, which is the command 7. `WrongLength` where the payload has not six bytes.
+/// Sets `readings` to those of a measurement, which is the command 7. `WrongLength` if the payload has not six bytes.
 fn measurement_response(payload: &[u8], readings: &mut Readings) -> Result<(), Unreadable>
     ensures exact { told result readings.new.items ≡ of_length 6 payload.now measurement_response }
     ensures err { OnErr result (readings.new ≡ readings.old) }

@@ -1,6 +1,6 @@
 //! The VLD profiles, and what a telegram says by one of them.
 
-ghost use Rattle.std.specs.Prelude.{◌≡◌, option_map, MatchOption, OnErr};
+ghost use Rattle.std.specs.Prelude.{◌≡◌, option_map, IfNone, IfSome, OnErr};
 ghost use Rattle.profiles_rps.specs.Answer.{told};
 ghost use Rattle.profiles_vld.specs.Profiles.{profile_says, supported, readings_of};
 
@@ -8,11 +8,12 @@ use crate::{blinds_control, electronic_switches};
 use erp1_telegrams::{Eep, Telegram};
 use profiles_rps::{Readings, Unreadable};
 
-/// Has `readings` be what a payload says by a profile, or the first refusal, where the profile is read.
+/// Sets `readings` to what a payload says by a profile, or returns the first refusal; None if the profile is not read.
 fn read_into(eep: Eep, payload: &[u8], readings: &mut Readings) -> Option<Result<(), Unreadable>>
     ensures exact { option_map (λ answer. told answer readings.new.items) result
         ≡ option_map (λ says. says payload.now) (profile_says eep) }
-    ensures err { MatchOption result (readings.new ≡ readings.old) (λ answer. OnErr answer (readings.new ≡ readings.old)) }
+    ensures none { IfNone result (readings.new ≡ readings.old) }
+    ensures err { IfSome result (λ answer. OnErr answer (readings.new ≡ readings.old)) }
 {
     match (eep.rorg, eep.func, eep.typ) {
         (0xD2, 0x01, 0x00..=0x12) => Some(electronic_switches::read_into(payload, readings)),
