@@ -20,6 +20,7 @@ use device_registry::Device;
 use erp1_telegrams::{Telegram, is_passed_over};
 use esp3_frames::PacketRef;
 use json_lines::{Why, reading_line, response_line};
+use profiles_rps::Readings;
 use std::alloc::{AllocError, Global};
 use teach_in::Teach;
 
@@ -28,8 +29,9 @@ fn reading(alloc: Global, telegram: &Telegram, device: &Device) -> Result<Done, 
     ensures { IfOk result (λ done. Gives done (reading_effect telegram.now device.now
         (read_by device.now.eep telegram.now))) }
 {
-    match profiles::read(device.eep, telegram) {
-        Ok(readings) => {
+    let mut readings = Readings::new();
+    match profiles::read(device.eep, telegram, &mut readings) {
+        Ok(()) => {
             let line = reading_line(alloc, telegram, device.eep, &readings)?;
             let account = Account::of_device(device, Why::Read);
             Ok(accounted(account, Desk::Owned(line)))
