@@ -1,5 +1,4 @@
-use Rattle.std.proofs.lemmas.Grind.{common_steps}
-use Rattle.std.proofs.Common.{arith, rules}
+use Rattle.std.proofs.Common.{rules}
 use Rattle.profiles_vld.proofs.electronic_switches.read_into.Goals as goal
 
 pub returns-in_default : goal.returns-in_default
