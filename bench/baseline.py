@@ -1,6 +1,8 @@
-"""The program of `bench/baseline.c`, for `bench/replay` and `bench/same`. It wants a C compiler."""
+"""The program of `bench/baseline.c`, for the scripts beside this file. It wants a C compiler."""
 import pathlib
 import subprocess
+import sys
+import tempfile
 
 SOURCE = pathlib.Path(__file__).resolve().with_name("baseline.c")
 
@@ -10,3 +12,15 @@ def built(folder):
     program = pathlib.Path(folder) / "baseline"
     subprocess.run(["cc", "-std=c11", "-O2", "-Wall", "-Wextra", "-o", program, SOURCE], check=True)
     return program
+
+
+def same_output(outputs, text, name):
+    """The output that this program and the other wrote for this text. If they differ, ends with an error, and keeps
+    them."""
+    if outputs[0] != outputs[1]:
+        kept = pathlib.Path(tempfile.mkdtemp())
+        (kept / "script").write_bytes(text)
+        for program, output in zip(["baseline", "program"], outputs):
+            (kept / program).write_bytes(output)
+        sys.exit(f"{name}: the outputs differ, see {kept}")
+    return outputs[0]
