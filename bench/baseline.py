@@ -1,4 +1,4 @@
-"""The program of `bench/baseline.c`, for the scripts beside this file. It wants a C compiler."""
+"""The program of `bench/baseline.c`, for the scripts beside this file. It needs a C compiler."""
 import pathlib
 import subprocess
 import sys
@@ -15,8 +15,8 @@ def built(folder):
 
 
 def same_output(outputs, text, name):
-    """The output that this program and the other wrote for this text. If they differ, ends with an error, and keeps
-    them."""
+    """The output of both programs, this one and the other, for this text. If the two outputs differ, ends with an error
+    and keeps them."""
     if outputs[0] != outputs[1]:
         kept = pathlib.Path(tempfile.mkdtemp())
         (kept / "script").write_bytes(text)
