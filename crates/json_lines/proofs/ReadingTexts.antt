@@ -34,8 +34,8 @@ value_pieces out den name num unit =
 
 -- a line, piece by piece, in the same way
 line_parts : (brace dbm_is dbm comma eep id readings_is bracket readings end type_is close feed : List ℕ)
-    → (((((brace ++ dbm_is) ++ dbm) ++ (comma ++ eep ++ comma ++ id ++ (comma ++ (readings_is ++ bracket)))) ++ readings)
-    ++ (end ++ (comma ++ (type_is ++ (close ++ feed)))))
+    → ((((brace ++ dbm_is) ++ dbm) ++ (comma ++ eep ++ comma ++ id ++ (comma ++ (readings_is ++ bracket)))) ++ readings)
+    ++ (end ++ (comma ++ (type_is ++ (close ++ feed))))
     ≡ (brace ++ ((dbm_is ++ dbm) ++ ((comma ++ eep) ++ ((comma ++ id)
     ++ ((comma ++ (readings_is ++ (bracket ++ readings ++ end))) ++ ((comma ++ type_is) ++ []))))) ++ close) ++ feed
 line_parts brace dbm_is dbm comma eep id readings_is bracket readings end type_is close feed =
