@@ -1,10 +1,8 @@
 //! A number of each kind of row, with what it means, and which profiles an arm reads.
 use erp1_telegrams::Eep;
 use profiles_rps::profile::is_one_of;
-use profiles_rps::rows::{
-    number, over, over_power, parted, percent_or, range, readings_where, reserved, words,
-};
-use profiles_rps::{Reading, What};
+use profiles_rps::rows::{number, over, over_power, parted, percent_or, range, reserved, words};
+use profiles_rps::{Reading, Readings, What, read_rows};
 
 #[test]
 fn values(rt: HostRuntime) {
@@ -57,7 +55,14 @@ fn rows_that_hold(rt: HostRuntime) {
         name: "LC",
         what: What::Raw(1),
     };
-    let readings = readings_where(&[(true, first), (false, first), (true, last)]);
+    let bytes = &[0x01];
+    let mut readings = Readings::new();
+    readings.push(last);
+    read_rows! { readings, bytes, 1;
+        "PF" (0, 1) [] number();
+        "EL" (7, 1) [(7, 1) = 0] number();
+        "LC" (7, 1) [(7, 1) = 1] number();
+    }
     assert_eq!(rt; readings.as_slice(), [first, last].as_slice());
 }
 
