@@ -81,7 +81,13 @@ pub(crate) fn serve_new<P: Source, Q: Source, R: Sink, D: Sink>(
 pub(crate) fn tell(rt: &HostRuntime, telling: &mut Telling) -> Result<()> {
     telling.tell(rt, "a base ID that is none", is_no_base(rt.alloc())?)?;
     let is_found = finds_what_was_learned_before(rt.alloc())?;
-    telling.tell(rt, "what was learned before", is_found)
+    telling.tell(rt, "what was learned before", is_found)?;
+    let is_read = by_bytes(&mut with_contact(rt.alloc())?);
+    telling.tell(rt, "a packet byte by byte", is_read)?;
+    let is_read = in_a_run(&mut with_contact(rt.alloc())?);
+    telling.tell(rt, "a packet in a run of bytes", is_read)?;
+    let is_read = at_the_front(&mut with_contact(rt.alloc())?);
+    telling.tell(rt, "a packet at the front of some bytes", is_read)
 }
 
 fn is_no_base(alloc: Global) -> Result<bool> {
@@ -129,4 +135,67 @@ fn lists_what_it_learned<C: SqlConnection + Drop>(
 
 fn tells(reply: &Reply, text: &[u8]) -> bool {
     reply.radio.is_none() && reply.desk.as_bytes() == text
+}
+
+const READ: &[u8] = b"{\"dbm\":-45,\"eep\":\"D5-00-01\",\"id\":\"01800ABC\",\
+    \"readings\":[{\"name\":\"CO\",\"word\":\"closed\"}],\"type\":\"reading\"}\n";
+
+/// Noise, in which a sync byte begins no header, and then two packets of a contact.
+const STREAM: [u8; 51] = [
+    0x00, 0x55, 0x01, 0x02, 0x03, 0x04, 0x05, 0x06, 0x07, 0x55, 0x00, 0x07, 0x07, 0x01, 0x7A, 0xD5,
+    0x09, 0x01, 0x80, 0x0A, 0xBC, 0x00, 0x01, 0xFF, 0xFF, 0xFF, 0xFF, 0x2D, 0x00, 0x1F, 0x55, 0x00,
+    0x07, 0x07, 0x01, 0x7A, 0xD5, 0x09, 0x01, 0x80, 0x0A, 0xBC, 0x00, 0x01, 0xFF, 0xFF, 0xFF, 0xFF,
+    0x2D, 0x00, 0x1F,
+];
+
+/// A new gateway that knows the contact.
+fn with_contact(alloc: Global) -> Result<GatewayOver<RegistryOver<Connection<MemStore>>>> {
+    let mut gateway = fresh(alloc)?;
+    if !tells(&gateway.order(b"add 01800ABC D5-00-01"), ACCEPTED) {
+        bail!("the contact is not learned");
+    }
+    Ok(gateway)
+}
+
+/// Whether the next packet is the contact's, which is read.
+fn reads_next<S: DeviceStore>(gateway: &mut GatewayOver<S>) -> bool {
+    match gateway.next() {
+        Some(reply) => tells(&reply, READ),
+        None => false,
+    }
+}
+
+/// Whether the packet is read that is whole after the first 30 bytes of the stream, and not before.
+fn by_bytes<S: DeviceStore>(gateway: &mut GatewayOver<S>) -> bool {
+    for byte in &STREAM[..30] {
+        if gateway.is_ready() {
+            return false;
+        }
+        gateway.byte(*byte);
+    }
+    reads_next(gateway) && !gateway.is_ready()
+}
+
+/// Whether a run ends with each of the two packets, and it is read.
+fn in_a_run<S: DeviceStore>(gateway: &mut GatewayOver<S>) -> bool {
+    if gateway.is_ready() || gateway.bytes(&STREAM) != 30 || !reads_next(gateway) {
+        return false;
+    }
+    !gateway.is_ready() && gateway.bytes(&STREAM[30..]) == 21 && reads_next(gateway)
+}
+
+/// Whether the packet at the front of some bytes is read, and none where noise stands there or a byte waits.
+fn at_the_front<S: DeviceStore>(gateway: &mut GatewayOver<S>) -> bool {
+    if gateway.is_ready() || gateway.handle_first(&STREAM).is_some() {
+        return false;
+    }
+    let is_read = match gateway.handle_first(&STREAM[9..]) {
+        Some((reply, count)) => count == 21 && tells(&reply, READ),
+        None => false,
+    };
+    if gateway.is_ready() {
+        return false;
+    }
+    gateway.byte(0x55);
+    is_read && !gateway.is_ready() && gateway.handle_first(&STREAM[9..]).is_none()
 }
