@@ -1,65 +1,19 @@
 -- What bytes 00 behind a message make of its check byte, and the check byte of a message in two parts.
-use Rattle.std.proofs.Common.{◌≡◌, ℕ, zero, suc, ◌+◌, ◌*◌, ◌/◌, ◌%◌, ◌<◌, Bool, true, false, cond, eqb, List}
+use Rattle.std.proofs.Common.{◌≡◌, ℕ, zero, suc, ◌+◌, ◌-◌, ◌%◌, ◌<◌, ◌≤◌, Bool, true, cond, eqb, ltb, List}
 use Rattle.std.proofs.Common.{[], ◌∷◌, ◌++◌, length, replicate, get_or, bit_xor, refl, sym, ap, ◌∙◌, append_assoc}
-use Rattle.std.proofs.Common.{arith}
+use Rattle.std.proofs.Common.{arith, inl, inr, zero-add}
 use Rattle.std.specs.Int.Bits.{xor_assoc, xor_self, xor_zero_r}
 use Rattle.std.proofs.Math.ListN.{length-replicate}
-use Rattle.std.proofs.lemmas.Nat.{xor_comm, xor_of_8}
-use Rattle.std.proofs.lemmas.Bool.{agree_below, agree_below_at, eqb-true}
-use Rattle.esp3_frames.specs.Check.{times_x, power, byte_bits, bits, remainder, check, after_zeros}
-use Rattle.esp3_frames.specs.declared.check.TheConstants.{ONE_AFTER_ZEROS}
-use Rattle.esp3_frames.proofs.CheckLemmas.{times_x_byte, check_byte, check_one, remainder_byte, bit_part, feed}
-use Rattle.esp3_frames.proofs.CheckLemmas.{feed_xor, shifted, eighth, eighth_xor, remainder_more}
+use Rattle.std.proofs.lemmas.Nat.{xor_comm}
+use Rattle.std.proofs.lemmas.Bool.{agree_below, agree_below_at, eqb-true, ltb-true, le-ltb, cond-false, cases_lt}
+use Rattle.esp3_frames.specs.Check.{byte_bits, bits, remainder, check, after_zeros}
+use Rattle.esp3_frames.specs.declared.check.TheConstants.{TABLE, ROUNDS, PLACES}
+use Rattle.esp3_frames.proofs.CheckLemmas.{check_byte, check_one, remainder_byte, feed, table_at}
+use Rattle.esp3_frames.proofs.CheckLemmas.{feed_xor, shifted, eighth, remainder_more}
 
--- one byte 00 more makes a byte of a byte, keeps sums, and can be put off
+-- one byte 00 more makes a byte
 one_byte : (c : ℕ) → check (c ∷ []) < 256
 one_byte c = check_byte (c ∷ [])
-
-one_xor : (a b : ℕ) → a < 256 → b < 256 → check (bit_xor a b ∷ []) ≡ bit_xor (check (a ∷ [])) (check (b ∷ []))
-one_xor a b ha hb =
-    check_one (bit_xor a b) (xor_of_8 a b ha hb) ∙ eighth_xor a b ha hb
-    ∙ ap (λ n. bit_xor n (eighth b)) (sym (check_one a ha)) ∙ ap (bit_xor (check (a ∷ []))) (sym (check_one b hb))
-
-eighth-times_x : (c : ℕ) → eighth (times_x c) ≡ times_x (eighth c)
-unfolding eighth shifted
-eighth-times_x c = refl
-
-one-times_x : (c : ℕ) → c < 256 → check (times_x c ∷ []) ≡ times_x (check (c ∷ []))
-one-times_x c h = check_one (times_x c) (times_x_byte c h) ∙ eighth-times_x c ∙ ap times_x (sym (check_one c h))
-
--- and so do n of them
-pub zeros_byte : (c n : ℕ) → c < 256 → after_zeros c n < 256
-unfolding after_zeros
-zeros_byte c zero h = h
-zeros_byte c (suc n) h = zeros_byte (check (c ∷ [])) n (one_byte c)
-
-zeros_xor : (a b n : ℕ) → a < 256 → b < 256 → after_zeros (bit_xor a b) n ≡ bit_xor (after_zeros a n) (after_zeros b n)
-unfolding after_zeros
-zeros_xor a b zero ha hb = refl
-zeros_xor a b (suc n) ha hb =
-    ap (λ c. after_zeros c n) (one_xor a b ha hb)
-    ∙ zeros_xor (check (a ∷ [])) (check (b ∷ [])) n (one_byte a) (one_byte b)
-
-zeros-times_x : (c n : ℕ) → c < 256 → after_zeros (times_x c) n ≡ times_x (after_zeros c n)
-unfolding after_zeros
-zeros-times_x c zero h = refl
-zeros-times_x c (suc n) h = ap (λ m. after_zeros m n) (one-times_x c h) ∙ zeros-times_x (check (c ∷ [])) n (one_byte c)
-
-zeros_add : (c m n : ℕ) → after_zeros c (m + n) ≡ after_zeros (after_zeros c m) n
-unfolding after_zeros
-zeros_add c zero n = let e : zero + n ≡ n = omega arith in ap (after_zeros c) e
-zeros_add c (suc m) n =
-    let e : suc m + n ≡ suc (m + n) = omega arith in
-    ap (after_zeros c) e ∙ zeros_add (check (c ∷ [])) m n
-
-one_zero : check (0 ∷ []) ≡ 0
-unfolding check bits remainder power byte_bits
-one_zero = refl
-
-zero_zeros : (n : ℕ) → after_zeros 0 n ≡ 0
-unfolding after_zeros
-zero_zeros zero = refl
-zero_zeros (suc n) = ap (λ c. after_zeros c n) one_zero ∙ zero_zeros n
 
 -- a message in two parts
 bits-append : (m w : List ℕ) → bits (m ++ w) ≡ bits m ++ bits w
@@ -116,89 +70,106 @@ check-zeros m n =
     check_parts m (replicate n 0) ∙ ap (bit_xor (after_zeros (check m) (length (replicate n 0)))) (check_zeros n)
     ∙ xor_zero_r _ ∙ ap (after_zeros (check m)) (length-replicate n 0)
 
--- the sum of t times x^i for each set bit i of the n low bits of c
-unfoldable pub bit_sum : ℕ → ℕ → ℕ → ℕ
-bit_sum zero c t = 0
-bit_sum (suc n) c t = bit_xor (cond (eqb (c % 2) 1) t 0) (bit_sum n (c / 2) (times_x t))
+-- what the tables have: each byte at its place, and the next one behind it, in two rows that go round. The places from
+-- 254 on have the bytes that stay
+is_placed : ℕ → Bool
+is_placed c = eqb (get_or ROUNDS (get_or PLACES c 0) 0) c
 
-bit_sum_byte : (n c t : ℕ) → t < 256 → bit_sum n c t < 256
-unfolding bit_sum
-bit_sum_byte zero c t h = omega arith
-bit_sum_byte (suc n) c t h =
-    xor_of_8 _ _ (bit_part (eqb (c % 2) 1) t h) (bit_sum_byte n (c / 2) (times_x t) (times_x_byte t h))
+all_placed : agree_below is_placed (λ _. true) 256 ≡ true
+unfolding is_placed
+all_placed = refl
 
-zeros_part : (b : Bool) (t k : ℕ) → cond b (after_zeros t k) 0 ≡ after_zeros (cond b t 0) k
-zeros_part true t k = refl
-zeros_part false t k = sym (zero_zeros k)
+is_byte : ℕ → Bool
+is_byte k = ltb (get_or ROUNDS k 0) 256
 
-bit_sum-zeros : (n c t k : ℕ) → t < 256 → bit_sum n c (after_zeros t k) ≡ after_zeros (bit_sum n c t) k
-unfolding bit_sum
-bit_sum-zeros zero c t k h = sym (zero_zeros k)
-bit_sum-zeros (suc n) c t k h =
-    let b : Bool = eqb (c % 2) 1 in
-    ap (λ m. bit_xor m (bit_sum n (c / 2) (times_x (after_zeros t k)))) (zeros_part b t k)
-    ∙ ap (λ m. bit_xor (after_zeros (cond b t 0) k) (bit_sum n (c / 2) m)) (sym (zeros-times_x t k h))
-    ∙ ap (bit_xor (after_zeros (cond b t 0) k)) (bit_sum-zeros n (c / 2) (times_x t) k (times_x_byte t h))
-    ∙ sym (zeros_xor (cond b t 0) (bit_sum n (c / 2) (times_x t)) k (bit_part b t h)
-    (bit_sum_byte n (c / 2) (times_x t) (times_x_byte t h)))
+all_bytes : agree_below is_byte (λ _. true) 254 ≡ true
+unfolding is_byte
+all_bytes = refl
 
-own_bits : ℕ → Bool
-own_bits c = eqb (bit_sum 8 c 1) c
+is_next : ℕ → ℕ → Bool
+is_next row k = eqb (get_or TABLE (get_or ROUNDS (row + k) 0) 0) (get_or ROUNDS (row + (k + 1) % 127) 0)
 
-all_own_bits : agree_below own_bits (λ _. true) 256 ≡ true
-unfolding own_bits bit_sum
-all_own_bits = refl
+all_first : agree_below (is_next 0) (λ _. true) 127 ≡ true
+unfolding is_next
+all_first = refl
 
-bit_sum-one : (c : ℕ) → c < 256 → bit_sum 8 c 1 ≡ c
-unfolding own_bits
-bit_sum-one c h = eqb-true _ _ (agree_below_at own_bits (λ _. true) 256 c all_own_bits h)
+all_second : agree_below (is_next 127) (λ _. true) 127 ≡ true
+unfolding is_next
+all_second = refl
 
--- n bytes 00 behind any check byte, by what they make of 1
-pub zeros_by_bits : (c n : ℕ) → c < 256 → after_zeros c n ≡ bit_sum 8 c (after_zeros 1 n)
-zeros_by_bits c n h = ap (λ m. after_zeros m n) (sym (bit_sum-one c h)) ∙ sym (bit_sum-zeros 8 c 1 n (omega arith))
+is_still : ℕ → Bool
+is_still c = cond (ltb (get_or PLACES c 0) 254) true (eqb (get_or TABLE c 0) c)
 
--- 127 of them come round: x^(8 * 127) is 1
-one_round : after_zeros 1 127 ≡ 1
-unfolding after_zeros check bits remainder power byte_bits
-one_round = refl
+all_still : agree_below is_still (λ _. true) 256 ≡ true
+unfolding is_still
+all_still = refl
 
-round : (c : ℕ) → c < 256 → after_zeros c 127 ≡ c
-round c h = zeros_by_bits c 127 h ∙ ap (bit_sum 8 c) one_round ∙ bit_sum-one c h
+-- n bytes 00 go n places on
+next : (row k : ℕ) → agree_below (is_next row) (λ _. true) 127 ≡ true → row ≤ 127 → k < 127
+    → check (get_or ROUNDS (row + k) 0 ∷ []) ≡ get_or ROUNDS (row + (k + 1) % 127) 0
+unfolding is_byte is_next
+next row k all low below =
+    let byte = ltb-true _ _ (agree_below_at is_byte (λ _. true) 254 (row + k) all_bytes (omega arith)) in
+    sym (table_at (get_or ROUNDS (row + k) 0) byte)
+    ∙ eqb-true _ _ (agree_below_at (is_next row) (λ _. true) 127 k all below)
+
+goes_round : (row k n : ℕ) → agree_below (is_next row) (λ _. true) 127 ≡ true → row ≤ 127 → k < 127
+    → after_zeros (get_or ROUNDS (row + k) 0) n ≡ get_or ROUNDS (row + (k + n) % 127) 0
+unfolding after_zeros
+goes_round row k zero all low below =
+    let e : row + k ≡ row + (k + zero) % 127 = omega arith in ap (λ i. get_or ROUNDS i 0) e
+goes_round row k (suc n) all low below =
+    let e : row + ((k + 1) % 127 + n) % 127 ≡ row + (k + suc n) % 127 = omega arith in
+    ap (λ c. after_zeros c n) (next row k all low below) ∙ goes_round row ((k + 1) % 127) n all low (omega arith)
+    ∙ ap (λ i. get_or ROUNDS i 0) e
+
+stays : (c n : ℕ) → check (c ∷ []) ≡ c → after_zeros c n ≡ c
+unfolding after_zeros
+stays c zero e = refl
+stays c (suc n) e = ap (λ b. after_zeros b n) e ∙ stays c n e
+
+module _ (c : ℕ) (h : c < 256) where
+  from_place : (n : ℕ) → after_zeros c n ≡ after_zeros (get_or ROUNDS (get_or PLACES c 0) 0) n
+  unfolding is_placed
+  from_place n =
+      ap (λ b. after_zeros b n) (sym (eqb-true _ _ (agree_below_at is_placed (λ _. true) 256 c all_placed h)))
+
+  pub zeros_first : (n : ℕ) → get_or PLACES c 0 < 127
+      → after_zeros c n ≡ get_or ROUNDS ((get_or PLACES c 0 + n) % 127) 0
+  zeros_first n low =
+      let k : ℕ = get_or PLACES c 0 in
+      from_place n ∙ ap (λ i. after_zeros (get_or ROUNDS i 0) n) (sym (zero-add k))
+      ∙ goes_round 0 k n all_first (omega arith) low
+      ∙ ap (λ i. get_or ROUNDS i 0) (zero-add ((k + n) % 127))
+
+  pub zeros_second : (n : ℕ) → 127 ≤ get_or PLACES c 0 → get_or PLACES c 0 < 254
+      → after_zeros c n ≡ get_or ROUNDS (127 + (get_or PLACES c 0 - 127 + n) % 127) 0
+  zeros_second n high low =
+      let k : ℕ = get_or PLACES c 0 - 127 in
+      let e : get_or PLACES c 0 ≡ 127 + k = omega arith in
+      from_place n ∙ ap (λ i. after_zeros (get_or ROUNDS i 0) n) e
+      ∙ goes_round 127 k n all_second (omega arith) (omega arith)
+
+  pub zeros_none : (n : ℕ) → 254 ≤ get_or PLACES c 0 → after_zeros c n ≡ c
+  unfolding is_still
+  zeros_none n high =
+      let still = agree_below_at is_still (λ _. true) 256 c all_still h in
+      let same = eqb-true _ _ (sym (cond-false (ltb (get_or PLACES c 0) 254) _ _ (le-ltb _ _ high)) ∙ still) in
+      stays c n (sym (table_at c h) ∙ same)
+
+  period : (n : ℕ) → after_zeros c (n + 127) ≡ after_zeros c n
+  period n = elim (cases_lt (get_or PLACES c 0) 127) [
+    | inl low ↦
+        let e : (get_or PLACES c 0 + (n + 127)) % 127 ≡ (get_or PLACES c 0 + n) % 127 = omega arith in
+        zeros_first (n + 127) low ∙ ap (λ i. get_or ROUNDS i 0) e ∙ sym (zeros_first n low)
+    | inr high ↦ elim (cases_lt (get_or PLACES c 0) 254) [
+      | inl low ↦
+          let k : ℕ = get_or PLACES c 0 - 127 in
+          let e : 127 + (k + (n + 127)) % 127 ≡ 127 + (k + n) % 127 = omega arith in
+          zeros_second (n + 127) high low ∙ ap (λ i. get_or ROUNDS i 0) e ∙ sym (zeros_second n high low)
+      | inr still ↦ zeros_none (n + 127) still ∙ sym (zeros_none n still)
+    ]
+  ]
 
 pub zeros_period : (c n : ℕ) → c < 256 → after_zeros c (n + 127) ≡ after_zeros c n
-zeros_period c n h =
-    let e : n + 127 ≡ 127 + n = omega arith in
-    ap (after_zeros c) e ∙ zeros_add c 127 n ∙ ap (λ m. after_zeros m n) (round c h)
-
-many_rounds : (c q r : ℕ) → c < 256 → after_zeros c (q * 127 + r) ≡ after_zeros c r
-many_rounds c zero r h = let e : zero * 127 + r ≡ r = omega arith in ap (after_zeros c) e
-many_rounds c (suc q) r h =
-    let e : suc q * 127 + r ≡ (q * 127 + r) + 127 = omega arith in
-    ap (after_zeros c) e ∙ zeros_period c (q * 127 + r) h ∙ many_rounds c q r h
-
--- the table
-in_table : ℕ → Bool
-in_table k = eqb (get_or ONE_AFTER_ZEROS k 0) (after_zeros 1 k)
-
-all_in_table : agree_below in_table (λ _. true) 127 ≡ true
-unfolding in_table after_zeros check bits remainder power byte_bits
-all_in_table = refl
-
-pub one_after : (n : ℕ) → get_or ONE_AFTER_ZEROS (n % 127) 0 ≡ after_zeros 1 n
-unfolding in_table
-one_after n =
-    let k : ℕ = n % 127 in
-    let e : (n / 127) * 127 + k ≡ n = omega arith in
-    let below : k < 127 = omega arith in
-    eqb-true _ _ (agree_below_at in_table (λ _. true) 127 k all_in_table below)
-    ∙ sym (many_rounds 1 (n / 127) k (omega arith)) ∙ ap (after_zeros 1) e
-
--- one bit's step of the sum
-pub bit_sum-step : (s n c t : ℕ)
-    → bit_xor s (bit_sum (suc n) c t) ≡ bit_xor (bit_xor s (cond (eqb (c % 2) 1) t 0)) (bit_sum n (c / 2) (times_x t))
-unfolding bit_sum
-bit_sum-step s n c t = sym (xor_assoc s (cond (eqb (c % 2) 1) t 0) (bit_sum n (c / 2) (times_x t)))
-
-pub bit_sum-none : (c t : ℕ) → bit_sum 0 c t ≡ 0
-unfolding bit_sum
-bit_sum-none c t = refl
+zeros_period c n h = period c h n
