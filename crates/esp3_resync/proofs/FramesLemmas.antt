@@ -1,24 +1,19 @@
 -- What a framer's bytes hold, by what stands at their front.
-use Rattle.std.proofs.Common.{◌≡◌, ◌≢◌, ℕ, zero, suc, ◌+◌, ◌≤◌, ◌<◌, take, subst, append_assoc, Bool, true, false, List, [], ◌∷◌, ◌++◌, length, drop}
+use Rattle.std.proofs.Common.{◌≡◌, ◌≢◌, ℕ, zero, suc, ◌+◌, ◌≤◌, ◌<◌, take, append_assoc, Bool, true, false, List, [], ◌∷◌, ◌++◌, length, drop}
 use Rattle.std.proofs.Common.{get_or, refl, sym, ap, ◌∙◌, arith, length-drop, inl, inr}
 use Rattle.std.specs.Prelude.{IsTrue}
 use Rattle.std.proofs.lemmas.Bool.{cases_lt}
-use Rattle.std.proofs.lemmas.List.{append-nil, nil_from_length, take_more, take_all, take-take, get_or-take}
-use Rattle.std.specs.Prelude.{Err}
-use Rattle.esp3_frames.specs.Outcome.{header_of}
-use Rattle.esp3_frames.specs.declared.packet.HeaderFault.{HeaderFault}
-use Rattle.esp3_frames.proofs.ForCallers.{front-bad}
+use Rattle.std.proofs.lemmas.List.{append-nil, nil_from_length, take_all, get_or-take}
 use Rattle.std.proofs.Math.Seq.{take-add, drop-length}
 use Rattle.std.proofs.Common.{◌-◌, length-take}
 use Rattle.std.specs.Bool.{OnTrue, OnFalse}
 use Rattle.esp3_frames.specs.Packet.{Packet, IsPacket}
-use Rattle.esp3_frames.specs.Framing.{MayBecomePacket, ends, finds}
+use Rattle.esp3_frames.specs.Framing.{ends, finds}
 use Rattle.std.proofs.Common.{length-append}
-use Rattle.std.proofs.lemmas.List.{take-append-drop}
 use Rattle.esp3_resync.specs.Settled.{ReachesSync}
 use Rattle.esp3_frames.specs.Frames.{front_of, Frames, frames_after, frames_of}
 use Rattle.esp3_frames.specs.Frames.Front.{Never, Partial, Whole}
-use Rattle.esp3_frames.proofs.ForCallers.{only_framing, empty_may_become, front_partial, frames_of-may_become, framing_in_parts, cases_front, frames-never, frames-skipped, frames-partial, frames-whole}
+use Rattle.esp3_frames.proofs.ForCallers.{whole_length, only_framing, empty_may_become, framing_in_parts, cases_front, frames-never, frames-skipped, frames-partial, frames-whole}
 
 -- where no packet is ready, a text whose front may become one is its own rest
 pub unready : (s : List ℕ) → front_of s ≢ Never → length (frames_of s).ready ≡ 0
@@ -48,18 +43,6 @@ pub ready_by_front : (b : Bool) (s : List ℕ) (p : Packet) → OnTrue b (front_
 ready_by_front true s p whole partial = (λ t. ready_whole s p whole, λ h. refl)
 ready_by_front false s p whole partial = (λ t. absurd cc, λ h. absurd (omega (arith, h, unready_partial s partial)))
 
-first : (b : ℕ) → b ≢ 0x55 → (i : ℕ) → i < 1 → get_or (b ∷ []) i 0 ≢ 0x55
-first b n zero below = n
-first b n (suc i) below = absurd (omega arith)
-
--- where nothing is held, a byte that is no sync byte changes nothing
-pub unheld : (w : List ℕ) (b : ℕ) → w ≡ [] → b ≢ 0x55 → frames_of w ≡ frames_of ((frames_of w).rest ++ b ∷ [])
-unheld w b e n =
-    let none : frames_of (drop 1 (b ∷ [])) ≡ frames_of (b ∷ []) = frames-skipped (b ∷ []) 1 (omega arith) (first b n) in
-    let rest : (frames_of w).rest ≡ [] =
-    ap (λ (v : List ℕ). (frames_of v).rest) e ∙ ap (λ (c : Frames). c.rest) frames_of-empty in
-    ap frames_of e ∙ none ∙ ap (λ (r : List ℕ). frames_of (r ++ b ∷ [])) (sym rest)
-
 -- a text of which no packet begins at the first byte, from its next sync byte on
 pub frames_at_sync : (w v : List ℕ) → front_of w ≡ Never → ReachesSync (drop 1 w) v
     → (frames_of v ≡ frames_of w) × (length v < length w)
@@ -69,12 +52,21 @@ frames_at_sync w v never to =
       omega (arith, none.0, ap length to.is, length-drop to.count (drop 1 w), length-drop 1 w),
     )
 
--- where no packet is ready, a byte more makes the frames of the rest with that byte
-pub frames_of_more : (w v : List ℕ) (f : Frames) (b : ℕ) → front_of w ≢ Never → frames_of w ≡ f → length f.ready ≡ 0
-    → v ≡ w ++ b ∷ [] → frames_of v ≡ frames_of (f.rest ++ b ∷ [])
-frames_of_more w v f b n e none is =
-    let u = unready w n (ap (λ (x : Frames). length x.ready) e ∙ none) in
-    ap frames_of (is ∙ ap (λ (y : List ℕ). y ++ b ∷ []) (sym u.1 ∙ ap (λ (x : Frames). x.rest) e))
+-- six bytes make no packet ready
+pub few : (n : ℕ) (w : List ℕ) → length w ≤ n → n ≤ 6 → length (frames_of w).ready ≡ 0
+few zero w within short =
+    ap (λ (v : List ℕ). length (frames_of v).ready) (nil_from_length w (omega arith))
+    ∙ ap (λ (f : Frames). length f.ready) frames_of-empty
+few (suc n) w within short = elim (cases_front (front_of w)) [
+  | inl never ↦
+      let none = frames-never w never in
+      ap (λ (f : Frames). length f.ready) (sym none.1)
+      ∙ few n (drop 1 w) (omega (arith, length-drop 1 w, none.0)) (omega arith)
+  | inr x ↦ elim x [
+    | inl partial ↦ unready_partial w partial
+    | inr whole ↦ absurd (omega (arith, (whole_length w whole.0 whole.1).0))
+  ]
+]
 
 -- frames are their packets and their rest
 frames_same : (f g : Frames) → f.ready ≡ g.ready → f.rest ≡ g.rest → f ≡ g
@@ -97,29 +89,6 @@ idle w f n e none =
     let u = unready w n (ap (λ (x : Frames). length x.ready) e ∙ none) in
     sym e ∙ ap frames_of (sym u.1 ∙ ap (λ (x : Frames). x.rest) e ∙ sym (append-nil f.rest))
 
--- the frames of a part of some bytes, and of more of them
-module _ (r b : List ℕ) (i : ℕ) (f : Frames) (is : f ≡ frames_of (r ++ take i b)) (none : length f.ready ≡ 0) where
-  further : (t : List ℕ) (g : Frames) → g ≡ frames_of (f.rest ++ t) → g ≡ frames_of ((r ++ take i b) ++ t)
-  further t g next =
-      next ∙ ap (λ (y : Frames). frames_of (y.rest ++ t)) is
-      ∙ go_on (r ++ take i b) t (ap (λ (y : Frames). length y.ready) (sym is) ∙ none)
-
-  pub run_more : (n : ℕ) (g : Frames) → g ≡ frames_of (f.rest ++ take n (take (length b - i) (drop i b)))
-      → g ≡ frames_of (r ++ take (i + n) b)
-  run_more n g next =
-      let behind : take (length b - i) (drop i b) ≡ drop i b =
-      take_all (length b - i) (drop i b) (omega (arith, length-drop i b)) in
-      let t = take n (drop i b) in
-      further t g (next ∙ ap (λ (y : List ℕ). frames_of (f.rest ++ take n y)) behind)
-      ∙ ap frames_of (append_assoc r (take i b) t ∙ ap (λ (y : List ℕ). r ++ y) (sym (take-add i n b)))
-
-  pub byte_more : (g : Frames) → i < length b → g ≡ frames_of (f.rest ++ get_or b i 0 ∷ [])
-      → g ≡ frames_of (r ++ take (i + 1) b)
-  byte_more g below next =
-      let x = get_or b i 0 ∷ [] in
-      further x g next
-      ∙ ap frames_of (append_assoc r (take i b) x ∙ ap (λ (y : List ℕ). r ++ y) (sym (take_more b i 0 below)))
-
 -- where a part of some bytes makes no packet ready, no part of it does
 pub quiet_before : (r b : List ℕ) (i k : ℕ) → length (frames_of (r ++ take i b)).ready ≡ 0 → k ≤ i
     → length (frames_of (r ++ take k b)).ready ≡ 0
@@ -140,6 +109,35 @@ quiet_before r b i k none within =
       length-append first others,
     )
 
+-- the frames of a part of some bytes, and of more of them
+module _ (r b : List ℕ) (i : ℕ) (f : Frames) (is : f ≡ frames_of (r ++ take i b)) (none : length f.ready ≡ 0) where
+  further : (t : List ℕ) (g : Frames) → g ≡ frames_of (f.rest ++ t) → g ≡ frames_of ((r ++ take i b) ++ t)
+  further t g next =
+      next ∙ ap (λ (y : Frames). frames_of (y.rest ++ t)) is
+      ∙ go_on (r ++ take i b) t (ap (λ (y : Frames). length y.ready) (sym is) ∙ none)
+
+  pub run_more : (n : ℕ) (g : Frames) → g ≡ frames_of (f.rest ++ take n (take (length b - i) (drop i b)))
+      → g ≡ frames_of (r ++ take (i + n) b)
+  run_more n g next =
+      let behind : take (length b - i) (drop i b) ≡ drop i b =
+      take_all (length b - i) (drop i b) (omega (arith, length-drop i b)) in
+      let t = take n (drop i b) in
+      further t g (next ∙ ap (λ (y : List ℕ). frames_of (f.rest ++ take n y)) behind)
+      ∙ ap frames_of (append_assoc r (take i b) t ∙ ap (λ (y : List ℕ). r ++ y) (sym (take-add i n b)))
+
+  pub quiet_more : (n k : ℕ)
+      → ((j : ℕ) → j < n → length (frames_of (f.rest ++ take j (take (length b - i) (drop i b)))).ready ≡ 0)
+      → k < i + n → length (frames_of (r ++ take k b)).ready ≡ 0
+  quiet_more n k before below = elim (cases_lt k i) [
+    | inl less ↦ quiet_before r b i k (ap (λ (y : Frames). length y.ready) (sym is) ∙ none) (omega (arith, less))
+    | inr more ↦
+        let split : i + (k - i) ≡ k = omega (arith, more) in
+        let t = take (k - i) (take (length b - i) (drop i b)) in
+        ap (λ j. length (frames_of (r ++ take j b)).ready) (sym split)
+        ∙ ap (λ (y : Frames). length y.ready) (sym (run_more (k - i) (frames_of (f.rest ++ t)) refl))
+        ∙ before (k - i) (omega (arith, below, more))
+  ]
+
 pub none_ready : (b : Bool) (n : ℕ) → b ≡ false → (0 < n → IsTrue b) → n ≡ 0
 none_ready false zero e h = refl
 none_ready false (suc n) e h = let z = h (omega arith) in absurd cc
@@ -159,21 +157,9 @@ frames_of-noise b n none =
     let t = take n b in
     let here : (i : ℕ) → i < length t → get_or t i 0 ≢ 0x55 =
     λ i below.
-        let j : i < n = omega (arith, below, length-take n b) in λ same. none i j (sym (get_or-take n b i 0 j) ∙ same)
+    let j : i < n = omega (arith, below, length-take n b) in λ same. none i j (sym (get_or-take n b i 0 j) ∙ same)
     in
     sym (frames-skipped t (length t) (omega arith) here) ∙ ap frames_of (drop-length t) ∙ frames_of-empty
-
--- nor do those before the second, if the first begins no header
-pub frames_of-false_sync : (b : List ℕ) (n : ℕ) (e : HeaderFault) → 5 ≤ n → n < length b
-    → header_of (take 6 b) ≡ Err e → ((i : ℕ) → i < n → get_or (drop 1 b) i 0 ≢ 0x55)
-    → frames_of (take (1 + n) b) ≡ record { ready = []; rest = [] }
-frames_of-false_sync [] n e long within bad none = absurd (omega arith)
-frames_of-false_sync (x ∷ s) n e long within bad none =
-    let t : List ℕ = x ∷ take n s in
-    let more : 1 + n ≡ suc n = omega arith in
-    let first : take 6 t ≡ take 6 (x ∷ s) = take-take 6 (suc n) (x ∷ s) (omega arith) in
-    let never = front-bad t e (omega (arith, length-take n s)) (ap header_of first ∙ bad) in
-    ap (λ k. frames_of (take k (x ∷ s))) more ∙ sym (frames-never t never).1 ∙ frames_of-noise s n none
 
 -- bytes that bring nothing change nothing where nothing is held
 pub noise_taken : (w t : List ℕ) (f : Frames) → w ≡ [] → w ≡ f.rest → frames_of w ≡ f

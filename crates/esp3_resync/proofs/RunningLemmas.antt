@@ -1,101 +1,64 @@
 -- What a window keeps beside its bytes, as bytes come and go.
-use Rattle.std.proofs.Common.{◌≡◌, ℕ, ◌+◌, ◌-◌, ◌<◌, ◌≤◌, List, [], ◌∷◌, ◌++◌, length, take, drop}
-use Rattle.std.proofs.Common.{get_or, min, bit_xor, refl, sym, ap, ◌∙◌, append_assoc, arith, length-append, length-drop}
+use Rattle.std.proofs.Common.{◌≡◌, ℕ, ◌+◌, ◌-◌, ◌<◌, ◌≤◌, List, [], ◌∷◌, ◌++◌, length, take, drop, slice_set}
+use Rattle.std.proofs.Common.{get_or, bit_xor, sym, subst, ap, ◌∙◌, append_assoc, arith, length-append, length-take, length-drop}
 use Rattle.std.proofs.Common.{inl, inr}
-use Rattle.std.specs.Prelude.{Result, Ok, Err, IsOk, OnOk}
-use Rattle.std.proofs.Math.Seq.{take-add, take-append_seam, take-append-add, get_or-append_seam}
+use Rattle.std.proofs.Math.Seq.{take-add}
 use Rattle.std.proofs.lemmas.Bool.{cases_lt}
-use Rattle.std.proofs.lemmas.List.{append-nil, get_or-drop, get_or_append_left, take_all, take-append-le}
-use Rattle.std.proofs.lemmas.List.{take-append-drop}
-use Rattle.circular_buffer.specs.Buffer.{Buffer, buffer}
+use Rattle.std.proofs.lemmas.List.{take_all, take-append-le, take_more, get_or-set_same, get_or-set_other}
 use Rattle.esp3_frames.specs.Check.{check}
-use Rattle.esp3_frames.specs.Packet.{longest_packet}
-use Rattle.esp3_frames.proofs.ForCallers.{check_next, check_nil}
-use Rattle.esp3_resync.specs.Running.{Running}
+use Rattle.esp3_frames.proofs.ForCallers.{check_next}
+use Rattle.esp3_resync.specs.Running.{Noted}
 
-pub running_empty : Running (buffer [] longest_packet) (buffer [] longest_packet) 0
-running_empty = record {
-  room = (refl, refl);
-  within = omega arith;
-  gone = [];
-  count = refl;
-  before = λ i h. absurd (omega arith);
-  all = sym check_nil;
-}
+-- behind the last byte stands the check byte of all
+pub noted_last : (g w c : List ℕ) (n : ℕ) → n ≡ length w → Noted g w c → get_or c n 0 ≡ check (g ++ w)
+noted_last g w c n e noted =
+    noted n (omega arith) ∙ ap (λ (y : List ℕ). check (g ++ y)) (take_all n w (omega arith))
 
-module _ (b c : Buffer ℕ) (n : ℕ) (r : Running b c n) where
-  pub running_push : (x : ℕ) → x < 256 → length b.items < longest_packet
-      → Running (buffer (b.items ++ x ∷ []) b.capacity) (buffer (c.items ++ n ∷ []) c.capacity)
-      (check (bit_xor n x ∷ []))
-  running_push x hx short =
-      let count = r.count in
-      record {
-        room = r.room;
-        within = omega (arith, length-append b.items (x ∷ []));
-        gone = r.gone;
-        count = omega (arith, length-append b.items (x ∷ []), length-append c.items (n ∷ []));
-        before = λ i h. elim (cases_lt i (length b.items)) [
-          | inl l ↦
-              get_or_append_left c.items (n ∷ []) 0 i (omega arith) ∙ r.before i l
-              ∙ ap (λ (y : List ℕ). check (r.gone ++ y)) (sym (take-append-le i b.items (x ∷ []) (omega arith)))
-          | inr g ↦
-              let e : i ≡ length b.items = omega (arith, length-append b.items (x ∷ [])) in
-              let f : i ≡ length c.items = omega arith in
-              ap (λ k. get_or (c.items ++ n ∷ []) k 0) f ∙ get_or-append_seam c.items n [] 0 ∙ r.all
-              ∙ ap (λ (y : List ℕ). check (r.gone ++ y))
-              (sym (ap (λ k. take k (b.items ++ x ∷ [])) e ∙ take-append_seam b.items (x ∷ [])))
-        ];
-        all =
-            ap (λ k. check (bit_xor k x ∷ [])) r.all ∙ sym (check_next (r.gone ++ b.items) x hx)
-            ∙ ap check (append_assoc r.gone b.items (x ∷ []));
-      }
-
-  pub running_skip : (k : ℕ) → k ≤ length b.items
-      → Running (buffer (drop k b.items) b.capacity) (buffer (drop k c.items) c.capacity) n
-  running_skip k hk =
-      let count = r.count in
-      let within = r.within in
-      record {
-        room = r.room;
-        within = omega (arith, length-drop k b.items);
-        gone = r.gone ++ take k b.items;
-        count = omega (arith, length-drop k b.items, length-drop k c.items);
-        before = λ i h.
-            get_or-drop k c.items i 0 ∙ r.before (k + i) (omega (arith, length-drop k b.items))
-            ∙ ap (λ (y : List ℕ). check (r.gone ++ y)) (take-add k i b.items)
-            ∙ ap check (sym (append_assoc r.gone (take k b.items) (take i (drop k b.items))));
-        all =
-            r.all ∙ ap (λ (y : List ℕ). check (r.gone ++ y)) (sym (take-append-drop k b.items))
-            ∙ ap check (sym (append_assoc r.gone (take k b.items) (drop k b.items)));
-      }
-
-  -- the part of a message that is meant, by the check bytes at its two ends
-  pub running_part : (from len : ℕ) → from + len < length b.items
-      → (get_or c.items from 0 ≡ check (r.gone ++ take from b.items))
-      × (get_or c.items (from + len) 0 ≡ check ((r.gone ++ take from b.items) ++ take len (drop from b.items)))
-  running_part from len h = (
-    r.before from (omega arith),
-    r.before (from + len) h ∙ ap (λ (y : List ℕ). check (r.gone ++ y)) (take-add from len b.items)
-        ∙ ap check (sym (append_assoc r.gone (take from b.items) (take len (drop from b.items)))),
-  )
-
-pub on_ok : {T E P : Type 0} (r : Result T E) → IsOk r → OnOk r P → P
-on_ok (Ok x) h p = p
-on_ok (Err e) h p = absurd cc
-
--- the first n items of a ring that lies in two slices
-pub two_takes : (n k : ℕ) (xs ys : List ℕ) → k ≡ min (length xs) n → take k xs ++ take (n - k) ys ≡ take n (xs ++ ys)
-two_takes n k xs ys e = elim (cases_lt (length xs) n) [
-  | inl more ↦
-      let j : ℕ = n - length xs in
-      let ek : k ≡ length xs = omega arith in
-      let en : length xs + j ≡ n = omega arith in
-      ap (λ i. take i xs ++ take (n - i) ys) ek
-      ∙ ap (λ (y : List ℕ). y ++ take j ys) (take_all (length xs) xs (omega arith))
-      ∙ sym (take-append-add xs ys j) ∙ ap (λ i. take i (xs ++ ys)) en
-  | inr less ↦
-      let ek : k ≡ n = omega arith in
-      let en : n - n ≡ 0 = omega arith in
-      ap (λ i. take i xs ++ take (n - i) ys) ek ∙ ap (λ i. take n xs ++ take i ys) en
-      ∙ append-nil (take n xs) ∙ sym (take-append-le n xs ys less)
+-- one byte more
+noted_next : (g w c : List ℕ) (x n : ℕ) → x < 256 → length w + 1 < length c → n ≡ check (g ++ w) → Noted g w c
+    → Noted g (w ++ x ∷ []) (slice_set c (length w + 1) (check (bit_xor n x ∷ [])))
+noted_next g w c x n byte fits all noted = λ i within. elim (cases_lt i (length w + 1)) [
+  | inl before ↦
+      get_or-set_other c (length w + 1) i (check (bit_xor n x ∷ [])) 0 (λ e. absurd (omega (arith, e, before)))
+      ∙ noted i (omega arith)
+      ∙ ap (λ (y : List ℕ). check (g ++ y)) (sym (take-append-le i w (x ∷ []) (omega arith)))
+  | inr behind ↦
+      let e : i ≡ length w + 1 = omega (arith, length-append w (x ∷ [])) in
+      ap (λ k. get_or (slice_set c (length w + 1) (check (bit_xor n x ∷ []))) k 0) e
+      ∙ get_or-set_same c (length w + 1) (check (bit_xor n x ∷ [])) 0 fits
+      ∙ ap (λ k. check (bit_xor k x ∷ [])) all ∙ sym (check_next (g ++ w) x byte)
+      ∙ ap check (append_assoc g w (x ∷ []))
+      ∙ ap (λ (y : List ℕ). check (g ++ y))
+      (sym (take_all i (w ++ x ∷ []) (omega (arith, length-append w (x ∷ [])))))
 ]
+
+-- a loop that goes over the bytes b
+pub noted_more : (g w b c : List ℕ) (at i k n m : ℕ) → at ≡ length w → i < length b → get_or b i 0 < 256
+    → k ≡ at + i + 1 → k < length c → n ≡ check (g ++ (w ++ take i b)) → m ≡ check (bit_xor n (get_or b i 0) ∷ [])
+    → Noted g (w ++ take i b) c
+    → Noted g (w ++ take (i + 1) b) (slice_set c k m) × (m ≡ check (g ++ (w ++ take (i + 1) b)))
+noted_more g w b c at i k n m start below byte place fits all is noted =
+    let x : ℕ = get_or b i 0 in
+    let v : List ℕ = w ++ take i b in
+    let size : length v ≡ at + i = omega (arith, length-append w (take i b), length-take i b) in
+    let more : v ++ x ∷ [] ≡ w ++ take (i + 1) b =
+    append_assoc w (take i b) (x ∷ []) ∙ ap (λ (y : List ℕ). w ++ y) (sym (take_more b i 0 below)) in
+    let here : k ≡ length v + 1 = omega arith in
+    let after : m ≡ check (g ++ (w ++ take (i + 1) b)) =
+    is ∙ ap (λ j. check (bit_xor j x ∷ [])) all ∙ sym (check_next (g ++ v) x byte)
+    ∙ ap check (append_assoc g v (x ∷ [])) ∙ ap (λ (y : List ℕ). check (g ++ y)) more in (
+      subst (λ (y : List ℕ). Noted g y (slice_set c k m)) more
+          (subst (λ j. Noted g (v ++ x ∷ []) (slice_set c j m)) (sym here)
+          (subst (λ j. Noted g (v ++ x ∷ []) (slice_set c (length v + 1) j)) (sym is)
+          (noted_next g v c x n byte (omega arith) all noted))),
+      after,
+    )
+
+-- the bytes from one place on, and what stands beside them, moved to the front
+pub noted_moved : (g w c d : List ℕ) (s : ℕ) → s ≤ length w
+    → ((k : ℕ) → k ≤ length w - s → get_or d k 0 ≡ get_or c (s + k) 0) → Noted g w c
+    → Noted (g ++ take s w) (drop s w) d
+noted_moved g w c d s within same noted = λ i below.
+    same i (omega (arith, length-drop s w)) ∙ noted (s + i) (omega (arith, length-drop s w))
+    ∙ ap (λ (y : List ℕ). check (g ++ y)) (take-add s i w)
+    ∙ ap check (sym (append_assoc g (take s w) (take i (drop s w))))

@@ -1,16 +1,23 @@
 -- What a window keeps beside its bytes.
-use Rattle.std.specs.Prelude.{◌≡◌, ℕ, ◌<◌, ◌≤◌, List, ◌++◌, length, take, slice_index}
-use Rattle.circular_buffer.specs.Buffer.{Buffer}
+use Rattle.std.specs.Prelude.{◌≡◌, ℕ, ◌+◌, ◌*◌, ◌≤◌, List, ◌++◌, length, take, slice_index, vec_capacity}
+use Rattle.std.specs.Global.{Vec}
 use Rattle.esp3_frames.specs.Check.{check}
 use Rattle.esp3_frames.specs.Packet.{longest_packet}
 
--- The ring b of the bytes and the ring c of the running check have room for the longest packet. c has, beside each byte
--- of b, the check byte of all that came before it, and n is that of all that came.
-pub record Running (b c : Buffer ℕ) (n : ℕ) : Type 0 where
-  pub room : (b.capacity ≡ longest_packet) × (c.capacity ≡ longest_packet)
-  pub within : length b.items ≤ longest_packet
-  -- all that came and was let go
+-- how many bytes there is room for
+abbrev pub room : ℕ
+room = 2 * longest_packet
+
+-- c has, beside each byte of w and behind the last one, the check byte of all that came before: the bytes g, and those
+-- of w
+abbrev pub Noted : List ℕ → List ℕ → List ℕ → Type 0
+Noted g w c = (i : ℕ) → i ≤ length w → slice_index c i ≡ check (g ++ take i w)
+
+-- Of the bytes in b, those from the start on are held, and c has the running check.
+pub record Running (b : Vec ℕ) (start : ℕ) (c : Vec ℕ) : Type 0 where
+  pub memory : (room ≤ vec_capacity b) × (length c.items ≡ room + 1)
+  pub within : (start ≤ length b.items) × (length b.items ≤ room)
+  pub few : length b.items ≤ start + longest_packet
+  -- all that came before those in b
   pub gone : List ℕ
-  pub count : length c.items ≡ length b.items
-  pub before : (i : ℕ) → i < length b.items → slice_index c.items i ≡ check (gone ++ take i b.items)
-  pub all : n ≡ check (gone ++ b.items)
+  pub noted : Noted gone b.items c.items

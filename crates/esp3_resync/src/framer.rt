@@ -9,9 +9,9 @@ ghost use Rattle.esp3_frames.specs.Outcome.{packet_of};
 ghost use Rattle.esp3_frames.specs.Packet.{Packet, longest_data};
 
 use crate::front::{announced_len, is_refused, is_whole, settle, settle_behind};
-use crate::runs::{header_at, noise_len, push_announced, push_header};
+use crate::runs::{noise_len, push_announced, push_first};
 use crate::window::Window;
-use esp3_frames::{Header, LONGEST_PACKET, PacketRef, SYNC_BYTE, first_packet};
+use esp3_frames::{Header, LONGEST_PACKET, PacketRef, first_packet};
 use std::alloc::{AllocError, Global};
 use std::marker::Model;
 
@@ -113,16 +113,7 @@ impl Framer {
         requires { length self.old.ready ≡ 0 }
         ensures { self.new ≡ frames_of (self.old.rest ++ b ∷ []) }
     {
-        // Where nothing is held, only a sync byte begins a packet.
-        if b != SYNC_BYTE && self.window.is_empty() {
-            return;
-        }
-        self.window.push(b);
-        match self.header {
-            Some(header) if !is_refused(&self.window, header) => {}
-            Some(_) => self.header = settle_behind(&mut self.window),
-            None => self.header = settle(&mut self.window),
-        }
+        let _count = self.push_some(&[b]);
     }
 
     /// Takes the next bytes of the stream up to the one that makes a packet ready, or all if none does, and returns how
@@ -139,38 +130,40 @@ impl Framer {
         let _held = &self.window;
         let mut count = 0;
         while count < bytes.len() {
-            let quiet = self.push_quiet(&bytes[count..]);
-            count += quiet;
-            if quiet == 0 {
-                self.push(bytes[count]);
-                count += 1;
-                if self.is_ready() {
-                    return count;
-                }
+            count += self.push_some(&bytes[count..]);
+            if self.is_ready() {
+                return count;
             }
         }
         count
     }
 
-    // Takes some of the next bytes of the stream at once, if it is known that they make no packet ready, and returns how
-    // many.
-    fn push_quiet(&mut self, bytes: &[u8]) -> usize
-        requires { length self.old.ready ≡ 0 }
+    // Takes the next byte of the stream, with as many behind it as are known to come before a packet is ready, and
+    // returns how many.
+    fn push_some(&mut self, bytes: &[u8]) -> usize
+        requires none { length self.old.ready ≡ 0 }
+        requires some { 0 < length bytes.now }
         ensures within { result ≤ length bytes.now }
+        ensures some { 0 < result }
         ensures taken { self.new ≡ frames_of (self.old.rest ++ take result bytes.now) }
-        ensures none { length self.new.ready ≡ 0 }
+        ensures before { (k : ℕ) → k < result → length (frames_of (self.old.rest ++ take k bytes.now)).ready ≡ 0 }
     {
-        match self.header {
-            Some(header) => push_announced(&mut self.window, header, bytes),
-            None if self.window.is_empty() => match header_at(bytes) {
-                Some(header) => {
-                    self.header = Some(header);
-                    push_header(&mut self.window, header, bytes)
-                }
-                None => noise_len(bytes),
-            },
-            None => 0,
+        if let Some(header) = self.header {
+            let count = push_announced(&mut self.window, header, bytes);
+            if is_refused(&self.window, header) {
+                self.header = settle_behind(&mut self.window);
+            }
+            return count;
         }
+        if self.window.is_empty() {
+            let count = noise_len(bytes);
+            if count > 0 {
+                return count;
+            }
+        }
+        let count = push_first(&mut self.window, bytes);
+        self.header = settle(&mut self.window);
+        count
     }
 
     /// The packet that stands whole at the front of the next bytes of the stream, and how many bytes it has, if no byte

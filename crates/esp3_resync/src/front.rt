@@ -61,14 +61,14 @@ fn may_begin(window: &Window) -> bool
 fn front(window: &Window) -> Found
     ensures { IsFound result window.now }
 {
-    if window.len() < 6 {
+    let Some(first_six) = window.as_slice().first_chunk::<6>() else {
         return if may_begin(window) {
             Found::Begun
         } else {
             Found::Refused
         };
-    }
-    let Ok(header) = read_header(&window.first_six()) else {
+    };
+    let Ok(header) = read_header(first_six) else {
         return Found::Refused;
     };
     if is_refused(window, header) {

@@ -1,36 +1,50 @@
-//! The bytes that a framer holds, in a ring, with a running check byte beside each.
-ghost use Rattle.std.specs.Prelude.{◌≡◌, ℕ, ◌+◌, ◌<◌, ◌≤◌, [], ◌∷◌, ◌++◌, length, take, drop};
-ghost use Rattle.std.specs.Prelude.{slice_index_or, vec_capacity, ◌==◌, OnSome, IfNone, IfOk};
-ghost use Rattle.circular_buffer.specs.Buffer.{Buffer, buffer};
+//! The bytes that a framer holds, in one piece, with a running check byte beside each.
+ghost use Rattle.std.specs.Prelude.{◌≡◌, ℕ, ◌+◌, ◌<◌, ◌≤◌, List, [], ◌++◌, length, take, drop};
+ghost use Rattle.std.specs.Prelude.{slice_index_or, vec_capacity, ◌==◌, IfOk};
 ghost use Rattle.esp3_frames.specs.Check.{check};
 ghost use Rattle.esp3_frames.specs.Packet.{longest_packet};
-ghost use Rattle.esp3_resync.specs.Running.{Running};
+ghost use Rattle.esp3_resync.specs.Running.{Noted, Running, room};
 ghost use Rattle.esp3_resync.specs.Settled.{ReachesSync};
 
-use circular_buffer::HeapCircularBuffer;
 use esp3_frames::{LONGEST_PACKET, SYNC_BYTE, check8_between, check8_next};
 use memchr::memchr;
 use std::alloc::{AllocError, Global};
 use std::marker::Model;
 
-fn byte_or(ring: &HeapCircularBuffer<u8>, i: usize, other: u8) -> u8
-    ensures { result ≡ slice_index_or ring.now.items i other }
+// How many bytes there is room for: so many that those held are moved to the front at most once for each
+// `LONGEST_PACKET` bytes that come.
+const ROOM: usize = 2 * LONGEST_PACKET;
+
+// Goes on with a running check over some bytes: `checks` has the check byte of all before them at `at`, and gets that of
+// all up to each of them.
+fn note_checks(checks: &mut [u8], at: usize, bytes: &[u8])
+    requires { at + length bytes.now < length checks.old }
+    ensures len { length checks.new ≡ length checks.old }
+    ensures noted { (gone w : List ℕ) → at ≡ length w → Noted gone w checks.old → Noted gone (w ++ bytes.now) checks.new }
 {
-    ring.get(i).copied().unwrap_or(other)
+    let mut all = checks[at];
+    for i in 0..bytes.len() {
+        all = check8_next(all, bytes[i]);
+        checks[at + i + 1] = all;
+    }
 }
 
-// Goes on with a running check over some bytes: keeps beside each the check byte of all before it, and answers that of
-// all.
-fn note_checks(checks: &mut HeapCircularBuffer<u8>, check: u8, bytes: &[u8]) -> u8
-    ensures { (b : Buffer ℕ) → Running b checks.old check → length b.items + length bytes.now ≤ longest_packet
-        → Running (buffer (b.items ++ bytes.now) b.capacity) checks.new result }
+// Moves the bytes from `start` on to the front, with their checks, if there is no room for `count` bytes more, and
+// returns where they begin now.
+fn make_room(bytes: &mut Vec<u8>, start: usize, checks: &mut Vec<u8>, count: usize) -> usize
+    requires running { Running bytes.old start checks.old }
+    requires few { length bytes.old.items + count ≤ start + longest_packet }
+    ensures running { Running bytes.new result checks.new }
+    ensures same { drop result bytes.new.items ≡ drop start bytes.old.items }
+    ensures room { length bytes.new.items + count ≤ room }
 {
-    let mut all = check;
-    for byte in bytes {
-        let _fits = checks.try_push_back(all);
-        all = check8_next(all, *byte);
+    if bytes.len() + count <= ROOM {
+        return start;
     }
-    all
+    bytes.copy_within(start.., 0);
+    bytes.truncate(bytes.len() - start);
+    checks.copy_within(start.., 0);
+    0
 }
 
 /// At most as many bytes of a stream as the longest packet has, taken in at the back and let go at the front.
@@ -39,22 +53,23 @@ fn note_checks(checks: &mut HeapCircularBuffer<u8>, check: u8, bytes: &[u8]) -> 
 /// same few steps, however long the part is, and a refused packet is only searched for the next sync byte.
 #[derive(Drop)]
 pub struct Window {
-    bytes: HeapCircularBuffer<u8>,
-    // Beside each byte, the check byte of all that came before it.
-    checks: HeapCircularBuffer<u8>,
-    // The check byte of all that came.
-    check: u8,
+    // The bytes that are held, and before them some that were let go.
+    bytes: Vec<u8>,
+    // How many of those were let go.
+    start: usize,
+    // Beside each of those, and behind the last one, the check byte of all that came before.
+    checks: Vec<u8>,
 }
 
 impl Model for Window {
-    ghost use Rattle.std.specs.Prelude.{ℕ, List};
+    ghost use Rattle.std.specs.Prelude.{ℕ, List, drop};
     ghost use Rattle.esp3_resync.specs.Running.{Running};
 
     ghost Value = { List ℕ };
 
-    ghost view = { λ w. w.bytes.items };
+    ghost view = { λ w. drop w.start w.bytes.items };
 
-    ghost invariant = { λ w. Running w.bytes w.checks w.check };
+    ghost invariant = { λ w. Running w.bytes w.start w.checks };
 }
 
 impl Window {
@@ -63,10 +78,17 @@ impl Window {
         ensures { IfOk result (λ w. w ≡ []) }
     {
         Ok(Window {
-            bytes: HeapCircularBuffer::with_capacity(alloc, LONGEST_PACKET)?,
-            checks: HeapCircularBuffer::with_capacity(alloc, LONGEST_PACKET)?,
-            check: 0,
+            bytes: Vec::with_capacity(alloc, ROOM)?,
+            start: 0,
+            checks: vec![in alloc; 0; ROOM + 1]?,
         })
+    }
+
+    /// The bytes that it holds.
+    pub fn as_slice(&self) -> &[u8]
+        ensures { result.now ≡ self.now }
+    {
+        &self.bytes[self.start..]
     }
 
     /// How many bytes it holds.
@@ -74,56 +96,30 @@ impl Window {
         ensures len { result ≡ length self.now }
         ensures within { result ≤ longest_packet }
     {
-        self.bytes.len()
+        self.bytes.len() - self.start
     }
 
     /// Whether it holds none.
     pub fn is_empty(&self) -> bool
         ensures { result ≡ (length self.now == 0) }
     {
-        self.bytes.is_empty()
+        self.len() == 0
     }
 
     /// The byte at `i`, counted from the front, or `other` where there is none.
     pub fn byte_or(&self, i: usize, other: u8) -> u8
         ensures { result ≡ slice_index_or self.now i other }
     {
-        byte_or(&self.bytes, i, other)
-    }
-
-    /// The first six bytes.
-    pub fn first_six(&self) -> [u8; 6]
-        requires { 6 ≤ length self.now }
-        ensures { result ≡ take 6 self.now }
-    {
-        [
-            self.byte_or(0, 0),
-            self.byte_or(1, 0),
-            self.byte_or(2, 0),
-            self.byte_or(3, 0),
-            self.byte_or(4, 0),
-            self.byte_or(5, 0),
-        ]
+        self.as_slice().get(i).copied().unwrap_or(other)
     }
 
     /// The check byte of the `len` bytes from `from` on.
     pub fn check_of(&self, from: usize, len: usize) -> u8
-        requires { from + len < length self.now }
+        requires { from + len ≤ length self.now }
         ensures { result ≡ check (take len (drop from self.now)) }
     {
-        let before = byte_or(&self.checks, from, 0);
-        let all = byte_or(&self.checks, from + len, 0);
-        check8_between(before, all, len)
-    }
-
-    /// Takes in one byte.
-    pub fn push(&mut self, b: u8)
-        requires { length self.old < longest_packet }
-        ensures { self.new ≡ self.old ++ b ∷ [] }
-    {
-        let _fits = self.bytes.try_push_back(b);
-        let _fits_too = self.checks.try_push_back(self.check);
-        self.check = check8_next(self.check, b);
+        let place = self.start + from;
+        check8_between(self.checks[place], self.checks[place + len], len)
     }
 
     /// Takes in some bytes.
@@ -131,8 +127,9 @@ impl Window {
         requires { length self.old + length bytes.now ≤ longest_packet }
         ensures { self.new ≡ self.old ++ bytes.now }
     {
-        let _count = self.bytes.fill_from_slice(bytes);
-        self.check = note_checks(&mut self.checks, self.check, bytes);
+        self.start = make_room(&mut self.bytes, self.start, &mut self.checks, bytes.len());
+        note_checks(&mut self.checks, self.bytes.len(), bytes);
+        let _has_room = self.bytes.extend_from_slice(bytes);
     }
 
     /// Lets go `count` bytes at the front.
@@ -140,9 +137,7 @@ impl Window {
         requires { count ≤ length self.old }
         ensures { self.new ≡ drop count self.old }
     {
-        let left = self.bytes.len() - count;
-        self.bytes.truncate_front(left);
-        self.checks.truncate_front(left);
+        self.start += count;
     }
 
     /// Lets go the first byte, and all behind it up to the next sync byte.
@@ -150,13 +145,9 @@ impl Window {
         requires { 1 ≤ length self.old }
         ensures { ReachesSync (drop 1 self.old) self.new }
     {
-        self.skip(1);
-        let (front, back) = self.bytes.as_slices();
-        let count = match memchr(SYNC_BYTE, front) {
-            Some(place) => place,
-            None => front.len() + memchr(SYNC_BYTE, back).unwrap_or(back.len()),
-        };
-        self.skip(count);
+        let behind = &self.as_slice()[1..];
+        let count = memchr(SYNC_BYTE, behind).unwrap_or(behind.len());
+        self.skip(1 + count);
     }
 
     /// Moves `count` bytes from the front into `to`, in place of all that stands there.
@@ -166,11 +157,8 @@ impl Window {
         ensures items { to.new.items ≡ take count self.old }
         ensures capacity { vec_capacity to.old ≤ vec_capacity to.new }
     {
-        let (front, back) = self.bytes.as_slices();
-        let from_front = front.len().min(count);
         to.clear();
-        let _has_room = to.extend_from_slice(&front[..from_front]);
-        let _has_room_too = to.extend_from_slice(&back[..count - from_front]);
+        let _has_room = to.extend_from_slice(&self.as_slice()[..count]);
         self.skip(count);
     }
 }

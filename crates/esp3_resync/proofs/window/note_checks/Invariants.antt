@@ -1,11 +1,12 @@
-use Rattle.std.proofs.Common.{ℕ, ◌+◌, ◌≤◌, ◌++◌, length, take}
-use Rattle.circular_buffer.specs.Buffer.{Buffer, buffer}
-use Rattle.esp3_frames.specs.Packet.{longest_packet}
-use Rattle.esp3_resync.specs.Running.{Running}
+use Rattle.std.proofs.Common.{◌≡◌, ℕ, List, ◌++◌, length, take}
+use Rattle.esp3_frames.specs.Check.{check}
+use Rattle.esp3_resync.specs.Running.{Noted}
 use Rattle.esp3_resync.proofs.window.note_checks.Given as goal
 
--- the bytes so far are checked
-abbrev pub invariant-loop-byte : goal.invariant-loop-byte
-invariant-loop-byte l =
-    (b : Buffer ℕ) → Running b l.fn.checks l.fn.check → length b.items + length l.bytes ≤ longest_packet
-    → Running (buffer (b.items ++ take l.byte-index l.bytes) b.capacity) l.checks l.all
+-- the bytes so far are noted
+abbrev pub invariant-loop-i : goal.invariant-loop-i
+invariant-loop-i l = record {
+  len : length l.checks ≡ length l.fn.checks;
+  noted : (g w : List ℕ) → l.at ≡ length w → Noted g w l.fn.checks
+      → Noted g (w ++ take l.i l.bytes) l.checks × (l.all ≡ check (g ++ (w ++ take l.i l.bytes)));
+}

@@ -1,6 +1,6 @@
-use Rattle.std.proofs.Common.{◌≡◌, ◌+◌, ◌-◌, ◌++◌, length, take, drop, sym, ap, ◌∙◌, arith, length-take, length-drop}
-use Rattle.esp3_frames.specs.Frames.{Frames, frames_of}
-use Rattle.esp3_resync.proofs.FramesLemmas.{idle, run_more, byte_more, quiet_before, none_ready}
+use Rattle.std.proofs.Common.{◌-◌, length, drop, sym, ap, ◌∙◌, arith, length-take, length-drop}
+use Rattle.esp3_frames.specs.Frames.{Frames}
+use Rattle.esp3_resync.proofs.FramesLemmas.{idle, run_more, quiet_more, quiet_before, none_ready}
 use Rattle.esp3_resync.proofs.framer.Framer.push_run.Goals as goal
 
 pub loop-count-init : goal.loop-count-init
@@ -12,58 +12,33 @@ loop-count-init c = record {
 
 pub returns-then-is_ready-clause-taken : goal.returns-then-is_ready-clause-taken
 returns-then-is_ready-clause-taken c =
-    let r = c.args.self.now.rest in
-    let b = c.args.bytes.now in
-    let i = c.loop-count.count in
-    let n = c.push_quiet-quiet.result in
     let before = c.loop-count.invariant in
-    let quiet = c.push_quiet-quiet in
-    let taken = run_more r b i c.loop-count.self before.taken before.none n quiet.new.self quiet.ensures.taken in
-    byte_more r b (i + n) quiet.new.self taken quiet.ensures.none c.push.new.self (omega arith) c.push.ensures
+    let some = c.push_some-count in
+    run_more c.args.self.now.rest c.args.bytes.now c.loop-count.count c.loop-count.self before.taken before.none some.result
+    some.new.self some.ensures.taken
 
 pub returns-then-is_ready-clause-before : goal.returns-then-is_ready-clause-before
-returns-then-is_ready-clause-before c = λ k within.
-    let r = c.args.self.now.rest in
-    let b = c.args.bytes.now in
-    let i = c.loop-count.count in
-    let n = c.push_quiet-quiet.result in
+returns-then-is_ready-clause-before c = λ k below.
     let before = c.loop-count.invariant in
-    let quiet = c.push_quiet-quiet in
-    let taken = run_more r b i c.loop-count.self before.taken before.none n quiet.new.self quiet.ensures.taken in
-    quiet_before r b (i + n) k (ap (λ (x : Frames). length x.ready) (sym taken) ∙ quiet.ensures.none) (omega arith)
-
-pub loop-count-preserved-else-is_ready : goal.loop-count-preserved-else-is_ready
-loop-count-preserved-else-is_ready c =
-    let r = c.args.self.now.rest in
-    let b = c.args.bytes.now in
-    let i = c.loop-count.count in
-    let n = c.push_quiet-quiet.result in
-    let before = c.loop-count.invariant in
-    let quiet = c.push_quiet-quiet in
-    let taken = run_more r b i c.loop-count.self before.taken before.none n quiet.new.self quiet.ensures.taken in
-    record {
-      within = omega arith;
-      taken = byte_more r b (i + n) quiet.new.self taken quiet.ensures.none c.push.new.self (omega arith) c.push.ensures;
-      none =
-          none_ready c.is_ready.result (length c.push.new.self.ready) c.if-is_ready.false c.is_ready.ensures.ready.1;
-    }
+    let some = c.push_some-count in
+    quiet_more c.args.self.now.rest c.args.bytes.now c.loop-count.count c.loop-count.self before.taken before.none some.result
+    k some.ensures.before below
 
 pub loop-count-preserved : goal.loop-count-preserved
 loop-count-preserved c =
-    let r = c.args.self.now.rest in
     let b = c.args.bytes.now in
     let i = c.loop-count.count in
-    let n = c.push_quiet-quiet.result in
     let before = c.loop-count.invariant in
-    let quiet = c.push_quiet-quiet in
+    let some = c.push_some-count in
     record {
-      within = omega (arith, length-take (length b - i) (drop i b), length-drop i b);
-      taken = run_more r b i c.loop-count.self before.taken before.none n quiet.new.self quiet.ensures.taken;
-      none = quiet.ensures.none;
+      within = omega (arith, some.ensures.within, length-take (length b - i) (drop i b), length-drop i b);
+      taken = run_more c.args.self.now.rest b i c.loop-count.self before.taken before.none some.result some.new.self
+          some.ensures.taken;
+      none = none_ready c.is_ready.result (length some.new.self.ready) c.if-is_ready.false c.is_ready.ensures.ready.1;
     }
 
 pub returns-clause-before : goal.returns-clause-before
 returns-clause-before c = λ k within.
-    let now = c.loop-count.invariant in
+    let before = c.loop-count.invariant in
     quiet_before c.args.self.now.rest c.args.bytes.now c.loop-count.count k
-    (ap (λ (x : Frames). length x.ready) (sym now.taken) ∙ now.none) (omega arith)
+    (ap (λ (x : Frames). length x.ready) (sym before.taken) ∙ before.none) (omega (arith, within))

@@ -1,0 +1,88 @@
+use Rattle.std.proofs.Common.{◌≡◌, List, ℕ, [], ◌++◌, length, take, sym, ap, ◌∙◌, arith, length-append, length-take}
+use Rattle.std.proofs.lemmas.Bool.{eqb-true}
+use Rattle.std.proofs.lemmas.List.{nil_from_length}
+use Rattle.esp3_frames.specs.Frames.{Frames, frames_of}
+use Rattle.esp3_resync.proofs.FramesLemmas.{held, few, frames_of-noise, noise_taken, unready_partial}
+use Rattle.esp3_resync.proofs.framer.Framer.push_some.Goals as goal
+
+pub push_announced-count-requires-clause-partial : goal.push_announced-count-requires-clause-partial
+push_announced-count-requires-clause-partial c =
+    (held c.self.inside.window c.args.self.now c.self.invariant.front c.self.view_is c.requires.none).0
+
+pub returns-then-is_refused-clause-taken : goal.returns-then-is_refused-clause-taken
+returns-then-is_refused-clause-taken c =
+    let t = take c.push_announced-count.result c.args.bytes.now in
+    let h = held c.self.inside.window c.args.self.now c.self.invariant.front c.self.view_is c.requires.none in
+    c.settle_behind-self-inside.ensures.frames
+    ∙ ap frames_of (c.push_announced-count.ensures.taken ∙ ap (λ (y : List ℕ). y ++ t) h.1)
+
+pub returns-then-is_refused-clause-before : goal.returns-then-is_refused-clause-before
+returns-then-is_refused-clause-before c = λ k below.
+    let w = c.self.inside.window in
+    let t = take k c.args.bytes.now in
+    let h = held c.self.inside.window c.args.self.now c.self.invariant.front c.self.view_is c.requires.none in
+    ap (λ (y : List ℕ). length (frames_of (y ++ t)).ready) (sym h.1)
+    ∙ unready_partial (w ++ t) (c.push_announced-count.ensures.before k below)
+
+pub returns-else-is_refused-clause-taken : goal.returns-else-is_refused-clause-taken
+returns-else-is_refused-clause-taken c =
+    let t = take c.push_announced-count.result c.args.bytes.now in
+    let h = held c.self.inside.window c.args.self.now c.self.invariant.front c.self.view_is c.requires.none in
+    ap frames_of (c.push_announced-count.ensures.taken ∙ ap (λ (y : List ℕ). y ++ t) h.1)
+
+pub returns-else-is_refused-clause-before : goal.returns-else-is_refused-clause-before
+returns-else-is_refused-clause-before c = λ k below.
+    let w = c.self.inside.window in
+    let t = take k c.args.bytes.now in
+    let h = held c.self.inside.window c.args.self.now c.self.invariant.front c.self.view_is c.requires.none in
+    ap (λ (y : List ℕ). length (frames_of (y ++ t)).ready) (sym h.1)
+    ∙ unready_partial (w ++ t) (c.push_announced-count.ensures.before k below)
+
+pub returns-then-count-gt0-clause-taken : goal.returns-then-count-gt0-clause-taken
+returns-then-count-gt0-clause-taken c =
+    let w = c.self.inside.window in
+    let f = c.args.self.now in
+    let b = c.args.bytes.now in
+    let n = c.noise_len-count.result in
+    let h = held w f c.self.invariant.front c.self.view_is c.requires.none in
+    let nil : w ≡ [] = nil_from_length w (eqb-true _ _ (sym c.is_empty.ensures ∙ c.if-is_empty.true)) in
+    noise_taken w (take n b) f nil h.1 c.self.view_is (frames_of-noise b n c.noise_len-count.ensures.none)
+
+pub returns-then-count-gt0-clause-before : goal.returns-then-count-gt0-clause-before
+returns-then-count-gt0-clause-before c = λ k below.
+    let w = c.self.inside.window in
+    let b = c.args.bytes.now in
+    let h = held c.self.inside.window c.args.self.now c.self.invariant.front c.self.view_is c.requires.none in
+    let nil : w ≡ [] = nil_from_length w (eqb-true _ _ (sym c.is_empty.ensures ∙ c.if-is_empty.true)) in
+    ap (λ (y : List ℕ). length (frames_of (y ++ take k b)).ready) (sym h.1 ∙ nil)
+    ∙ ap (λ (y : Frames). length y.ready)
+    (frames_of-noise b k (λ i less. c.noise_len-count.ensures.none i (omega (arith, less, below))))
+
+pub returns-clause-taken : goal.returns-clause-taken
+returns-clause-taken c =
+    let t = take c.push_first-count.result c.args.bytes.now in
+    let h = held c.self.inside.window c.args.self.now c.self.invariant.front c.self.view_is c.requires.none in
+    c.settle-self-inside.ensures.frames
+    ∙ ap frames_of (c.push_first-count.ensures.taken ∙ ap (λ (y : List ℕ). y ++ t) h.1)
+
+pub returns-clause-before : goal.returns-clause-before
+returns-clause-before c = λ k below.
+    let w = c.self.inside.window in
+    let b = c.args.bytes.now in
+    let n = c.push_first-count.result in
+    let h = held c.self.inside.window c.args.self.now c.self.invariant.front c.self.view_is c.requires.none in
+    let first = c.push_first-count.ensures in
+    ap (λ (y : List ℕ). length (frames_of (y ++ take k b)).ready) (sym h.1)
+    ∙ few 6 (w ++ take k b)
+    (omega (
+      arith,
+      below,
+      first.few,
+      first.within,
+      ap length first.taken,
+      length-append w (take k b),
+      length-append w (take n b),
+      length-take k b,
+      length-take n b,
+    ))
+    (omega arith)

@@ -1,0 +1,38 @@
+use Rattle.std.proofs.Common.{◌≡◌, ℕ, ◌+◌, ◌≤◌, true, List, ◌++◌, length, drop, sym, subst, ap, ◌∙◌, arith}
+use Rattle.std.proofs.Common.{length-append, length-drop}
+use Rattle.std.proofs.Math.Seq.{take_at}
+use Rattle.std.specs.Result.{is_ok}
+use Rattle.std.proofs.lemmas.Bool.{cond-true}
+use Rattle.esp3_resync.specs.Running.{Noted}
+use Rattle.esp3_resync.proofs.window.Window.extend.Goals as goal
+
+pub invariant_of-self : goal.invariant_of-self
+invariant_of-self c =
+    let t = c.args.bytes.now in
+    let made = c.make_room-self-inside in
+    let b = made.new.bytes.items in
+    let r = made.ensures.running in
+    let room = made.ensures.room in
+    let added = c.extend_from_slice-has_room in
+    let some : is_ok added.result ≡ true = added.ensures.succeeds (omega (arith, r.memory.0, room)) in
+    let items : added.new.self.items ≡ b ++ t = added.ensures.items ∙ cond-true (is_ok added.result) _ _ some in
+    let size : length added.new.self.items ≡ length b + length t = omega (arith, ap length items, length-append b t) in
+    let held : length b ≤ made.result + length c.args.self.now =
+    omega (arith, r.within.0, ap length (made.ensures.same ∙ c.self.view_is), length-drop made.result b) in
+    let d : List ℕ = c.note_checks.new.checks in
+    let before = c.deref_mut.ensures in
+    let same : length d ≡ made.new.checks.len = omega (arith, c.note_checks.ensures.len, before.len) in
+    let checks = take_at d (drop (length d) made.new.checks.items) made.new.checks.len same in
+    record {
+      memory = (
+        omega (arith, r.memory.0, added.ensures.capacity),
+        ap length checks ∙ c.note_checks.ensures.len ∙ ap length before.value ∙ r.memory.1,
+      );
+      within = (omega (arith, r.within.0), omega (arith, room));
+      few = omega (arith, c.requires);
+      gone = r.gone;
+      noted = subst (Noted r.gone added.new.self.items) (sym checks)
+          (subst (λ (y : List ℕ). Noted r.gone y d) (sym items)
+          (c.note_checks.ensures.noted r.gone b (omega (arith, c.len.ensures))
+          (subst (Noted r.gone b) (sym before.value) r.noted)));
+    }

@@ -1,0 +1,35 @@
+use Rattle.std.proofs.Common.{◌≡◌, ℕ, ◌+◌, ◌-◌, ◌≤◌, List, ◌++◌, length, take, drop, get_or, sym, subst, ap, ◌∙◌, arith}
+use Rattle.std.proofs.Common.{length-drop}
+use Rattle.std.proofs.Math.Seq.{paste, take-paste}
+use Rattle.std.proofs.lemmas.List.{take_all}
+use Rattle.esp3_resync.specs.Running.{Noted}
+use Rattle.esp3_resync.proofs.RunningLemmas.{noted_moved}
+use Rattle.esp3_resync.proofs.window.make_room.Goals as goal
+
+pub returns-clause-running : goal.returns-clause-running
+returns-clause-running c =
+    let w = c.args.bytes.now.items in
+    let s = c.args.start in
+    let r = c.requires.running in
+    let within = r.within in
+    let few = r.few in
+    let n : ℕ = c.args.bytes.now.len - s in
+    let all : n ≡ length (drop s w) = omega (arith, length-drop s w) in
+    let moved : c.truncate.new.self.items ≡ drop s w =
+    c.truncate.ensures.items
+    ∙ ap (λ (y : List ℕ). take (c.len-2.result - s) y) c.copy_within.ensures.items
+    ∙ ap (λ k. take k (paste w 0 (drop s w) n)) (omega (arith, c.len-2.ensures, c.copy_within.ensures.len))
+    ∙ take-paste w 0 (drop s w) n (omega arith) (omega arith) ∙ take_all n (drop s w) (omega arith) in
+    let beside = c.copy_within-2.ensures in
+    let same = λ (k : ℕ) (below : k ≤ length w - s).
+    beside.by_index.0 k 0 (omega arith) (omega (arith, r.memory.1, within.1))
+    ∙ ap (λ j. get_or c.args.checks.now.items (s + j) 0) (omega arith)
+    in
+    record {
+      memory = (omega (arith, r.memory.0, c.truncate.ensures.capacity, c.copy_within.ensures.capacity), omega (arith, beside.len, r.memory.1));
+      within = (omega arith, omega (arith, ap length moved, length-drop s w, within.1));
+      few = omega (arith, ap length moved, length-drop s w);
+      gone = r.gone ++ take s w;
+      noted = subst (λ (y : List ℕ). Noted (r.gone ++ take s w) y c.copy_within-2.new.self.items) (sym moved)
+          (noted_moved r.gone w c.args.checks.now.items c.copy_within-2.new.self.items s within.0 same r.noted);
+    }
