@@ -1,12 +1,12 @@
 -- What a window keeps beside its bytes.
-use Rattle.std.specs.Prelude.{◌≡◌, ℕ, ◌+◌, ◌*◌, ◌≤◌, List, ◌++◌, length, take, slice_index, vec_capacity}
+use Rattle.std.specs.Prelude.{◌≡◌, ℕ, ◌+◌, ◌≤◌, List, ◌++◌, length, take, slice_index, vec_capacity}
 use Rattle.std.specs.Global.{Vec}
 use Rattle.esp3_frames.specs.Check.{check}
 use Rattle.esp3_frames.specs.Packet.{longest_packet}
 
--- how many bytes there is room for
+-- how many bytes there is room for: those of the longest packet, and as many as may come before these are moved
 abbrev pub room : ℕ
-room = 2 * longest_packet
+room = longest_packet + 16384
 
 -- c has, beside each byte of w and behind the last one, the check byte of all that came before: the bytes g, and those
 -- of w

@@ -11,9 +11,11 @@ use memchr::memchr;
 use std::alloc::{AllocError, Global};
 use std::marker::Model;
 
-// How many bytes there is room for: so many that those held are moved to the front at most once for each
-// `LONGEST_PACKET` bytes that come.
-const ROOM: usize = 2 * LONGEST_PACKET;
+// How many bytes come at least before those that are held are moved to the front of their room again.
+const SLACK: usize = 16384;
+
+// How many bytes there is room for.
+const ROOM: usize = LONGEST_PACKET + SLACK;
 
 // Goes on with a running check over some bytes: `checks` has the check byte of all before them at `at`, and gets that of
 // all up to each of them.
