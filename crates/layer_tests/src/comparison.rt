@@ -1,4 +1,6 @@
 //! The framer beside the plain one: after each byte of 10,000 made-up streams both hold the same packets.
+ghost use Rattle.std.specs.Prelude.{◌<◌};
+
 use crate::plain::PlainFramer;
 use esp3_frames::{check8, read_packet};
 use esp3_resync::{Framer, PacketBuf};
@@ -138,8 +140,9 @@ fn header_at_distance(
     Ok(())
 }
 
-// The same behind a packet that ends up to 1,500 bytes before the end of the ring.
-fn headers_at_end_of_ring(bytes: &mut Vec<u8>, draws: &mut Draws) -> Result<(), AllocError> {
+// The same behind two packets that end up to 1,500 bytes before the end of the framer's memory.
+fn headers_at_end_of_memory(bytes: &mut Vec<u8>, draws: &mut Draws) -> Result<(), AllocError> {
+    push_packet(bytes, draws, 65_535, 255, 0)?;
     let data_len = 65_535_u64.saturating_sub(draws.draw(1_500));
     push_packet(bytes, draws, data_len, 255, 0)?;
     let distance = draws.draw(800);
@@ -149,7 +152,7 @@ fn headers_at_end_of_ring(bytes: &mut Vec<u8>, draws: &mut Draws) -> Result<(), 
 fn push_stream(bytes: &mut Vec<u8>, draws: &mut Draws, number: u64) -> Result<(), AllocError> {
     match number {
         0..800 => header_at_distance(bytes, draws, number),
-        800..810 => headers_at_end_of_ring(bytes, draws),
+        800..810 => headers_at_end_of_memory(bytes, draws),
         810..842 => long_stream(bytes, draws, 65_535),
         842..1_700 => long_stream(bytes, draws, 1_000),
         _ => short_stream(bytes, draws),
@@ -195,6 +198,30 @@ fn compare(alloc: Global, bytes: &[u8], counts: &mut Counts) -> Result<bool, All
     Ok(true)
 }
 
+// How many packets the bytes hold, taken in runs from pieces of this length.
+fn packets_in_runs(alloc: Global, bytes: &[u8], size: usize) -> Result<u32, AllocError>
+    requires { 0 < size }
+{
+    let mut framer = Framer::new(alloc)?;
+    let mut buffer = PacketBuf::new(alloc)?;
+    let mut count: u32 = 0;
+    for piece in bytes.chunks(size) {
+        let mut rest = piece;
+        for _ in 0..=bytes.len() {
+            if !framer.is_ready() {
+                let taken = framer.push_run(rest);
+                rest = &rest[taken..];
+            }
+            if framer.take(&mut buffer) {
+                count = count.saturating_add(1);
+            } else if rest.is_empty() {
+                break;
+            }
+        }
+    }
+    Ok(count)
+}
+
 #[test]
 fn as_a_plain_framer(rt: HostRuntime) -> Result<(), Fail> {
     let alloc = rt.alloc();
@@ -207,11 +234,15 @@ fn as_a_plain_framer(rt: HostRuntime) -> Result<(), Fail> {
     for stream in 0..10_000_u64 {
         bytes.clear();
         push_stream(&mut bytes, &mut draws, stream)?;
+        let before = counts.packets;
         let same = compare(alloc, &bytes, &mut counts)?;
         assert_eq!(rt; (stream, same), (stream, true));
+        let size = 1 + (stream % 300) as usize;
+        let in_runs = packets_in_runs(alloc, &bytes, size)?;
+        assert_eq!(rt; (stream, before.saturating_add(in_runs)), (stream, counts.packets));
     }
     // scripts/rows/stream-counts makes the same streams, and finds so many packets by the rule.
-    assert_eq!(rt; counts.packets, 40_186);
-    assert_eq!(rt; counts.longest, 5);
+    assert_eq!(rt; counts.packets, 40_135);
+    assert_eq!(rt; counts.longest, 19);
     Ok(())
 }

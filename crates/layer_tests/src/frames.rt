@@ -2,7 +2,7 @@
 use arrayvec::ArrayVec;
 use esp3_frames::{
     Header, HeaderFault, LONGEST_PACKET, PacketFault, check8, check8_between, check8_next,
-    read_header, read_packet, write_packet,
+    first_packet, read_header, read_packet, write_packet,
 };
 use std::alloc::{AllocError, Global};
 use std::test::Fail;
@@ -127,6 +127,24 @@ fn a_packet(rt: HostRuntime) -> Result<(), Fail> {
         write_packet(1, &[], &[], &mut out),
         Err(PacketFault::EmptyPacket)
     );
+    Ok(())
+}
+
+// A packet at the front, with more bytes behind it or none.
+#[test]
+fn a_first_packet(rt: HostRuntime) -> Result<(), Fail> {
+    let mut more = [0x55; 24];
+    more[..21].copy_from_slice(&CONTACT);
+    for bytes in [&more[..], &more[..21]] {
+        let (packet, len) = first_packet(bytes).ok_or("no packet")?;
+        assert_eq!(rt; (packet.kind, len), (1, 21));
+        assert_eq!(rt; packet.body, &CONTACT[6..13]);
+        assert_eq!(rt; packet.opt, &CONTACT[13..20]);
+    }
+    assert!(rt; first_packet(&more[..20]).is_none());
+    assert!(rt; first_packet(&more[1..]).is_none());
+    more[20] = 0x1E;
+    assert!(rt; first_packet(&more).is_none());
     Ok(())
 }
 

@@ -72,3 +72,94 @@ fn three_at_one_byte(rt: HostRuntime) -> Result<(), Fail> {
     assert_eq!(rt; feed(&mut framer, &mut buffer, &[0]), 3);
     Ok(())
 }
+
+// The packet above, and the command that reads the base ID. Before the first stand noise and a header with a wrong check
+// byte, before the second two more sync bytes.
+const TWO_PACKETS: [u8; 39] = [
+    0x00, 0xAA, 0x55, 0x00, 0x07, 0x07, 0x01, 0x7B, 0x55, 0x00, 0x07, 0x07, 0x01, 0x7A, 0xD5, 0x09,
+    0x01, 0x80, 0x0A, 0xBC, 0x00, 0x01, 0xFF, 0xFF, 0xFF, 0xFF, 0x2D, 0x00, 0x1F, 0x55, 0x55, 0x55,
+    0x00, 0x01, 0x00, 0x05, 0x70, 0x08, 0x38,
+];
+
+// Of each of the two, the type and the data.
+const TYPES_AND_DATA: [u8; 17] = [
+    0x01, 0xD5, 0x09, 0x01, 0x80, 0x0A, 0xBC, 0x00, 0x01, 0xFF, 0xFF, 0xFF, 0xFF, 0x2D, 0x00, 0x05,
+    0x08,
+];
+
+// Pushes the bytes in runs, and appends the type and the data of each packet.
+fn feed_runs(
+    framer: &mut Framer,
+    buffer: &mut PacketBuf,
+    bytes: &[u8],
+    found: &mut Vec<u8>,
+) -> Result<(), Fail> {
+    let mut rest = bytes;
+    for _ in 0..=bytes.len() {
+        if !framer.is_ready() {
+            let count = framer.push_run(rest);
+            rest = &rest[count..];
+        }
+        if framer.take(buffer) {
+            let packet = buffer.packet().ok_or("no packet")?;
+            found.push(packet.kind)?;
+            found.extend_from_slice(packet.body)?;
+            found.extend_from_slice(packet.opt)?;
+        }
+    }
+    Ok(())
+}
+
+// The pieces have every length, so some end within noise, a header, data or a check.
+#[test]
+fn packets_in_runs(rt: HostRuntime) -> Result<(), Fail> {
+    for size in 1..=TWO_PACKETS.len() {
+        let mut framer = Framer::new(rt.alloc())?;
+        let mut buffer = PacketBuf::new(rt.alloc())?;
+        let mut found = Vec::new(rt.alloc());
+        for piece in TWO_PACKETS.chunks(size) {
+            feed_runs(&mut framer, &mut buffer, piece, &mut found)?;
+        }
+        assert_eq!(rt; (size, found.as_slice()), (size, TYPES_AND_DATA.as_slice()));
+    }
+    Ok(())
+}
+
+// The bytes held are moved to the front of their memory within the second of the greatest packets.
+#[test]
+fn greatest_packets_in_runs(rt: HostRuntime) -> Result<(), Fail> {
+    let mut framer = Framer::new(rt.alloc())?;
+    let mut buffer = PacketBuf::new(rt.alloc())?;
+    let mut found = Vec::new(rt.alloc());
+    let zeros = vec![in rt.alloc(); 0; 65_791]?;
+    for _ in 0..3_u32 {
+        feed_runs(&mut framer, &mut buffer, &CONTACT, &mut found)?;
+        let greatest = [0x55, 0xFF, 0xFF, 0xFF, 0x09, 0x12];
+        feed_runs(&mut framer, &mut buffer, &greatest, &mut found)?;
+        feed_runs(&mut framer, &mut buffer, &zeros, &mut found)?;
+        let packet = buffer.packet().ok_or("no packet of 65,797 bytes")?;
+        assert_eq!(rt; (packet.kind, packet.body.len(), packet.opt.len()), (9, 65_535, 255));
+        assert_eq!(rt; found.len(), 65_806);
+        assert_eq!(rt; &found[..15], &TYPES_AND_DATA[..15]);
+        assert!(rt; found[16..].iter().all(|byte| *byte == 0));
+        found.clear();
+    }
+    Ok(())
+}
+
+// A packet is lent if it stands whole at the front of the bytes, and no byte is held.
+#[test]
+fn packets_lent(rt: HostRuntime) -> Result<(), Fail> {
+    let mut framer = Framer::new(rt.alloc())?;
+    let (packet, len) = framer.lend(&TWO_PACKETS[8..]).ok_or("no packet")?;
+    assert_eq!(rt; (packet.kind, len), (1, 21));
+    assert_eq!(rt; packet.body, &CONTACT[6..13]);
+    assert_eq!(rt; packet.opt, &CONTACT[13..20]);
+    let (command, len) = framer.lend(&TWO_PACKETS[31..]).ok_or("no command")?;
+    assert_eq!(rt; (command.kind, len), (5, 8));
+    assert!(rt; framer.lend(&TWO_PACKETS).is_none());
+    assert!(rt; framer.lend(&TWO_PACKETS[8..28]).is_none());
+    framer.push(0x55);
+    assert!(rt; framer.lend(&CONTACT).is_none());
+    Ok(())
+}
