@@ -1,5 +1,5 @@
 -- What a window keeps beside its bytes.
-use Rattle.std.specs.Prelude.{◌≡◌, ℕ, ◌+◌, ◌≤◌, List, ◌++◌, length, take, slice_index, vec_capacity}
+use Rattle.std.specs.Prelude.{◌≡◌, ℕ, ◌+◌, ◌<◌, ◌≤◌, List, ◌++◌, length, take, slice_index, vec_capacity}
 use Rattle.std.specs.Global.{Vec}
 use Rattle.esp3_frames.specs.Check.{check}
 use Rattle.esp3_frames.specs.Packet.{longest_packet}
@@ -15,9 +15,10 @@ Noted g w c = (i : ℕ) → i ≤ length w → slice_index c i ≡ check (g ++ t
 
 -- Of the bytes in b, those from the start on are held, and c has the running check.
 pub record Running (b : Vec ℕ) (start : ℕ) (c : Vec ℕ) : Type 0 where
-  pub memory : (room ≤ vec_capacity b) × (length c.items ≡ room + 1)
+  pub memory : (room ≤ vec_capacity b) × (room < vec_capacity c)
   pub within : (start ≤ length b.items) × (length b.items ≤ room)
   pub few : length b.items ≤ start + longest_packet
+  pub places : length b.items < length c.items
   -- all that came before those in b
   pub gone : List ℕ
   pub noted : Noted gone b.items c.items

@@ -1,6 +1,6 @@
 //! The bytes that a framer holds, in one piece, with a running check byte beside each.
 ghost use Rattle.std.specs.Prelude.{◌≡◌, ℕ, ◌+◌, ◌<◌, ◌≤◌, List, [], ◌++◌, length, take, drop};
-ghost use Rattle.std.specs.Prelude.{slice_index_or, vec_capacity, ◌==◌, IfOk};
+ghost use Rattle.std.specs.Prelude.{slice_index, slice_index_or, vec_capacity, ◌==◌, IfOk};
 ghost use Rattle.esp3_frames.specs.Check.{check};
 ghost use Rattle.esp3_frames.specs.Packet.{longest_packet};
 ghost use Rattle.esp3_resync.specs.Running.{Noted, Running, room};
@@ -49,6 +49,21 @@ fn make_room(bytes: &mut Vec<u8>, start: usize, checks: &mut Vec<u8>, count: usi
     0
 }
 
+// Makes at least `count` places for checks, in memory that is there. Places stay, so memory is first written to when so
+// many bytes come.
+fn make_places(checks: &mut Vec<u8>, count: usize)
+    requires { count ≤ vec_capacity checks.old }
+    ensures enough { count ≤ length checks.new.items }
+    ensures same { (i : ℕ) → i < length checks.old.items →
+        slice_index checks.new.items i ≡ slice_index checks.old.items i }
+    ensures more { length checks.old.items ≤ length checks.new.items }
+    ensures capacity { vec_capacity checks.old ≤ vec_capacity checks.new }
+{
+    if checks.len() < count {
+        let _has_room = checks.resize(count, 0);
+    }
+}
+
 /// At most as many bytes of a stream as the longest packet has, taken in at the back and let go at the front.
 ///
 /// Beside each byte stands the check byte of all bytes that came before it. So the check byte of any part costs the
@@ -59,7 +74,7 @@ pub struct Window {
     bytes: Vec<u8>,
     // How many of those were let go.
     start: usize,
-    // Beside each of those, and behind the last one, the check byte of all that came before.
+    // Beside each of all these, and behind the last one, the check byte of all that came before.
     checks: Vec<u8>,
 }
 
@@ -79,10 +94,13 @@ impl Window {
     pub fn new(alloc: Global) -> Result<Window, AllocError>
         ensures { IfOk result (λ w. w ≡ []) }
     {
+        let bytes = Vec::with_capacity(alloc, ROOM)?;
+        let mut checks = Vec::with_capacity(alloc, ROOM + 1)?;
+        checks.push(0)?;
         Ok(Window {
-            bytes: Vec::with_capacity(alloc, ROOM)?,
+            bytes,
             start: 0,
-            checks: vec![in alloc; 0; ROOM + 1]?,
+            checks,
         })
     }
 
@@ -130,6 +148,7 @@ impl Window {
         ensures { self.new ≡ self.old ++ bytes.now }
     {
         self.start = make_room(&mut self.bytes, self.start, &mut self.checks, bytes.len());
+        make_places(&mut self.checks, self.bytes.len() + bytes.len() + 1);
         note_checks(&mut self.checks, self.bytes.len(), bytes);
         let _has_room = self.bytes.extend_from_slice(bytes);
     }

@@ -26,9 +26,13 @@ returns-clause-running c =
     ∙ ap (λ j. get_or c.args.checks.now.items (s + j) 0) (omega arith)
     in
     record {
-      memory = (omega (arith, r.memory.0, c.truncate.ensures.capacity, c.copy_within.ensures.capacity), omega (arith, beside.len, r.memory.1));
+      memory = (
+        omega (arith, r.memory.0, c.truncate.ensures.capacity, c.copy_within.ensures.capacity),
+        omega (arith, r.memory.1, beside.capacity),
+      );
       within = (omega arith, omega (arith, ap length moved, length-drop s w, within.1));
       few = omega (arith, ap length moved, length-drop s w);
+      places = omega (arith, ap length moved, length-drop s w, beside.len, r.places);
       gone = r.gone ++ take s w;
       noted = subst (λ (y : List ℕ). Noted (r.gone ++ take s w) y c.copy_within-2.new.self.items) (sym moved)
           (noted_moved r.gone w c.args.checks.now.items c.copy_within-2.new.self.items s within.0 same r.noted);

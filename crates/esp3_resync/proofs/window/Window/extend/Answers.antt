@@ -21,18 +21,29 @@ invariant_of-self c =
     omega (arith, r.within.0, ap length (made.ensures.same ∙ c.self.view_is), length-drop made.result b) in
     let d : List ℕ = c.note_checks.new.checks in
     let before = c.deref_mut.ensures in
-    let same : length d ≡ made.new.checks.len = omega (arith, c.note_checks.ensures.len, before.len) in
-    let checks = take_at d (drop (length d) made.new.checks.items) made.new.checks.len same in
+    let places = c.make_places in
+    let e = places.new.checks.items in
+    let same : length d ≡ places.new.checks.len = omega (arith, c.note_checks.ensures.len, before.len) in
+    let checks = take_at d (drop (length d) e) places.new.checks.len same in
+    let noted : Noted r.gone b e = λ i within. places.ensures.same i (omega (arith, r.places)) ∙ r.noted i within in
     record {
       memory = (
         omega (arith, r.memory.0, added.ensures.capacity),
-        ap length checks ∙ c.note_checks.ensures.len ∙ ap length before.value ∙ r.memory.1,
+        omega (arith, r.memory.1, places.ensures.capacity),
       );
       within = (omega (arith, r.within.0), omega (arith, room));
       few = omega (arith, c.requires);
+      places = omega (
+        arith,
+        ap length checks,
+        c.note_checks.ensures.len,
+        ap length before.value,
+        places.ensures.enough,
+        c.len.ensures,
+      );
       gone = r.gone;
       noted = subst (Noted r.gone added.new.self.items) (sym checks)
           (subst (λ (y : List ℕ). Noted r.gone y d) (sym items)
           (c.note_checks.ensures.noted r.gone b (omega (arith, c.len.ensures))
-          (subst (Noted r.gone b) (sym before.value) r.noted)));
+          (subst (Noted r.gone b) (sym before.value) noted)));
     }
