@@ -173,6 +173,18 @@ frames_of-one p w h =
     let only = only_framing w (p ∷ []) [] (finds h (sym (append-nil w)) (ends empty_may_become)) in
     frames_same (frames_of w) (record { ready = p ∷ []; rest = [] }) (sym only.0) (sym only.1)
 
+-- of a part of a packet no packet is ready
+pub quiet_part_of_packet : (p : Packet) (w : List ℕ) (k : ℕ) → IsPacket p w → k < length w
+    → length (frames_of (take k w)).ready ≡ 0
+quiet_part_of_packet p w k whole below =
+    let part : MayBecomePacket (take k w) = record {
+      packet = p;
+      more = drop k w;
+      proper = omega (arith, length-drop k w);
+      whole = subst (IsPacket p) (sym (take-append-drop k w)) whole;
+    } in
+    ap (λ (ps : List Packet). length ps) (sym (frames_of-may_become (take k w) part).0)
+
 pub lent : (p : Packet) (w : List ℕ) (f : Frames) (t : List ℕ) → w ≡ [] → w ≡ f.rest → IsPacket p t
     → frames_of (f.rest ++ t) ≡ record { ready = p ∷ []; rest = f.rest }
 lent p w f t nil is h =

@@ -4,9 +4,9 @@ use Rattle.std.specs.Global.{Vec}
 use Rattle.esp3_frames.specs.Check.{check}
 use Rattle.esp3_frames.specs.Packet.{longest_packet}
 
--- how many bytes there is room for: those of the longest packet, and as many as may come before these are moved
+-- how many bytes there is room for: those of the longest packet, and as many as may come between two moves. Own choice
 abbrev pub room : ℕ
-room = longest_packet + 16384
+room = longest_packet + 8192
 
 -- c has, beside each byte of w and behind the last one, the check byte of all that came before: the bytes g, and those
 -- of w

@@ -1,10 +1,11 @@
-//! A framer takes the bytes of a serial line one by one, and hands out the packets that they make.
-ghost use Rattle.std.specs.Prelude.{◌≡◌, ◌+◌, ℕ, ◌<◌, ◌≤◌, ◌↔◌, [], ◌∷◌, ◌++◌, length, take};
-ghost use Rattle.std.specs.Prelude.{Some, None, IsTrue, IfOk, IfSome};
+//! A framer takes the bytes of a serial line, and hands out the packets that they make.
+ghost use Rattle.std.specs.Prelude.{◌≡◌, ◌≢◌, ◌+◌, ℕ, ◌<◌, ◌≤◌, ◌↔◌, [], ◌∷◌, ◌++◌, length, take};
+ghost use Rattle.std.specs.Prelude.{Some, None, IsTrue, IfOk, IfSome, IfNone};
 ghost use Rattle.std.specs.Bool.{OnTrue, OnFalse};
 ghost use Rattle.std.specs.Option.{option_map};
 ghost use Rattle.esp3_frames.specs.Framing.{MayBecomePacket};
-ghost use Rattle.esp3_frames.specs.Frames.{frames_of};
+ghost use Rattle.esp3_frames.specs.Frames.{front_of, frames_of};
+ghost use Rattle.esp3_frames.specs.Frames.Front.{Whole};
 ghost use Rattle.esp3_frames.specs.Outcome.{packet_of};
 ghost use Rattle.esp3_frames.specs.Packet.{Packet, longest_data};
 
@@ -166,14 +167,18 @@ impl Framer {
         count
     }
 
-    /// The packet that stands whole at the front of the next bytes of the stream, and how many bytes it has, if no byte
-    /// is held. If these bytes were pushed and the packet was taken, the framer would be as it is. It copies nothing.
+    /// The packet with which the next bytes of the stream begin, and how many bytes it has. `None` says that a byte is
+    /// held, or that no whole packet begins them. If the packet's bytes were pushed and the packet was taken, the framer
+    /// would be as it is. It copies nothing.
     pub fn lend<'b>(&self, bytes: &'b [u8]) -> Option<(PacketRef<'b>, usize)>
         requires { length self.now.ready ≡ 0 }
         ensures within { IfSome result (λ r. (0 < r.1) × (r.1 ≤ length bytes.now)) }
         ensures short { IfSome result (λ r. length r.0.body.now ≤ longest_data) }
         ensures taken { IfSome result (λ r. frames_of (self.now.rest ++ take r.1 bytes.now)
             ≡ record { ready = packet_of r.0 ∷ []; rest = self.now.rest }) }
+        ensures before { IfSome result (λ r. (k : ℕ) → k < r.1 →
+            length (frames_of (self.now.rest ++ take k bytes.now)).ready ≡ 0) }
+        ensures none { IfNone result (self.now.rest ≡ [] → (p : Packet) → front_of bytes.now ≢ Whole p) }
     {
         if !self.window.is_empty() {
             return None;

@@ -1,4 +1,4 @@
-//! Packets from single bytes: which packets a stream holds, however its bytes come.
+//! Which packets a stream holds, however its bytes come.
 #![tactic(auto)]
 
 mod framer;

@@ -11,14 +11,14 @@ use memchr::memchr;
 use std::alloc::{AllocError, Global};
 use std::marker::Model;
 
-// How many bytes come at least before those that are held are moved to the front of their room again.
-const SLACK: usize = 16384;
+// More than so many bytes come between two moves of the bytes that are held.
+const SLACK: usize = 8192;
 
 // How many bytes there is room for.
 const ROOM: usize = LONGEST_PACKET + SLACK;
 
-// Goes on with a running check over some bytes: `checks` has the check byte of all before them at `at`, and gets that of
-// all up to each of them.
+// Goes on with a running check over some bytes: `checks` has the check byte of all bytes before them at `at`. It gets the
+// check byte of all up to each of them.
 fn note_checks(checks: &mut [u8], at: usize, bytes: &[u8])
     requires { at + length bytes.now < length checks.old }
     ensures len { length checks.new ≡ length checks.old }
@@ -31,8 +31,8 @@ fn note_checks(checks: &mut [u8], at: usize, bytes: &[u8])
     }
 }
 
-// Moves the bytes from `start` on to the front, with their checks, if there is no room for `count` bytes more, and
-// returns where they begin now.
+// Moves the bytes from `start` on to the front, with their checks, if `count` bytes more do not fit, and returns where
+// they begin then.
 fn make_room(bytes: &mut Vec<u8>, start: usize, checks: &mut Vec<u8>, count: usize) -> usize
     requires running { Running bytes.old start checks.old }
     requires few { length bytes.old.items + count ≤ start + longest_packet }
@@ -49,8 +49,7 @@ fn make_room(bytes: &mut Vec<u8>, start: usize, checks: &mut Vec<u8>, count: usi
     0
 }
 
-// Makes at least `count` places for checks, in memory that is there. Places stay, so memory is first written to when so
-// many bytes come.
+// Makes at least `count` places for checks, within the capacity. So memory is not written to before as many bytes come.
 fn make_places(checks: &mut Vec<u8>, count: usize)
     requires { count ≤ vec_capacity checks.old }
     ensures enough { count ≤ length checks.new.items }
@@ -70,11 +69,11 @@ fn make_places(checks: &mut Vec<u8>, count: usize)
 /// same few steps, however long the part is, and a refused packet is only searched for the next sync byte.
 #[derive(Drop)]
 pub struct Window {
-    // The bytes that are held, and before them some that were let go.
+    // Some bytes that were let go, and after them those that are held.
     bytes: Vec<u8>,
-    // How many of those were let go.
+    // How many of them were let go.
     start: usize,
-    // Beside each of all these, and behind the last one, the check byte of all that came before.
+    // For each of all these bytes the check byte of all that came before it, and then the check byte of all.
     checks: Vec<u8>,
 }
 
