@@ -102,13 +102,17 @@ fn after_zeros(check: u8, count: usize) -> u8
     ensures { result ≡ Check.after_zeros check count }
 {
     let place = PLACES[check as usize] as usize;
-    if place < ROUND {
-        ROUNDS[(place + count % ROUND) % ROUND]
-    } else if place < 2 * ROUND {
-        ROUNDS[ROUND + (place - ROUND + count % ROUND) % ROUND]
-    } else {
-        check
+    if place >= 2 * ROUND {
+        return check;
     }
+    let end = if place < ROUND { ROUND } else { 2 * ROUND };
+    let gone_on = place + count % ROUND;
+    let then = if gone_on < end {
+        gone_on
+    } else {
+        gone_on - ROUND
+    };
+    ROUNDS[then]
 }
 
 /// The check byte of the `len` bytes that came between two moments of a running check: `before` was the check byte so

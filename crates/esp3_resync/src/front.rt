@@ -83,14 +83,12 @@ pub fn settle(window: &mut Window) -> Option<Header>
     ensures frames { frames_of window.new ≡ frames_of window.old }
     ensures settled { Settled window.new result }
 {
-    let mut found = front(window);
-    while let Found::Refused = found {
-        window.skip_to_sync();
-        found = front(window);
-    }
-    match found {
-        Found::Announced(header) => Some(header),
-        Found::Begun | Found::Refused => None,
+    loop {
+        match front(window) {
+            Found::Refused => window.skip_to_sync(),
+            Found::Begun => return None,
+            Found::Announced(header) => return Some(header),
+        }
     }
 }
 

@@ -1,21 +1,32 @@
-use Rattle.std.proofs.Common.{◌≡◌, ℕ, ◌+◌, ◌-◌, ◌%◌, get_or, sym, ap, ◌∙◌, arith}
+use Rattle.std.proofs.Common.{◌≡◌, ◌≤◌, ℕ, ◌+◌, ◌-◌, ◌%◌, get_or, sym, ap, ◌∙◌, arith}
 use Rattle.esp3_frames.specs.declared.check.TheConstants.{ROUNDS, PLACES}
 use Rattle.esp3_frames.proofs.ZerosLemmas.{zeros_first, zeros_second, zeros_none}
 use Rattle.esp3_frames.proofs.check.after_zeros.Goals as goal
-
-pub returns-then-place-lt-ROUND : goal.returns-then-place-lt-ROUND
-returns-then-place-lt-ROUND c =
-    let k : ℕ = get_or PLACES c.args.check 0 in
-    let e : (k + c.args.count % 127) % 127 ≡ (k + c.args.count) % 127 = omega arith in
-    ap (λ i. get_or ROUNDS i 0) e
-    ∙ sym (zeros_first c.args.check (omega arith) c.args.count c.if-place-lt-ROUND.true)
+use Rattle.esp3_frames.proofs.check.after_zeros.Goals.{then-place-lt-ROUND, else-place-lt-ROUND}
+use Rattle.esp3_frames.proofs.check.after_zeros.Goals.{then-gone_on-end, else-gone_on-end}
 
 pub returns-then-place : goal.returns-then-place
-returns-then-place c =
-    let k : ℕ = get_or PLACES c.args.check 0 - 127 in
-    let e : 127 + (k + c.args.count % 127) % 127 ≡ 127 + (k + c.args.count) % 127 = omega arith in
-    ap (λ i. get_or ROUNDS i 0) e
-    ∙ sym (zeros_second c.args.check (omega arith) c.args.count (omega (arith, c.if-place-lt-ROUND.false)) c.if-place.true)
+returns-then-place c = sym (zeros_none c.args.check (omega arith) c.args.count (omega (arith, c.if-place.true)))
 
-pub returns-else-place : goal.returns-else-place
-returns-else-place c = sym (zeros_none c.args.check (omega arith) c.args.count (omega (arith, c.if-place.false)))
+pub returns : goal.returns
+returns c =
+    let b = c.args.check in
+    let n = c.args.count in
+    let k : ℕ = get_or PLACES b 0 in
+    elim c.if-place-lt-ROUND.branch [
+      | then-place-lt-ROUND w ↦
+          let low = w.if-place-lt-ROUND.true in
+          let e : c.if-gone_on-end.then ≡ (k + n) % 127 = elim c.if-gone_on-end.branch [
+            | then-gone_on-end v ↦ omega (arith, low, w.end-is, v.then-is, v.if-gone_on-end.true)
+            | else-gone_on-end v ↦ omega (arith, low, w.end-is, v.then-is, v.if-gone_on-end.false)
+          ] in
+          ap (λ i. get_or ROUNDS i 0) e ∙ sym (zeros_first b (omega arith) n low)
+      | else-place-lt-ROUND w ↦
+          let high : 127 ≤ k = omega (arith, w.if-place-lt-ROUND.false) in
+          let low = c.if-place.false in
+          let e : c.if-gone_on-end.then ≡ 127 + (k - 127 + n) % 127 = elim c.if-gone_on-end.branch [
+            | then-gone_on-end v ↦ omega (arith, low, high, w.end-is, v.then-is, v.if-gone_on-end.true)
+            | else-gone_on-end v ↦ omega (arith, low, high, w.end-is, v.then-is, v.if-gone_on-end.false)
+          ] in
+          ap (λ i. get_or ROUNDS i 0) e ∙ sym (zeros_second b (omega arith) n high (omega (arith, low)))
+    ]
