@@ -1,19 +1,20 @@
 -- What a framer's bytes hold, by what stands at their front.
-use Rattle.std.proofs.Common.{◌≡◌, ◌≢◌, ℕ, zero, suc, ◌+◌, ◌≤◌, ◌<◌, take, append_assoc, Bool, true, false, List, [], ◌∷◌, ◌++◌, length, drop}
-use Rattle.std.proofs.Common.{get_or, refl, sym, ap, ◌∙◌, arith, length-drop, inl, inr}
+use Rattle.std.proofs.Common.{◌≡◌, ◌≢◌, ℕ, zero, suc, ◌+◌, ◌-◌, ◌≤◌, ◌<◌, Bool, true, false, List, [], ◌∷◌, ◌++◌}
+use Rattle.std.proofs.Common.{length, take, drop, get_or, refl, sym, subst, ap, ◌∙◌, arith, append_assoc, inl, inr}
+use Rattle.std.proofs.Common.{length-append, length-drop, length-take}
 use Rattle.std.specs.Prelude.{IsTrue}
-use Rattle.std.proofs.lemmas.Bool.{cases_lt}
-use Rattle.std.proofs.lemmas.List.{append-nil, nil_from_length, take_all, get_or-take}
-use Rattle.std.proofs.Math.Seq.{take-add, drop-length}
-use Rattle.std.proofs.Common.{◌-◌, length-take}
 use Rattle.std.specs.Bool.{OnTrue, OnFalse}
+use Rattle.std.proofs.Math.Seq.{take-add, drop-length}
+use Rattle.std.proofs.lemmas.Bool.{cases_lt}
+use Rattle.std.proofs.lemmas.List.{append-nil, nil_from_length, take_all, get_or-take, take-append-drop}
 use Rattle.esp3_frames.specs.Packet.{Packet, IsPacket}
-use Rattle.esp3_frames.specs.Framing.{ends, finds}
-use Rattle.std.proofs.Common.{length-append}
-use Rattle.esp3_resync.specs.Settled.{ReachesSync}
+use Rattle.esp3_frames.specs.Framing.{MayBecomePacket, ends, finds}
 use Rattle.esp3_frames.specs.Frames.{front_of, Frames, frames_after, frames_of}
 use Rattle.esp3_frames.specs.Frames.Front.{Never, Partial, Whole}
-use Rattle.esp3_frames.proofs.ForCallers.{whole_length, only_framing, empty_may_become, framing_in_parts, cases_front, frames-never, frames-skipped, frames-partial, frames-whole}
+use Rattle.esp3_frames.proofs.ForCallers.{whole_length, only_framing, empty_may_become, framing_in_parts, cases_front}
+use Rattle.esp3_frames.proofs.ForCallers.{frames_of-may_become, frames-never, frames-skipped, frames-partial}
+use Rattle.esp3_frames.proofs.ForCallers.{frames-whole}
+use Rattle.esp3_resync.specs.Settled.{ReachesSync}
 
 -- where no packet is ready, a text whose front may become one is its own rest
 pub unready : (s : List ℕ) → front_of s ≢ Never → length (frames_of s).ready ≡ 0

@@ -2,7 +2,9 @@
 ghost use Rattle.std.specs.Prelude.{◌≡◌, ◌≢◌, ◌↔◌, ◌<◌, ◌≤◌, ℕ, [], ◌∷◌, ◌++◌, length, take, false};
 ghost use Rattle.std.specs.Prelude.{IfOk, IfSome, IfNone, MatchBool, Some};
 ghost use Rattle.std.specs.Option.{option_copied, option_map};
-ghost use Rattle.esp3_frames.specs.Frames.{packets_in};
+ghost use Rattle.esp3_frames.specs.Frames.{front_of, packets_in};
+ghost use Rattle.esp3_frames.specs.Frames.Front.{Whole};
+ghost use Rattle.esp3_frames.specs.Packet.{Packet};
 ghost use Rattle.esp3_frames.specs.Framing.{MayBecomePacket};
 ghost use Rattle.device_registry.specs.Holding.{HandsOn};
 ghost use Rattle.erp1_telegrams.specs.Address;
@@ -112,7 +114,7 @@ impl<S: DeviceStore> GatewayOver<S> {
     }
 
     /// Takes the next bytes of the serial line up to the one that makes a packet ready, or all if none does, and returns
-    /// how many it took. It takes no memory.
+    /// how many. It takes no memory.
     pub fn bytes(&mut self, bytes: &[u8]) -> usize
         requires { self.old.ready ≡ [] }
         ensures within { result ≤ length bytes.now }
@@ -124,16 +126,19 @@ impl<S: DeviceStore> GatewayOver<S> {
         self.framer.push_run(bytes)
     }
 
-    /// Handles the packet that stands whole at the front of the next bytes of the serial line, if no byte before them
-    /// waits, and returns its reply and how many bytes it has. It does what `bytes` and `next` do, without a copy. `None`
-    /// says that there is no such packet; nothing is taken then.
+    /// Handles the packet with which the next bytes of the serial line begin, and returns its reply and how many bytes it
+    /// has. It does what `bytes` and `next` do, without a copy. `None` says that a byte waits, or that no whole packet
+    /// begins these bytes; then nothing is taken.
     pub fn handle_first(&mut self, bytes: &[u8]) -> Option<(Reply, usize)>
         requires { self.old.ready ≡ [] }
         ensures within { IfSome result (λ r. (0 < r.1) × (r.1 ≤ length bytes.now)) }
         ensures taken { IfSome result (λ r. (mid : Value S) × Moves S.stored self.old (BytesCall (take r.1 bytes.now)) mid
             × Moves S.stored mid (NextCall (Some (explained_by self.new.explained (answer_of r.0)))) self.new) }
+        ensures before { IfSome result (λ r. (k : ℕ) → k < r.1 →
+            packets_in (self.old.rest ++ take k bytes.now) ≡ []) }
         ensures ready { IfSome result (λ r. self.new.ready ≡ []) }
-        ensures none { IfNone result (self.new ≡ self.old) }
+        ensures none { IfNone result ((self.new ≡ self.old)
+            × (self.old.rest ≡ [] → (p : Packet) → front_of bytes.now ≢ Whole p)) }
     {
         let (packet, count) = self.framer.lend(bytes)?;
         Some((self.handler.packet(&packet, &mut self.last), count))

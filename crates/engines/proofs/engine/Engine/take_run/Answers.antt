@@ -51,7 +51,7 @@ returns-in_err-drain-clause-taken g c =
     let bytes = c.args.bytes.now in
     let mid = c.bytes-count.new.self in
     let moved =
-    subst (λ (v : Value g.row.S.Denot). Moves stored v (Bytes (take n bytes)) mid) c.in_default.ensures.none
+    subst (λ (v : Value g.row.S.Denot). Moves stored v (Bytes (take n bytes)) mid) c.in_default.ensures.none.0
     c.bytes-count.ensures.taken in
     let exit = err_from_is_err_and c.from_residual-in_err-drain.result c.from_residual-in_err-drain.ensures.1 in
     rw exit.1
@@ -64,7 +64,7 @@ returns-in_ok-drain-clause-taken g c =
     let run = take c.bytes-count.result c.args.bytes.now in
     let mid = c.bytes-count.new.self in
     let moved =
-    subst (λ (v : Value g.row.S.Denot). Moves stored v (Bytes run) mid) c.in_default.ensures.none
+    subst (λ (v : Value g.row.S.Denot). Moves stored v (Bytes run) mid) c.in_default.ensures.none.0
     c.bytes-count.ensures.taken in
     takes_run stored g.O.Outlet.way c.args.self.now c.drain.new.self mid run c.requires.idle moved
     c.in_ok-drain.ensures.ready c.in_ok-drain.ensures.drained
@@ -77,7 +77,7 @@ returns-else-is_ready-clause-taken g c =
     let run = take c.bytes-count.result c.args.bytes.now in
     let mid = c.bytes-count.new.self in
     let moved =
-    subst (λ (v : Value g.row.S.Denot). Moves stored v (Bytes run) mid) c.in_default.ensures.none
+    subst (λ (v : Value g.row.S.Denot). Moves stored v (Bytes run) mid) c.in_default.ensures.none.0
     c.bytes-count.ensures.taken in
     takes_run stored way old _ mid run c.requires.idle moved (rw c.if-is_ready.false at c.is_ready.ensures.ready)
     (drains_nothing stored way mid old.outlet old.items (search rules))
