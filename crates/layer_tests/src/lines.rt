@@ -135,6 +135,25 @@ fn readings_of_all_kinds(rt: HostRuntime) -> Result<(), Fail> {
     Ok(())
 }
 
+// RFC 8259, "Strings": a quotation mark, a backslash and control characters are escaped; a space and `!` are not.
+#[test]
+fn names_with_escapes(rt: HostRuntime) -> Result<(), Fail> {
+    let mut readings = Readings::new();
+    readings.push(Reading {
+        name: "a \"b\"!",
+        what: What::Word("c\\d\n"),
+    });
+    let telegram = telegram(0x0180_0ABC, None)?;
+    let line = reading_line(rt.alloc(), &telegram, CONTACT, &readings)?;
+    check(
+        &rt,
+        line.as_bytes(),
+        "{\"dbm\":null,\"eep\":\"D5-00-01\",\"id\":\"01800ABC\",\"readings\":[\
+         {\"name\":\"a \\\"b\\\"!\",\"word\":\"c\\\\d\\n\"}],\"type\":\"reading\"}\n",
+    );
+    Ok(())
+}
+
 #[test]
 fn listings(rt: HostRuntime) -> Result<(), Fail> {
     let none = device_lines(rt.alloc(), &[])?;

@@ -73,8 +73,8 @@ fn three_at_one_byte(rt: HostRuntime) -> Result<(), Fail> {
     Ok(())
 }
 
-// The packet above, and the command that reads the base ID. Before the first stand noise and a header with a wrong check
-// byte, before the second two more sync bytes.
+// The packet above, and the command that reads the base ID. Noise and a header with a wrong check byte precede the first
+// packet, and two more sync bytes the second.
 const TWO_PACKETS: [u8; 39] = [
     0x00, 0xAA, 0x55, 0x00, 0x07, 0x07, 0x01, 0x7B, 0x55, 0x00, 0x07, 0x07, 0x01, 0x7A, 0xD5, 0x09,
     0x01, 0x80, 0x0A, 0xBC, 0x00, 0x01, 0xFF, 0xFF, 0xFF, 0xFF, 0x2D, 0x00, 0x1F, 0x55, 0x55, 0x55,
@@ -140,8 +140,12 @@ fn greatest_packets_in_runs(rt: HostRuntime) -> Result<(), Fail> {
         let packet = buffer.packet().ok_or("no packet of 65,797 bytes")?;
         assert_eq!(rt; (packet.kind, packet.body.len(), packet.opt.len()), (9, 65_535, 255));
         assert_eq!(rt; found.len(), 65_806);
-        assert_eq!(rt; &found[..15], &TYPES_AND_DATA[..15]);
-        assert!(rt; found[16..].iter().all(|byte| *byte == 0));
+        let (front, content) = found
+            .as_slice()
+            .split_first_chunk::<16>()
+            .ok_or("no 16 bytes")?;
+        assert!(rt; front.starts_with(&TYPES_AND_DATA[..15]));
+        assert!(rt; content.iter().all(|byte| *byte == 0));
         found.clear();
     }
     Ok(())
@@ -160,6 +164,7 @@ fn packets_lent(rt: HostRuntime) -> Result<(), Fail> {
     assert!(rt; framer.lend(&TWO_PACKETS).is_none());
     assert!(rt; framer.lend(&TWO_PACKETS[8..28]).is_none());
     framer.push(0x55);
+    assert!(rt; !framer.is_ready());
     assert!(rt; framer.lend(&CONTACT).is_none());
     Ok(())
 }
