@@ -1,5 +1,6 @@
-"""The program of `bench/baseline.c`, for the scripts beside this file. It needs a C compiler."""
+"""Builds the program of `bench/baseline.c` for the scripts in this folder, and compares outputs with its output."""
 import pathlib
+import shutil
 import subprocess
 import sys
 import tempfile
@@ -7,16 +8,24 @@ import tempfile
 SOURCE = pathlib.Path(__file__).resolve().with_name("baseline.c")
 
 
+def compiler():
+    """The C compiler: gcc if it is installed, since the counts of `bench/instructions` are for gcc, otherwise cc."""
+    found = shutil.which("gcc") or shutil.which("cc")
+    if not found:
+        sys.exit("neither gcc nor cc is installed")
+    return found
+
+
 def built(folder):
-    """The program, built into this folder."""
+    """Builds the program into this folder, and returns its path."""
     program = pathlib.Path(folder) / "baseline"
-    subprocess.run(["cc", "-std=c11", "-O2", "-Wall", "-Wextra", "-o", program, SOURCE], check=True)
+    subprocess.run([compiler(), "-std=c11", "-O2", "-Wall", "-Wextra", "-o", program, SOURCE], check=True)
     return program
 
 
 def same_output(outputs, text, name):
-    """The output of both programs, this one and the other, for this text. If the two outputs differ, ends with an error
-    and keeps them."""
+    """Returns the output of both programs, this one and the other, for this text. If the two outputs differ, keeps them
+    and exits with an error."""
     if outputs[0] != outputs[1]:
         kept = pathlib.Path(tempfile.mkdtemp())
         (kept / "script").write_bytes(text)

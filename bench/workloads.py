@@ -1,4 +1,5 @@
-"""What `bench/replay` times, and of what `bench/instructions` counts the instructions."""
+"""The workloads of `bench/replay` and `bench/instructions`: scripts for `enogate replay`."""
+import functools
 import io
 import itertools
 import pathlib
@@ -15,24 +16,34 @@ PROGRAM = ROOT / "crates/enogate/out/enogate"  # what `make build` makes
 
 SENDERS = [0x01800000 + 0x111 * k for k in range(200)]
 CONTACTS = [telegram(0xD5, b"\x09", sender) for sender in SENDERS]
-# For each kind of device its profile and the RORG, the payload and the status of what it sends: contact, rocker,
-# temperature.
+# For each kind of device (contact, rocker, temperature sensor): its profile, and the RORG, the payload and the status
+# of its telegrams.
 KINDS = [("D5-00-01", 0xD5, b"\x09", 0), ("F6-02-01", 0xF6, b"\x50", 0x30), ("A5-02-05", 0xA5, b"\0\0\x7F\x08", 0)]
 IN_TURN = list(zip(SENDERS, itertools.cycle(KINDS)))
 MIXED = [telegram(rorg, payload, sender, status) for sender, (_, rorg, payload, status) in IN_TURN]
 SENSOR = telegram(0xA5, bytes.fromhex("FB7F7F0B"), 0x01800ABC)
 LONGEST = packet(1, bytes(65535), bytes(255))
-NOISE = random.Random(1).randbytes(24_000_000)
+
+
+@functools.cache
+def noise():
+    """Random bytes, the same in each run."""
+    return random.Random(1).randbytes(24_000_000)
 
 
 class Workload(typing.NamedTuple):
-    """A script: `add` orders for devices, as (ID, profile), and then the serial line."""
+    """A script: an `add` command for each device, given as (ID, profile), and then the bytes of the serial line."""
 
-    devices: list
-    stream: bytes  # repeated as often as needed
-    sizes: list  # how many of its bytes the lines bring, in turn
+    devices: list[tuple[int, str]]
+    source: bytes | typing.Callable[[], bytes]  # the stream, or a function that returns it
+    sizes: list[int]  # how many of its bytes the lines bring, in turn
     packets: int = 0  # how many the stream has
-    options: tuple = ()
+    options: tuple[str, ...] = ()
+
+    @property
+    def stream(self):
+        """The bytes of the serial line, which are repeated as often as needed."""
+        return self.source() if callable(self.source) else self.source
 
     @property
     def words(self):
@@ -41,17 +52,18 @@ class Workload(typing.NamedTuple):
 
     @property
     def unit(self):
-        """What is counted: packets, or bytes if there are none."""
+        """What a cost is divided by: packets, or bytes if the stream has none."""
         return "packet" if self.packets else "byte"
 
     def bytes_in(self, units):
-        """How many bytes so many units have."""
+        """The number of bytes in this many units."""
         return units * len(self.stream) // self.packets if self.packets else units
 
     def script(self, total):
-        """The script that brings so many bytes of the serial line."""
+        """The script that brings this many bytes of the serial line."""
+        stream = self.stream
         orders = [f"add {sender:08X} {eep}\n" for sender, eep in self.devices]
-        source = io.BytesIO((self.stream * (total // len(self.stream) + 1))[:total])
+        source = io.BytesIO((stream * (total // len(stream) + 1))[:total])
         sizes = itertools.cycle(self.sizes)
         return "".join([*orders, *map(pieces, iter(lambda: source.read(next(sizes)), b""))])
 
@@ -69,7 +81,7 @@ WORKLOADS = {
     "mixed explained": MIXED_DEVICES._replace(options=EXPLAIN),
     "readings": Workload([(0x01800ABC, "A5-08-01")], SENSOR, [24], packets=1),
     "long": Workload([], LONGEST, [99], packets=1),
-    "noise": Workload([], NOISE, [24]),
+    "noise": Workload([], noise, [24]),
     "headers": Workload([], LONGEST[:6], [24]),
     "starts": Workload([], LONGEST[:6] + b"\x55" * 65791, [24]),
 }
