@@ -3,7 +3,7 @@ ghost use Rattle.std.specs.Prelude.{◌≡◌, ◌/◌, length, MatchBool, Ok};
 ghost use Rattle.std.specs.Prelude.{if◌then◌else◌, nat_lt, Some, None, IsErr};
 ghost use Rattle.hex.specs.Hex.{decode_of, hex_digit_value};
 
-// The value of each digit, in either case; 16 stands beside each byte that is none.
+// The value of each byte as a digit, in either case; 16 for a byte that is none.
 static VALUES: [u8; 256] = [
     16, 16, 16, 16, 16, 16, 16, 16, 16, 16, 16, 16, 16, 16, 16, 16,
     16, 16, 16, 16, 16, 16, 16, 16, 16, 16, 16, 16, 16, 16, 16, 16,
@@ -30,8 +30,8 @@ fn value_of(digit: u8) -> u8
     VALUES[digit as usize]
 }
 
-/// Writes the bytes that digits spell, two digits for each, and returns whether they are an even number of digits. If
-/// not, some of the bytes may be written.
+/// Writes the bytes that hexadecimal digits spell, two digits for each. It returns false if a byte is no digit or their
+/// number is odd; then some of the bytes may be written.
 pub fn decode(digits: &[u8], bytes: &mut [u8]) -> bool
     requires { length bytes.old ≡ length digits.now / 2 }
     ensures { MatchBool result (decode_of digits.now ≡ Ok bytes.new) (IsErr (decode_of digits.now)) }
@@ -39,7 +39,7 @@ pub fn decode(digits: &[u8], bytes: &mut [u8]) -> bool
     if digits.len() % 2 != 0 {
         return false;
     }
-    // One test behind the loop costs less than one for each byte.
+    // One test after the loop costs less than one for each byte.
     let mut seen = 0;
     for i in 0..bytes.len() {
         let high = value_of(digits[2 * i]);

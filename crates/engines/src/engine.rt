@@ -45,8 +45,8 @@ impl<O: Outlet, S: DeviceStore> Engine<'_, O, S> {
         Ok(())
     }
 
-    /// Takes the packet that stands whole at the front of these bytes, or else the bytes up to the one that makes
-    /// packets ready, answers the packets that they bring, and returns how many bytes it took.
+    /// Takes the whole packet with which these bytes begin, or, if none does, the bytes up to the one that makes
+    /// packets ready. It answers the packets that they bring, and returns how many bytes it took.
     fn take_run(&mut self, bytes: &[u8]) -> Result<usize, Failed>
         requires idle { IsIdle self.old.gateway.now }
         requires some { 0 < length bytes.now }

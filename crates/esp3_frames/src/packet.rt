@@ -90,7 +90,7 @@ pub struct PacketRef<'a> {
     pub opt: &'a [u8],
 }
 
-/// The packet that stands whole at the front of a slice, and how many bytes it has. `None` says that none does.
+/// The packet with which a slice begins, and how many bytes it has. `None` says that no whole packet begins it.
 ///
 /// EnOcean Serial Protocol 3, "Packet structure".
 pub fn first_packet(b: &[u8]) -> Option<(PacketRef<'_>, usize)>

@@ -127,7 +127,7 @@ impl Framer {
         ensures up_to { length self.new.ready ≡ 0 → result ≡ length bytes.now }
         ensures before { (k : ℕ) → k < result → length (frames_of (self.old.rest ++ take k bytes.now)).ready ≡ 0 }
     {
-        // It tells the proof what the framer holds at the start.
+        // The proof needs what the framer holds at the start.
         let _held = &self.window;
         let mut count = 0;
         while count < bytes.len() {
@@ -139,8 +139,8 @@ impl Framer {
         count
     }
 
-    // Takes the next byte of the stream, with as many behind it as are known to come before a packet is ready, and
-    // returns how many.
+    // Takes at least one of the next bytes of the stream, and none after the one that makes a packet ready, and returns
+    // how many.
     fn push_some(&mut self, bytes: &[u8]) -> usize
         requires none { length self.old.ready ≡ 0 }
         requires some { 0 < length bytes.now }
@@ -168,8 +168,8 @@ impl Framer {
     }
 
     /// The packet with which the next bytes of the stream begin, and how many bytes it has. `None` says that a byte is
-    /// held, or that no whole packet begins them. If the packet's bytes were pushed and the packet was taken, the framer
-    /// would be as it is. It copies nothing.
+    /// held, or that no whole packet begins them. If the packet's bytes were pushed and the packet was taken, the
+    /// framer would be as it is. It copies nothing.
     pub fn lend<'b>(&self, bytes: &'b [u8]) -> Option<(PacketRef<'b>, usize)>
         requires { length self.now.ready ≡ 0 }
         ensures within { IfSome result (λ r. (0 < r.1) × (r.1 ≤ length bytes.now)) }

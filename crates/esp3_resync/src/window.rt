@@ -1,4 +1,4 @@
-//! The bytes that a framer holds, in one piece, with a running check byte beside each.
+//! The bytes that a framer holds, in one slice, with a running check byte for each.
 ghost use Rattle.std.specs.Prelude.{◌≡◌, ℕ, ◌+◌, ◌<◌, ◌≤◌, List, [], ◌++◌, length, take, drop};
 ghost use Rattle.std.specs.Prelude.{slice_index, slice_index_or, vec_capacity, ◌==◌, IfOk};
 ghost use Rattle.esp3_frames.specs.Check.{check};
@@ -11,18 +11,19 @@ use memchr::memchr;
 use std::alloc::{AllocError, Global};
 use std::marker::Model;
 
-// More than so many bytes come between two moves of the bytes that are held.
+// The number of bytes that come at least between two moves of the bytes held.
 const SLACK: usize = 8192;
 
-// How many bytes there is room for.
+// The number of bytes for which there is memory.
 const ROOM: usize = LONGEST_PACKET + SLACK;
 
-// Goes on with a running check over some bytes: `checks` has the check byte of all bytes before them at `at`. It gets the
-// check byte of all up to each of them.
+// Goes on with a running check over some bytes: `checks` has the check byte of all bytes before them at `at`. It gets
+// the check byte of all up to each of them.
 fn note_checks(checks: &mut [u8], at: usize, bytes: &[u8])
     requires { at + length bytes.now < length checks.old }
     ensures len { length checks.new ≡ length checks.old }
-    ensures noted { (gone w : List ℕ) → at ≡ length w → Noted gone w checks.old → Noted gone (w ++ bytes.now) checks.new }
+    ensures noted { (gone w : List ℕ) → at ≡ length w → Noted gone w checks.old →
+        Noted gone (w ++ bytes.now) checks.new }
 {
     let mut all = checks[at];
     for i in 0..bytes.len() {
@@ -63,15 +64,15 @@ fn make_places(checks: &mut Vec<u8>, count: usize)
     }
 }
 
-/// At most as many bytes of a stream as the longest packet has, taken in at the back and let go at the front.
+/// At most as many bytes of a stream as the longest packet has, appended at the end and dropped at the front.
 ///
-/// Beside each byte stands the check byte of all bytes that came before it. So the check byte of any part costs the
-/// same few steps, however long the part is, and a refused packet is only searched for the next sync byte.
+/// For each byte the check byte of all bytes before it is stored. So the check byte of any part costs the same few
+/// steps, however long the part is, and a refused packet is only searched for the next sync byte.
 #[derive(Drop)]
 pub struct Window {
-    // Some bytes that were let go, and after them those that are held.
+    // Some bytes that were dropped, and after them those that are held.
     bytes: Vec<u8>,
-    // How many of them were let go.
+    // How many of them were dropped.
     start: usize,
     // For each of all these bytes the check byte of all that came before it, and then the check byte of all.
     checks: Vec<u8>,
@@ -141,7 +142,7 @@ impl Window {
         check8_between(self.checks[place], self.checks[place + len], len)
     }
 
-    /// Takes in some bytes.
+    /// Appends some bytes.
     pub fn extend(&mut self, bytes: &[u8])
         requires { length self.old + length bytes.now ≤ longest_packet }
         ensures { self.new ≡ self.old ++ bytes.now }
@@ -152,7 +153,7 @@ impl Window {
         let _has_room = self.bytes.extend_from_slice(bytes);
     }
 
-    /// Lets go `count` bytes at the front.
+    /// Drops `count` bytes at the front.
     pub fn skip(&mut self, count: usize)
         requires { count ≤ length self.old }
         ensures { self.new ≡ drop count self.old }
@@ -160,7 +161,7 @@ impl Window {
         self.start += count;
     }
 
-    /// Lets go the first byte, and all behind it up to the next sync byte.
+    /// Drops the first byte, and all after it up to the next sync byte.
     pub fn skip_to_sync(&mut self)
         requires { 1 ≤ length self.old }
         ensures { ReachesSync (drop 1 self.old) self.new }

@@ -29,7 +29,8 @@ module _ {S : Type 0} (stored : S → Stored) where
     pub in_order : AreItems calls handled items
     pub run : Handles stored old.handler items (answers_of calls) new.handler
 
-  stands_after_bytes : (stream : List ℕ) (before : List Packet) (old mid : Value S) (bytes : List ℕ) → Stands stream before old
+  stands_after_bytes : (stream : List ℕ) (before : List Packet) (old mid : Value S) (bytes : List ℕ)
+      → Stands stream before old
       → Moves stored old (Bytes bytes) mid → Stands (stream ++ bytes) before mid
   stands_after_bytes stream before old mid bytes stands (none, same, ready, rest, shown) =
       let parts = framing_in_parts stream bytes in

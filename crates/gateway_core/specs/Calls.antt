@@ -33,7 +33,7 @@ pub data Call : Type 0 where
 module _ {S : Type 0} (stored : S → Stored) where
   -- the call takes the gateway from old to new
   abbrev pub Moves : Value S → Call → Value S → Type 0
-  -- bytes go behind the rest, which is framed anew; this is allowed where no packet waits
+  -- bytes go behind the rest, which is framed anew; this is allowed if no packet waits
   Moves old (Bytes bytes) new =
       (old.ready ≡ []) × (new.handler ≡ old.handler) × (new.ready ≡ packets_in (old.rest ++ bytes))
       × (new.rest ≡ rest_of (old.rest ++ bytes)) × (new.explained ≡ old.explained)
@@ -101,7 +101,8 @@ abbrev pub one_by_one : List ℕ → List Call
 one_by_one [] = []
 one_by_one (byte ∷ bytes) = Bytes (byte ∷ []) ∷ one_by_one bytes
 
--- one call that takes some bytes, of which only the last may make a packet ready, does what a call for each of them does
+-- one call that takes some bytes, of which only the last may make a packet ready, does what a call for each of them
+-- does
 abbrev pub RunsAreBytes : {S : Type 0} → (S → Stored) → Type 0
 RunsAreBytes {S} stored = (old new : Value S) (bytes : List ℕ) → 0 < length bytes →
     ((k : ℕ) → k < length bytes → packets_in (old.rest ++ take k bytes) ≡ []) →

@@ -113,8 +113,8 @@ impl<S: DeviceStore> GatewayOver<S> {
         self.framer.push(b);
     }
 
-    /// Takes the next bytes of the serial line up to the one that makes a packet ready, or all if none does, and returns
-    /// how many. It takes no memory.
+    /// Takes the next bytes of the serial line up to the one that makes a packet ready, or all if none does, and
+    /// returns how many. It takes no memory.
     pub fn bytes(&mut self, bytes: &[u8]) -> usize
         requires { self.old.ready ≡ [] }
         ensures within { result ≤ length bytes.now }
@@ -126,13 +126,14 @@ impl<S: DeviceStore> GatewayOver<S> {
         self.framer.push_run(bytes)
     }
 
-    /// Handles the packet with which the next bytes of the serial line begin, and returns its reply and how many bytes it
-    /// has. It does what `bytes` and `next` do, without a copy. `None` says that a byte waits, or that no whole packet
-    /// begins these bytes; then nothing is taken.
+    /// Handles the packet with which the next bytes of the serial line begin, and returns its reply and its length in
+    /// bytes. It does what `bytes` and `next` do, without a copy. `None` says that a byte waits, or that no whole
+    /// packet begins these bytes; then nothing is taken.
     pub fn handle_first(&mut self, bytes: &[u8]) -> Option<(Reply, usize)>
         requires { self.old.ready ≡ [] }
         ensures within { IfSome result (λ r. (0 < r.1) × (r.1 ≤ length bytes.now)) }
-        ensures taken { IfSome result (λ r. (mid : Value S) × Moves S.stored self.old (BytesCall (take r.1 bytes.now)) mid
+        ensures taken { IfSome result (λ r. (mid : Value S)
+            × Moves S.stored self.old (BytesCall (take r.1 bytes.now)) mid
             × Moves S.stored mid (NextCall (Some (explained_by self.new.explained (answer_of r.0)))) self.new) }
         ensures before { IfSome result (λ r. (k : ℕ) → k < r.1 →
             packets_in (self.old.rest ++ take k bytes.now) ≡ []) }

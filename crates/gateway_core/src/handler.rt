@@ -115,7 +115,7 @@ impl<S: DeviceStore> Handler<S> {
         }
     }
 
-    /// Handles a packet of the serial line, and writes to `last` what explains it.
+    /// Handles a packet of the serial line, and stores in `last` what explains it.
     pub fn packet(&mut self, packet: &PacketRef<'_>, last: &mut Option<HandledPacket>) -> Reply
         requires { length packet.now.body.now ≤ longest_data }
         ensures { Handles S.stored self.old (Received (packet_of packet.now) ∷ [])

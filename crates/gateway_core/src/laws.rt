@@ -91,8 +91,8 @@ pub fn calls_are_a_run<S: DeviceStore>()
     ensures { CallsAreARun S.stored }
 {}
 
-/// A call that takes a run of bytes does what a call for each of them does, if none before the last makes a packet ready.
-/// So `GatewayOver::bytes` does what `GatewayOver::byte` does for each byte that it takes.
+/// A call that takes a run of bytes does what a call for each of them does, if none before the last makes a packet
+/// ready. So `GatewayOver::bytes` does what `GatewayOver::byte` does for each byte that it takes.
 pub fn runs_are_bytes<S: DeviceStore>()
     ensures { RunsAreBytes S.stored }
 {}

@@ -6,8 +6,8 @@ ghost use Rattle.profiles_rps.specs.Answer.{told};
 use erp1_telegrams::{Eep, Telegram};
 use profiles_rps::{Readings, Unreadable};
 
-/// Sets `readings` to what the telegram of a sender with this profile says, by the crate that has the profiles of its
-/// RORG, or returns why the profile does not read it.
+/// Sets `readings` to what the telegram of a sender with this profile says, or returns why the profile does not read
+/// it. There is a crate for the profiles of each RORG.
 pub fn read(eep: Eep, telegram: &Telegram, readings: &mut Readings) -> Result<(), Unreadable>
     ensures { told result readings.new.items ≡ Profiles.read_by eep telegram.now }
 {

@@ -1,5 +1,4 @@
-//! The line of a telegram's readings. Almost every packet makes one, so it is written directly, and not by `serde_json`
-//! as the other lines are.
+//! The line of a telegram's readings. Most packets make one, so it is written directly, without `serde_json`.
 
 ghost use Rattle.std.specs.Prelude.{◌≡◌, ◌++◌, codes, decimal, IfOk, OnOk};
 ghost use Rattle.std.specs.Bool.{OnTrue};
@@ -55,8 +54,8 @@ fn sender_piece(eep: Eep, id: u32) -> [u8; 46]
     piece
 }
 
-// Whether a text needs no escape. It is false for a space and for `!` too, which saves a comparison for each byte: no
-// profile has a text with one.
+// Whether a text needs no escape. It is also false for a text with a space or `!`, which saves a comparison for each
+// byte. No profile has such a text.
 fn is_plain(text: &[u8]) -> bool
     ensures { OnTrue result (IsPlain text.now) }
 {
@@ -77,7 +76,7 @@ fn quoted(alloc: Global, text: &str) -> Result<Vec<u8>, AllocError>
     Ok(writer.into_inner())
 }
 
-// A text with its escapes, where it may need some. No profile has such a text.
+// A text with its escapes, if it may need some. No profile has such a text.
 #[cold]
 fn put_escaped(text: &str, out: &mut Vec<u8>) -> Result<(), AllocError>
     ensures { OnOk result (out.new.items ≡ out.old.items ++ escape text.now) }
@@ -128,7 +127,7 @@ fn put_word(name: &str, text: &str, out: &mut Vec<u8>) -> Result<(), AllocError>
     out.extend_from_slice(b"\"}")
 }
 
-// A number after a name and this piece, which has the key of the number.
+// A number under a name. `key` is the text between the name and the number.
 fn put_number(name: &str, key: &[u8], raw: u32, out: &mut Vec<u8>) -> Result<(), AllocError>
     ensures { OnOk result (out.new.items ≡ out.old.items
         ++ (codes "{\"name\":\"" ++ escape name.now ++ key.now ++ decimal raw ++ codes "}")) }

@@ -73,8 +73,8 @@ fn three_at_one_byte(rt: HostRuntime) -> Result<(), Fail> {
     Ok(())
 }
 
-// The packet above, and the command that reads the base ID. Noise and a header with a wrong check byte precede the first
-// packet, and two more sync bytes the second.
+// The packet above, and the command that reads the base ID. Noise and a header with a wrong check byte precede the
+// first packet, and two more sync bytes the second.
 const TWO_PACKETS: [u8; 39] = [
     0x00, 0xAA, 0x55, 0x00, 0x07, 0x07, 0x01, 0x7B, 0x55, 0x00, 0x07, 0x07, 0x01, 0x7A, 0xD5, 0x09,
     0x01, 0x80, 0x0A, 0xBC, 0x00, 0x01, 0xFF, 0xFF, 0xFF, 0xFF, 0x2D, 0x00, 0x1F, 0x55, 0x55, 0x55,

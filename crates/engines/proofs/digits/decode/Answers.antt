@@ -1,4 +1,5 @@
-use Rattle.std.proofs.Common.{◌≡◌, ℕ, ◌+◌, ◌*◌, ◌^◌, ◌%◌, ◌<◌, ◌≤◌, inl, inr, true, false, ltb, get_or, refl, ◌∙◌, arith}
+use Rattle.std.proofs.Common.{◌≡◌, ℕ, ◌+◌, ◌*◌, ◌^◌, ◌%◌, ◌<◌, ◌≤◌, inl, inr, true, false, ltb}
+use Rattle.std.proofs.Common.{get_or, refl, ◌∙◌, arith}
 use Rattle.std.specs.Prelude.{◌⊎◌, if◌then◌else◌, Some, None, Result, Ok, Err, IsErr}
 use Rattle.std.proofs.lemmas.Bool.{lt-ltb, le-ltb, cases_lt}
 use Rattle.std.specs.Int.Bits.{bit_or}
@@ -77,7 +78,8 @@ loop-i-preserved c =
     record {
       read = λ small.
           let below = all_below seen high.result low.result small in
-          let byte = or_after_shift high.result 16 256 low.result refl (omega (arith, below.2)) (omega (arith, below.1)) in
+          let byte =
+          or_after_shift high.result 16 256 low.result refl (omega (arith, below.2)) (omega (arith, below.1)) in
           rw byte
           (decode_step s c.loop-i.bytes i (high.result * 16 + low.result) (omega arith) (omega arith)
           (pair_reads first second (2 * i) high.result low.result high.ensures low.ensures below.1 below.2)

@@ -25,6 +25,7 @@ returns-in_default-clause-none c = λ p is.
           let q = packet_of w.in-Some.packet in
           let same : q ≡ p = same_front b q p w.in-Some.ensures.some.0 whole in
           w.if-len-b.false
-          (w.in-Some.ensures.some.1 ∙ ap (λ (r : Packet). length r.body + length r.opt + 7) same ∙ sym (packet_length p b is))
+          (w.in-Some.ensures.some.1 ∙ ap (λ (r : Packet). length r.body + length r.opt + 7) same
+          ∙ sym (packet_length p b is))
       | in_default-via-in_default w ↦ w.in_default.ensures.none p whole
     ]

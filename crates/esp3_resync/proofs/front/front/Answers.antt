@@ -7,7 +7,8 @@ use Rattle.esp3_resync.proofs.front.front.Goals as goal
 
 pub returns-then-may_begin : goal.returns-then-may_begin
 returns-then-may_begin c =
-    let short : length c.args.window.now < 6 = omega (arith, c.in_default.ensures.cases, ap length c.as_slice.ensures) in
+    let short : length c.args.window.now < 6 =
+    omega (arith, c.in_default.ensures.cases, ap length c.as_slice.ensures) in
     let e : front_of c.args.window.now ≡ Partial =
     front-short c.args.window.now short
     ∙ ap (λ b. cond b Partial Never) (sym c.may_begin.ensures ∙ c.if-may_begin.true) in

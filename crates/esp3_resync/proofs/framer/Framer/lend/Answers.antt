@@ -16,7 +16,8 @@ carry P Q f (Some x) h = f x h
 pub returns-clause-within : goal.returns-clause-within
 returns-clause-within c =
     let b = c.args.bytes.now in
-    carry _ _ (λ r is. let fits = whole_length b (packet_of r.0) is.0 in (omega (arith, is.1), omega (arith, fits.0, is.1)))
+    carry _ _ (λ r is. let fits = whole_length b (packet_of r.0) is.0 in
+    (omega (arith, is.1), omega (arith, fits.0, is.1)))
     c.first_packet.result c.first_packet.ensures.some
 
 pub returns-clause-short : goal.returns-clause-short

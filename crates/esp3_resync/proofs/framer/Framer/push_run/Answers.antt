@@ -14,14 +14,16 @@ pub returns-then-is_ready-clause-taken : goal.returns-then-is_ready-clause-taken
 returns-then-is_ready-clause-taken c =
     let before = c.loop-count.invariant in
     let some = c.push_some-count in
-    run_more c.args.self.now.rest c.args.bytes.now c.loop-count.count c.loop-count.self before.taken before.none some.result
+    run_more c.args.self.now.rest c.args.bytes.now c.loop-count.count c.loop-count.self before.taken before.none
+    some.result
     some.new.self some.ensures.taken
 
 pub returns-then-is_ready-clause-before : goal.returns-then-is_ready-clause-before
 returns-then-is_ready-clause-before c = λ k below.
     let before = c.loop-count.invariant in
     let some = c.push_some-count in
-    quiet_more c.args.self.now.rest c.args.bytes.now c.loop-count.count c.loop-count.self before.taken before.none some.result
+    quiet_more c.args.self.now.rest c.args.bytes.now c.loop-count.count c.loop-count.self before.taken before.none
+    some.result
     k some.ensures.before below
 
 pub loop-count-preserved : goal.loop-count-preserved

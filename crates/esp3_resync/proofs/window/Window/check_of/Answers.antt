@@ -1,4 +1,5 @@
-use Rattle.std.proofs.Common.{◌≡◌, ℕ, ◌+◌, ◌<◌, ◌≤◌, List, ◌++◌, length, take, drop, get_or, sym, ap, ◌∙◌, append_assoc, arith}
+use Rattle.std.proofs.Common.{◌≡◌, ℕ, ◌+◌, ◌<◌, ◌≤◌, List, ◌++◌, length, take, drop}
+use Rattle.std.proofs.Common.{get_or, sym, ap, ◌∙◌, append_assoc, arith}
 use Rattle.std.proofs.Common.{length-take, length-drop}
 use Rattle.std.proofs.Math.Seq.{take-add}
 use Rattle.std.proofs.lemmas.List.{drop-drop, get_or_default}
@@ -22,8 +23,10 @@ returns c =
     let d = c.self.inside.checks.items in
     let at = λ (i x : ℕ) (is : x ≡ get_or d i x) (below : i < length d). is ∙ get_or_default d i x 0 below in
     let size : len ≡ length w = omega (arith, length-take len (drop place b), length-drop place b) in
-    c.check8_between.ensures.part (g ++ take place b) w (at place c.index.result.now c.index.ensures (omega arith) ∙ r.noted place (omega arith))
-    (at (place + len) c.index-2.result.now c.index-2.ensures (omega arith) ∙ r.noted (place + len) inside ∙ ap (λ (y : List ℕ). check (g ++ y)) (take-add place len b)
+    c.check8_between.ensures.part (g ++ take place b) w
+    (at place c.index.result.now c.index.ensures (omega arith) ∙ r.noted place (omega arith))
+    (at (place + len) c.index-2.result.now c.index-2.ensures (omega arith) ∙ r.noted (place + len) inside
+    ∙ ap (λ (y : List ℕ). check (g ++ y)) (take-add place len b)
     ∙ ap check (sym (append_assoc g (take place b) w)))
     size
     ∙ ap (λ (y : List ℕ). check (take len y)) held

@@ -12,7 +12,10 @@ invariant_of-result c =
     c.in_ok-push.ensures.items ∙ ap (λ (y : List ℕ). y ++ 0 ∷ []) c.in_ok-checks.ensures.items in
     let zero : get_or d 0 0 ≡ 0 = ap (λ (y : List ℕ). get_or y 0 0) one in
     record {
-      memory = (omega (arith, c.in_ok-bytes.ensures.exact), omega (arith, c.in_ok-checks.ensures.exact, c.in_ok-push.ensures.capacity));
+      memory = (
+        omega (arith, c.in_ok-bytes.ensures.exact),
+        omega (arith, c.in_ok-checks.ensures.exact, c.in_ok-push.ensures.capacity),
+      );
       within = (omega arith, omega (arith, ap length none));
       few = omega (arith, ap length none);
       places = omega (arith, ap length none, ap length one);
