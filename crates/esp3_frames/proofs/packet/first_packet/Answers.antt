@@ -1,7 +1,7 @@
-use Rattle.std.proofs.Common.{◌≡◌, ℕ, ◌+◌, ◌<◌, List, length, take, drop, arith, sym, ap, ◌∙◌, length-take}
+use Rattle.std.proofs.Common.{ℕ, ◌+◌, ◌<◌, List, length, take, drop, arith, sym, ap, ◌∙◌, length-take}
 use Rattle.std.specs.Prelude.{Option, Some, None, IfNone}
 use Rattle.esp3_frames.specs.Packet.{Packet}
-use Rattle.esp3_frames.specs.Frames.{front_of, front_behind}
+use Rattle.esp3_frames.specs.Frames.{front_behind}
 use Rattle.esp3_frames.specs.Frames.Front.{Whole}
 use Rattle.esp3_frames.specs.Outcome.{header_of}
 use Rattle.esp3_frames.proofs.FrontByHeader.{short-no_whole, front-bad, front-good, front_behind-partial}

@@ -1,7 +1,6 @@
-use Rattle.std.proofs.Common.{◌≡◌, ℕ, ◌+◌, ◌≤◌, List, length, take, arith, sym, ap, subst, ◌∙◌}
+use Rattle.std.proofs.Common.{◌≡◌, ℕ, ◌+◌, ◌≤◌, length, arith, sym, ap, subst, ◌∙◌}
 use Rattle.std.proofs.lemmas.List.{take_all}
 use Rattle.esp3_frames.specs.Packet.{Packet, IsPacket}
-use Rattle.esp3_frames.specs.Frames.{front_of}
 use Rattle.esp3_frames.specs.Outcome.{packet_of}
 use Rattle.esp3_frames.proofs.PacketLemmas.{packet_length}
 use Rattle.esp3_frames.proofs.FramesByFront.{whole_length, front-packet, same_front}
