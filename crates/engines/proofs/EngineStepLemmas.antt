@@ -16,7 +16,7 @@ use Rattle.json_lines.specs.Counts.{count_with}
 use Rattle.engines.specs.Outlets.{Way}
 use Rattle.engines.specs.declared.engine.Engine.{Engine}
 use Rattle.engines.specs.Played.{IsIdle, IsBegun, Answers, AnswersPart}
-use Rattle.engines.specs.EngineSteps.{Drains, DrainsPart, EngineBreaks, EnginePlays, Takes}
+use Rattle.engines.specs.EngineSteps.{Drains, DrainsPart, EngineBreaks, Takes}
 use Rattle.gateway_core.proofs.ForCallers.{count_on}
 use Rattle.engines.proofs.AnswerLemmas.{answers_nothing, answers_one, answers-append, part_one, answers-part}
 use Rattle.engines.proofs.PlayLemmas.{plays_nothing, plays-append}
@@ -120,7 +120,7 @@ module _ {O S : Type 0} (stored : S → Stored) (way : Way O) where
         played = record {
           answered =
               rw is (let P : HandlerValue S → Type 0 =
-                  λ s. Answers stored s ended.handler (map Received drained.packets) (way.puts old.outlet new.outlet)
+              λ s. Answers stored s ended.handler (map Received drained.packets) (way.puts old.outlet new.outlet)
               in subst P moved.1 drained.answered);
           rest = rests ∙ ap (λ w. rest_of (rest ++ w)) (sym (append-nil run));
           idle = record { ready = none; rest = rw rests (rest_goes_on (rest ++ run)) };

@@ -141,19 +141,18 @@ module _ {S : Type 0} (stored : S → Stored) where
       λ others. append_assoc old.rest (byte ∷ []) others in
       let behind : (others : List ℕ) → packets_in (rest_of first ++ others) ≡ packets_in (old.rest ++ byte ∷ others) =
       λ others.
-          ap (λ (ps : List Packet). ps ++ packets_in (rest_of first ++ others)) (sym quiet)
-          ∙ sym (framing_in_parts first others).0 ∙ ap packets_in (along others)
+      ap (λ (ps : List Packet). ps ++ packets_in (rest_of first ++ others)) (sym quiet)
+      ∙ sym (framing_in_parts first others).0 ∙ ap packets_in (along others)
       in
       let later : (k : ℕ) → k < length (next ∷ bytes) → packets_in (mid.rest ++ take k (next ∷ bytes)) ≡ [] =
       λ k below. behind (take k (next ∷ bytes)) ∙ none (suc k) (omega arith) in (
         mid,
         (idle, refl, refl, refl, refl),
-        runs_are_bytes mid new (next ∷ bytes) (omega arith) later
-            (
-              quiet,
-              same,
-              ready ∙ sym (behind (next ∷ bytes)),
-              rest ∙ ap rest_of (sym (along (next ∷ bytes))) ∙ (framing_in_parts first (next ∷ bytes)).1,
-              shown,
-            ),
+        runs_are_bytes mid new (next ∷ bytes) (omega arith) later (
+          quiet,
+          same,
+          ready ∙ sym (behind (next ∷ bytes)),
+          rest ∙ ap rest_of (sym (along (next ∷ bytes))) ∙ (framing_in_parts first (next ∷ bytes)).1,
+          shown,
+        ),
       )

@@ -1,11 +1,11 @@
-use Rattle.std.proofs.Common.{◌≡◌, ℕ, ◌+◌, ◌*◌, ◌^◌, ◌%◌, ◌<◌, ◌≤◌, inl, inr, true, false, ltb}
+use Rattle.std.proofs.Common.{◌≡◌, ℕ, ◌+◌, ◌*◌, ◌^◌, ◌<◌, ◌≤◌, inl, inr, true, false, ltb}
 use Rattle.std.proofs.Common.{get_or, refl, ◌∙◌, arith}
 use Rattle.std.specs.Prelude.{◌⊎◌, if◌then◌else◌, Some, None, Result, Ok, Err, IsErr}
 use Rattle.std.proofs.lemmas.Bool.{lt-ltb, le-ltb, cases_lt}
 use Rattle.std.specs.Int.Bits.{bit_or}
 use Rattle.std.proofs.lemmas.Nat.{le_or_l, le_or_r, or_lt}
 use Rattle.std.proofs.lemmas.Grind.{or_after_shift}
-use Rattle.hex.specs.Hex.{hex_digit_value, pair_value, decode_pairs, decode_of}
+use Rattle.hex.specs.Hex.{hex_digit_value, pair_value, decode_pairs}
 use Rattle.hex.specs.declared.error.FromHexError.{FromHexError}
 use Rattle.hex.specs.declared.error.FromHexError.TheVariants.{InvalidHexCharacter}
 use Rattle.hex.proofs.Pairs.{decode_start, decode_step, decode_err, decode_done}
@@ -44,8 +44,11 @@ module _ (seen h l : ℕ) where
       let outer = le_or_l seen (bit_or h l) in
       let inner = le_or_r seen (bit_or h l) in
       let first = le_or_l h l in
-      let second = le_or_r h l in (omega (arith, outer, small), omega (arith, inner, first, small),
-        omega (arith, inner, second, small))
+      let second = le_or_r h l in (
+        omega (arith, outer, small),
+        omega (arith, inner, first, small),
+        omega (arith, inner, second, small),
+      )
 
   one_above : seen < 16 → 15 < bit_or seen (bit_or h l) → (15 < h) ⊎ ((h ≤ 15) × (15 < l))
   one_above below above = elim (cases_lt 15 h) [

@@ -1,4 +1,4 @@
-use Rattle.std.proofs.Common.{rules, refl, take, drop, arith, length, ◌+◌, ◌-◌, ◌∙◌, length-take, length-drop}
+use Rattle.std.proofs.Common.{rules, refl, take, drop, arith, length, ◌-◌, ◌∙◌, length-take, length-drop}
 use Rattle.std.proofs.lemmas.Result.{err_from_is_err_and}
 use Rattle.engines.proofs.ListLemmas.{split_rest, take_run}
 use Rattle.engines.proofs.EngineStepLemmas.{takes_nothing, takes_both, breaks_behind}

@@ -1,4 +1,4 @@
-use Rattle.std.proofs.Common.{◌≡◌, List, ℕ, take, drop, rules, subst, sym, ◌∙◌, arith}
+use Rattle.std.proofs.Common.{take, drop, rules, subst, sym}
 use Rattle.std.proofs.lemmas.List.{take-append-drop}
 use Rattle.std.proofs.lemmas.Result.{err_from_is_err_and}
 use Rattle.gateway_core.specs.Calls.{Value, Moves, Bytes}
