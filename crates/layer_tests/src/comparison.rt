@@ -240,7 +240,10 @@ fn as_a_plain_framer(rt: HostRuntime) -> Result<(), Fail> {
         assert_eq!(rt; (stream, same), (stream, true));
         let size = 1 + (stream % 300) as usize;
         let in_runs = packets_in_runs(alloc, &bytes, size)?;
-        assert_eq!(rt; (stream, before.saturating_add(in_runs)), (stream, counts.packets));
+        assert_eq!(rt;
+            (stream, before.saturating_add(in_runs)),
+            (stream, counts.packets)
+        );
     }
     // scripts/rows/stream-counts makes the same streams, and finds so many packets by the rule.
     assert_eq!(rt; counts.packets, 40_297);

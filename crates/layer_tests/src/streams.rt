@@ -138,7 +138,10 @@ fn greatest_packets_in_runs(rt: HostRuntime) -> Result<(), Fail> {
         feed_runs(&mut framer, &mut buffer, &greatest, &mut found)?;
         feed_runs(&mut framer, &mut buffer, &zeros, &mut found)?;
         let packet = buffer.packet().ok_or("no packet of 65,797 bytes")?;
-        assert_eq!(rt; (packet.kind, packet.body.len(), packet.opt.len()), (9, 65_535, 255));
+        assert_eq!(rt;
+            (packet.kind, packet.body.len(), packet.opt.len()),
+            (9, 65_535, 255)
+        );
         assert_eq!(rt; found.len(), 65_806);
         let (front, content) = found
             .as_slice()
