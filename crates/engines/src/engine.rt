@@ -36,7 +36,7 @@ impl<O: Outlet, S: DeviceStore> Engine<'_, O, S> {
         ensures loans { O.loans self.new.outlet ≡ O.loans self.old.outlet }
         ensures taken { TakesOrBreaks S.stored O.way result self.old self.new (PieceEvent piece.now) }
     {
-        // It tells the proof that the count is a `u64`.
+        // The proof needs that the count is a `u64`.
         let _start = self.items;
         let mut count = 0;
         while count < piece.len() {
@@ -57,7 +57,7 @@ impl<O: Outlet, S: DeviceStore> Engine<'_, O, S> {
             (λ count. Takes S.stored O.way self.old self.new (PieceEvent (take count bytes.now) ∷ []))
             (λ _. EngineBreaks S.stored O.way self.old self.new [] (PieceEvent bytes.now)) }
     {
-        // It tells the proof that the count is a `u64`.
+        // The proof needs that the count is a `u64`.
         let _start = self.items;
         if let Some((reply, count)) = self.gateway.handle_first(bytes) {
             self.answer_packet(&reply)?;
@@ -80,7 +80,7 @@ impl<O: Outlet, S: DeviceStore> Engine<'_, O, S> {
         ensures broken { OnErr result (DrainsPart S.stored self.old.gateway.now self.new.gateway.now
             (O.way.breaks self.old.outlet self.new.outlet)) }
     {
-        // It tells the proof that the count is a `u64`.
+        // The proof needs that the count is a `u64`.
         let _start = self.items;
         while let Some(reply) = self.gateway.next() {
             self.answer_packet(&reply)?;

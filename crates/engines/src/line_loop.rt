@@ -43,7 +43,7 @@ impl<O: Outlet, S: DeviceStore> Player<'_, O, S> {
         ensures stopped { OnErr result ((tail : List ℕ) → Keeps tail self.old.unended →
             StopsAtLine S.stored O.way lines self.old self.new (tail ++ bytes.now)) }
     {
-        // It tells the proof that the count is a `u64`.
+        // The proof needs that the count is a `u64`.
         let _start = self.engine.items;
         let mut rest = bytes;
         while let Some(end) = memchr(b'\n', rest) {
@@ -82,7 +82,7 @@ impl<O: Outlet, S: DeviceStore> Player<'_, O, S> {
         ensures taken { (tail : List ℕ) → Keeps tail self.old.unended →
             TakesOrStops S.stored O.way result self.old.engine self.new.engine (script tail) }
     {
-        // It tells the proof that the count is a `u64`.
+        // The proof needs that the count is a `u64`.
         let _start = self.engine.items;
         let line = self.unended.as_slice();
         if line.is_empty() {

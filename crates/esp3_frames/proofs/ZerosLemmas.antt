@@ -70,7 +70,7 @@ check-zeros m n =
     check_parts m (replicate n 0) ∙ ap (bit_xor (after_zeros (check m) (length (replicate n 0)))) (check_zeros n)
     ∙ xor_zero_r _ ∙ ap (after_zeros (check m)) (length-replicate n 0)
 
--- what the tables have: each byte at its place, and the next one behind it, in two rows that go round. The places from
+-- what the tables have: each byte at its place, and the next one after it, in two rows that go round. The places from
 -- 254 on have the bytes that stay
 is_placed : ℕ → Bool
 is_placed c = eqb (get_or ROUNDS (get_or PLACES c 0) 0) c

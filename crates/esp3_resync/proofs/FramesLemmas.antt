@@ -1,5 +1,6 @@
 -- What a framer's bytes hold, by what stands at their front.
-use Rattle.std.proofs.Common.{◌≡◌, ◌≢◌, ℕ, zero, suc, ◌+◌, ◌-◌, ◌≤◌, ◌<◌, Bool, true, false, List, [], ◌∷◌, ◌++◌}
+use Rattle.std.proofs.Common.{◌≡◌, ◌≢◌, ℕ, zero, suc, ◌+◌, ◌-◌, ◌≤◌, ◌<◌}
+use Rattle.std.proofs.Common.{Bool, true, false, List, [], ◌∷◌, ◌++◌}
 use Rattle.std.proofs.Common.{length, take, drop, get_or, refl, sym, subst, ap, ◌∙◌, arith, append_assoc, inl, inr}
 use Rattle.std.proofs.Common.{length-append, length-drop, length-take}
 use Rattle.std.specs.Prelude.{IsTrue}
@@ -168,7 +169,7 @@ pub noise_taken : (w t : List ℕ) (f : Frames) → w ≡ [] → w ≡ f.rest �
 noise_taken w t f nil is e none =
     sym e ∙ ap frames_of nil ∙ frames_of-empty ∙ sym none ∙ ap (λ (r : List ℕ). frames_of (r ++ t)) (sym nil ∙ is)
 
--- a packet, and nothing behind it
+-- a packet, and nothing after it
 pub frames_of-one : (p : Packet) (w : List ℕ) → IsPacket p w → frames_of w ≡ record { ready = p ∷ []; rest = [] }
 frames_of-one p w h =
     let only = only_framing w (p ∷ []) [] (finds h (sym (append-nil w)) (ends empty_may_become)) in

@@ -130,7 +130,7 @@ fn a_packet(rt: HostRuntime) -> Result<(), Fail> {
     Ok(())
 }
 
-// A packet at the front, with more bytes behind it or none.
+// A packet at the front, with more bytes after it or none.
 #[test]
 fn a_first_packet(rt: HostRuntime) -> Result<(), Fail> {
     let mut more = [0x55; 24];

@@ -184,7 +184,7 @@ fn in_a_run<S: DeviceStore>(gateway: &mut GatewayOver<S>) -> bool {
     !gateway.is_ready() && gateway.bytes(&STREAM[30..]) == 21 && reads_next(gateway)
 }
 
-/// Whether the packet at the front of some bytes is read, and none where noise stands there or a byte waits.
+/// Whether the packet at the front of some bytes is read, and no packet if noise is at the front or a byte is held.
 fn at_the_front<S: DeviceStore>(gateway: &mut GatewayOver<S>) -> bool {
     if gateway.is_ready() || gateway.handle_first(&STREAM).is_some() {
         return false;

@@ -12,7 +12,7 @@ use Rattle.hex.proofs.Pairs.{decode_start, decode_step, decode_err, decode_done}
 use Rattle.hex.proofs.HexLemmas.{decode_of-even}
 use Rattle.engines.proofs.digits.decode.Goals as goal
 
--- two bytes with these values, of which one that is no digit has one above 15
+-- two bytes with these values: a byte is a digit exactly when its value is at most 15
 module _ (high low i h l : ℕ) (high_is : hex_digit_value high ≡ (if ltb h 16 then Some h else None))
     (low_is : hex_digit_value low ≡ (if ltb l 16 then Some l else None)) where
   pair_reads : h ≤ 15 → l ≤ 15 → pair_value high low i ≡ Ok (h * 16 + l)

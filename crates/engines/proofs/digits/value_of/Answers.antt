@@ -5,7 +5,7 @@ use Rattle.hex.specs.Hex.{hex_digit_value}
 use Rattle.engines.specs.declared.digits.TheConstants.{VALUES}
 use Rattle.engines.proofs.digits.value_of.Goals as goal
 
--- whether n stands for a value, which is below 16, or for none
+-- whether n is this value, and below 16, or is 16 if there is none
 stands_for : Option ℕ → ℕ → Bool
 stands_for (Some value) n = eqb n value && ltb value 16
 stands_for None n = eqb n 16
