@@ -1,4 +1,4 @@
-# The lines, each reading with the label that the last answer to `list` told of its device.
+# Adds the label of the device, from the last answer to `list`, to each reading line.
 foreach (inputs | fromjson?) as $line (
     {};
     if $line.type == "device" then .[$line.id] = $line.label else . end;

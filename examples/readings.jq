@@ -1,5 +1,5 @@
-# The readings, one in each line: the device, by its label if it has one, the name of the reading,
-# and what it says. What is no JSON, as a torn line, is passed over.
+# One reading per line: the device (its label, if it has one, or its ID), the name of the reading,
+# and its value. Lines that are not JSON, such as truncated ones, are skipped.
 fromjson? | select(.type == "reading")
 | ((.label // "" | select(. != "")) // .id) as $device
 | .readings[]
