@@ -8,10 +8,10 @@ use clap::builder::ValueParser;
 use clap::{Arg, ArgAction, Command};
 use std::alloc::{AllocError, Global};
 
-/// What `--version` tells, behind the program's name.
+/// The version that `--version` prints after the program's name.
 const VERSION: &str = "0.2.0";
 
-/// How many turns a gateway serves at most.
+/// The largest number of turns of a gateway.
 const MOST_TURNS: u64 = 4_294_967_295;
 
 /// The command `enogate` with its subcommands.
@@ -31,7 +31,7 @@ fn replay_command<'a>(alloc: Global) -> Result<Command<'a>, AllocError>
     ensures { IfOk result (λ command. app_of command ≡ replay_app) }
 {
     Command::new(alloc, "replay")
-        .about("Runs a script from standard input to standard output")
+        .about("Run a recorded script from standard input to standard output")
         .arg(base_option(alloc))?
         .arg(db_option(alloc))?
         .arg(explain_option(alloc))
@@ -41,15 +41,11 @@ fn live_command<'a>(alloc: Global) -> Result<Command<'a>, AllocError>
     ensures { IfOk result (λ command. app_of command ≡ live_app) }
 {
     Command::new(alloc, "live")
-        .about("Serves a serial line and a desk")
+        .about("Run a gateway on a serial port")
         .arg(base_option(alloc))?
-        .arg(path_option(alloc, "serial", "Serial line, which is read and written"))?
-        .arg(path_option(alloc, "desk", "File of the orders, which is read"))?
-        .arg(path_option(
-            alloc,
-            "out",
-            "File of the answers to the desk, which is made or emptied",
-        ))?
+        .arg(path_option(alloc, "serial", "Serial port of the radio module"))?
+        .arg(path_option(alloc, "desk", "File with orders, one per line"))?
+        .arg(path_option(alloc, "out", "Output file, created or truncated"))?
         .arg(turns_option(alloc))?
         .arg(db_option(alloc))?
         .arg(explain_option(alloc))
@@ -75,7 +71,7 @@ fn db_option<'a>(alloc: Global) -> Arg<'a>
         .long("db")
         .action(ArgAction::Set)
         .value_name("PATH")
-        .help("SQLite file of the learned devices, which else stay in memory alone")
+        .help("SQLite file of learned devices; without this option they are kept in memory only")
 }
 
 fn explain_option<'a>(alloc: Global) -> Arg<'a>
@@ -85,7 +81,7 @@ fn explain_option<'a>(alloc: Global) -> Arg<'a>
     Arg::new(alloc, "explain")
         .long("explain")
         .action(ArgAction::SetTrue)
-        .help("Tells of each packet what it was, what became of it, and why")
+        .help("Report what was done with each packet, and why")
 }
 
 fn turns_option<'a>(alloc: Global) -> Arg<'a>
@@ -97,12 +93,12 @@ fn turns_option<'a>(alloc: Global) -> Arg<'a>
         alloc,
         "turns",
         "N",
-        "How many turns it serves, 1 to 4294967295",
+        "Number of read cycles before exiting, 1 to 4294967295",
     )
     .value_parser(turns)
 }
 
-/// An option of this name that is a path and has to be given.
+/// A required option of this name whose value is a path.
 fn path_option<'a>(alloc: Global, name: &'a str, help: &'a str) -> Arg<'a>
     ensures rule { rule_of result ≡ required_rule name.entry.now }
     ensures local { result.global ≡ false }
@@ -110,7 +106,7 @@ fn path_option<'a>(alloc: Global, name: &'a str, help: &'a str) -> Arg<'a>
     required_option(alloc, name, "PATH", help)
 }
 
-/// An option of this name that has to be given, and has one value.
+/// A required option of this name with one value.
 fn required_option<'a>(alloc: Global, name: &'a str, value_name: &'a str, help: &'a str) -> Arg<'a>
     ensures rule { rule_of result ≡ required_rule name.entry.now }
     ensures local { result.global ≡ false }

@@ -262,12 +262,12 @@ fn bad_turns(rt: HostRuntime) -> Result<(), Fail> {
 fn help_of_replay(rt: HostRuntime) -> Result<(), Fail> {
     assert_eq!(rt;
         told(&rt, "enogate replay --help")?.as_str(),
-        "Runs a script from standard input to standard output\n\n\
+        "Run a recorded script from standard input to standard output\n\n\
         Usage: enogate replay [OPTIONS] --base <ID>\n\n\
         Options:\n      \
         --base <ID>  Base ID of the radio module, 8 hexadecimal digits\n      \
-        --db <PATH>  SQLite file of the learned devices, which else stay in memory alone\n      \
-        --explain    Tells of each packet what it was, what became of it, and why\n  \
+        --db <PATH>  SQLite file of learned devices; without this option they are kept in memory only\n      \
+        --explain    Report what was done with each packet, and why\n  \
         -h, --help       Print help\n"
     );
     Ok(())
@@ -277,16 +277,16 @@ fn help_of_replay(rt: HostRuntime) -> Result<(), Fail> {
 fn help_of_live(rt: HostRuntime) -> Result<(), Fail> {
     assert_eq!(rt;
         told(&rt, "enogate live --help")?.as_str(),
-        "Serves a serial line and a desk\n\n\
+        "Run a gateway on a serial port\n\n\
         Usage: enogate live [OPTIONS] --base <ID> --serial <PATH> --desk <PATH> --out <PATH> --turns <N>\n\n\
         Options:\n      \
         --base <ID>      Base ID of the radio module, 8 hexadecimal digits\n      \
-        --serial <PATH>  Serial line, which is read and written\n      \
-        --desk <PATH>    File of the orders, which is read\n      \
-        --out <PATH>     File of the answers to the desk, which is made or emptied\n      \
-        --turns <N>      How many turns it serves, 1 to 4294967295\n      \
-        --db <PATH>      SQLite file of the learned devices, which else stay in memory alone\n      \
-        --explain        Tells of each packet what it was, what became of it, and why\n  \
+        --serial <PATH>  Serial port of the radio module\n      \
+        --desk <PATH>    File with orders, one per line\n      \
+        --out <PATH>     Output file, created or truncated\n      \
+        --turns <N>      Number of read cycles before exiting, 1 to 4294967295\n      \
+        --db <PATH>      SQLite file of learned devices; without this option they are kept in memory only\n      \
+        --explain        Report what was done with each packet, and why\n  \
         -h, --help           Print help\n"
     );
     Ok(())
@@ -299,8 +299,8 @@ fn help_of_both(rt: HostRuntime) -> Result<(), Fail> {
         "A gateway for EnOcean radio devices\n\n\
         Usage: enogate <COMMAND>\n\n\
         Commands:\n  \
-        replay  Runs a script from standard input to standard output\n  \
-        live    Serves a serial line and a desk\n  \
+        replay  Run a recorded script from standard input to standard output\n  \
+        live    Run a gateway on a serial port\n  \
         help    Print this message or the help of the given subcommand(s)\n\n\
         Options:\n  \
         -h, --help     Print help\n  \
