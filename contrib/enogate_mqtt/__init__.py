@@ -1,1 +1,4 @@
-"""Joins an enogate gateway to a broker of MQTT, and shows its devices in Home Assistant."""
+"""The modules of enogate-mqtt, which connects an enogate gateway to an MQTT broker."""
+
+# The version of the program and of the package: tests/around/package compares them.
+VERSION = "0.2.0"

@@ -1,202 +1,310 @@
-"""The bridge: lines of the gateway go to the broker, and messages from there to the gateway's desk."""
-import math
-import re
-import time
-from collections import deque
-from dataclasses import dataclass
-from typing import Callable, Optional
+"""The bridge: passes the lines of the gateway to the broker, and messages from the broker to the gateway's desk."""
+from __future__ import annotations
 
-from . import orders
-from .broker import Broker, Session, Taken
+import json
+import logging
+import re
+from typing import Callable, Iterable, Iterator
+
+from . import discovery
+from .connection import Broker, Connection, Lost, Received
 from .desk import Desk
 from .devices import Devices
 from .follow import Follower, Place
-from .lines import BadLine, Strange, read
+from .lines import BadLine, Content, Strange, content_of
+from .log import Seldom
+from .orders import DEVICE, Refused, orders_of
+from .outbox import Outbox
+from .reconcile import Part, Reconciler
+from .requests import ListRequest, Requests
 from .store import Store
 from .topics import Message, Topics
 
 TURN = 0.1
-# the pauses between two questions for the list that are not answered, in seconds: the first, and the longest
-FIRST_PAUSE, LONGEST_PAUSE = 5, 600
-# what is known is kept no oftener than after so many seconds
-KEPT_AFTER = 2
-# so many lines are held for a broker that is away; then the oldest are let go
-MOST_HELD = 10000
+# The shortest time between two writes of the state, in seconds.
+SAVE_EVERY = 2.0
+# How long the end of the bridge waits for acknowledgements, in seconds.
+END_WITHIN = 2.0
+GATEWAY, UNKNOWN = "gateway", "unknown"
 
 
-@dataclass
-class Held:
-    """A line that the broker has not acknowledged, the place before it, and its number there once it is published."""
-    line: str
-    before: Place
-    number: Optional[int] = None
+def contents(lines: Iterable[tuple[bytes, Place]], devices: Devices, warn: Callable[[str, str], None]
+             ) -> Iterator[tuple[str, Place, Content]]:
+    """The lines that are lines of a gateway, each with its place and its contents. Others are logged."""
+    for line, place in lines:
+        try:
+            content = content_of(line)
+        except BadLine as bad:
+            warn("line", str(bad))
+            devices.skip()
+            continue
+        if isinstance(content, Strange):
+            warn("members", content.complaint)
+        yield line.decode("ascii"), place, content
 
 
 class Bridge:
-    """One gateway at one broker."""
+    """Connects one gateway to one broker."""
 
-    def __init__(self, topics: Topics, broker: Broker, devices: Devices, follower: Follower, desk: Desk, store: Store,
-                 log: Callable[[str], None]):
-        self.topics, self.broker, self.devices, self.log = topics, broker, devices, log
-        self.follower, self.desk, self.store = follower, desk, store
-        self.held: deque[Held] = deque(maxlen=MOST_HELD)
-        self.opened: Optional[Session] = None
-        self.is_stopped = self.is_full = False
-        self.list_due, self.list_pause, self.list_asked = 0.0, FIRST_PAUSE, -math.inf
-        self.kept, self.kept_at = store.place, 0.0
-
-    @property
-    def session(self) -> Optional[Session]:
-        """The session with the broker, once it is open, and until it is lost."""
-        return self.opened if self.opened is self.broker.session else None
+    def __init__(self, topics: Topics, broker: Broker, devices: Devices, follower: Follower, desk: Desk,
+                 requests: Requests, store: Store, clock: Callable[[], float], wall: Callable[[], float]):
+        self.topics, self.broker, self.devices, self.follower = topics, broker, devices, follower
+        self.desk, self.requests, self.store, self.clock, self.wall = desk, requests, store, clock, wall
+        self.outbox = Outbox()
+        self.seldom = Seldom(clock)
+        self.connection: Connection | None = None
+        # what the broker retains comes on a connection of its own: if it is too much for the broker, it drops some of
+        # it, but no acknowledgement and no order
+        self.reader: Connection | None = None
+        self.reconciler: Reconciler | None = None
+        self.is_stopped = False
+        # whether what the broker retains was compared, so that the readings there are the last ones
+        self.is_online = False
+        # what the broker retains about the gateway itself, once this is known, and the deletions that are under way
+        self.reported: dict[str, str] | None = None
+        self.deleting: dict[str, int] = {}
+        self.saved, self.saved_at = store.place, 0.0
+        self.is_unknown_asked = False
 
     def run(self) -> None:
-        """Runs until it is stopped. Lines from before the first run tell what is known, and are not published."""
-        self.catch_up(self.store.place is not None)
-        if not self.follower.is_at_end:
-            return
-        self.list_due, self.devices.lists = 0.0, 0
-        if self.follower.file is None:
-            self.log(f"there are no lines yet: {self.follower.path}: {self.follower.fault}")
+        """Runs until it is stopped. Lines from before the first run set the state, and are not published."""
+        self.read_earlier_lines()
+        if self.follower.file is None and not self.is_stopped:
+            logging.warning("cannot open %s: %s; retrying", self.follower.path, self.follower.fault)
         while not self.is_stopped:
             self.turn()
-        if self.session:
+        self.requests.close_window()
+        if self.connection:
             self.publish([Message(self.topics.status, "offline", True)])
-            self.session.end(2)
-            self.let_go(self.session)
-        self.keep()
+            self.connection.end(END_WITHIN)
+            self.note_acknowledged(self.connection)
+        self.save()
+
+    def read_earlier_lines(self) -> None:
+        """Reads what the gateway has written before. A list among these lines is not the answer to a request."""
+        self.catch_up(self.store.place is not None, is_earlier=True)
+        self.devices.lists = 0
+        self.requests.list = ListRequest()
 
     def turn(self) -> None:
-        """One turn: what the broker says, what the gateway says, and what is to be asked and kept."""
-        if self.broker.turn(TURN):
+        """One poll cycle."""
+        # with a reader, it is the reader that is waited for
+        if self.broker.turn(0 if self.reader else TURN):
             self.open()
-        if self.session:
-            taken, self.session.taken = self.session.taken, []
-            for message in taken:
-                self.hear(message)
+        self.turn_reader()
+        # what has arrived before a loss is handled too
+        for connection in filter(None, (self.connection, self.reader)):
+            received, connection.received = connection.received, []
+            for message in received:
+                self.receive(message)
+        if self.connection is not self.broker.connection:
+            self.connection = self.reconciler = None
+            self.close_reader()
         self.take_lines(True)
-        if self.session:
-            self.publish_held(self.session)
-        self.ask_list()
-        if time.monotonic() >= self.kept_at + KEPT_AFTER:
-            self.keep()
+        self.requests.turn(self.devices.needs_list)
+        self.devices.needs_list = False
+        if self.connection and self.reconciler:
+            self.turn_reconciler(self.reconciler)
+            if self.reconciler.is_done and not self.is_online:
+                self.is_online = True
+                self.publish([Message(self.topics.status, "online", True)])
+            self.report()
+            self.outbox.publish(lambda line: self.send(Message(self.topics.lines, line, False)))
+            self.note_acknowledged(self.connection)
+        if self.clock() >= self.saved_at + SAVE_EVERY:
+            self.save()
 
-    def catch_up(self, are_held: bool) -> None:
-        """Takes all lines that are there, while nothing is published."""
+    def turn_reader(self) -> None:
+        """Handles what the broker retains. The reader is opened when it is needed, and closed when all is compared."""
+        if self.connection is not self.broker.connection:
+            return
+        if self.reconciler and self.reconciler.is_done:
+            self.close_reader()
+        elif self.reconciler and not self.reader:
+            self.reader = self.broker.read()
+        if self.reader:
+            try:
+                self.reader.turn(TURN)
+            except Lost as lost:
+                self.broker.lose(f"{lost} (on the connection that reads what is retained)")
+
+    def turn_reconciler(self, reconciler: Reconciler) -> None:
+        """Asks the broker for what it retains, once the reader is open."""
+        if self.reader and self.reader.is_open:
+            try:
+                reconciler.turn(self.reader)
+            except Lost as lost:
+                self.broker.lose(str(lost))
+
+    def close_reader(self) -> None:
+        if self.reader:
+            self.reader.close()
+            self.reader = None
+
+    def catch_up(self, are_kept: bool, is_earlier: bool = False) -> None:
+        """Reads all existing lines while nothing is published. Those of before this run answer none of its requests."""
         self.follower.is_at_end = False
         while not self.follower.is_at_end and not self.is_stopped:
-            self.take_lines(are_held)
+            self.take_lines(are_kept, is_late=True, is_earlier=is_earlier)
 
     def open(self) -> None:
-        """A session was opened: what the broker does not retain as it should is published, and lines once more that it
-        did not acknowledge. What came before that is no event of now."""
+        """A connection was opened. Lines that came before cause no events. Then what the broker retains is compared."""
         self.catch_up(True)
-        self.opened = self.broker.session
-        self.is_full = False
-        for held in self.held:
-            held.number = None
-        self.settle()
-        self.publish([Message(self.topics.status, "online", True)])
+        self.connection = self.broker.connection
+        assert self.connection is not None
+        self.close_reader()
+        self.outbox.start_session()
+        self.reported, self.deleting = None, {}
+        self.reconciler = Reconciler(self.clock, self.compare)
+        self.is_online = False
+        self.publish([Message(topic, "", True) for topic in sorted(self.devices.removed)])
+        self.reconciler.add([Part(GATEWAY, [*self.topics.reports, *self.of_gateway()])])
+        self.reconciler.add(map(self.part_of, sorted(self.devices.known)))
+        self.is_unknown_asked = False
 
-    def settle(self) -> None:
-        """Makes what the broker retains what is known. Once all devices are known, what it has of others is taken
-        away."""
-        if not self.session:
-            return
-        there = {topic: text for topic, text in self.session.retained.items() if text}
-        if self.devices.lists:
-            for topic, text in there.items():
-                self.devices.adopt(topic, text)
-        wanted = self.devices.retained()
-        self.publish([Message(topic, text, True) for topic, text in wanted.items() if there.get(topic) != text])
-        if self.devices.lists:
-            self.publish([Message(topic, "", True) for topic in there if topic not in wanted and self.is_stray(topic)])
+    def of_gateway(self) -> dict[str, str]:
+        """The discovery messages of the gateway itself, by topic."""
+        return discovery.gateway(self.topics) if self.topics.discovery else {}
+
+    def part_of(self, device: str) -> Part:
+        """What the broker may retain about a device: its readings, and the discovery messages that it should have."""
+        return Part(device, [*self.topics.of_device(device), *self.devices.shown[device]])
+
+    def parts_of_unknown(self) -> list[Part]:
+        """Without a state file it is unknown which devices were published before: the broker is asked for all, in parts
+        that are as small as possible."""
+        filters = [[f"{self.topics.own}/+/+"], [f"{self.topics.own}/+/+/+"]]
+        if self.topics.discovery:
+            filters += [[self.topics.config(component, "+")] for component in sorted(discovery.COMPONENTS)]
+        return [Part(UNKNOWN, some, is_large=True, expected=self.wanted()) for some in filters]
+
+    def wanted(self) -> dict[str, str]:
+        """Everything that the broker should retain, by topic."""
+        wanted = self.of_gateway()
+        for device in self.devices.known:
+            wanted |= self.devices.retained(device)
+        return wanted
+
+    def compare(self, part: Part) -> None:
+        """Publishes the differences between what is retained and what should be."""
+        there = {topic: text for topic, text in part.retained.items() if text}
+        wanted = self.wanted() if part.name == UNKNOWN else self.of_gateway() if part.name == GATEWAY else {}
+        if part.name == GATEWAY:
+            self.reported = {topic: there.pop(topic) for topic in self.topics.reports if topic in there}
+        if part.name == UNKNOWN:
+            self.devices.may_adopt = False
+        elif part.name in self.devices.known:
+            # a list, since a device may be shown with other entities
+            if any([self.devices.adopt(topic, text) for topic, text in there.items()]):
+                self.publish(self.devices.show(self.devices.known[part.name]))
+            wanted = self.devices.retained(part.name)
+        if part.name != UNKNOWN:
+            self.publish([Message(topic, text, True) for topic, text in wanted.items() if there.get(topic) != text])
+        self.publish(self.devices.remove(topic for topic in there if topic not in wanted and self.is_stray(topic)))
 
     def is_stray(self, topic: str) -> bool:
-        """Whether what nobody wants here is of a device that is not learned, or an entity that is no more."""
-        if not topic.startswith(self.topics.own + "/"):
-            return True
-        device = topic.removeprefix(self.topics.own + "/").split("/")[0]
-        return bool(re.fullmatch("[0-9A-F]{8}", device)) and device not in self.devices.known
+        """Whether an unwanted topic is one that this bridge publishes: below a device, or a discovery message."""
+        if topic.startswith(self.topics.own + "/"):
+            return re.match(f"{DEVICE}/", topic.removeprefix(self.topics.own + "/")) is not None
+        return True
 
-    def publish(self, messages: list[Message]) -> None:
-        """Publishes these, where the broker is there. Else what is retained is published once it is, and an event of
-        then never."""
-        if self.session:
+    def publish(self, messages: Iterable[Message]) -> None:
+        """Publishes these if there is a connection. Otherwise, retained messages are published once there is one, and
+        events never."""
+        if self.connection:
             for message in messages:
-                self.session.publish(message)
+                number = self.send(message)
+                if message.retained and not message.payload:
+                    self.deleting[message.topic] = number
 
-    def take_lines(self, are_held: bool) -> None:
-        """Takes the lines that have come."""
-        before = self.devices.lists
-        for line, place in self.follower.read():
-            try:
-                said = read(line)
-            except BadLine as bad:
-                self.log(str(bad))
-                self.devices.skip()
-                continue
-            if isinstance(said, Strange):
-                self.log(said.complaint)
-            if are_held:
-                self.hold(Held(line.decode("ascii"), place))
-            self.publish(self.devices.take(said))
-        if self.devices.lists > before:
-            self.list_due = math.inf
-            self.settle()
+    def send(self, message: Message) -> int:
+        """Publishes a message on the open connection, and returns its number."""
+        assert self.connection is not None and self.reconciler is not None
+        if message.retained:
+            self.reconciler.publish(message.topic, message.payload)
+        return self.connection.publish(message)
 
-    def hold(self, held: Held) -> None:
-        """Holds a line until the broker has it."""
-        if len(self.held) == MOST_HELD and not self.is_full:
-            self.log(f"the broker is away for {MOST_HELD} lines: the oldest ones will not be published")
-            self.is_full = True
-        self.held.append(held)
+    def take_lines(self, are_kept: bool, is_late: bool = False, is_earlier: bool = False) -> None:
+        """Handles the lines that have arrived. When they are late, the time of their arrival is not known."""
+        lists, known = self.devices.lists, set(self.devices.known)
+        for line, place, content in contents(self.follower.read(), self.devices, self.seldom.warning):
+            if are_kept:
+                self.outbox.add(line, place)
+            self.publish(self.devices.take(content, None if is_late else self.wall()))
+            if not is_earlier:
+                self.requests.take(content)
+        if self.devices.lists > lists:
+            self.requests.list.answer()
+        if self.reconciler:
+            self.reconciler.add(map(self.part_of, sorted(self.devices.known.keys() - known)))
+            if self.devices.may_adopt and self.devices.lists and not self.is_unknown_asked:
+                self.is_unknown_asked = True
+                self.reconciler.add(self.parts_of_unknown())
 
-    def publish_held(self, session: Session) -> None:
-        """Publishes the lines that are held, in their order, and lets go those that the broker has."""
-        for held in self.held:
-            if held.number is None:
-                held.number = session.publish(Message(self.topics.lines, held.line, False))
-        self.let_go(session)
-
-    def let_go(self, session: Session) -> None:
-        while self.held and self.held[0].number is not None and self.held[0].number not in session.waiting:
-            self.held.popleft()
-
-    def hear(self, taken: Taken) -> None:
-        """Takes a message from the broker."""
-        if taken.topic == self.topics.status:
-            # the broker has found out only now that an earlier connection was lost
-            if taken.payload == b"offline":
+    def receive(self, message: Received) -> None:
+        """Handles a message from the broker."""
+        is_order = message.topic == self.topics.orders or message.topic.endswith("/set")
+        if message.retained and is_order:
+            self.seldom.warning("retained", f"message on {message.topic!r} ignored: it is retained")
+        elif message.retained and self.reconciler:
+            self.reconciler.take(message.topic, message.payload.decode("utf-8", "replace"))
+        if message.retained:
+            return
+        if message.topic == self.topics.status:
+            # the broker has noticed only now that an earlier connection was lost
+            if message.payload == b"offline" and self.is_online:
                 self.publish([Message(self.topics.status, "online", True)])
             return
+        if is_order:
+            self.give(message)
+
+    def give(self, message: Received) -> None:
+        """Passes the orders of a message to the gateway."""
         try:
-            self.desk.give(orders.of_message(self.topics, taken.topic, taken.payload))
-        except orders.Refused as refused:
-            self.log(f"a message by {taken.topic} is not taken: {refused}")
+            orders = orders_of(self.topics, message.topic, message.payload)
+            self.desk.append(orders)
+        except Refused as refused:
+            self.seldom.warning("refused", f"message on {message.topic!r} ignored: {refused}")
+            return
         except OSError as error:
-            self.log(f"a message by {taken.topic} is lost: {self.desk.path}: {error.strerror or error}")
-
-    def ask_list(self) -> None:
-        """Gives the order `list` at the start, and where it may tell something new; and again until it is answered."""
-        now = time.monotonic()
-        if self.desk.has_news() or self.devices.wants_list:
-            self.devices.wants_list, self.list_pause = False, FIRST_PAUSE
-            self.list_due = min(self.list_due, max(now, self.list_asked + FIRST_PAUSE))
-        if now < self.list_due:
+            lost = f"message on {message.topic!r} lost: {self.desk.path}: {error.strerror or error}"
+            self.seldom.warning("lost", lost)
             return
-        try:
-            self.desk.give(b"list\n")
-        except OSError:
-            pass  # there is no desk yet
-        self.list_asked, self.list_due = now, now + self.list_pause
-        self.list_pause = min(2 * self.list_pause, LONGEST_PAUSE)
+        self.requests.command(orders)
+        if self.requests.gateway.is_online is False:
+            may_be_lost = f"message on {message.topic!r}: the gateway does not answer, orders may be lost"
+            self.seldom.warning("offline", may_be_lost)
 
-    def keep(self) -> None:
-        """Keeps what is known, if it is something new: how far the broker has the lines, and the devices."""
-        place = self.held[0].before if self.held else self.follower.place
-        self.kept_at = time.monotonic()
-        if place == self.kept and not self.devices.changed:
+    def report(self) -> None:
+        """Publishes what is known about the gateway itself, if it has changed."""
+        if self.reported is None:
             return
-        if self.store.keep(place, self.devices.changed, self.devices.known):
-            self.kept, self.devices.changed = place, set()
+        now, gateway, module = {}, self.requests.gateway.is_online, self.requests.module.is_online
+        if gateway is not None:
+            now[self.topics.gateway] = "online" if gateway else "offline"
+        if gateway is False or module is not None:
+            now[self.topics.module] = "online" if gateway and module else "offline"
+        if self.requests.status:
+            now[self.topics.learn] = "OFF" if self.requests.status.mode == "closed" else "ON"
+            now[self.topics.counters] = json.dumps(self.requests.status.counters, separators=(",", ":"))
+        new = {topic: text for topic, text in now.items() if self.reported.get(topic) != text}
+        self.publish([Message(topic, text, True) for topic, text in new.items()])
+        self.reported |= new
+
+    def note_acknowledged(self, connection: Connection) -> None:
+        """Notes which lines and deletions the broker has acknowledged."""
+        self.outbox.drop_acknowledged(connection.unacknowledged)
+        done = {topic for topic, number in self.deleting.items() if number not in connection.unacknowledged}
+        for topic in done:
+            del self.deleting[topic]
+        self.devices.removed -= done
+
+    def save(self) -> None:
+        """Saves the state if it has changed: how far the broker has acknowledged the lines, and the devices."""
+        place = self.outbox.place(self.follower.place)
+        self.saved_at = self.clock()
+        changed, removed, may_adopt = self.devices.changed, self.devices.removed, self.devices.may_adopt
+        if place == self.saved and not changed and removed == self.store.removed and may_adopt == self.store.may_adopt:
+            return
+        if self.store.save(place, changed, self.devices.known, removed, may_adopt):
+            self.saved, self.devices.changed = place, set()

@@ -1,141 +1,188 @@
-"""What is known of the devices of a gateway, from its lines, and what is published of it."""
+"""The devices of a gateway as its lines report them, and what is published about them."""
+from __future__ import annotations
+
 import json
 from dataclasses import dataclass, field
-from typing import Iterable, Optional
+from datetime import datetime, timezone
+from typing import Iterable
 
 from . import discovery
 from .entities import Table
-from .lines import EndOfList, Forgotten, Learned, Listed, Said, Telegram
+from .lines import Content, Deleted, EndOfList, Learned, Listed, Telegram
 from .topics import Message, Topics
+
+LAST_SEEN = "last_seen"
 
 
 @dataclass
 class Device:
-    """A device. Its label is None until a line tells that it is learned. `told` has what it told last, by the places
+    """A device. Its label is None until a line reports it as learned. `told` has its last readings, by their places
     below its topic."""
-    id: str
+    name: str
     eep: str
-    label: Optional[str] = None
-    maker: Optional[int] = None
+    label: str | None = None
+    maker: int | None = None
     told: dict[str, str] = field(default_factory=dict)
 
 
 class Devices:
-    """The devices of a gateway."""
+    """The devices of a gateway, and the retained messages that the broker should have about them."""
 
-    def __init__(self, topics: Topics, table: Table, known: Iterable[Device] = ()):
-        self.topics, self.table = topics, table
-        self.known = {device.id: device for device in known}
-        self.shown = {device.id: self.configs(device) for device in self.known.values()}
-        # those that changed since this was emptied
+    def __init__(self, topics: Topics, table: Table, expire_after: int | None = None, known: Iterable[Device] = (),
+                 removed: Iterable[str] = (), may_adopt: bool = False):
+        self.topics, self.table, self.expire_after = topics, table, expire_after
+        self.known = {device.name: device for device in known}
+        self.shown = {device.name: self.configs(device) for device in self.known.values()}
+        # the topics whose retained messages are to be deleted
+        self.removed = set(removed)
+        # the devices that changed since this was emptied
         self.changed: set[str] = set()
-        # how many whole lists have come, and whether one more is needed
+        # how many complete lists have arrived, and whether another one is needed
         self.lists = 0
-        self.wants_list = False
+        self.needs_list = False
         # the devices of a list that has not ended
         self.listing: list[str] = []
+        # without a state file, the readings that the broker retains are adopted for devices that only a list reported
+        self.adopting = {name for name, device in self.known.items() if may_adopt and not device.told}
+        self.may_adopt = may_adopt
 
-    def retained(self) -> dict[str, str]:
-        """All that the broker should retain of the devices, by topic."""
-        every = discovery.gateway(self.topics) if self.topics.discovery else {}
-        for device in self.known.values():
-            every |= self.shown[device.id]
-            every |= {self.topics.told(device.id, place): text for place, text in device.told.items()}
-        return every
+    def retained(self, device: str) -> dict[str, str]:
+        """Everything that the broker should retain about a device, by topic."""
+        told = self.known[device].told
+        return self.shown[device] | {self.topics.told(device, place): text for place, text in told.items()}
 
-    def adopt(self, topic: str, text: str) -> None:
-        """Takes over what the broker retains of a learned device, where nothing is known of that: what was kept is
-        lost, or another bridge ran before."""
-        id, _, place = topic.removeprefix(self.topics.own + "/").partition("/")
-        device = self.known.get(id)
-        if device and device.label is not None and place not in device.told and self.table.tells(device.eep, place):
-            device.told[place] = text
-            self.changed.add(id)
-            self.shown[id] = self.configs(device)
+    def adopt(self, topic: str, text: str) -> bool:
+        """Takes a reading that the broker retains as the last one of its device: the state file was lost, or another
+        bridge ran before. Returns whether it was taken."""
+        name, _, place = topic.removeprefix(self.topics.own + "/").partition("/")
+        if name not in self.adopting:
+            return False
+        device = self.known[name]
+        if place in device.told or not (place == LAST_SEEN or self.table.tells(device.eep, place)):
+            return False
+        device.told[place] = text
+        self.changed.add(name)
+        return True
 
-    def take(self, said: Said) -> list[Message]:
-        """Takes a line, and answers what is published for it."""
-        if isinstance(said, Listed):
-            self.listing.append(said.id)
-            return self.learn(said.id, said.eep, said.maker, said.label)
-        listing, self.listing = self.listing, []
-        if isinstance(said, EndOfList):
-            return self.end_list(listing, said.count)
-        if isinstance(said, Telegram):
-            return self.hear(said)
-        if isinstance(said, Learned):
-            return self.learn(said.id, said.eep, said.maker, None)
-        return self.forget(said.id) if isinstance(said, Forgotten) else []
+    def take(self, content: Content, now: float | None = None) -> list[Message]:
+        """Handles a line, and returns what is published for it. `now` is the time of its arrival in seconds since 1970,
+        if it is known."""
+        match content:
+            case Listed():
+                self.listing.append(content.device)
+                if content.device not in self.known and self.may_adopt:
+                    self.adopting.add(content.device)
+                return self.learn(content.device, content.eep, content.maker, content.label)
+            case EndOfList():
+                return self.end_list(content.count)
+        self.listing = []
+        match content:
+            case Telegram():
+                return self.receive(content, now)
+            case Learned():
+                self.adopting.discard(content.device)
+                return self.learn(content.device, content.eep, content.maker, None)
+            case Deleted():
+                return self.forget(content.device)
+        return []
 
     def skip(self) -> None:
-        """A line that cannot be read may have been one of a list."""
+        """Drops the current list: an invalid line may have been part of it."""
         self.listing = []
 
-    def end_list(self, listing: list[str], count: int) -> list[Message]:
-        """The devices that a whole list has not are learned no more."""
+    def end_list(self, count: int) -> list[Message]:
+        """Forgets the devices that a complete list does not contain."""
+        listing, self.listing = self.listing, []
         if len(listing) != count:
-            self.wants_list = True
+            self.needs_list = True
             return []
         self.lists += 1
-        return [message for id in self.known.keys() - set(listing) for message in self.forget(id)]
+        return [message for name in self.known.keys() - set(listing) for message in self.forget(name)]
 
-    def learn(self, id: str, eep: str, maker: Optional[int], label: Optional[str]) -> list[Message]:
-        """A device is learned. Where it is learned anew it keeps its label."""
-        device = self.known.setdefault(id, Device(id, eep))
-        messages = self.give_profile(device, eep)
+    def learn(self, name: str, eep: str, maker: int | None, label: str | None) -> list[Message]:
+        """A device is learned. If it was learned before, it keeps its label."""
+        device = self.known.setdefault(name, Device(name, eep))
+        messages = self.set_profile(device, eep)
         device.maker, device.label = maker, label if label is not None else device.label or ""
         return messages + self.show(device)
 
-    def forget(self, id: str) -> list[Message]:
-        """A device is learned no more: all that is retained of it is taken away."""
-        device = self.known.pop(id, None)
+    def forget(self, name: str) -> list[Message]:
+        """A device is deleted, with everything that is retained about it."""
+        device = self.known.pop(name, None)
         if device is None:
             return []
-        self.changed.add(id)
-        return [Message(topic, "", True) for topic in self.shown.pop(id, {})] + self.take_back(device)
+        self.adopting.discard(name)
+        self.changed.add(name)
+        return self.remove(self.shown.pop(name, {})) + self.remove_readings(device)
 
-    def hear(self, telegram: Telegram) -> list[Message]:
-        """A telegram is read. Where its device is not known so, lines are missing, and a list tells what is so."""
-        device = self.known.setdefault(telegram.id, Device(telegram.id, telegram.eep))
-        self.wants_list |= device.label is None or device.eep != telegram.eep
-        messages = self.give_profile(device, telegram.eep)
+    def receive(self, telegram: Telegram, now: float | None) -> list[Message]:
+        """Handles a telegram. If its device is unknown or has another profile, lines were missed: a list is needed."""
+        device = self.known.setdefault(telegram.device, Device(telegram.device, telegram.eep))
+        self.needs_list |= device.label is None or device.eep != telegram.eep
+        messages = self.set_profile(device, telegram.eep)
         told = self.table.told_by(telegram)
+        events = self.table.events_of(telegram)
+        if self.has_events(telegram.eep):
+            # a rocker that is not pressed any more is not retained as pressed
+            old = [place for place in device.told if place not in told and place not in ("dbm", LAST_SEEN)]
+            messages += self.remove(self.topics.told(device.name, place) for place in old)
+            device.told = {place: text for place, text in device.told.items() if place not in old}
+        if now is not None:
+            told[LAST_SEEN] = datetime.fromtimestamp(now, timezone.utc).isoformat(timespec="seconds")
         is_new = not told.keys() <= device.told.keys()
         device.told |= told
-        self.changed.add(device.id)
+        self.changed.add(device.name)
         messages += self.show(device) if is_new else []
-        messages += [Message(self.topics.told(device.id, place), text, True) for place, text in told.items()]
-        for place, kind in self.table.events_of(telegram):
-            text = json.dumps({"event_type": kind}, separators=(",", ":"))
-            messages.append(Message(self.topics.told(device.id, place), text, False))
-        return messages
+        messages += self.publish({self.topics.told(device.name, place): text for place, text in told.items()})
+        return messages + [Message(self.topics.told(device.name, place), event_payload(kind), False)
+                           for place, kind in events]
 
-    def give_profile(self, device: Device, eep: str) -> list[Message]:
-        """What it told by another profile is taken back."""
+    def has_events(self, eep: str) -> bool:
+        """Whether devices of this profile are switches, whose telegrams are events."""
+        return any(row.entity == "event" for row in self.table.of_profile(eep).values())
+
+    def set_profile(self, device: Device, eep: str) -> list[Message]:
+        """Removes the readings of another profile."""
         if device.eep == eep:
             return []
         device.eep = eep
-        return self.take_back(device)
+        self.adopting.discard(device.name)
+        return self.remove_readings(device)
 
-    def take_back(self, device: Device) -> list[Message]:
-        """All that a device told is taken away."""
-        messages = [Message(self.topics.told(device.id, place), "", True) for place in device.told]
+    def remove_readings(self, device: Device) -> list[Message]:
+        """Removes all readings of a device."""
+        topics = [self.topics.told(device.name, place) for place in device.told]
         device.told = {}
-        return messages
+        return self.remove(topics)
 
     def show(self, device: Device) -> list[Message]:
-        """What Home Assistant has to be told of a device that changed."""
-        self.changed.add(device.id)
-        before, now = self.shown.get(device.id, {}), self.configs(device)
-        self.shown[device.id] = now
-        gone = [Message(topic, "", True) for topic in before if topic not in now]
-        return gone + [Message(topic, text, True) for topic, text in now.items() if before.get(topic) != text]
+        """The discovery messages for a device that changed."""
+        self.changed.add(device.name)
+        before, now = self.shown.get(device.name, {}), self.configs(device)
+        self.shown[device.name] = now
+        gone = self.remove(topic for topic in before if topic not in now)
+        return gone + self.publish({topic: text for topic, text in now.items() if before.get(topic) != text})
+
+    def remove(self, topics: Iterable[str]) -> list[Message]:
+        """Deletes the retained messages on these topics, now or when the broker is connected again."""
+        topics = list(topics)
+        self.removed.update(topics)
+        return [Message(topic, "", True) for topic in topics]
+
+    def publish(self, texts: dict[str, str]) -> list[Message]:
+        """Retained messages on these topics."""
+        self.removed.difference_update(texts)
+        return [Message(topic, text, True) for topic, text in texts.items()]
 
     def configs(self, device: Device) -> dict[str, str]:
-        """The messages of Home Assistant's discovery, by topic. A device that no list has told is not shown: it would
-        get a wrong name."""
+        """The messages of Home Assistant's discovery, by topic. A device that no list has reported is not shown: it
+        would get a wrong name."""
         if device.label is None or not self.topics.discovery:
             return {}
-        about = discovery.about_device(self.topics, device.id, device.eep, device.label, device.maker)
+        about = discovery.about_device(self.topics, device.name, device.eep, device.label, device.maker)
         rows = self.table.of_profile(device.eep).values()
-        return discovery.configs(self.topics, device.id, about, rows, device.told)
+        return discovery.configs(self.topics, device.name, about, rows, device.told, self.expire_after)
+
+
+def event_payload(kind: str) -> str:
+    return json.dumps({"event_type": kind}, separators=(",", ":"))

@@ -1,72 +1,188 @@
-"""What Home Assistant is told of a device, so that it shows it: a message for each entity, by the rules of its MQTT
-integration."""
-import json
-from typing import Any, Callable, Iterable, Optional
+"""Home Assistant's MQTT discovery: one message for each entity, and one for each device trigger."""
+from __future__ import annotations
 
+import fnmatch
+import functools
+import json
+import pathlib
+from typing import Any, Callable, Collection, Iterable
+
+from . import VERSION
 from .entities import Row
 from .topics import Topics
 
-Config = dict[str, Any]
+MANUFACTURERS = pathlib.Path(__file__).with_name("manufacturers")
 
-# The names of the table's words in a message.
+Config = dict[str, Any]
+# Entities by their component of Home Assistant and their name, which is unique for the gateway.
+Entities = dict[tuple[str, str], Config]
+
+# The names of the table's keys in a message.
 NAMES = {"class": "device_class", "state": "state_class", "unit": "unit_of_measurement", "on": "payload_on",
          "off": "payload_off"}
 
-# A word in place of a number, as `unknown` or `out_of_range`, makes a state unknown.
+# The kinds of devices by profile: the first pattern that matches applies.
+MODELS = {
+    "F6-01-??": "Push button",
+    "F6-02-??": "Rocker switch, 2 rockers",
+    "F6-03-??": "Rocker switch, 4 rockers",
+    "D5-00-??": "Contact",
+    "A5-02-??": "Temperature sensor",
+    "A5-04-??": "Temperature and humidity sensor",
+    "A5-06-??": "Light sensor",
+    "A5-07-??": "Motion sensor",
+    "A5-08-??": "Light, temperature and motion sensor",
+    "A5-09-04": "Carbon dioxide, humidity and temperature sensor",
+    "A5-10-??": "Room operating panel",
+    "A5-12-01": "Electricity meter",
+    "A5-12-02": "Gas meter",
+    "A5-12-03": "Water meter",
+    "D2-01-0[23459]": "Dimmer, 1 channel",
+    "D2-01-0?": "Electronic switch, 1 channel",
+    "D2-01-1?": "Electronic switch, 2 channels",
+    "D2-05-00": "Blind control",
+}
+
+# The counters of the gateway, with the names of their entities.
+COUNTERS = {"readings": "Readings", "responses": "Module responses", "teach": "Teach-in telegrams",
+            "ignored": "Ignored packets", "refused": "Refused packets and orders"}
+
+# A word instead of a number, such as `unknown` or `out_of_range`, makes a state unknown.
 NUMBER_OR_NONE = "{{ value if value | is_number else None }}"
 NUMBER_OR_NOTHING = "{{ value if value | is_number else '' }}"
 ON_OFF_OR_NONE = "{{ None if not value | is_number else 'OFF' if value | float == 0 else 'ON' }}"
 OPEN_CLOSED_OR_NONE = "{{ None if not value | is_number else 'closed' if value | float == 100 else 'open' }}"
+EVENT_TYPE = "{{ value_json.event_type }}"
 
 
-def configs(topics: Topics, device: str, about: Config, rows: Iterable[Row], told: Iterable[str]) -> dict[str, str]:
-    """The messages of a device, by their topics. `about` is the device itself, and `told` are the places at which it
-    has told something."""
-    found: dict[str, Config] = {}
-    for row in rows:
-        for number in row.numbers(told) if row.entity else []:
-            place = row.place(number)
-            topic = topics.config(row.entity, f"{device}_{place.replace('/', '_')}")
-            config = entity(topics, device, row, number)
-            if topic in found and row.entity == "event":
-                config["event_types"] = list(dict.fromkeys(found[topic]["event_types"] + config["event_types"]))
-            found[topic] = config
-    found[topics.config("sensor", f"{device}_dbm")] = {
-        "name": "Signal strength", "state_topic": topics.told(device, "dbm"), "device_class": "signal_strength",
-        "state_class": "measurement", "unit_of_measurement": "dBm", **shown("hidden"),
-    }
-    for topic, config in found.items():
-        config["unique_id"] = f"enogate_{topics.name}_{topic.split('/')[-2]}"
-        config["availability_topic"] = topics.status
-        config["device"] = about
-    return {topic: payload(config) for topic, config in found.items()}
+def configs(topics: Topics, device: str, about: Config, rows: Iterable[Row], told: Collection[str],
+            expire_after: int | None) -> dict[str, str]:
+    """The messages of a device, by topic. `about` describes the device, and `told` are the places of its readings.
+    A cyclic reading becomes unavailable `expire_after` seconds after the last one."""
+    entities = of_rows(topics, device, rows, told, expire_after)
+    shared = {"device": about, **available(topics.status, topics.gateway)}
+    every = messages(topics, entities | of_every_device(topics, device), shared)
+    return every | triggers(topics, about, entities)
 
 
 def gateway(topics: Topics) -> dict[str, str]:
-    """The message of the gateway itself, by its topic: whether this bridge is there."""
-    return {topics.config("binary_sensor", "status"): payload({
-        "name": "Bridge", "state_topic": topics.status, "payload_on": "online", "payload_off": "offline",
-        "device_class": "connectivity", "unique_id": f"enogate_{topics.name}_status", **shown("diagnostic"),
-        "device": {"identifiers": [f"enogate_{topics.name}"], "name": f"enogate {topics.name}", "model": "enogate"},
-    })}
+    """The messages of the gateway itself, by topic."""
+    identifier = f"enogate_{topics.name}"
+    about = {"identifiers": [identifier], "name": f"enogate {topics.name}", "model": "enogate", "sw_version": VERSION}
+    # whether the bridge is connected is known even if it is not
+    entities: Entities = {("binary_sensor", "status"): connectivity("Bridge", topics.status)}
+    for name, title, state in [("gateway", "Gateway", topics.gateway), ("module", "Radio module", topics.module)]:
+        entities["binary_sensor", name] = {**connectivity(title, state), **available(topics.status)}
+    with_gateway = available(topics.status, topics.gateway)
+    for name, title in COUNTERS.items():
+        entities["sensor", name] = {
+            "name": title, "state_topic": topics.counters, "value_template": f"{{{{ value_json.{name} }}}}",
+            "state_class": "total_increasing", **shown("diagnostic"), **with_gateway,
+        }
+    entities["switch", "learn"] = {
+        "name": "Learn window", "state_topic": topics.learn, "command_topic": topics.learn_command,
+        "icon": "mdi:access-point-plus", "entity_category": "config", **with_gateway,
+    }
+    return messages(topics, entities, {"device": about})
 
 
-def about_device(topics: Topics, device: str, eep: str, label: str, maker: Optional[int]) -> Config:
-    """A device, as each of its entities tells it."""
+def about_device(topics: Topics, device: str, eep: str, label: str, maker: int | None) -> Config:
+    """The description of a device, which each of its entities contains."""
     about = {
-        "identifiers": [f"enogate_{topics.name}_{device}"], "name": label or f"{eep} {device}", "model": eep,
+        "identifiers": [f"enogate_{topics.name}_{device}"], "name": label or f"{eep} {device}", "model": model(eep),
         "via_device": f"enogate_{topics.name}",
     }
-    return about if maker is None else {**about, "manufacturer": f"EnOcean maker {maker}"}
+    return about if maker is None else {**about, "manufacturer": manufacturer(maker)}
+
+
+def model(eep: str) -> str:
+    """The kind of a device with this profile, and the profile."""
+    kinds = (kind for profiles, kind in MODELS.items() if fnmatch.fnmatchcase(eep, profiles))
+    kind = next(kinds, "")
+    return f"{kind} ({eep})" if kind else eep
+
+
+def manufacturer(maker: int) -> str:
+    return manufacturers().get(maker, f"EnOcean manufacturer ID {maker}")
+
+
+@functools.cache
+def manufacturers() -> dict[int, str]:
+    """The names in the table `manufacturers` next to this file."""
+    lines = MANUFACTURERS.read_text("utf-8").splitlines()
+    rows = (line.split("\t") for line in lines if line and not line.startswith("#"))
+    return {int(number, 16): name for number, name in rows}
+
+
+def messages(topics: Topics, entities: Entities, shared: Config) -> dict[str, str]:
+    """The messages of these entities, by topic. All of them contain `shared`."""
+    return {
+        topics.config(component, name): payload({**config, **shared, "unique_id": f"enogate_{topics.name}_{name}"})
+        for (component, name), config in entities.items()
+    }
 
 
 def payload(config: Config) -> str:
-    config = {**config, "origin": {"name": "enogate-mqtt"}}
+    config = {**config, "origin": {"name": "enogate-mqtt", "sw": VERSION}}
     return json.dumps(config, ensure_ascii=False, sort_keys=True, separators=(",", ":"))
 
 
-def entity(topics: Topics, device: str, row: Row, number: Optional[int]) -> Config:
-    """What is told of one entity, but for what each entity of the device has."""
+def available(*states: str) -> Config:
+    """An entity is available while all these topics are `online`, the word that Home Assistant expects."""
+    return {"availability": [{"topic": topic} for topic in states], "availability_mode": "all"}
+
+
+def connectivity(title: str, state: str) -> Config:
+    return {"name": title, "state_topic": state, "payload_on": "online", "payload_off": "offline",
+            "device_class": "connectivity", **shown("diagnostic")}
+
+
+def of_rows(topics: Topics, device: str, rows: Iterable[Row], told: Collection[str],
+            expire_after: int | None) -> Entities:
+    """The entities of a device according to the table. Rows with the same topic are one entity."""
+    found: Entities = {}
+    for row in rows:
+        for number in row.numbers(told) if row.entity else []:
+            key = row.entity, f"{device}_{row.place(number).replace('/', '_')}"
+            config = entity(topics, device, row, number)
+            if row.is_cyclic and expire_after is not None:
+                config["expire_after"] = expire_after
+            if row.entity == "event" and key in found:
+                config["event_types"] = list(dict.fromkeys(found[key]["event_types"] + config["event_types"]))
+            found[key] = config
+    return found
+
+
+def of_every_device(topics: Topics, device: str) -> Entities:
+    """The entities that each device has, whatever its profile is."""
+    return {
+        ("sensor", f"{device}_dbm"): {
+            "name": "Signal strength", "state_topic": topics.told(device, "dbm"), "device_class": "signal_strength",
+            "state_class": "measurement", "unit_of_measurement": "dBm", **shown("hidden"),
+        },
+        ("sensor", f"{device}_last_seen"): {
+            "name": "Last seen", "state_topic": topics.last_seen(device), "device_class": "timestamp",
+            **shown("diagnostic"),
+        },
+    }
+
+
+def triggers(topics: Topics, about: Config, entities: Entities) -> dict[str, str]:
+    """The messages of the device triggers, by topic: one for each type of an event. Home Assistant does not define an
+    ID or an availability for them."""
+    found = {}
+    for (component, name), config in entities.items():
+        for kind in config["event_types"] if component == "event" else []:
+            found[topics.config("device_automation", f"{name}_{kind}")] = payload({
+                "automation_type": "trigger", "subtype": kind,
+                "type": "button_short_release" if kind == "released" else "button_short_press",
+                "topic": config["state_topic"], "value_template": EVENT_TYPE, "payload": kind, "device": about,
+            })
+    return found
+
+
+def entity(topics: Topics, device: str, row: Row, number: int | None) -> Config:
+    """The configuration of one entity, without what all entities of the device share."""
     place = row.place(number)
     special = KINDS[row.entity](row, topics.told(device, place), topics.command(device, place))
     words = {NAMES[key]: value for key, value in row.more.items() if key in NAMES}
@@ -74,7 +190,7 @@ def entity(topics: Topics, device: str, row: Row, number: Optional[int]) -> Conf
 
 
 def shown(*words: str) -> Config:
-    """How an entity is shown, by the words of its row."""
+    """How an entity is shown, according to the keys of its row."""
     if "hidden" in words:
         return {"entity_category": "diagnostic", "enabled_by_default": False}
     return {"entity_category": "diagnostic"} if "diagnostic" in words else {}
@@ -110,7 +226,7 @@ def light(_row: Row, state: str, command: str) -> Config:
 
 
 def cover(_row: Row, state: str, command: str) -> Config:
-    """By the profile 0 % is open, and 100 % closed."""
+    """In the profile, 0 % is open and 100 % is closed."""
     return {
         "state_topic": state, "value_template": OPEN_CLOSED_OR_NONE, "command_topic": command,
         "position_topic": state, "position_template": NUMBER_OR_NOTHING, "set_position_topic": command,
@@ -121,3 +237,5 @@ def cover(_row: Row, state: str, command: str) -> Config:
 KINDS: dict[str, Callable[[Row, str, str], Config]] = {
     "sensor": sensor, "binary_sensor": binary_sensor, "event": event, "switch": switch, "light": light, "cover": cover,
 }
+# The components of Home Assistant that have entities or triggers of this bridge.
+COMPONENTS = {"device_automation", *KINDS}

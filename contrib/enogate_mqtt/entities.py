@@ -1,20 +1,26 @@
-"""The table `entities` beside this file: which entity of Home Assistant shows a reading."""
+"""The table `entities` next to this file: which entity of Home Assistant shows a reading."""
+from __future__ import annotations
+
 import fnmatch
 import pathlib
 import re
 import shlex
 from dataclasses import dataclass, field
-from typing import Iterable, Optional
+from typing import Iterable
 
 from .lines import Reading, Telegram
 
 TABLE = pathlib.Path(__file__).with_name("entities")
-# the greatest channel that takes orders, by the kind of entity
+# The words that configure an entity.
+KEYS = {"class", "state", "unit", "on", "off", "options", "types", "diagnostic", "hidden", "cyclic"}
+# the highest channel that accepts orders, by the kind of entity
 GREATEST_CHANNEL = {"switch": 29, "light": 29, "cover": 0}
+# a number of an entity, as it is written in a topic
+NUMBER = re.compile("0|[1-9][0-9]?")
 
 
 class WrongTable(ValueError):
-    """A line of the table has not the shape that the table tells."""
+    """A line of the table does not have the documented form."""
 
 
 @dataclass(frozen=True)
@@ -24,8 +30,8 @@ class Row:
     reading: str
     unit: str
     topic: str
-    # the reading that tells the number of an entity, how many numbers the profile has, and whether they are shown
-    # before they are told
+    # the reading with the number of an entity, how many numbers the profile has, and whether their entities exist
+    # before the first reading
     by: str
     count: int
     from_the_start: bool
@@ -33,26 +39,31 @@ class Row:
     name: str
     more: dict[str, str] = field(compare=False)
 
-    def place(self, number: Optional[int]) -> str:
+    def place(self, number: int | None) -> str:
         """The topic of the entity with this number, below the topic of the device."""
         return self.topic if number is None else f"{self.topic}/{number}"
 
-    def title(self, number: Optional[int]) -> Optional[str]:
-        """The name of the entity with this number; without one it bears that of the device."""
+    def title(self, number: int | None) -> str | None:
+        """The name of the entity with this number; None if it has the name of the device."""
         if number is None or (self.count == 1 and number == 0):
             return self.name or None
         return f"{self.name} {number}".strip()
 
+    @property
+    def is_cyclic(self) -> bool:
+        """Whether the devices send this reading at intervals, even if it does not change."""
+        return "cyclic" in self.more
+
     def words(self, key: str) -> list[str]:
         return self.more[key].split("|") if key in self.more else []
 
-    def numbers(self, told: Iterable[str]) -> list[Optional[int]]:
-        """The numbers of its entities, where a device has told these topics."""
+    def numbers(self, told: Iterable[str]) -> list[int | None]:
+        """The numbers of its entities, for a device with readings at these places."""
         if not self.by:
             return [None]
         start = set(range(self.count)) if self.from_the_start else set()
         ends = (place.removeprefix(self.topic + "/") for place in told if place.startswith(self.topic + "/"))
-        every = sorted(start | set(map(int, ends)))
+        every = sorted(start | {int(end) for end in ends if NUMBER.fullmatch(end)})
         return [number for number in every if number <= GREATEST_CHANNEL.get(self.entity, number)]
 
 
@@ -62,11 +73,14 @@ def row_of(line: str) -> Row:
         words = ["" if word == "-" else word for word in shlex.split(line)]
         profiles, reading, unit, topic, by, entity, name = words[:7]
         more = dict(word.partition("=")[::2] for word in words[7:])
+        sign = "?" if "?" in by else ":"
+        by, _, count = by.partition(sign)
+        row = Row(profiles, reading, unit, topic, by, int(count or 0), sign == ":", entity, name, more)
     except ValueError as error:
         raise WrongTable(line) from error
-    sign = "?" if "?" in by else ":"
-    by, _, count = by.partition(sign)
-    return Row(profiles, reading, unit, topic, by, int(count or 0), sign == ":", entity, name, more)
+    if not more.keys() <= KEYS:
+        raise WrongTable(line)
+    return row
 
 
 class Table:
@@ -78,7 +92,7 @@ class Table:
         self.found: dict[str, dict[tuple[str, str], Row]] = {}
 
     def of_profile(self, eep: str) -> dict[tuple[str, str], Row]:
-        """The rows of a profile, by reading and unit: of each the first that fits."""
+        """The rows of a profile, by reading and unit: the first matching row of each."""
         if eep not in self.found:
             rows = self.found[eep] = {}
             for row in self.rows:
@@ -86,8 +100,8 @@ class Table:
                     rows.setdefault((row.reading, row.unit), row)
         return self.found[eep]
 
-    def of_reading(self, eep: str, reading: Reading) -> Optional[Row]:
-        """The row of a reading. A word in place of a value has no unit: it has the row of the value."""
+    def of_reading(self, eep: str, reading: Reading) -> Row | None:
+        """The row of a reading. A word instead of a value has no unit: it uses the row of the value."""
         rows = self.of_profile(eep)
         if (reading.name, reading.unit) in rows or reading.unit:
             return rows.get((reading.name, reading.unit))
@@ -95,14 +109,16 @@ class Table:
         return named[0] if len(named) == 1 else None
 
     def tells(self, eep: str, place: str) -> bool:
-        """Whether a device of this profile tells something at this place."""
+        """Whether `told_by` has this place for some telegram of the profile."""
         rows = self.of_profile(eep).values()
-        names = {"dbm", *(row.reading for row in rows), *(row.topic for row in rows if row.entity not in ("", "event"))}
-        name, _, number = place.partition("/")
-        return name in names and bool(re.fullmatch("([0-9]{1,2})?", number))
+        shown = [row for row in rows if row.entity not in ("", "event")]
+        name, slash, number = place.partition("/")
+        if slash:
+            return name in {row.topic for row in shown if row.by} and bool(NUMBER.fullmatch(number))
+        return name in {"dbm", *(row.reading for row in rows), *(row.topic for row in shown if not row.by)}
 
     def told_by(self, telegram: Telegram) -> dict[str, str]:
-        """The topics that a telegram tells, below that of its device, and what it tells there."""
+        """The readings of a telegram, by their topics below that of its device."""
         told = {}
         numbers = {reading.name: reading.number for reading in telegram.readings}
         for reading in telegram.readings:
@@ -115,7 +131,7 @@ class Table:
         return told
 
     def events_of(self, telegram: Telegram) -> list[tuple[str, str]]:
-        """The events that a telegram is: each by the topic of its entity, and its type. A release is one alone."""
+        """The events of a telegram, each with the topic of its entity and its type. A release is a single event."""
         events = []
         for reading in telegram.readings:
             row = self.of_reading(telegram.eep, reading)

@@ -1,56 +1,78 @@
-"""Follows a file to which lines are added, also where it gets another name and a new one takes its place."""
+"""Follows a file to which lines are appended, across rotation."""
+from __future__ import annotations
+
 import glob
+import logging
 import os
 import re
 from dataclasses import dataclass
-from typing import Callable, Optional
 
-AT_ONCE = 1 << 20
-KNOWN_BY = 64
+# How much is read at once; no line of a gateway is longer.
+MAX_READ = 1 << 20
+# So many bytes before a place identify its file, together with the inode.
+MAX_LAST = 64
+SHOWN_OF_A_LINE = 60
 
 
 @dataclass(frozen=True)
 class Place:
-    """How far a file was read. The last bytes of that part, and the inode, tell it from others."""
+    """How far a file was read. The inode and the last bytes of that part identify the file."""
     inode: int
     offset: int
     last: bytes
 
+    def after(self, part: bytes) -> Place:
+        """The place after this part, which follows."""
+        return Place(self.inode, self.offset + len(part), (self.last + part)[-MAX_LAST:])
+
+
+NOWHERE = Place(0, 0, b"")
+
 
 class Follower:
-    """Reads the lines of the file at this path from a place on; without one, and where the file of that place is gone,
-    from its beginning. What was rotated has got another name, and is read to its end first."""
+    """Reads the lines of the file at this path from a place on; without a place, or if its file no longer exists, from
+    the beginning. A file that was rotated (renamed) is read to its end first, and then those that were written after
+    it: their sequence is that of their names, since a clock may have been set back."""
 
-    def __init__(self, path: str, place: Optional[Place], log: Callable[[str], None]):
-        self.path, self.log = path, log
-        self.file: Optional[int] = None
-        self.place = place or Place(0, 0, b"")
+    def __init__(self, path: str, place: Place | None):
+        self.path = path
+        self.file: int | None = None
+        self.place = place or NOWHERE
+        # the beginning of a line whose end has not been written yet
         self.rest = b""
-        self.seen_next: Optional[str] = None
+        # the next file, if it existed at the last call
+        self.seen_next: str | None = None
+        # the inodes of the files that existed before the open one
+        self.older: set[int] = set()
         self.is_at_end = False
-        # why there is no file
-        self.fault = ""
-        if self.place.inode and not self.go_back():
-            log(f"the file that was read last is gone: {path} is read from its beginning")
+        # why there is no file, and whether this was logged of the next one
+        self.fault, self.is_failing = "", False
+        if self.place.inode and not self.open_at_place():
+            logging.warning("%s: previous file not found, reading from the beginning", path)
 
-    def go_back(self) -> bool:
-        """Opens the file of the place, whatever name it has now."""
-        for path in [self.path, *self.rotated()]:
+    def open_at_place(self) -> bool:
+        """Opens the file of the place, whatever its name is now."""
+        paths = self.paths()
+        for number, path in enumerate(paths):
             try:
                 file = os.open(path, os.O_RDONLY | os.O_CLOEXEC)
             except OSError:
                 continue
             last = os.pread(file, len(self.place.last), self.place.offset - len(self.place.last))
             if os.fstat(file).st_ino == self.place.inode and last == self.place.last:
-                self.file = file
+                self.file, self.older = file, inodes(paths[:number])
                 return True
             os.close(file)
         return False
 
-    def rotated(self) -> list[str]:
-        """The files that had this path before, as logrotate names them, but for those that are compressed."""
-        names = re.compile(re.escape(self.path) + r"(\.[0-9]+|-[0-9-]+)")
-        return [path for path in glob.glob(glob.escape(self.path) + "*") if names.fullmatch(path)]
+    def paths(self) -> list[str]:
+        """The rotated files as logrotate names them, without the compressed ones, and the file itself: the oldest
+        first. Their names end with a date (`-20261127`) or with a number (`.1`), which is greater for an older file."""
+        found = glob.glob(glob.escape(self.path) + "*")
+        dated = sorted(path for path in found if re.fullmatch(r"-[0-9-]+", path[len(self.path):]))
+        ends = [path[len(self.path):] for path in found]
+        numbers = sorted((int(end[1:]) for end in ends if re.fullmatch(r"\.[0-9]+", end)), reverse=True)
+        return [*dated, *(f"{self.path}.{number}" for number in numbers), self.path]
 
     def read(self) -> list[tuple[bytes, Place]]:
         """The lines that have ended since the last call, each with the place before it."""
@@ -59,72 +81,78 @@ class Follower:
             return []
         assert self.file is not None
         if os.fstat(self.file).st_size < self.place.offset + len(self.rest):
-            self.log(f"{self.path} was cut, and is read from its beginning")
+            logging.warning("%s: file truncated, reading from the beginning", self.path)
             self.rest, self.place = b"", Place(self.place.inode, 0, b"")
-        added = os.pread(self.file, AT_ONCE, self.place.offset + len(self.rest))
+        added = os.pread(self.file, MAX_READ, self.place.offset + len(self.rest))
         if not added:
             self.go_on()
             return []
         self.seen_next, self.is_at_end = None, False
-        return self.lines_of(added)
+        return self.split(added)
 
-    def lines_of(self, added: bytes) -> list[tuple[bytes, Place]]:
-        """The lines that end with these bytes. What is longer than each line of a gateway is taken for one that is
-        torn."""
+    def split(self, added: bytes) -> list[tuple[bytes, Place]]:
+        """The lines that end with these bytes. Data longer than any line of a gateway is returned as a line."""
         *whole, self.rest = (self.rest + added).split(b"\n")
         lines = []
         for line in whole:
             lines.append((line, self.place))
-            self.place = self.behind(line + b"\n")
-        if len(self.rest) > AT_ONCE:
+            self.place = self.place.after(line + b"\n")
+        if len(self.rest) > MAX_READ:
             lines.append((self.rest, self.place))
-            self.place, self.rest = self.behind(self.rest), b""
+            self.place, self.rest = self.place.after(self.rest), b""
         return lines
 
-    def behind(self, part: bytes) -> Place:
-        """The place behind this part."""
-        last = (self.place.last + part)[-KNOWN_BY:]
-        return Place(self.place.inode, self.place.offset + len(part), last)
-
     def go_on(self) -> None:
-        """Where this file has ended, and another one has come, that one is read next. It has to be there for two
-        turns: a line may still be on its way to the old one."""
+        """At the end of this file, continues with the next one, if there is one. It must have existed at the last call
+        too: a line may still be written to the old one."""
         following = self.following()
         self.is_at_end = following is None
         if following and following == self.seen_next:
             if self.rest:
-                self.log(f"a line without its end is passed over: {self.rest[:60]!r}")
-            self.open_at_start(following)
+                logging.warning("incomplete line ignored: %r", self.rest[:SHOWN_OF_A_LINE])
+            self.is_at_end = not self.open_at_start(following)
+            if self.is_at_end and not self.is_failing:
+                logging.warning("cannot open %s: %s; retrying", following, self.fault)
+            self.is_failing = self.is_at_end
         else:
             self.seen_next = following
 
-    def following(self) -> Optional[str]:
-        """The file that was written next behind this one, if there is one."""
+    def following(self) -> str | None:
+        """The file that was written after this one, if there is one."""
         assert self.file is not None
-        own, there = os.fstat(self.file), stat_or_none(self.path)
-        if there and there.st_ino == own.st_ino:
-            return None
-        every = [(path, stat_or_none(path)) for path in [self.path, *self.rotated()]]
-        later = [(found.st_mtime_ns, path) for path, found in every
-                 if found and found.st_ino != own.st_ino and found.st_mtime_ns >= own.st_mtime_ns]
-        return min(later)[1] if later else None
+        own, paths = os.fstat(self.file).st_ino, self.paths()
+        there = [(path, inode) for path in paths if (inode := inode_of(path))]
+        places = [number for number, (_, inode) in enumerate(there) if inode == own]
+        if places:
+            later = there[places[0] + 1:]
+        else:
+            # this file was compressed or removed: those that existed before it are not read again
+            later = [(path, inode) for path, inode in there if inode not in self.older]
+        return later[0][0] if later else None
 
     def open_at_start(self, path: str) -> bool:
-        """Goes on with the beginning of the file at this path."""
+        """Continues at the beginning of the file at this path."""
         try:
             file = os.open(path, os.O_RDONLY | os.O_CLOEXEC)
         except OSError as error:
-            self.fault = error.strerror
+            self.fault = error.strerror or str(error)
             return False
         if self.file is not None:
             os.close(self.file)
         self.file, self.rest, self.seen_next = file, b"", None
+        paths = self.paths()
+        self.older = inodes(paths[:paths.index(path)] if path in paths else [])
         self.place = Place(os.fstat(file).st_ino, 0, b"")
         return True
 
 
-def stat_or_none(path: str) -> Optional[os.stat_result]:
+def inode_of(path: str) -> int:
+    """The inode of a file; 0 if there is none."""
     try:
-        return os.stat(path)
+        return os.stat(path).st_ino
     except OSError:
-        return None
+        return 0
+
+
+def inodes(paths: list[str]) -> set[int]:
+    return {inode for path in paths if (inode := inode_of(path))}

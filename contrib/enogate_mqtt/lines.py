@@ -1,118 +1,139 @@
-"""What the lines of a gateway say, as far as the bridge uses it."""
+"""The contents of the gateway's lines, as far as the bridge uses them."""
+from __future__ import annotations
+
 import json
 import re
 from dataclasses import dataclass
 from decimal import ROUND_HALF_EVEN, Context, Decimal
 from fractions import Fraction
-from typing import Any, Optional, Union
+from typing import Any, Union
 
-SIX_DIGITS = Context(prec=6, rounding=ROUND_HALF_EVEN)
+SIX_DIGITS = 6
+SHOWN_OF_A_LINE = 60
 
 
 class BadLine(Exception):
-    """It is no line of a gateway: a full disk tore it, or somebody else wrote it."""
+    """Not a line of a gateway: a full disk truncated it, or another program wrote it."""
 
     def __init__(self, line: bytes):
-        super().__init__(f"a line that is none of a gateway is passed over: {line[:60]!r}")
+        super().__init__(f"invalid line ignored: {line[:SHOWN_OF_A_LINE]!r}")
 
 
 class Unfitting(ValueError):
-    """A member of a line is not what it should be."""
+    """A member of a line has an unexpected value."""
 
 
 @dataclass(frozen=True)
 class Reading:
-    """What a telegram says under a name. The number is that of one without a unit."""
+    """A named value of a telegram. `number` is set if the value has no unit."""
     name: str
     unit: str
     text: str
-    number: Optional[int]
+    number: int | None
 
 
 @dataclass(frozen=True)
 class Telegram:
     """The readings of a telegram."""
-    id: str
+    device: str
     eep: str
-    dbm: Optional[int]
+    dbm: int | None
     readings: tuple[Reading, ...]
 
 
 @dataclass(frozen=True)
 class Learned:
-    """A device that was learned just now."""
-    id: str
+    """A device was learned."""
+    device: str
     eep: str
-    maker: Optional[int]
+    maker: int | None
 
 
 @dataclass(frozen=True)
-class Forgotten:
-    """A device that was forgotten just now."""
-    id: str
+class Deleted:
+    """A device was deleted."""
+    device: str
 
 
 @dataclass(frozen=True)
 class Listed:
-    """A device, as `list` tells it."""
-    id: str
+    """A device, as `list` reports it."""
+    device: str
     eep: str
     label: str
-    maker: Optional[int]
+    maker: int | None
 
 
 @dataclass(frozen=True)
 class EndOfList:
-    """So many devices were listed."""
+    """The end of a list, with the number of its devices."""
     count: int
 
 
 @dataclass(frozen=True)
+class Status:
+    """The answer to `status`: the mode of the learn window, and the counters by their names."""
+    mode: str
+    counters: dict[str, int]
+
+
+@dataclass(frozen=True)
+class Response:
+    """A response of the radio module."""
+
+
+@dataclass(frozen=True)
 class Other:
-    """A line that changes nothing that the bridge knows."""
+    """A line that the bridge only passes on."""
 
 
 @dataclass(frozen=True)
 class Strange:
-    """A line of a kind that the bridge knows, with members that it does not know."""
+    """A line of a known type with unexpected members."""
     complaint: str
 
 
-Said = Union[Telegram, Learned, Forgotten, Listed, EndOfList, Other, Strange]
+Content = Union[Telegram, Learned, Deleted, Listed, EndOfList, Status, Response, Other, Strange]
+COUNTERS = ("ignored", "readings", "refused", "responses", "teach")
 
 
-def read(line: bytes) -> Said:
-    """What a line says, or BadLine."""
+def content_of(line: bytes) -> Content:
+    """The contents of a line, or BadLine."""
     try:
         members = json.loads(line.decode("ascii"))
         kind = members["type"]
     except (ValueError, TypeError, KeyError, RecursionError) as error:
         raise BadLine(line) from error
     try:
-        return said_by(members, kind)
+        return content_by_type(kind, members)
     except (ValueError, TypeError, KeyError, ZeroDivisionError):
-        return Strange(f"a line is not understood: {line[:60]!r}")
+        return Strange(f"line with unexpected members, not decoded: {line[:SHOWN_OF_A_LINE]!r}")
 
 
-def said_by(members: dict[str, Any], kind: str) -> Said:
-    """What these members of a line say."""
-    if kind == "reading":
-        readings = tuple(map(reading_of, members["readings"]))
-        return Telegram(id_of(members), eep_of(members), number_or_none(members["dbm"]), readings)
-    if kind == "teach" and members["result"] == "accepted":
-        return Learned(id_of(members), eep_of(members), number_or_none(members["maker"]))
-    if kind == "teach" and members["result"] == "deleted":
-        return Forgotten(id_of(members))
-    if kind == "device":
-        label, maker = text(members["label"], ".*"), number_or_none(members["maker"])
-        return Listed(id_of(members), eep_of(members), label, maker)
-    if kind == "list":
-        return EndOfList(number(members["count"]))
+def content_by_type(kind: str, members: dict[str, Any]) -> Content:
+    """The contents of a line of this type."""
+    match kind, members.get("result"):
+        case "reading", _:
+            readings = tuple(map(reading_of, members["readings"]))
+            return Telegram(device_of(members), eep_of(members), number_or_none(members["dbm"]), readings)
+        case "teach", "accepted":
+            return Learned(device_of(members), eep_of(members), number_or_none(members["maker"]))
+        case "teach", "deleted":
+            return Deleted(device_of(members))
+        case "device", _:
+            label, maker = text(members["label"], ".*"), number_or_none(members["maker"])
+            return Listed(device_of(members), eep_of(members), label, maker)
+        case "list", _:
+            return EndOfList(number(members["count"]))
+        case "status", _:
+            return Status(text(members["mode"], ".+"), {name: number(members[name]) for name in COUNTERS})
+        case "response", _:
+            return Response()
     return Other()
 
 
 def reading_of(members: dict[str, Any]) -> Reading:
-    """A reading of a telegram. Its name is part of a topic, so it has letters and digits alone."""
+    """A reading of a telegram. Its name is part of a topic, so it may contain only letters, digits and _."""
     name = text(members["name"], "[A-Za-z0-9_]+")
     if "num" in members:
         value = Fraction(number(members["num"]), number(members["den"]))
@@ -126,14 +147,21 @@ def reading_of(members: dict[str, Any]) -> Reading:
 
 
 def decimal(value: Fraction) -> str:
-    """An integer whole, and a fraction to at most six significant digits, rounded half to even."""
-    if value.denominator == 1:
-        return str(value.numerator)
-    digits = f"{SIX_DIGITS.divide(Decimal(value.numerator), Decimal(value.denominator)):f}"
-    return digits.rstrip("0").rstrip(".") if "." in digits else digits
+    """An integer, or a fraction that is a finite decimal number, exactly: so a counter never steps backwards. Any other
+    fraction has six significant digits, or all digits before the point if these are more, rounded half to even."""
+    rest = value.denominator
+    for factor in (2, 5):
+        while rest % factor == 0:
+            rest //= factor
+    digits = len(str(abs(value.numerator) // value.denominator))
+    # a finite decimal number with this denominator has at most so many digits
+    precision = digits + value.denominator.bit_length() if rest == 1 else max(SIX_DIGITS, digits)
+    context = Context(prec=precision, rounding=ROUND_HALF_EVEN)
+    shown = f"{context.divide(Decimal(value.numerator), Decimal(value.denominator)):f}"
+    return shown.rstrip("0").rstrip(".") if "." in shown else shown
 
 
-def id_of(members: dict[str, Any]) -> str:
+def device_of(members: dict[str, Any]) -> str:
     return text(members["id"], "[0-9A-F]{8}")
 
 
@@ -142,18 +170,18 @@ def eep_of(members: dict[str, Any]) -> str:
 
 
 def text(value: Any, shape: str) -> str:
-    """A text of this shape."""
+    """A string that matches this pattern."""
     if not isinstance(value, str) or not re.fullmatch(shape, value):
         raise Unfitting
     return value
 
 
 def number(value: Any) -> int:
-    """A whole number."""
+    """An integer."""
     if not isinstance(value, int) or isinstance(value, bool):
         raise Unfitting
     return value
 
 
-def number_or_none(value: Any) -> Optional[int]:
+def number_or_none(value: Any) -> int | None:
     return None if value is None else number(value)

@@ -1,6 +1,54 @@
-"""What the journal is told."""
+"""Messages for the journal."""
+from __future__ import annotations
+
+import logging
 import sys
+from typing import Callable, Mapping, TextIO
+
+# The journal's priorities, as systemd reads them at the beginning of a line.
+PRIORITIES = {logging.ERROR: "<3>", logging.WARNING: "<4>", logging.INFO: "<6>"}
+# At most so many messages of one kind are logged in so many seconds.
+MAX_MESSAGES, PERIOD = 10, 60.0
 
 
-def log(text: str) -> None:
-    print(f"enogate-mqtt: {text}", file=sys.stderr, flush=True)
+class Formatter(logging.Formatter):
+    """One line per message, with the name of the program."""
+
+    def __init__(self, with_priority: bool):
+        super().__init__("enogate-mqtt: %(message)s")
+        self.with_priority = with_priority
+
+    def format(self, record: logging.LogRecord) -> str:
+        line = super().format(record).replace("\n", " ")
+        return PRIORITIES.get(record.levelno, "") + line if self.with_priority else line
+
+
+def set_up(environment: Mapping[str, str], stream: TextIO = sys.stderr) -> None:
+    """Logs to standard error, with priorities if it is the journal."""
+    handler = logging.StreamHandler(stream)
+    handler.setFormatter(Formatter("JOURNAL_STREAM" in environment))
+    logging.basicConfig(handlers=[handler], level=logging.INFO, force=True)
+
+
+class Seldom:
+    """Logs messages of which very many may come: a few of each kind at once, and the next one after a while, with the
+    number of those in between."""
+
+    def __init__(self, clock: Callable[[], float]):
+        self.clock = clock
+        # by kind: when its period began, how many messages it had, and how many of them were left out
+        self.began: dict[str, float] = {}
+        self.count: dict[str, int] = {}
+        self.left_out: dict[str, int] = {}
+
+    def warning(self, kind: str, message: str) -> None:
+        """Logs a message of this kind, or counts it."""
+        now = self.clock()
+        if kind not in self.began or now >= self.began[kind] + PERIOD:
+            self.began[kind], self.count[kind] = now, 0
+        self.count[kind] += 1
+        if self.count[kind] > MAX_MESSAGES:
+            self.left_out[kind] = self.left_out.get(kind, 0) + 1
+            return
+        count = self.left_out.pop(kind, 0)
+        logging.warning("%s%s", message, f" ({count} similar messages before)" if count else "")

@@ -1,54 +1,63 @@
-"""The program: its settings, and what runs with them."""
+"""The program: reads its settings and runs the bridge."""
+from __future__ import annotations
+
 import importlib
+import logging
 import os
 import signal
 import sqlite3
 import sys
+import time
+from types import ModuleType
 
-from .bridge import Bridge
-from .broker import Broker, Session
+from . import discovery, log
+from .bridge import Bridge, contents
+from .connection import Broker, Connection
 from .desk import Desk
 from .devices import Devices
 from .entities import Table
-from .follow import Follower
-from .lines import BadLine, Strange, read
-from .log import log
-from .settings import STATUS, Words, WrongSetting, read_discovery, read_login, read_words
+from .follow import NOWHERE, Follower
+from .requests import Requests
+from .settings import STATUS, Options, Words, WrongSetting, read_login, read_options, read_words
 from .store import Store
 from .topics import Message, Topics
 
 
 def main() -> int:
-    """Runs the program, and answers its status."""
+    """Runs the program, and returns its exit status."""
+    log.set_up(os.environ)
     try:
         words = read_words(sys.argv[1:])
-        topics = Topics(words.name, read_discovery(os.environ))
+        options = read_options(os.environ)
         if words.prints:
-            print_messages(topics)
+            print_messages(Topics(words.name, options.discovery), options)
         else:
-            run(words, topics)
+            run(words, options)
     except WrongSetting as wrong:
-        log(str(wrong))
+        logging.error("%s", wrong)
         return STATUS
     except sqlite3.Error as error:
-        log(f"{words.state}: {error}")
+        logging.error("%s: %s", words.state, error)
         return 1
     except KeyboardInterrupt:
         return 1
     return 0
 
 
-def run(words: Words, topics: Topics) -> None:
-    """Joins the gateway to the broker, until a signal ends it."""
-    login = read_login(os.environ)
-    try:
-        paho = importlib.import_module("paho.mqtt.client")
-    except ImportError as error:
-        raise WrongSetting(f"the package python3-paho-mqtt is not installed: {error}") from error
-    store = Store(words.state, log)
-    broker = Broker(lambda: Session(paho, login, topics), f"{login.host}:{login.port}", log)
-    devices = Devices(topics, Table(), store.devices)
-    bridge = Bridge(topics, broker, devices, Follower(words.lines, store.place, log), Desk(words.desk), store, log)
+def run(words: Words, options: Options) -> None:
+    """Connects the gateway to the broker, until a signal stops it."""
+    login, clock = read_login(os.environ), time.monotonic
+    topics = Topics(words.name, options.discovery)
+    paho = import_paho()
+    store = Store(words.state, options.discovery)
+    broker = Broker(lambda version, is_reader: Connection(paho, login, topics, version, clock, is_reader),
+                    f"{login.host}:{login.port}", clock, time.sleep)
+    devices = Devices(topics, Table(), options.expire_after, store.devices, store.removed | old_topics(topics, store),
+                      may_adopt=store.may_adopt)
+    desk = Desk(words.desk, clock)
+    requests = Requests(desk, clock, options.learn_for)
+    follower = Follower(words.lines, store.place)
+    bridge = Bridge(topics, broker, devices, follower, desk, requests, store, clock, time.time)
 
     def stop(_number: int, _frame: object) -> None:
         bridge.is_stopped = True
@@ -58,19 +67,28 @@ def run(words: Words, topics: Topics) -> None:
     bridge.run()
 
 
-def print_messages(topics: Topics) -> None:
+def import_paho() -> ModuleType:
+    """The client library; only the running bridge needs it."""
+    try:
+        return importlib.import_module("paho.mqtt.client")
+    except ImportError as error:
+        raise WrongSetting(f"python3-paho-mqtt is not installed: {error}") from error
+
+
+def old_topics(topics: Topics, store: Store) -> set[str]:
+    """The discovery messages below another topic prefix, if it was changed."""
+    if store.old_discovery in ("", topics.discovery):
+        return set()
+    old = Topics(topics.name, store.old_discovery)
+    found = set(discovery.gateway(old))
+    return found.union(*Devices(old, Table(), known=store.devices).shown.values())
+
+
+def print_messages(topics: Topics, options: Options) -> None:
     """Prints what would be published for the lines on standard input."""
     signal.signal(signal.SIGPIPE, signal.SIG_DFL)
-    devices = Devices(topics, Table())
-    for line in sys.stdin.buffer:
-        line = line.removesuffix(b"\n")
-        try:
-            said = read(line)
-        except BadLine as bad:
-            log(str(bad))
-            devices.skip()
-            continue
-        if isinstance(said, Strange):
-            log(said.complaint)
-        for message in [Message(topics.lines, line.decode("ascii"), False), *devices.take(said)]:
+    devices = Devices(topics, Table(), options.expire_after)
+    lines = ((line.removesuffix(b"\n"), NOWHERE) for line in sys.stdin.buffer)
+    for line, _, content in contents(lines, devices, lambda _kind, text: logging.warning("%s", text)):
+        for message in [Message(topics.lines, line, False), *devices.take(content)]:
             print(message.topic, "retained" if message.retained else "-", message.payload, flush=True)

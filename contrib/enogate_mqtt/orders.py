@@ -1,50 +1,59 @@
 """The orders that a message holds, as lines for the desk."""
+from __future__ import annotations
+
 import re
-from typing import Optional
 
 from .topics import Topics
 
-# The gateway takes some 2,500 bytes of its desk in a second: a longer message would hold all others up.
-LONGEST_MESSAGE = 16384
-# The gateway answers all longer lines alike, whatever they hold (its guide: "The lines that come in").
-LONGEST_LINE = 202
+# The longest message, in bytes.
+MAX_MESSAGE = 16384
+# The gateway answers all longer lines alike, whatever they contain (docs/guide/orders.md).
+MAX_LINE = 202
+SHOWN_OF_A_PAYLOAD = 60
+LEARN = {"ON": "learn on", "OFF": "learn off"}
+DEVICE = "[0-9A-F]{8}"
 
 
 class Refused(ValueError):
-    """The message is not taken; why."""
+    """Why a message is ignored."""
 
 
-def of_message(topics: Topics, topic: str, payload: bytes) -> bytes:
-    """The lines of the message that came by this topic, or Refused."""
-    if len(payload) > LONGEST_MESSAGE:
-        raise Refused(f"it has {len(payload)} bytes, and {LONGEST_MESSAGE} are the most")
+def orders_of(topics: Topics, topic: str, payload: bytes) -> bytes:
+    """The lines for the desk of the message on this topic, or Refused."""
+    if len(payload) > MAX_MESSAGE:
+        raise Refused(f"{len(payload)} bytes, the maximum is {MAX_MESSAGE}")
     if topic == topics.orders:
-        return b"".join(line[:LONGEST_LINE] + b"\n" for line in payload.split(b"\n") if line)
-    order = order_of(topic.removeprefix(topics.own + "/"), payload.decode("ascii", "replace"))
+        return b"".join(line[:MAX_LINE] + b"\n" for line in payload.split(b"\n") if line)
+    command = payload.decode("ascii", "replace")
+    if topic == topics.learn_command:
+        order, expected = LEARN.get(command), "ON or OFF"
+    else:
+        order, expected = command_order(topic.removeprefix(topics.own + "/"), command)
     if order is None:
-        raise Refused("it is no command")
+        raise Refused(f"{payload[:SHOWN_OF_A_PAYLOAD]!r} is not {expected}")
     return order.encode() + b"\n"
 
 
-def order_of(place: str, command: str) -> Optional[str]:
-    """The order for a command that came to the place of a channel: ID/OV/CHANNEL/set or ID/POS/0/set."""
-    found = re.fullmatch("([0-9A-F]{8})/(?:(OV)/([0-9]{1,2})|(POS)/0)/set", place)
-    if not found:
-        return None
-    id, _, channel, is_blind = found.groups()
+def command_order(place: str, command: str) -> tuple[str | None, str]:
+    """The order for a command at ID/OV/CHANNEL/set or ID/POS/0/set, if it is one, and what the place expects."""
     percent = command if re.fullmatch("0|[1-9][0-9]?|100", command) else None
-    return blind_order(id, command, percent) if is_blind else switch_order(f"{id} {int(channel)}", command, percent)
+    if found := re.fullmatch(f"({DEVICE})/OV/([0-9]{{1,2}})/set", place):
+        return switch_order(f"{found[1]} {int(found[2])}", command, percent), "ON, OFF or 0 to 100"
+    if found := re.fullmatch(f"({DEVICE})/POS/0/set", place):
+        return blind_order(found[1], command, percent), "OPEN, CLOSE, STOP or 0 to 100"
+    raise Refused("the topic is not ID/OV/CHANNEL/set or ID/POS/0/set (with ID in upper case)")
 
 
-def switch_order(channel: str, command: str, percent: Optional[str]) -> Optional[str]:
+def switch_order(channel: str, command: str, percent: str | None) -> str | None:
+    """The order for a channel of an actuator."""
     if percent is not None:
         return f"dim {channel} {percent}"
     return f"switch {channel} {command.lower()}" if command in ("ON", "OFF") else None
 
 
-def blind_order(id: str, command: str, percent: Optional[str]) -> Optional[str]:
-    """By the profile 0 % is open, and 100 % closed."""
+def blind_order(device: str, command: str, percent: str | None) -> str | None:
+    """The order for a blind. In the profile, 0 % is open and 100 % is closed."""
     if command == "STOP":
-        return f"stop {id}"
+        return f"stop {device}"
     percent = {"OPEN": "0", "CLOSE": "100"}.get(command, percent)
-    return None if percent is None else f"blind {id} {percent}"
+    return None if percent is None else f"blind {device} {percent}"

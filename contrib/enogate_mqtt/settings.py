@@ -1,15 +1,21 @@
-"""The settings of the bridge: the words of its command line, and the variables of its environment."""
+"""The settings of the bridge: its command line, and its environment variables."""
+from __future__ import annotations
+
 import argparse
 import re
 import ssl
 from dataclasses import dataclass
-from typing import Mapping, NoReturn, Optional, Sequence
+from typing import Mapping, NoReturn, Sequence
+
+from . import VERSION
 
 STATUS = 2
+# How long a learn window stays open that was opened with a command, in seconds.
+LEARN_FOR = 120
 
 
 class WrongSetting(Exception):
-    """Why the bridge cannot run with these settings, as one line."""
+    """Why the bridge cannot run with these settings, in one line."""
 
 
 @dataclass(frozen=True)
@@ -24,16 +30,25 @@ class Words:
 
 @dataclass(frozen=True)
 class Login:
-    """Where the broker is, and how it is spoken to."""
+    """Address of the broker, and how to connect to it."""
     host: str
     port: int
-    user: Optional[str]
-    password: Optional[str]
-    tls: Optional[ssl.SSLContext]
+    user: str | None
+    password: str | None
+    tls: ssl.SSLContext | None
+
+
+@dataclass(frozen=True)
+class Options:
+    """The topic prefix of Home Assistant's discovery, or an empty string; how long a learn window stays open that was
+    opened with a command, and after which time without a telegram a sensor is unavailable, in seconds."""
+    discovery: str
+    learn_for: int
+    expire_after: int | None
 
 
 class Parser(argparse.ArgumentParser):
-    """One whose complaints are one line."""
+    """A parser whose error messages are one line."""
 
     def error(self, message: str) -> NoReturn:
         raise WrongSetting(message)
@@ -41,28 +56,42 @@ class Parser(argparse.ArgumentParser):
 
 def read_words(arguments: Sequence[str]) -> Words:
     """The command line, or WrongSetting."""
-    parser = Parser("enogate-mqtt", description="Joins an enogate gateway to a broker of MQTT. The manual page "
-                    "enogate-mqtt(1) has its settings, which stand in variables of the environment.")
-    parser.add_argument("name", metavar="NAME", help="the name of the gateway, as `hall` of enogate@hall.service")
-    parser.add_argument("--lines", metavar="PATH", help="the file to which the gateway adds its lines")
-    parser.add_argument("--desk", metavar="PATH", help="the desk of the gateway")
-    parser.add_argument("--state", metavar="PATH", help="the file of what the bridge keeps; made where there is none")
+    parser = Parser("enogate-mqtt", description="Connect an enogate gateway to an MQTT broker. The connection is "
+                    "configured with environment variables; see enogate-mqtt(1).")
+    parser.add_argument("name", metavar="NAME", help="name of the gateway, for example `hall` for enogate@hall.service")
+    parser.add_argument("--lines", metavar="PATH", help="file to which the gateway appends its output lines")
+    parser.add_argument("--desk", metavar="PATH", help="desk of the gateway: the file from which it reads orders")
+    parser.add_argument("--state", metavar="PATH", help="SQLite file for the state of the bridge, created if missing")
     parser.add_argument("--print", action="store_true", dest="prints",
-                        help="print what would be published for the lines on standard input; without a broker")
+                        help="print what would be published for the lines on standard input; no broker is needed")
+    parser.add_argument("--version", action="version", version=f"enogate-mqtt {VERSION}")
     words = parser.parse_args(arguments)
     if not re.fullmatch("[A-Za-z0-9_-]+", words.name):
-        raise WrongSetting(f"the name of the gateway has other characters than letters, digits, - and _: {words.name}")
+        raise WrongSetting(f"invalid gateway name: {words.name} (allowed: letters, digits, - and _)")
     if not words.prints and not (words.lines and words.desk and words.state):
-        raise WrongSetting("--lines, --desk and --state are needed, or --print")
+        raise WrongSetting("--lines, --desk and --state are required, except with --print")
     return Words(**vars(words))
 
 
 def read_discovery(environment: Mapping[str, str]) -> str:
-    """The topic below which Home Assistant looks for devices, or nothing."""
+    """The topic prefix of Home Assistant's discovery, or an empty string."""
     topic = environment.get("MQTT_DISCOVERY", "homeassistant")
     if not re.fullmatch("([^/#+]+(/[^/#+]+)*)?", topic):
-        raise WrongSetting(f"MQTT_DISCOVERY is no topic: {topic}")
+        raise WrongSetting(f"invalid MQTT_DISCOVERY: {topic} (expected a topic without # and +)")
     return topic
+
+
+def read_options(environment: Mapping[str, str]) -> Options:
+    """The settings of what is published, or WrongSetting."""
+    expire_after = read_seconds("MQTT_EXPIRE_AFTER", environment.get("MQTT_EXPIRE_AFTER") or "0")
+    learn_for = read_seconds("MQTT_LEARN_SECONDS", environment.get("MQTT_LEARN_SECONDS") or str(LEARN_FOR))
+    return Options(read_discovery(environment), learn_for, expire_after or None)
+
+
+def read_seconds(name: str, text: str) -> int:
+    if not re.fullmatch("[0-9]{1,7}", text):
+        raise WrongSetting(f"invalid {name}: {text} (expected a number of seconds)")
+    return int(text)
 
 
 def read_login(environment: Mapping[str, str]) -> Login:
@@ -74,41 +103,41 @@ def read_login(environment: Mapping[str, str]) -> Login:
     if environment.get("MQTT_PASSWORD_FILE"):
         password = first_line("MQTT_PASSWORD_FILE", environment["MQTT_PASSWORD_FILE"])
         if user is None:
-            raise WrongSetting("MQTT_PASSWORD_FILE is set, and MQTT_USER is not")
+            raise WrongSetting("MQTT_PASSWORD_FILE is set, but MQTT_USER is not")
     tls = read_tls(environment)
     return Login(host, read_port(environment.get("MQTT_PORT") or ("8883" if tls else "1883")), user, password, tls)
 
 
 def read_port(port: str) -> int:
     if not re.fullmatch("[0-9]{1,5}", port) or not 0 < int(port) < 65536:
-        raise WrongSetting(f"MQTT_PORT is no port: {port}")
+        raise WrongSetting(f"invalid MQTT_PORT: {port} (expected 1 to 65535)")
     return int(port)
 
 
-def read_tls(environment: Mapping[str, str]) -> Optional[ssl.SSLContext]:
-    """How the broker is known where the connection is encrypted, and how the bridge is known to it."""
+def read_tls(environment: Mapping[str, str]) -> ssl.SSLContext | None:
+    """How the broker and the bridge identify themselves on an encrypted connection; None without encryption."""
     wanted = environment.get("MQTT_TLS") or "no"
     if wanted not in ("yes", "no"):
-        raise WrongSetting(f"MQTT_TLS is neither yes nor no: {wanted}")
+        raise WrongSetting(f"invalid MQTT_TLS: {wanted} (expected yes or no)")
     files = {name: environment.get(name) or None for name in ("MQTT_CA_FILE", "MQTT_CERT_FILE", "MQTT_KEY_FILE")}
     if wanted == "no":
         for name, path in files.items():
             if path:
-                raise WrongSetting(f"{name} is set, and MQTT_TLS is not yes")
+                raise WrongSetting(f"{name} is set, but MQTT_TLS is not yes")
         return None
     ca, cert, key = files.values()
     if key and not cert:
-        raise WrongSetting("MQTT_KEY_FILE is set, and MQTT_CERT_FILE is not")
+        raise WrongSetting("MQTT_KEY_FILE is set, but MQTT_CERT_FILE is not")
     try:
         context = ssl.create_default_context(cafile=ca)
     except OSError as error:
-        raise WrongSetting(f"MQTT_CA_FILE cannot be used: {ca}: {reason(error)}") from error
+        raise WrongSetting(f"cannot load MQTT_CA_FILE: {ca}: {reason(error)}") from error
     if cert:
         try:
             context.load_cert_chain(cert, key, password="")
         except OSError as error:
             both = f"{cert} and {key}" if key else cert
-            raise WrongSetting(f"MQTT_CERT_FILE and MQTT_KEY_FILE cannot be used: {both}: {reason(error)}") from error
+            raise WrongSetting(f"cannot load MQTT_CERT_FILE and MQTT_KEY_FILE: {both}: {reason(error)}") from error
     return context
 
 
@@ -118,12 +147,12 @@ def first_line(name: str, path: str) -> str:
         with open(path, encoding="utf-8") as file:
             line = file.readline().rstrip("\r\n")
     except (OSError, ValueError) as error:
-        raise WrongSetting(f"{name} cannot be read: {path}: {reason(error)}") from error
+        raise WrongSetting(f"cannot read {name}: {path}: {reason(error)}") from error
     if not line:
-        raise WrongSetting(f"{name} has an empty first line: {path}")
+        raise WrongSetting(f"first line of {name} is empty: {path}")
     return line
 
 
 def reason(error: Exception) -> str:
-    """What went wrong, without the path."""
+    """The text of the error, without the path."""
     return getattr(error, "strerror", None) or str(error)

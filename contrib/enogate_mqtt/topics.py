@@ -1,10 +1,12 @@
-"""The topics of a gateway, and the messages that are published by them."""
+"""The topics of a gateway, and the messages that are published on them."""
+from __future__ import annotations
+
 from dataclasses import dataclass
 
 
 @dataclass(frozen=True)
 class Message:
-    """What is published. A retained message without a payload takes away what the broker retains."""
+    """A message to publish. A retained message without a payload deletes what the broker retains."""
     topic: str
     payload: str
     retained: bool
@@ -12,7 +14,7 @@ class Message:
 
 @dataclass(frozen=True)
 class Topics:
-    """The topics of the gateway of this name. Home Assistant looks for devices below `discovery`, if that is not
+    """The topics of the gateway with this name. `discovery` is the topic prefix of Home Assistant's discovery, or
     empty."""
     name: str
     discovery: str
@@ -31,27 +33,60 @@ class Topics:
 
     @property
     def status(self) -> str:
+        """`online` or `offline`, retained: whether the bridge is connected."""
         return f"{self.own}/status"
 
     @property
-    def commands(self) -> str:
-        """The topics by which one channel of a device gets its orders."""
-        return self.command("+", "+/+")
+    def gateway(self) -> str:
+        """`online` or `offline`, retained: whether the gateway answers the order `status`."""
+        return f"{self.own}/gateway"
 
     @property
-    def retained(self) -> list[str]:
-        """The topics of all that the broker retains of this gateway."""
-        found = [self.status, f"{self.own}/+/+", f"{self.own}/+/+/+"]
-        return found + [self.config("+", "+")] if self.discovery else found
+    def module(self) -> str:
+        """`online` or `offline`, retained: whether the radio module answers the order `base`."""
+        return f"{self.own}/module"
+
+    @property
+    def counters(self) -> str:
+        """The counters of the last status line, retained, as a JSON object."""
+        return f"{self.own}/counters"
+
+    @property
+    def learn(self) -> str:
+        """`ON` or `OFF`, retained: whether the learn window is open."""
+        return f"{self.own}/learn"
+
+    @property
+    def reports(self) -> list[str]:
+        """The topics for what is known about the gateway itself."""
+        return [self.gateway, self.module, self.counters, self.learn]
+
+    @property
+    def learn_command(self) -> str:
+        """`ON` or `OFF`: opens or closes the learn window."""
+        return f"{self.own}/learn/set"
+
+    @property
+    def commands(self) -> list[str]:
+        """Filters for everything that the bridge receives as an order."""
+        return [self.orders, self.learn_command, self.command("+", "+/+")]
 
     def told(self, device: str, place: str) -> str:
-        """What a device tells, at this place below its topic."""
+        """The topic of a reading, at this place below the topic of the device."""
         return f"{self.own}/{device}/{place}"
 
+    def last_seen(self, device: str) -> str:
+        """The time of the last telegram of a device, retained, in ISO 8601 with the time zone."""
+        return self.told(device, "last_seen")
+
+    def of_device(self, device: str) -> list[str]:
+        """Filters for everything that is retained below the topic of a device."""
+        return [f"{self.own}/{device}/+", f"{self.own}/{device}/+/+"]
+
     def command(self, device: str, place: str) -> str:
-        """What this place of a device is told."""
+        """The topic for commands to this place of a device."""
         return f"{self.own}/{device}/{place}/set"
 
     def config(self, component: str, entity: str) -> str:
-        """Where Home Assistant looks for an entity."""
+        """The topic of the discovery message of an entity."""
         return f"{self.discovery}/{component}/enogate_{self.name}/{entity}/config"

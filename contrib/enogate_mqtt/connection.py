@@ -1,0 +1,273 @@
+"""The connection to the broker, with python3-paho-mqtt, 1.6 or 2."""
+from __future__ import annotations
+
+import logging
+import random
+from dataclasses import dataclass
+from types import ModuleType
+from typing import Any, Callable
+
+from .settings import Login, reason
+from .topics import Message, Topics
+
+KEEPALIVE = 30
+# How long the broker may take to accept the connection and the subscriptions, in seconds.
+OPEN_WITHIN = 30.0
+# How long the broker may take to acknowledge something, if messages wait for it, in seconds. A broker with too many
+# messages for a client drops acknowledgements too, and paho would wait for them without end.
+ACKNOWLEDGE_WITHIN = 30.0
+# The largest packet that the broker may send, in bytes: greater messages are dropped by the broker (MQTT 5).
+MAX_PACKET = 65536
+# The pauses between two attempts, in seconds: the first, and the longest. A connection that was open for longer than
+# the longest pause resets it. Up to half of a pause is random, so that many bridges do not connect in the same moment.
+FIRST_PAUSE, MAX_PAUSE = 1.0, 60.0
+# An open connection that is lost sooner, so often in a row, is a sign of another client with this name.
+SHORT, OFTEN = 10.0, 3
+NOT_ACCEPTED = 128
+# The type of the packet that opens a connection.
+CONNECT = 1
+# So many packets are handled in one turn, if there are so many.
+MAX_LOOPS = 100
+
+
+class Lost(Exception):
+    """The reason why the connection was lost."""
+
+
+class WrongProtocol(Lost):
+    """The broker does not speak MQTT 5."""
+
+
+@dataclass(frozen=True)
+class Received:
+    """A message that was received."""
+    topic: str
+    payload: bytes
+    retained: bool
+
+
+class Connection:
+    """One connection, until it is lost. It is open when the broker has accepted the subscriptions to orders. Each one
+    has a client of its own: paho sends messages again that were under way when a connection was lost, also presses.
+    A reader subscribes to nothing by itself, and publishes nothing: it gets what the broker retains."""
+
+    def __init__(self, paho: ModuleType, login: Login, topics: Topics, version: int, clock: Callable[[], float],
+                 is_reader: bool = False):
+        self.paho, self.topics, self.clock, self.is_five = paho, topics, clock, version == 5
+        self.is_reader = is_reader
+        self.name = f"enogate-{topics.name}" + (".reader" if is_reader else "")
+        self.is_open, self.refusal, self.complaint = False, "", ""
+        self.is_unsupported = self.is_taken_over = False
+        self.received: list[Received] = []
+        # the numbers of messages, and of requests for (un)subscription, that the broker has not acknowledged
+        self.unacknowledged: set[int] = set()
+        self.unanswered: set[int] = set()
+        self.orders_request = -1
+        # how many answers and messages have arrived
+        self.arrived = 0
+        self.began = self.acknowledged_at = clock()
+        self.client = self.make_client(login)
+        try:
+            self.client.connect(login.host, login.port, KEEPALIVE, **self.connect_options())
+        except (OSError, ValueError) as error:
+            raise Lost(reason(error)) from error
+
+    def make_client(self, login: Login) -> Any:
+        """A client of paho. Its callbacks have the same last arguments in all versions."""
+        options: dict[str, Any] = {"client_id": self.name}
+        if hasattr(self.paho, "CallbackAPIVersion"):
+            options["callback_api_version"] = self.paho.CallbackAPIVersion.VERSION2
+        if self.is_five:
+            options["protocol"] = self.paho.MQTTv5
+        else:
+            # the broker stores no orders for later
+            options["clean_session"] = True
+        client = self.paho.Client(**options)
+        if login.user is not None:
+            client.username_pw_set(login.user, login.password)
+        if login.tls:
+            client.tls_set_context(login.tls)
+        if not self.is_reader:
+            client.will_set(self.topics.status, "offline", qos=1, retain=True)
+        client.on_connect = lambda client, _data, _flags, code, *_: self.on_connect(client, code)
+        client.on_disconnect = lambda _client, _data, *rest: self.on_disconnect(rest)
+        client.on_message = lambda _client, _data, message: self.on_message(message)
+        client.on_publish = lambda _client, _data, number, *_: self.on_answer(self.unacknowledged, number)
+        client.on_subscribe = lambda _client, _data, number, codes, *_: self.on_subscribe(number, codes)
+        client.on_unsubscribe = lambda _client, _data, number, *_: self.on_answer(self.unanswered, number)
+        return client
+
+    def connect_options(self) -> dict[str, Any]:
+        """With MQTT 5 the session ends with the connection, and large messages are not sent to the bridge."""
+        if not self.is_five:
+            return {}
+        properties = self.paho.Properties(CONNECT)
+        properties.MaximumPacketSize = MAX_PACKET
+        return {"clean_start": True, "properties": properties}
+
+    def on_connect(self, client: Any, code: Any) -> None:
+        if value_of(code) == 0 and self.is_reader:
+            self.is_open = True
+            return
+        if value_of(code) == 0:
+            filters = [*self.topics.commands, self.topics.status]
+            self.orders_request = client.subscribe([(topic, 1) for topic in filters])[1]
+            return
+        self.is_unsupported = self.is_five and value_of(code) in (1, 132)
+        text = self.paho.connack_string(code) if isinstance(code, int) else str(code)
+        self.refusal = f"rejected by the broker: {text}"
+
+    def on_disconnect(self, rest: tuple[Any, ...]) -> None:
+        """The reason code is the first argument, or the second one after the flags of paho 2."""
+        self.is_taken_over = any(value_of(code) == 142 for code in rest)
+
+    def on_answer(self, numbers: set[int], number: int) -> None:
+        numbers.discard(number)
+        self.acknowledged_at = self.clock()
+        self.arrived += 1
+
+    def on_subscribe(self, number: int, codes: Any) -> None:
+        self.on_answer(self.unanswered, number)
+        if number == self.orders_request:
+            if any(value_of(code) >= NOT_ACCEPTED for code in codes):
+                self.complaint = ", but this user may not subscribe to orders"
+            self.is_open = True
+
+    def on_message(self, message: Any) -> None:
+        try:
+            topic = message.topic
+        except UnicodeDecodeError:
+            return
+        self.received.append(Received(topic, message.payload, bool(message.retain)))
+        self.arrived += 1
+
+    def turn(self, seconds: float) -> None:
+        """Does the network's work: waits for at most so many seconds, and handles what has arrived. Or raises Lost."""
+        for number in range(MAX_LOOPS):
+            before = self.arrived
+            status = self.client.loop(0 if number else seconds)
+            if status != 0 or self.arrived == before:
+                break
+        if self.is_unsupported:
+            raise WrongProtocol(self.refusal)
+        if self.refusal:
+            raise Lost(self.refusal)
+        if self.is_taken_over:
+            raise Lost(f"another client has the name {self.name}")
+        if status != 0:
+            raise Lost(self.paho.error_string(status))
+        if not self.is_open and self.clock() > self.began + OPEN_WITHIN:
+            raise Lost("no answer from the broker")
+        if self.unacknowledged and self.clock() > self.acknowledged_at + ACKNOWLEDGE_WITHIN:
+            raise Lost("the broker acknowledges nothing")
+
+    def publish(self, message: Message) -> int:
+        """Publishes a message. Its number is in `unacknowledged` until it is acknowledged."""
+        if not self.unacknowledged:
+            self.acknowledged_at = self.clock()
+        sent = self.client.publish(message.topic, message.payload, qos=1, retain=message.retained)
+        self.unacknowledged.add(sent.mid)
+        return int(sent.mid)
+
+    def request(self, filters: list[str]) -> int:
+        """Subscribes to these, to get what the broker retains. The number is in `unanswered` until it is answered."""
+        return self.ask(*self.client.subscribe([(topic, 0) for topic in filters]))
+
+    def cancel(self, filters: list[str]) -> int:
+        """Ends these subscriptions. What the broker retains arrives before the answer."""
+        return self.ask(*self.client.unsubscribe(filters))
+
+    def ask(self, status: int, number: int | None) -> int:
+        """Notes a request that paho has sent, or raises Lost if it could not."""
+        if status != 0 or number is None:
+            raise Lost(self.paho.error_string(status))
+        self.unanswered.add(number)
+        return number
+
+    def end(self, seconds: float) -> None:
+        """Disconnects after all messages are acknowledged, or after so many seconds."""
+        until = self.clock() + seconds
+        try:
+            while self.unacknowledged and self.clock() < until:
+                self.turn(0.1)
+            self.client.disconnect()
+        except Lost:
+            pass
+
+    def close(self) -> None:
+        """Closes a connection that is lost."""
+        if self.client.socket():
+            self.client.socket().close()
+
+
+def value_of(code: Any) -> int:
+    """The number of a return code or reason code; -1 of anything else."""
+    value = getattr(code, "value", code)
+    return value if isinstance(value, int) else -1
+
+
+class Broker:
+    """The broker. After a loss, connects again, with growing pauses."""
+
+    def __init__(self, connect: Callable[[int, bool], Connection], name: str, clock: Callable[[], float],
+                 sleep: Callable[[float], None], fraction: Callable[[], float] = random.random):
+        self.connect, self.name, self.clock, self.sleep, self.fraction = connect, name, clock, sleep, fraction
+        self.connection: Connection | None = None
+        self.pause, self.due, self.version = FIRST_PAUSE, 0.0, 5
+        self.last_reason = ""
+        self.short = 0
+
+    def turn(self, seconds: float) -> bool:
+        """A poll cycle of at most so many seconds. Returns whether a connection was opened."""
+        try:
+            if self.connection is None:
+                return self.wait_or_connect(seconds)
+            was_open = self.connection.is_open
+            self.connection.turn(seconds)
+        except WrongProtocol:
+            self.version = 4
+            self.drop()
+            return False
+        except Lost as lost:
+            self.lose(str(lost))
+            return False
+        if self.connection.is_open and not was_open:
+            logging.info("connected to %s%s", self.name, self.connection.complaint)
+            self.last_reason = ""
+        return self.connection.is_open and not was_open
+
+    def wait_or_connect(self, seconds: float) -> bool:
+        if self.clock() < self.due:
+            self.sleep(min(seconds, self.due - self.clock()))
+        else:
+            self.connection = self.connect(self.version, False)
+        return False
+
+    def read(self) -> Connection | None:
+        """A reader, which is opened in its turns; None if there is no connection any more."""
+        try:
+            return self.connect(self.version, True)
+        except Lost as lost:
+            self.lose(str(lost))
+            return None
+
+    def lose(self, why: str) -> None:
+        """Drops the connection, and schedules the next attempt after a pause, which grows."""
+        if self.connection and self.connection.is_open:
+            lasted = self.clock() - self.connection.began
+            self.pause = FIRST_PAUSE if lasted > MAX_PAUSE else self.pause
+            self.short = self.short + 1 if lasted < SHORT else 0
+            if self.short == OFTEN:
+                logging.warning("the connection is lost again and again: is there another bridge with this name?")
+        self.drop()
+        if why != self.last_reason:
+            logging.warning("no connection to %s: %s", self.name, why)
+            self.last_reason = why
+        self.due = self.clock() + self.pause * (0.5 + self.fraction() / 2)
+        self.pause = min(2 * self.pause, MAX_PAUSE)
+
+    def drop(self) -> None:
+        """Closes the connection, if there is one."""
+        if self.connection:
+            self.connection.close()
+            self.connection = None

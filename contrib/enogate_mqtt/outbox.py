@@ -1,0 +1,57 @@
+"""The lines that the broker has not acknowledged."""
+from __future__ import annotations
+
+import logging
+from collections import deque
+from dataclasses import dataclass
+from typing import Callable, Container
+
+from .follow import Place
+
+# So many lines are kept while the broker is unavailable; after that the oldest are dropped.
+MAX_LINES = 10000
+
+
+@dataclass
+class Entry:
+    """A line, the place before it in the file, and the number of its message once it is published."""
+    line: str
+    before: Place
+    number: int | None = None
+
+
+class Outbox:
+    """Keeps lines in their sequence until the broker has acknowledged them."""
+
+    def __init__(self) -> None:
+        self.entries: deque[Entry] = deque()
+        self.is_dropping = False
+
+    def add(self, line: str, before: Place) -> None:
+        if len(self.entries) == MAX_LINES:
+            self.entries.popleft()
+            if not self.is_dropping:
+                logging.warning("broker unavailable: %s lines kept, dropping the oldest", MAX_LINES)
+            self.is_dropping = True
+        self.entries.append(Entry(line, before))
+
+    def start_session(self) -> None:
+        """A new connection knows nothing of messages that were published on another one."""
+        self.is_dropping = False
+        for entry in self.entries:
+            entry.number = None
+
+    def publish(self, publish: Callable[[str], int]) -> None:
+        """Publishes the lines that are not published yet; `publish` returns the number of the message."""
+        for entry in self.entries:
+            if entry.number is None:
+                entry.number = publish(entry.line)
+
+    def drop_acknowledged(self, unacknowledged: Container[int]) -> None:
+        """Drops the lines at the front that the broker has acknowledged."""
+        while self.entries and self.entries[0].number is not None and self.entries[0].number not in unacknowledged:
+            self.entries.popleft()
+
+    def place(self, end: Place) -> Place:
+        """The place up to which all lines are acknowledged; `end` is that up to which they were read."""
+        return self.entries[0].before if self.entries else end

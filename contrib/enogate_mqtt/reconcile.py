@@ -1,0 +1,114 @@
+"""Compares what the broker retains with what it should retain, device by device: a broker drops what does not fit into
+the queue of a client, so it is never asked for everything at once."""
+from __future__ import annotations
+
+import re
+from collections import deque
+from typing import Callable, Iterable, Protocol
+
+# So many devices are compared at the same time.
+MAX_PARTS = 8
+# A part is over after so many seconds without a message or an answer of the broker.
+QUIET = 5.0
+# So many topics that nobody knows are noted per part; a flood of them is not stored.
+MAX_UNKNOWN = 1000
+
+
+class Asks(Protocol):
+    """What is needed of a connection."""
+    unanswered: set[int]
+
+    def request(self, filters: list[str]) -> int: ...
+
+    def cancel(self, filters: list[str]) -> int: ...
+
+
+class Part:
+    """A set of filters that is compared at once, with the messages that the broker retains for them. A large part, for
+    which the broker may retain anything, is compared alone; of what it retains, messages that are expected are always
+    noted."""
+
+    def __init__(self, name: str, filters: list[str], is_large: bool = False, expected: Iterable[str] = ()):
+        self.name, self.filters, self.is_large = name, filters, is_large
+        self.exact = {one for one in filters if "+" not in one}
+        self.expected = self.exact.union(expected)
+        self.unexpected = 0
+        self.shapes = [re.compile("[^/]*".join(map(re.escape, one.split("+")))) for one in filters if "+" in one]
+        self.retained: dict[str, str] = {}
+        # what the bridge has published since the request: an older message may still be under way
+        self.published: set[str] = set()
+        self.number, self.is_cancelled = -1, False
+
+    def matches(self, topic: str) -> bool:
+        return topic in self.exact or any(shape.fullmatch(topic) for shape in self.shapes)
+
+    def note(self, topic: str, text: str) -> None:
+        """A retained message has arrived."""
+        if topic in self.published:
+            return
+        if topic not in self.expected and topic not in self.retained:
+            self.unexpected += 1
+        if topic in self.expected or topic in self.retained or self.unexpected <= MAX_UNKNOWN:
+            self.retained[topic] = text
+
+
+class Reconciler:
+    """Asks the broker for what it retains, in parts. `compare` gets each part when it is complete."""
+
+    def __init__(self, clock: Callable[[], float], compare: Callable[[Part], None]):
+        self.clock, self.compare = clock, compare
+        self.waiting: deque[Part] = deque()
+        self.active: list[Part] = []
+        self.heard = clock()
+
+    def add(self, parts: Iterable[Part]) -> None:
+        self.waiting.extend(parts)
+
+    @property
+    def is_done(self) -> bool:
+        return not self.waiting and not self.active
+
+    def take(self, topic: str, text: str) -> None:
+        """Handles a retained message."""
+        self.heard = self.clock()
+        for part in self.active:
+            if part.matches(topic):
+                part.note(topic, text)
+
+    def publish(self, topic: str, text: str) -> None:
+        """The bridge has published a retained message."""
+        for part in self.active:
+            if part.matches(topic):
+                part.published.add(topic)
+                part.retained[topic] = text
+
+    def turn(self, connection: Asks) -> None:
+        """Starts parts, and compares those that are complete."""
+        for part in list(self.active):
+            self.advance(part, connection)
+        while self.waiting and self.has_room(self.waiting[0]):
+            part = self.waiting.popleft()
+            part.number = connection.request(part.filters)
+            self.active.append(part)
+            self.heard = self.clock()
+
+    def has_room(self, part: Part) -> bool:
+        """Whether this part may be started now."""
+        if part.is_large or any(other.is_large for other in self.active):
+            return not self.active
+        return len(self.active) < MAX_PARTS
+
+    def advance(self, part: Part, connection: Asks) -> None:
+        """What is retained comes before the answer to the request, or before the answer to its cancellation."""
+        is_answered = part.number not in connection.unanswered
+        if is_answered:
+            self.heard = self.clock()
+        if not is_answered and self.clock() < self.heard + QUIET:
+            return
+        if not part.is_cancelled:
+            part.number, part.is_cancelled = connection.cancel(part.filters), True
+            self.heard = self.clock()
+            return
+        self.active.remove(part)
+        self.compare(part)
+

@@ -1,0 +1,155 @@
+"""The orders that the bridge gives by itself: it asks for the list of devices, for the status, and for the radio
+module, and closes a learn window that it opened."""
+from __future__ import annotations
+
+import logging
+import math
+from dataclasses import dataclass
+from typing import Callable
+
+from .desk import Desk, News
+from .lines import Content, EndOfList, Response, Status
+
+# The pauses between two unanswered requests for the list, in seconds: the first, and the longest.
+FIRST_PAUSE, MAX_PAUSE = 5.0, 600.0
+# How often the gateway and the module are asked, and how long they may take to answer, in seconds.
+STATUS_EVERY, MODULE_EVERY, ANSWER_WITHIN = 60.0, 600.0, 15.0
+
+
+class ListRequest:
+    """Asks for the list at the start and when its answer may have changed, and again until it is answered."""
+
+    def __init__(self) -> None:
+        self.due, self.pause, self.asked = 0.0, FIRST_PAUSE, -math.inf
+
+    def need(self, now: float, is_news: bool = True) -> None:
+        """The answer may have changed. Without news, a list that is asked for already keeps its pauses: it may never be
+        complete."""
+        if is_news or self.due == math.inf:
+            self.pause = FIRST_PAUSE
+            self.due = min(self.due, max(now, self.asked + FIRST_PAUSE))
+
+    def is_due(self, now: float) -> bool:
+        """Whether to ask now; if so, the next request is due after a pause, which grows."""
+        if now < self.due:
+            return False
+        self.asked, self.due = now, now + self.pause
+        self.pause = min(2 * self.pause, MAX_PAUSE)
+        return True
+
+    def answer(self) -> None:
+        """A complete list has arrived."""
+        self.due = math.inf
+
+
+@dataclass
+class Check:
+    """Whether something answers a request that is repeated: `is_online` is None until this is known."""
+    every: float
+    due: float = 0.0
+    asked: float = math.inf
+    is_online: bool | None = None
+
+    def is_due(self, now: float) -> bool:
+        """Whether to ask now."""
+        if now < self.due:
+            return False
+        # an unanswered request stays the one that counts
+        self.due, self.asked = now + self.every, min(self.asked, now)
+        return True
+
+    def answer(self) -> None:
+        self.asked, self.is_online = math.inf, True
+
+    def is_late(self, now: float) -> bool:
+        """Whether the answer has been missing for too long, and this was not reported yet."""
+        if now < self.asked + ANSWER_WITHIN or self.is_online is False:
+            return False
+        self.is_online = False
+        return True
+
+
+class Requests:
+    """Gives these orders at the desk of the gateway. `learn_for` is the time after which a learn window that was opened
+    with a command closes, in seconds."""
+
+    def __init__(self, desk: Desk, clock: Callable[[], float], learn_for: float):
+        self.desk, self.clock, self.learn_for = desk, clock, learn_for
+        self.list = ListRequest()
+        self.gateway, self.module = Check(STATUS_EVERY), Check(MODULE_EVERY)
+        self.status: Status | None = None
+        self.learn_until = math.inf
+        self.change: News | None = None
+
+    def turn(self, needs_list: bool) -> None:
+        """Gives the orders that are due."""
+        now = self.clock()
+        self.look_at_desk(now)
+        if needs_list:
+            self.list.need(now, is_news=False)
+        if self.list.is_due(now):
+            self.give(b"list\n")
+        if self.gateway.is_due(now):
+            self.give(b"status\n")
+        # the order `base` has the response of the module as its answer
+        if self.gateway.is_online and self.module.is_due(now):
+            self.give(b"base\n")
+        if now >= self.learn_until:
+            self.close_window()
+        if self.gateway.is_late(now):
+            self.report_silence()
+        self.module.is_late(now)
+
+    def look_at_desk(self, now: float) -> None:
+        """Asks again if the gateway was started, or a label was given."""
+        news = self.desk.news()
+        if news in (News.CREATED, News.REPLACED, News.TRUNCATED):
+            self.gateway.due = self.module.due = now
+            self.change = news
+        if news is not News.NONE:
+            self.list.need(now)
+
+    def report_silence(self) -> None:
+        """Says once that the gateway does not answer, with a change at the desk that may be the reason."""
+        logging.warning("the gateway does not answer: orders are lost until it runs")
+        if self.change is News.TRUNCATED:
+            logging.warning("%s was truncated: if > was used in place of >>, restart the gateway", self.desk.path)
+        if self.change is News.REPLACED:
+            logging.warning("%s was replaced by another file, which the gateway does not read: restart the gateway",
+                            self.desk.path)
+
+    def take(self, content: Content) -> None:
+        """Handles a line of the gateway."""
+        match content:
+            case Status():
+                if self.gateway.is_online is False:
+                    logging.info("the gateway answers again")
+                self.gateway.answer()
+                self.status, self.change = content, None
+            case Response():
+                self.module.answer()
+            case EndOfList():
+                self.gateway.due = min(self.gateway.due, self.clock())
+
+    def command(self, orders: bytes) -> None:
+        """Remembers a command for the learn window that was passed on, and asks for the status after it."""
+        if orders == b"learn on\n":
+            self.learn_until = self.clock() + self.learn_for
+        elif orders == b"learn off\n":
+            self.learn_until = math.inf
+        else:
+            return
+        self.gateway.due = self.clock()
+
+    def close_window(self) -> None:
+        """Closes the learn window, if the bridge opened it."""
+        if self.learn_until < math.inf and self.give(b"learn off\n"):
+            self.learn_until, self.gateway.due = math.inf, self.clock()
+
+    def give(self, order: bytes) -> bool:
+        """Gives an order; without a desk, or if it takes none now, nothing is lost, since all of these are repeated."""
+        try:
+            self.desk.append(order, is_own=True)
+        except OSError:
+            return False
+        return True

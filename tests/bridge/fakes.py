@@ -1,0 +1,218 @@
+"""What the unit tests of the bridge have in place of the clock, the broker and the files of a gateway."""
+from __future__ import annotations
+
+import json
+import logging
+import pathlib
+import tempfile
+import unittest
+
+from enogate_mqtt.bridge import Bridge
+from enogate_mqtt.connection import Lost, Received
+from enogate_mqtt.desk import Desk
+from enogate_mqtt.devices import Devices
+from enogate_mqtt.entities import Table
+from enogate_mqtt.follow import Follower
+from enogate_mqtt.requests import Requests
+from enogate_mqtt.store import Store
+from enogate_mqtt.topics import Topics
+
+OK = {"type": "ok"}
+
+
+class Clock:
+    """A clock that stands still until it is set."""
+
+    def __init__(self, now: float = 1000.0):
+        self.now = now
+        self.slept: list[float] = []
+
+    def __call__(self) -> float:
+        return self.now
+
+    def sleep(self, seconds: float) -> None:
+        self.slept.append(seconds)
+        self.now += seconds
+
+
+class Retaining:
+    """A broker's memory, and one connection to it. It answers each request in the next turn."""
+
+    def __init__(self, memory: dict[str, str]):
+        self.memory = memory
+        self.received: list[Received] = []
+        self.unacknowledged: set[int] = set()
+        self.unanswered: set[int] = set()
+        self.published: list[tuple[str, str, bool]] = []
+        self.requests: list[list[str]] = []
+        self.waits: list[float] = []
+        self.acknowledges = self.answers = True
+        self.number = 0
+        self.is_open, self.is_lost, self.is_ended, self.is_closed = True, False, False, False
+
+    def next_number(self) -> int:
+        self.number += 1
+        return self.number
+
+    def publish(self, message):
+        self.published.append((message.topic, message.payload, message.retained))
+        if message.retained:
+            self.memory[message.topic] = message.payload
+            if not message.payload:
+                del self.memory[message.topic]
+        self.unacknowledged.add(self.next_number())
+        return self.number
+
+    def request(self, filters):
+        self.requests.append(filters)
+        for topic, text in list(self.memory.items()):
+            if any(matches(one, topic) for one in filters):
+                self.received.append(Received(topic, text.encode(), True))
+        self.unanswered.add(self.next_number())
+        return self.number
+
+    def cancel(self, _filters):
+        self.unanswered.add(self.next_number())
+        return self.number
+
+    def close(self):
+        self.is_closed = True
+
+    def turn(self, seconds):
+        self.waits.append(seconds)
+        if self.is_lost:
+            raise Lost("it is lost")
+        if self.acknowledges:
+            self.unacknowledged.clear()
+        if self.answers:
+            self.unanswered.clear()
+
+    def end(self, _seconds):
+        self.is_ended = True
+        self.turn(0)
+
+
+def matches(shape: str, topic: str) -> bool:
+    """Whether a filter of MQTT matches a topic."""
+    parts, words = shape.split("/"), topic.split("/")
+    return len(parts) == len(words) and all(part in ("+", word) for part, word in zip(parts, words))
+
+
+class FakeBroker:
+    """A broker to which a connection is there, or not."""
+
+    def __init__(self) -> None:
+        self.memory: dict[str, str] = {}
+        self.connection: Retaining | None = None
+        self.readers: list[Retaining] = []
+        self.lost: list[str] = []
+        self.waits: list[float] = []
+        self.is_new = False
+
+    def read(self) -> Retaining:
+        self.readers.append(Retaining(self.memory))
+        return self.readers[-1]
+
+    def join(self) -> Retaining:
+        self.connection, self.is_new = Retaining(self.memory), True
+        return self.connection
+
+    def lose(self, why: str = "") -> None:
+        self.lost.append(why)
+        self.connection = None
+
+    def turn(self, seconds):
+        self.waits.append(seconds)
+        if self.connection:
+            self.connection.turn(0)
+        is_new, self.is_new = self.is_new, False
+        return is_new
+
+
+class Site:
+    """The files of a gateway in a temporary folder, and a bridge to a fake broker."""
+
+    def __init__(self, case: unittest.TestCase):
+        folder = tempfile.TemporaryDirectory()
+        case.addCleanup(folder.cleanup)
+        self.folder = pathlib.Path(folder.name)
+        self.lines, self.desk = self.folder / "hall.lines", self.folder / "desk"
+        self.state = self.folder / "hall.db"
+        self.clock, self.broker = Clock(), FakeBroker()
+        self.topics = Topics("hall", "homeassistant")
+        self.lines.touch()
+        self.desk.touch()
+
+    def start(self, learn_for: int = 120) -> Bridge:
+        """A bridge, after it has read the lines that are there."""
+        store = Store(str(self.state), self.topics.discovery)
+        devices = Devices(self.topics, Table(), None, store.devices, store.removed, may_adopt=store.may_adopt)
+        desk = Desk(str(self.desk), self.clock)
+        requests = Requests(desk, self.clock, learn_for)
+        follower = Follower(str(self.lines), store.place)
+        self.bridge = Bridge(self.topics, self.broker, devices, follower, desk, requests, store, self.clock,
+                             lambda: 1_800_000_000.0)
+        self.bridge.read_earlier_lines()
+        return self.bridge
+
+    def stop(self) -> None:
+        """The end of the bridge, as a signal ends it."""
+        self.bridge.is_stopped = True
+        self.bridge.run()
+
+    def turns(self, count: int = 6, seconds: float = 0.1) -> None:
+        for _ in range(count):
+            self.bridge.turn()
+            self.clock.now += seconds
+
+    def tell(self, *lines) -> None:
+        """The gateway writes these lines."""
+        with self.lines.open("a") as file:
+            for line in lines:
+                file.write((line if isinstance(line, str) else json.dumps(line)) + "\n")
+
+    def orders(self) -> list[str]:
+        """The orders at the desk."""
+        return self.desk.read_text().split("\n")[:-1] if self.desk.exists() else []
+
+    def send(self, topic: str, payload: bytes, retained: bool = False) -> None:
+        """Somebody publishes a message."""
+        self.broker.connection.received.append(Received(topic, payload, retained))
+
+    def told(self, start: str = "") -> list[tuple[str, str]]:
+        """The topics and messages that were published on this connection."""
+        return [(topic, text) for topic, text, _ in self.broker.connection.published if topic.startswith(start)]
+
+
+def reading(device: str, eep: str = "A5-02-05", readings=None, dbm: int | None = -45) -> dict:
+    readings = readings or [{"den": 1, "name": "TMP", "num": 20, "unit": "C"}]
+    return {"dbm": dbm, "eep": eep, "id": device, "readings": readings, "type": "reading"}
+
+
+def learned(device: str, eep: str = "A5-02-05", result: str = "accepted", maker=None) -> dict:
+    return {"eep": eep, "id": device, "maker": maker, "result": result, "type": "teach"}
+
+
+def listing(*devices: tuple[str, str, str]) -> list[dict]:
+    """The answer to `list`: the ID, the profile and the label of each device."""
+    lines = [{"eep": eep, "id": name, "label": label, "maker": None, "type": "device"} for name, eep, label in devices]
+    return [*lines, {"count": len(devices), "type": "list"}]
+
+
+def status(mode: str = "closed", **counters: int) -> dict:
+    every = {"ignored": 0, "readings": 0, "refused": 0, "responses": 0, "teach": 0, **counters}
+    return {**every, "mode": mode, "type": "status"}
+
+
+class Case(unittest.TestCase):
+    """A test that sees what is logged."""
+
+    def setUp(self) -> None:
+        self.logged: list[str] = []
+        handler = logging.Handler()
+        handler.emit = lambda record: self.logged.append(f"{record.levelname}: {record.getMessage()}")
+        logging.basicConfig(handlers=[handler], level=logging.INFO, force=True)
+
+    def assert_logged(self, text: str, times: int = 1) -> None:
+        found = [line for line in self.logged if text in line]
+        self.assertEqual(len(found), times, self.logged)

@@ -1,0 +1,655 @@
+"""The bridge, with files of a gateway and a broker that is a stand-in."""
+import json
+import unittest
+from unittest import mock
+
+from enogate_mqtt import bridge
+from enogate_mqtt.connection import Lost
+from fakes import OK, Case, Site, learned, listing, reading, status
+
+HALL = "enogate/hall/"
+DEVICES = (("01800ABC", "A5-02-05", "Attic"), ("01800ABD", "D2-01-12", ""))
+
+
+class Bridging(Case):
+    def setUp(self):
+        super().setUp()
+        self.site = Site(self)
+
+    def start(self, *lines):
+        """A bridge that is connected, after a first run that read these lines."""
+        self.site.tell(*lines)
+        self.site.start()
+        self.site.broker.join()
+        self.site.turns()
+
+    def again(self):
+        """The bridge is stopped and started again."""
+        self.site.stop()
+        self.site.broker.lose()
+        self.site.start()
+
+    def lines(self):
+        return [text for topic, text in self.site.told(HALL + "lines")]
+
+    def test_the_first_run(self):
+        self.start(*listing(*DEVICES), reading("01800ABC"))
+        told = self.site.told()
+        self.assertEqual([text for text in told if text[0] == HALL + "status"], [(HALL + "status", "online")])
+        self.assertLess(told.index((HALL + "01800ABC/TMP", "20")), told.index((HALL + "status", "online")))
+        self.assertIn((HALL + "01800ABC/TMP", "20"), told)
+        self.assertIn("homeassistant/sensor/enogate_hall/01800ABC_TMP/config", dict(told))
+        self.assertIn("homeassistant/binary_sensor/enogate_hall/status/config", dict(told))
+        self.assertEqual(self.lines(), [])
+        self.assertEqual(self.site.orders(), ["list", "status"])
+
+    def test_lines_are_published(self):
+        self.start()
+        self.site.tell(OK, learned("01800ABC"), reading("01800ABC"))
+        self.site.turns()
+        self.assertEqual(self.lines(), [json.dumps(line) for line in (OK, learned("01800ABC"), reading("01800ABC"))])
+        self.assertIn((HALL + "01800ABC/last_seen", "2027-01-15T08:00:00+00:00"), self.site.told())
+
+    def test_a_list_ends_the_question(self):
+        self.start()
+        self.site.tell(*listing(*DEVICES))
+        self.site.turns(6, 100)
+        self.assertEqual(self.site.orders().count("list"), 1)
+
+    def test_a_list_of_earlier_is_no_answer(self):
+        self.start(*listing(*DEVICES))
+        self.site.turns(2, 6)
+        self.assertEqual(self.site.orders().count("list"), 2)
+
+    def test_presses_of_earlier_are_not_published(self):
+        rocker = [{"name": "R1", "word": "BI"}, {"name": "EB", "word": "pressed"}]
+        press = reading("01800AC1", "F6-02-01", rocker)
+        self.start(learned("01800AC1", "F6-02-01"))
+        self.site.tell(press)
+        self.site.turns()
+        self.assertEqual(self.site.told(HALL + "01800AC1/press"), [(HALL + "01800AC1/press", '{"event_type":"BI"}')])
+        self.site.broker.lose()
+        self.site.turns()
+        self.site.tell(press)
+        self.site.turns()
+        self.site.tell(press)
+        self.site.broker.join()
+        self.site.turns()
+        self.assertEqual(self.site.told(HALL + "01800AC1/press"), [])
+        self.assertEqual(len(self.lines()), 2)
+        self.again()
+        self.site.tell(press)
+        self.site.broker.join()
+        self.site.turns()
+        self.assertEqual(self.site.told(HALL + "01800AC1/press"), [])
+
+    def test_lines_that_were_not_acknowledged_are_published_again(self):
+        self.start()
+        self.site.broker.connection.acknowledges = False
+        self.site.tell(OK)
+        self.site.turns()
+        self.assertEqual(len(self.lines()), 1)
+        self.site.broker.lose()
+        self.site.turns()
+        self.site.broker.join()
+        self.site.turns()
+        self.assertEqual(len(self.lines()), 1)
+        self.site.broker.join()
+        self.site.turns()
+        self.assertEqual(self.lines(), [])
+
+    def test_a_restart_publishes_only_differences(self):
+        self.start(*listing(*DEVICES), reading("01800ABC"))
+        self.site.tell(status())
+        self.site.turns(20)
+        self.again()
+        self.site.tell(OK)
+        self.site.broker.join()
+        self.site.turns(20)
+        self.assertEqual(sorted(topic for topic, _ in self.site.told()), [HALL + "lines", HALL + "status"])
+
+    def test_what_the_broker_lost_is_published_again(self):
+        self.start(*listing(*DEVICES), reading("01800ABC"))
+        self.site.turns(20)
+        del self.site.broker.memory[HALL + "01800ABC/TMP"]
+        self.site.broker.memory[HALL + "01800ABC/dbm"] = "-99"
+        self.again()
+        self.site.broker.join()
+        self.site.turns(20)
+        self.assertEqual(self.site.told(HALL + "01800ABC"),
+                         [(HALL + "01800ABC/TMP", "20"), (HALL + "01800ABC/dbm", "-45")])
+
+    def test_strays_below_a_device_are_removed(self):
+        self.start(*listing(*DEVICES), reading("01800ABC"))
+        self.site.turns(20)
+        self.site.broker.memory |= {HALL + "01800ABC/CO": "open", HALL + "01800ABC/OV/0": "1", HALL + "note/x": "y"}
+        self.again()
+        self.site.broker.join()
+        self.site.turns(20)
+        self.assertEqual(self.site.told(HALL + "01800ABC"), [(HALL + "01800ABC/CO", ""), (HALL + "01800ABC/OV/0", "")])
+        self.assertIn(HALL + "note/x", self.site.broker.memory)
+
+    def test_another_profile_while_the_broker_is_away(self):
+        self.start(*listing(*DEVICES), reading("01800ABC"))
+        self.site.turns(20)
+        self.site.broker.lose()
+        self.site.tell(learned("01800ABC", "D5-00-01"))
+        self.site.turns()
+        self.site.broker.join()
+        self.site.turns(20)
+        self.assertEqual({topic for topic in self.site.broker.memory if "01800ABC" in topic and "TMP" in topic}, set())
+        self.assertIn("homeassistant/binary_sensor/enogate_hall/01800ABC_CO/config", self.site.broker.memory)
+
+    def test_a_device_that_is_taught_again_while_the_bridge_is_away_has_no_old_states(self):
+        self.start(*listing(*DEVICES), reading("01800ABC"))
+        self.site.turns(20)
+        self.again()
+        self.site.tell(learned("01800ABC", result="deleted"), learned("01800ABC"))
+        self.site.broker.join()
+        self.site.turns(20)
+        self.assertNotIn(HALL + "01800ABC/TMP", self.site.broker.memory)
+
+    def test_deletions_survive_a_restart_without_the_broker(self):
+        self.start(*listing(*DEVICES), reading("01800ABC"))
+        self.site.turns(20)
+        self.again()
+        self.site.tell(learned("01800ABC", result="deleted"))
+        self.site.turns(40)
+        self.again()
+        self.site.broker.join()
+        self.site.turns(20)
+        self.assertEqual({topic for topic in self.site.broker.memory if "01800ABC" in topic}, set())
+        self.site.turns(30)
+        self.assertEqual(self.site.bridge.devices.removed, set())
+        self.assertEqual(self.site.bridge.store.removed, set())
+
+    def test_a_deletion_that_is_not_acknowledged_is_repeated(self):
+        self.start(*listing(*DEVICES), reading("01800ABC"))
+        self.site.turns(20)
+        self.site.broker.connection.acknowledges = False
+        self.site.tell(learned("01800ABC", result="deleted"))
+        self.site.turns()
+        self.assertIn(HALL + "01800ABC/TMP", self.site.bridge.devices.removed)
+        self.site.broker.lose()
+        self.site.turns()
+        self.site.broker.join()
+        self.site.turns()
+        self.assertIn((HALL + "01800ABC/TMP", ""), self.site.told())
+        self.assertEqual(self.site.bridge.devices.removed, set())
+
+    def test_a_lost_state_file(self):
+        """Readings are taken from the broker; what belongs to nobody is removed, once the list is there."""
+        self.start(*listing(*DEVICES), reading("01800ABC"))
+        self.site.turns(20)
+        self.site.stop()
+        self.site.broker.lose()
+        self.site.state.unlink()
+        self.site.lines.write_text("")
+        stray = {HALL + "01800AFF/TMP": "3", "homeassistant/sensor/enogate_hall/01800AFF_TMP/config": "{}"}
+        self.site.broker.memory |= stray | {HALL + "note/x": "y"}
+        self.site.start()
+        self.site.broker.join()
+        self.site.turns(20)
+        self.assertLess(stray.keys(), self.site.broker.memory.keys())
+        self.site.tell(*listing(*DEVICES))
+        self.site.turns(30)
+        self.assertEqual(self.site.bridge.devices.known["01800ABC"].told["TMP"], "20")
+        self.assertEqual(self.site.broker.memory[HALL + "01800ABC/TMP"], "20")
+        self.assertFalse(stray.keys() & self.site.broker.memory.keys())
+        self.assertIn(HALL + "note/x", self.site.broker.memory)
+
+    def test_a_new_device_is_compared(self):
+        self.start()
+        self.site.broker.memory[HALL + "01800ABC/CO"] = "open"
+        self.site.tell(learned("01800ABC"))
+        self.site.turns(20)
+        self.assertNotIn(HALL + "01800ABC/CO", self.site.broker.memory)
+
+    def test_the_reader(self):
+        """It gets what is retained, publishes nothing, and is closed when all is compared."""
+        self.start(*listing(*DEVICES), reading("01800ABC"))
+        self.site.turns(20)
+        reader, = self.site.broker.readers
+        self.assertEqual((reader.published, reader.is_closed, self.site.bridge.reader), ([], True, None))
+        self.assertEqual(self.site.broker.connection.requests, [])
+        self.site.tell(learned("01800AFF"))
+        self.site.turns(20)
+        self.assertEqual(len(self.site.broker.readers), 2)
+
+    def test_a_reader_that_is_lost(self):
+        self.start(*listing(*DEVICES))
+        self.site.broker.join()
+        self.site.turns(1)
+        self.site.broker.readers[-1].is_lost = True
+        self.site.turns(1)
+        self.assertEqual(self.site.broker.lost, ["it is lost (on the connection that reads what is retained)"])
+        self.assertEqual((self.site.bridge.connection, self.site.bridge.reader), (None, None))
+        self.assertTrue(self.site.broker.readers[-1].is_closed)
+
+    def test_a_reader_that_is_not_open_yet(self):
+        self.start()
+        self.site.broker.join()
+        self.site.broker.read, real = lambda: closed, self.site.broker.read
+        closed = real()
+        closed.is_open = False
+        self.site.turns(5)
+        self.assertEqual((closed.requests, self.site.told(HALL + "status")), ([], []))
+        closed.is_open = True
+        self.site.turns(5)
+        self.assertEqual(self.site.told(HALL + "status"), [(HALL + "status", "online")])
+
+    def test_without_discovery(self):
+        self.site.topics = type(self.site.topics)("hall", "")
+        self.start(*listing(*DEVICES), reading("01800ABC"))
+        self.site.turns(20)
+        self.assertEqual(self.site.told("homeassistant"), [])
+        self.assertIn((HALL + "01800ABC/TMP", "20"), self.site.told())
+
+    def test_orders(self):
+        self.start()
+        self.site.send(HALL + "orders", b"add 01800ABC D5-00-01\nlist")
+        self.site.send(HALL + "01800ABD/OV/0/set", b"ON")
+        self.site.turns()
+        self.assertEqual(self.site.orders()[2:], ["add 01800ABC D5-00-01", "list", "switch 01800ABD 0 on"])
+
+    def test_messages_that_are_ignored(self):
+        self.start()
+        self.site.send(HALL + "orders", b"x" * 20000)
+        self.site.send(HALL + "01800ABD/OV/0/set", b"on")
+        self.site.send(HALL + "orders", b"list", retained=True)
+        self.site.send(HALL + "01800ABD/OV/0", b"100")
+        self.site.turns()
+        self.assertEqual(self.site.orders(), ["list", "status"])
+        self.assert_logged("message on 'enogate/hall/orders' ignored: 20000 bytes, the maximum is 16384")
+        self.assert_logged("message on 'enogate/hall/01800ABD/OV/0/set' ignored: b'on' is not ON, OFF or 0 to 100")
+        self.assert_logged("message on 'enogate/hall/orders' ignored: it is retained")
+        self.assertEqual(len(self.logged), 3)
+
+    def test_a_message_that_is_lost(self):
+        self.start()
+        self.site.desk.unlink()
+        self.site.send(HALL + "orders", b"list")
+        self.site.turns()
+        self.assert_logged(f"message on 'enogate/hall/orders' lost: {self.site.desk}: No such file or directory")
+
+    def test_an_order_for_a_gateway_that_does_not_answer(self):
+        self.start()
+        self.site.turns(2, 20)
+        self.site.send(HALL + "orders", b"list")
+        self.site.turns()
+        self.assert_logged("message on 'enogate/hall/orders': the gateway does not answer, orders may be lost")
+
+    def test_a_topic_of_control_characters_forges_no_line(self):
+        self.start()
+        self.site.send(HALL + "01800ABD/x\nenogate-mqtt: x/0/set", b"ON")
+        self.site.turns()
+        self.assertTrue(all("\n" not in line for line in self.logged))
+
+    def test_the_gateway(self):
+        self.start()
+        self.assertEqual(self.site.told(HALL + "gateway"), [])
+        self.site.tell(status(readings=5))
+        self.site.turns()
+        self.assertEqual(self.site.told(HALL + "gateway"), [(HALL + "gateway", "online")])
+        self.assertEqual(self.site.told(HALL + "learn"), [(HALL + "learn", "OFF")])
+        counters = dict(self.site.told(HALL + "counters"))[HALL + "counters"]
+        self.assertEqual(json.loads(counters), {"ignored": 0, "readings": 5, "refused": 0, "responses": 0, "teach": 0})
+        self.assertEqual(self.site.orders()[-1], "base")
+        self.site.tell({"code": 0, "data": "FF800000", "name": "OK", "type": "response"})
+        self.site.turns()
+        self.assertEqual(self.site.told(HALL + "module"), [(HALL + "module", "online")])
+        self.site.turns(2, 61)
+        self.site.turns(2, 20)
+        self.assertEqual(self.site.told(HALL + "gateway")[-1], (HALL + "gateway", "offline"))
+        self.assertEqual(self.site.told(HALL + "module")[-1], (HALL + "module", "offline"))
+        self.site.tell(status("on"))
+        self.site.turns()
+        self.assertEqual(self.site.told(HALL + "gateway")[-1], (HALL + "gateway", "online"))
+        self.assertEqual(self.site.told(HALL + "learn")[-1], (HALL + "learn", "ON"))
+
+    def test_the_same_is_reported_once(self):
+        self.start()
+        for _ in range(3):
+            self.site.tell(status())
+            self.site.turns()
+        self.assertEqual([len(self.site.told(HALL + name)) for name in ("counters", "learn", "gateway")], [1, 1, 1])
+        self.site.broker.join()
+        self.site.turns()
+        self.assertEqual([self.site.told(HALL + name) for name in ("counters", "learn", "gateway")], [[], [], []])
+        self.site.broker.memory.clear()
+        self.site.broker.join()
+        self.site.turns()
+        self.assertEqual(len(self.site.told(HALL + "counters")), 1)
+
+    def test_the_learn_window(self):
+        self.start()
+        self.site.tell(status())
+        self.site.turns()
+        self.site.send(HALL + "learn/set", b"ON")
+        self.site.turns()
+        self.assertEqual(self.site.orders()[-2:], ["learn on", "status"])
+        self.site.turns(3, 60)
+        self.assertIn("learn off", self.site.orders())
+
+    def test_the_learn_window_is_closed_at_the_end(self):
+        self.start()
+        self.site.send(HALL + "learn/set", b"ON")
+        self.site.turns(1)
+        self.site.stop()
+        self.assertEqual(self.site.orders()[-1], "learn off")
+
+    def test_another_bridge_of_before_is_found_dead(self):
+        self.start()
+        self.site.send(HALL + "status", b"offline")
+        self.site.send(HALL + "status", b"online")
+        self.site.turns()
+        self.assertEqual(self.site.told(HALL + "status"), [(HALL + "status", "online")] * 2)
+
+    def test_the_end(self):
+        self.start()
+        self.site.tell(OK)
+        self.site.turns()
+        self.site.stop()
+        connection = self.site.broker.connection
+        self.assertEqual((self.site.told()[-1], connection.is_ended), ((HALL + "status", "offline"), True))
+        self.site.broker.lose()
+        self.site.start()
+        self.site.broker.join()
+        self.site.turns()
+        self.assertEqual(self.lines(), [])
+
+    def test_a_run_that_is_stopped_at_once(self):
+        self.site.tell(OK)
+        self.site.start()
+        self.site.stop()
+        self.assertEqual(self.logged, [])
+
+    def test_bad_lines(self):
+        self.start()
+        self.site.tell("{", OK, {"count": "x", "type": "list"})
+        self.site.turns()
+        self.assertEqual(len(self.lines()), 2)
+        self.assert_logged("invalid line ignored: b'{'")
+        self.assert_logged("line with unexpected members, not decoded")
+
+    def test_a_bad_line_within_a_list(self):
+        lines = listing(*DEVICES)
+        self.start(*lines)
+        self.site.tell(lines[0], "{torn", lines[1], lines[2])
+        self.site.turns()
+        self.assertEqual(len(self.site.bridge.devices.known), 2)
+        self.assertEqual(self.site.bridge.devices.lists, 0)
+
+    def test_a_thousand_bad_lines_are_ten_lines_in_the_journal(self):
+        self.start()
+        self.site.tell(*["{"] * 1000)
+        self.site.turns()
+        self.assertEqual(len(self.logged), 10)
+
+    def test_the_state_is_saved_every_two_seconds(self):
+        self.start()
+        saves = []
+        real = self.site.bridge.store.save
+        self.site.bridge.store.save = lambda *arguments: saves.append(self.site.clock()) or real(*arguments)
+        for _ in range(60):
+            self.site.tell(OK)
+            self.site.turns(1)
+        self.assertEqual(bridge.SAVE_EVERY, 2)
+        self.assertEqual({round(later - sooner, 1) for sooner, later in zip(saves, saves[1:])}, {2.0})
+        self.site.turns(30)
+        count = len(saves)
+        self.site.turns(100)
+        self.assertEqual(len(saves), count)
+
+    def test_what_could_not_be_saved_is_saved_later(self):
+        self.start()
+        real = self.site.bridge.store.save
+        self.site.bridge.store.save = lambda *_arguments: False
+        self.site.tell(reading("01800ABC"))
+        self.site.turns(40)
+        self.assertEqual(self.site.bridge.devices.changed, {"01800ABC"})
+        self.site.bridge.store.save = real
+        self.site.turns(40)
+        self.assertEqual(self.site.bridge.devices.changed, set())
+
+    def test_many_devices(self):
+        devices = [(f"{0x01800000 + number:08X}", "A5-02-05", "") for number in range(40)]
+        self.start(*listing(*devices), *(reading(name) for name, _, _ in devices))
+        self.site.turns(60)
+        self.assertTrue(self.site.bridge.reconciler.is_done)
+        most = max(len(filters) for reader in self.site.broker.readers for filters in reader.requests)
+        self.assertLess(most, 30)
+        self.again()
+        self.site.broker.join()
+        self.site.turns(60)
+        self.assertEqual([topic for topic, _ in self.site.told()], [HALL + "status"])
+
+    def test_lines_of_the_last_turn_are_not_published_twice(self):
+        self.start()
+        self.site.broker.connection.acknowledges = False
+        self.site.tell(OK)
+        self.site.turns(2)
+        self.site.broker.connection.acknowledges = True
+        self.site.stop()
+        self.site.broker.lose()
+        self.site.start()
+        self.site.broker.join()
+        self.site.turns()
+        self.assertEqual(self.lines(), [])
+
+    def test_nothing_is_published_on_a_lost_connection(self):
+        self.start()
+        old = self.site.broker.connection
+        self.site.broker.lose()
+        self.site.turns(1)
+        count = len(old.published)
+        self.site.tell(reading("01800ABC"), status())
+        self.site.turns()
+        self.assertEqual(len(old.published), count)
+
+    def test_an_unknown_device_asks_for_the_list_once(self):
+        self.start(*listing(*DEVICES))
+        self.site.tell(*listing(*DEVICES))
+        self.site.turns()
+        self.site.tell(reading("01800AFF"))
+        self.site.turns(20, 10)
+        # with the one at the start; the pauses of 5, 10, 20, 40 and 80 s end at turns of 10 s
+        self.assertEqual(self.site.orders().count("list"), 1 + 6)
+        self.site.tell(*listing(*DEVICES))
+        self.site.turns(20, 100)
+        self.assertEqual(self.site.orders().count("list"), 1 + 6)
+
+    def test_the_broker_is_asked_for_everything_once(self):
+        self.start()
+        counts = []
+        for _ in range(3):
+            self.site.tell(*listing(*DEVICES))
+            self.site.turns(20)
+            asked = [filters for reader in self.site.broker.readers for filters in reader.requests]
+            counts.append(sum(HALL + "+/+" in filters for filters in asked))
+            self.site.broker.join()
+        self.assertEqual(counts, [1, 1, 1])
+
+    def test_a_reading_during_the_comparison(self):
+        self.start(*listing(*DEVICES), reading("01800ABC"))
+        self.site.turns(20)
+        self.again()
+        self.site.broker.join()
+        self.site.turns(1)
+        self.site.tell(reading("01800ABC", readings=[{"den": 1, "name": "TMP", "num": 21, "unit": "C"}]))
+        self.site.turns(20)
+        self.assertEqual(self.site.told(HALL + "01800ABC/TMP"), [(HALL + "01800ABC/TMP", "21")])
+
+    def test_late_lines_have_no_time(self):
+        self.start(*listing(*DEVICES))
+        self.site.stop()
+        self.site.broker.lose()
+        self.site.tell(reading("01800ABC"), status())
+        self.site.start()
+        self.site.broker.join()
+        self.site.turns(20)
+        self.assertIn(HALL + "01800ABC/TMP", self.site.broker.memory)
+        self.assertNotIn(HALL + "01800ABC/last_seen", self.site.broker.memory)
+        self.assertIsNone(self.site.bridge.requests.gateway.is_online)
+
+    def test_an_order_before_the_gateway_has_answered(self):
+        self.start()
+        self.site.send(HALL + "orders", b"list")
+        self.site.turns(1)
+        self.assertEqual(self.logged, [])
+
+    def test_a_module_of_a_gateway_that_never_answered(self):
+        self.start()
+        self.site.turns(2, 20)
+        self.assertEqual(self.site.told(HALL + "module"), [(HALL + "module", "offline")])
+
+    def test_each_change_is_saved(self):
+        self.start(*listing(*DEVICES), reading("01800ABC"))
+        self.site.turns(30)
+        self.site.bridge.devices.removed.add("x/y")
+        self.site.broker.lose()
+        self.site.turns(30)
+        self.assertEqual(self.site.bridge.store.removed, {"x/y"})
+        self.site.bridge.devices.changed.add("01800ABC")
+        self.site.turns(30)
+        self.assertEqual(self.site.bridge.devices.changed, set())
+
+    def test_an_answer_in_the_turn_of_the_connection(self):
+        self.site.start()
+        self.site.turns(2)
+        self.site.tell(status())
+        self.site.broker.join()
+        self.site.turns(1)
+        self.assertTrue(self.site.bridge.requests.gateway.is_online)
+
+    def test_several_lines_are_published_again_in_their_sequence(self):
+        self.start()
+        self.site.broker.connection.acknowledges = False
+        self.site.tell(*({"n": number, "type": "new"} for number in range(3)))
+        self.site.turns()
+        first = self.lines()
+        self.site.broker.join()
+        self.site.turns()
+        self.assertEqual((len(first), self.lines()), (3, first))
+
+    def test_a_loss_during_the_comparison(self):
+        self.start(*listing(*DEVICES))
+        self.site.broker.join()
+        self.site.turns(1)
+        count = len(self.site.broker.readers)
+        self.site.broker.lose()
+        self.site.turns(20)
+        self.assertEqual(len(self.site.broker.readers), count)
+        self.assertEqual((self.site.bridge.reconciler, self.site.bridge.reader), (None, None))
+
+    def test_a_request_that_cannot_be_sent(self):
+        self.start(*listing(*DEVICES))
+        self.site.broker.join()
+        self.site.broker.read, real = lambda: bad, self.site.broker.read
+        bad = real()
+
+        def request(_filters):
+            raise Lost("not connected")
+        bad.request = request
+        self.site.turns(3)
+        self.assertEqual(self.site.broker.lost, ["not connected"])
+
+    def test_an_order_in_the_turn_of_a_loss(self):
+        self.start()
+        self.site.send(HALL + "orders", b"learn off")
+        self.site.broker.lose()
+        self.site.turns(1)
+        self.assertIn("learn off", self.site.orders())
+
+    def test_the_place_is_that_of_acknowledged_lines(self):
+        self.start()
+        self.site.broker.connection.acknowledges = False
+        self.site.tell(OK)
+        self.site.turns(40)
+        self.site.broker.connection.acknowledges = True
+        self.site.turns(40)
+        self.again()
+        self.site.broker.join()
+        self.site.turns()
+        self.assertEqual(self.lines(), [])
+
+    def test_a_reading_that_is_published_is_not_to_be_deleted(self):
+        self.start(*listing(*DEVICES))
+        self.site.turns(20)
+        self.site.tell(reading("01800ABC"))
+        self.site.turns()
+        self.assertEqual(self.site.bridge.devices.removed, set())
+
+    def test_a_deleted_device_is_not_in_the_state(self):
+        self.start(*listing(*DEVICES))
+        self.site.turns(30)
+        self.site.tell(learned("01800ABC", result="deleted"))
+        self.site.turns(30)
+        self.again()
+        self.assertNotIn("01800ABC", self.site.bridge.devices.known)
+
+    def test_a_second_start_after_a_lost_state(self):
+        """The broker's readings are taken, although the first start did not reach the broker."""
+        self.start(*listing(*DEVICES), reading("01800ABC"))
+        self.site.turns(20)
+        self.site.stop()
+        self.site.broker.lose()
+        self.site.state.unlink()
+        self.site.lines.write_text("")
+        self.site.start()
+        self.site.tell(*listing(*DEVICES))
+        self.site.turns(30)
+        self.again()
+        self.site.broker.join()
+        self.site.tell(*listing(*DEVICES))
+        self.site.turns(30)
+        self.assertEqual(self.site.broker.memory[HALL + "01800ABC/TMP"], "20")
+        self.assertIn("homeassistant/binary_sensor/enogate_hall/status/config", self.site.broker.memory)
+        self.site.turns(30)
+        self.again()
+        self.assertFalse(self.site.bridge.devices.may_adopt)
+
+    def test_strays_among_many_devices(self):
+        devices = [(f"{0x01800000 + number:08X}", "A5-02-05", "") for number in range(10)]
+        stray = "homeassistant/sensor/enogate_hall/01800AFF_TMP/config"
+        self.site.broker.memory |= {stray: "{}", HALL + "01800AFF/TMP": "1", HALL + "x01800AFF/y": "1"}
+        with mock.patch("enogate_mqtt.reconcile.MAX_UNKNOWN", 5):
+            self.start(*listing(*devices), *(reading(name) for name, _, _ in devices))
+            self.site.tell(*listing(*devices))
+            self.site.turns(80)
+        self.assertFalse({stray, HALL + "01800AFF/TMP"} & self.site.broker.memory.keys())
+        self.assertIn(HALL + "x01800AFF/y", self.site.broker.memory)
+        self.assertIn("homeassistant/binary_sensor/enogate_hall/status/config", self.site.broker.memory)
+
+    def test_a_will_during_the_comparison(self):
+        self.start()
+        self.site.broker.join()
+        self.site.send(HALL + "status", b"offline")
+        self.site.send(HALL + "status", b"something")
+        self.site.turns(1)
+        self.assertEqual(self.site.told(HALL + "status"), [])
+
+    def test_a_list_that_is_never_complete(self):
+        self.start()
+        for _ in range(120):
+            self.site.tell(*listing(*DEVICES)[1:])
+            self.site.turns(1, 5)
+        self.assertLess(self.site.orders().count("list"), 12)
+
+    def test_turns_wait_for_one_connection(self):
+        self.start()
+        self.site.turns(20)
+        self.assertEqual(set(self.site.broker.waits[-5:]), {bridge.TURN})
+        self.site.broker.join()
+        self.site.turns(3)
+        self.assertEqual((self.site.broker.waits[-1], self.site.broker.readers[-1].waits[-1]), (0, bridge.TURN))
+
+    def test_a_connection_that_is_lost(self):
+        self.start()
+        self.site.broker.connection.is_lost = True
+        with self.assertRaises(Lost):
+            self.site.turns(1)
+
+
+if __name__ == "__main__":
+    unittest.main()

@@ -1,0 +1,490 @@
+"""The connection to the broker, over stand-ins for paho 1.6 and paho 2."""
+import types
+import unittest
+import unittest.mock
+
+from enogate_mqtt import connection
+from enogate_mqtt.connection import Broker, Connection, Lost, Received, WrongProtocol
+from enogate_mqtt.settings import Login
+from enogate_mqtt.topics import Message, Topics
+from fakes import Case, Clock
+
+TOPICS = Topics("hall", "homeassistant")
+
+
+class Code:
+    """A reason code of MQTT 5."""
+
+    def __init__(self, value, text="text"):
+        self.value, self.text = value, text
+
+    def __str__(self):
+        return self.text
+
+
+class Client:
+    """A client of paho. Its calls are kept; its network does what `steps` has."""
+
+    def __init__(self, **options):
+        self.options, self.calls, self.steps, self.mids = options, [], [], 0
+        self.closed = False
+
+    def __getattr__(self, name):
+        if name.startswith("on_"):
+            raise AttributeError(name)
+
+        def call(*arguments, **named):
+            self.calls.append((name, arguments, named))
+            self.mids += 1
+            return (0, self.mids)
+        return call
+
+    def publish(self, topic, payload, qos, retain):
+        self.calls.append(("publish", (topic, payload), {"qos": qos, "retain": retain}))
+        self.mids += 1
+        return types.SimpleNamespace(mid=self.mids)
+
+    def loop(self, seconds):
+        self.calls.append(("loop", (seconds,), {}))
+        step = self.steps.pop(0) if self.steps else (lambda: 0)
+        return step() or 0
+
+    def socket(self):
+        return types.SimpleNamespace(close=lambda: setattr(self, "closed", True))
+
+    def called(self, name):
+        return [(arguments, named) for called, arguments, named in self.calls if called == name]
+
+
+class Properties:
+    def __init__(self, packet):
+        self.packet = packet
+
+
+def paho(version):
+    """A stand-in for the module paho.mqtt.client of this version."""
+    module = types.SimpleNamespace(MQTTv5=5, MQTTv311=4, Properties=Properties, clients=[])
+    module.connack_string = lambda code: f"connack {code}"
+    module.error_string = lambda status: f"error {status}"
+    if version == 2:
+        module.CallbackAPIVersion = types.SimpleNamespace(VERSION1=1, VERSION2=2)
+
+    def client(**options):
+        module.clients.append(Client(**options))
+        return module.clients[-1]
+    module.Client = client
+    return module
+
+
+def message(topic, payload, retain=False):
+    return types.SimpleNamespace(topic=topic, payload=payload, retain=retain)
+
+
+class Connecting(Case):
+    def setUp(self):
+        super().setUp()
+        self.clock = Clock()
+
+    def connect(self, version=5, module=None, login=Login("h", 1883, None, None, None), is_reader=False):
+        self.paho = module or paho(1)
+        found = Connection(self.paho, login, TOPICS, version, self.clock, is_reader)
+        self.client = self.paho.clients[-1]
+        return found
+
+    def accept(self, found, code=0, codes=(1, 1, 1, 1)):
+        """The broker accepts the connection and the subscription."""
+        self.client.on_connect(self.client, None, {}, code, None)
+        number = self.client.mids
+        self.client.on_subscribe(self.client, None, number, list(codes), None)
+        return number
+
+    def test_the_client(self):
+        self.connect(module=paho(2))
+        self.assertEqual(self.client.options, {"client_id": "enogate-hall", "protocol": 5, "callback_api_version": 2})
+        (arguments, named), = self.client.called("connect")
+        self.assertEqual((arguments, named["clean_start"]), (("h", 1883, 30), True))
+        self.assertEqual((named["properties"].packet, named["properties"].MaximumPacketSize), (1, 65536))
+        self.connect(version=4)
+        self.assertEqual(self.client.options, {"client_id": "enogate-hall", "clean_session": True})
+        self.assertEqual(self.client.called("connect"), [(("h", 1883, 30), {})])
+
+    def test_the_will(self):
+        self.connect()
+        self.assertEqual(self.client.called("will_set"),
+                         [(("enogate/hall/status", "offline"), {"qos": 1, "retain": True})])
+
+    def test_a_reader(self):
+        found = self.connect(is_reader=True)
+        self.assertEqual(self.client.options["client_id"], "enogate-hall.reader")
+        self.client.on_connect(self.client, None, {}, 0)
+        self.assertTrue(found.is_open)
+        self.assertEqual(self.client.called("will_set") + self.client.called("subscribe"), [])
+
+    def test_a_broker_that_acknowledges_nothing(self):
+        found = self.connect()
+        self.accept(found)
+        self.clock.now += 1000
+        found.turn(0)
+        number = found.publish(Message("a", "x", True))
+        self.clock.now += connection.ACKNOWLEDGE_WITHIN
+        found.turn(0)
+        found.publish(Message("b", "x", True))
+        self.clock.now += 0.1
+        with self.assertRaisesRegex(Lost, "^the broker acknowledges nothing$"):
+            found.turn(0)
+        self.client.on_publish(self.client, None, number)
+        found.turn(0)
+        self.assertEqual(connection.ACKNOWLEDGE_WITHIN, 30)
+
+    def test_the_login(self):
+        self.connect(login=Login("h", 1, "user", "secret", "context"))
+        self.assertEqual(self.client.called("username_pw_set"), [(("user", "secret"), {})])
+        self.assertEqual(self.client.called("tls_set_context"), [(("context",), {})])
+        self.connect()
+        self.assertEqual(self.client.called("username_pw_set") + self.client.called("tls_set_context"), [])
+
+    def test_subscriptions(self):
+        found = self.connect()
+        self.assertFalse(found.is_open)
+        self.accept(found)
+        self.assertEqual(self.client.called("subscribe"), [(([
+            ("enogate/hall/orders", 1), ("enogate/hall/learn/set", 1), ("enogate/hall/+/+/+/set", 1),
+            ("enogate/hall/status", 1)],), {})])
+        self.assertEqual((found.is_open, found.complaint), (True, ""))
+
+    def test_orders_that_may_not_be_received(self):
+        for codes in ((1, 128, 1, 1), (Code(135), Code(1))):
+            found = self.connect()
+            self.accept(found, codes=codes)
+            self.assertEqual((found.is_open, found.complaint), (True, ", but this user may not subscribe to orders"))
+        found = self.connect()
+        self.accept(found, codes=(Code(1), Code(2)))
+        self.assertEqual(found.complaint, "")
+
+    def test_another_answer_does_not_open_it(self):
+        found = self.connect()
+        self.client.on_connect(self.client, None, {}, 0)
+        self.client.on_subscribe(self.client, None, 999, [0])
+        self.assertFalse(found.is_open)
+
+    def test_a_refusal(self):
+        for version, code, text in ((5, Code(134, "Bad user name or password"), "Bad user name or password"),
+                                    (4, 5, "connack 5")):
+            found = self.connect(version)
+            self.client.on_connect(self.client, None, {}, code)
+            with self.assertRaisesRegex(Lost, f"^rejected by the broker: {text}$"):
+                found.turn(0)
+
+    def test_a_broker_without_mqtt_5(self):
+        for code in (1, Code(132)):
+            found = self.connect()
+            self.client.on_connect(self.client, None, {}, code)
+            with self.assertRaises(WrongProtocol):
+                found.turn(0)
+        found = self.connect(version=4)
+        self.client.on_connect(self.client, None, {}, 1)
+        with self.assertRaises(Lost) as lost:
+            found.turn(0)
+        self.assertNotIsInstance(lost.exception, WrongProtocol)
+
+    def test_no_connection(self):
+        module = paho(1)
+        real = module.Client
+
+        def client(**options):
+            found = real(**options)
+            found.connect = unittest.mock.Mock(side_effect=ConnectionRefusedError(111, "Connection refused"))
+            return found
+        module.Client = client
+        with self.assertRaisesRegex(Lost, "^Connection refused$"):
+            self.connect(module=module)
+
+    def test_messages(self):
+        found = self.connect()
+        self.client.on_message(self.client, None, message("a", b"1", True))
+        self.client.on_message(self.client, None, message("b", b"2"))
+        self.assertEqual(found.received, [Received("a", b"1", True), Received("b", b"2", False)])
+
+    def test_a_topic_that_is_no_text(self):
+        class Bad:
+            payload, retain = b"", False
+
+            @property
+            def topic(self):
+                raise UnicodeDecodeError("utf-8", b"\xff", 0, 1, "bad")
+        found = self.connect()
+        self.client.on_message(self.client, None, Bad())
+        self.assertEqual(found.received, [])
+
+    def test_publishing(self):
+        found = self.connect()
+        one = found.publish(Message("a", "x", True))
+        two = found.publish(Message("b", "y", False))
+        self.assertEqual(self.client.called("publish"), [(("a", "x"), {"qos": 1, "retain": True}),
+                                                         (("b", "y"), {"qos": 1, "retain": False})])
+        self.assertEqual(found.unacknowledged, {one, two})
+        self.client.on_publish(self.client, None, one, Code(0), None)
+        self.assertEqual(found.unacknowledged, {two})
+        self.client.on_publish(self.client, None, two)
+        self.assertEqual(found.unacknowledged, set())
+
+    def test_requests(self):
+        found = self.connect()
+        one, two = found.request(["a/+", "b"]), found.cancel(["a/+", "b"])
+        self.assertEqual(self.client.called("subscribe"), [(([("a/+", 0), ("b", 0)],), {})])
+        self.assertEqual(self.client.called("unsubscribe"), [((["a/+", "b"],), {})])
+        self.client.on_subscribe(self.client, None, one, [0])
+        self.assertEqual((found.unanswered, found.is_open), ({two}, False))
+        self.client.on_unsubscribe(self.client, None, two, None, None)
+        self.assertEqual(found.unanswered, set())
+
+    def test_requests_that_cannot_be_sent(self):
+        found = self.connect()
+        self.client.subscribe = lambda _filters: (4, None)
+        self.client.unsubscribe = lambda _filters: (4, None)
+        for call in (found.request, found.cancel):
+            with self.assertRaisesRegex(Lost, "^error 4$"):
+                call(["a"])
+        self.assertEqual(found.unanswered, set())
+
+    def test_a_turn_handles_all_that_has_arrived(self):
+        found = self.connect()
+        deliver = lambda: self.client.on_message(self.client, None, message("a", b""))  # noqa: E731
+        self.client.steps = [deliver] * 5
+        found.turn(0.1)
+        self.assertEqual(len(found.received), 5)
+        self.assertEqual([arguments for arguments, _ in self.client.called("loop")], [(0.1,), *[(0,)] * 5])
+        self.client.steps = [deliver] * 500
+        found.turn(0.1)
+        self.assertEqual(len(found.received), 5 + connection.MAX_LOOPS)
+
+    def test_a_loss(self):
+        found = self.connect()
+        self.client.steps = [lambda: 7]
+        with self.assertRaisesRegex(Lost, "^error 7$"):
+            found.turn(0)
+
+    def test_another_client_with_the_name(self):
+        for rest in ((Code(142), None),
+                     (types.SimpleNamespace(is_disconnect_packet_from_server=True), Code(142), None)):
+            found = self.connect()
+            self.client.steps = [lambda: self.client.on_disconnect(self.client, None, *rest) or 7]
+            with self.assertRaisesRegex(Lost, "^another client has the name enogate-hall$"):
+                found.turn(0)
+        found = self.connect()
+        self.client.steps = [lambda: self.client.on_disconnect(self.client, None, 7) or 7]
+        with self.assertRaisesRegex(Lost, "^error 7$"):
+            found.turn(0)
+
+    def test_a_broker_that_does_not_answer(self):
+        found = self.connect()
+        self.clock.now += connection.OPEN_WITHIN
+        found.turn(0)
+        self.clock.now += 0.1
+        with self.assertRaisesRegex(Lost, "^no answer from the broker$"):
+            found.turn(0)
+        self.accept(found)
+        found.turn(0)
+
+    def test_the_end_waits_for_acknowledgements(self):
+        found = self.connect()
+        number = found.publish(Message("a", "x", True))
+        self.client.steps = [lambda: None, lambda: self.client.on_publish(self.client, None, number)]
+        found.end(2)
+        self.assertEqual(found.unacknowledged, set())
+        self.assertEqual(len(self.client.called("disconnect")), 1)
+
+    def test_the_end_does_not_wait_for_ever(self):
+        found = self.connect()
+        found.publish(Message("a", "x", True))
+
+        def wait():
+            self.clock.now += 0.5
+        self.client.steps = [wait] * 100
+        found.end(2)
+        self.assertEqual(len(self.client.called("loop")), 4)
+        self.assertEqual(len(self.client.called("disconnect")), 1)
+
+    def test_the_end_of_a_lost_connection(self):
+        found = self.connect()
+        found.publish(Message("a", "x", True))
+        self.client.steps = [lambda: 7]
+        found.end(2)
+        self.assertEqual(self.client.called("disconnect"), [])
+
+    def test_close(self):
+        found = self.connect()
+        found.close()
+        self.assertTrue(self.client.closed)
+
+
+class Session:
+    """A connection that does what the test says."""
+
+    def __init__(self, clock, lost=None, opens=True):
+        self.clock, self.lost, self.opens = clock, lost, opens
+        self.is_open, self.complaint, self.began, self.closed = False, "", clock(), False
+
+    def turn(self, _seconds):
+        if self.lost:
+            raise self.lost
+        self.is_open = self.opens
+
+    def close(self):
+        self.closed = True
+
+
+class Brokers(Case):
+    def setUp(self):
+        super().setUp()
+        self.clock, self.versions, self.sessions = Clock(), [], []
+        self.random = 1.0
+        self.broker = Broker(self.connect, "h:1883", self.clock, self.clock.sleep, lambda: self.random)
+
+    def connect(self, version, is_reader):
+        if is_reader:
+            self.reader_version = version
+            raise Lost("no reader")
+        self.versions.append(version)
+        self.times = getattr(self, "times", []) + [self.clock()]
+        self.session = Session(self.clock, *self.sessions.pop(0)) if self.sessions else Session(self.clock)
+        if isinstance(self.session.lost, OSError):
+            raise Lost("cannot connect")
+        return self.session
+
+    def turns(self, count):
+        return [self.broker.turn(0.1) for _ in range(count)]
+
+    def test_a_reader_that_cannot_connect(self):
+        self.turns(2)
+        self.assertIsNone(self.broker.read())
+        self.assertIsNone(self.broker.connection)
+        self.assert_logged("no connection to h:1883: no reader")
+
+    def test_a_reader_has_the_protocol_of_the_broker(self):
+        self.sessions = [(WrongProtocol("x"),)]
+        self.turns(4)
+        self.broker.read()
+        self.assertEqual(self.reader_version, 4)
+
+    def test_the_hint_at_another_bridge_is_given_once(self):
+        for _ in range(3):
+            while not (self.broker.connection and self.broker.connection.is_open):
+                self.broker.turn(0.1)
+            self.session.lost = Lost("x")
+            self.broker.turn(0.1)
+        self.sessions = [(OSError(),)] * 20
+        while self.sessions:
+            self.broker.turn(1)
+        self.assert_logged("is there another bridge with this name?")
+
+    def test_an_opening_is_told_once(self):
+        self.assertEqual(self.turns(4), [False, True, False, False])
+        self.assert_logged("INFO: connected to h:1883")
+
+    def test_a_complaint_is_logged(self):
+        self.turns(1)
+        self.session.complaint = ", but"
+        self.turns(1)
+        self.assert_logged("connected to h:1883, but")
+
+    def test_a_loss_is_logged_once(self):
+        self.sessions = [(OSError(),)] * 3
+        for _ in range(1000):
+            self.broker.turn(0.1)
+            if len(self.versions) == 4:
+                break
+        self.assert_logged("WARNING: no connection to h:1883: cannot connect")
+
+    def test_another_reason_is_logged(self):
+        self.sessions = [(Lost("one"),), (Lost("two"),), (Lost("two"),), (Lost("one"),)]
+        for _ in range(1000):
+            self.broker.turn(0.1)
+        self.assertEqual([line.rsplit(" ", 1)[1] for line in self.logged[:4]], ["one", "two", "one", "h:1883"])
+
+    def test_pauses_grow_to_a_minute(self):
+        self.sessions = [(OSError(),)] * 9
+        while len(self.versions) < 10:
+            self.broker.turn(0.1)
+        pauses = [round(later - sooner) for sooner, later in zip(self.times, self.times[1:])]
+        self.assertEqual(pauses, [1, 2, 4, 8, 16, 32, 60, 60, 60])
+
+    def test_half_of_a_pause_is_random(self):
+        self.random = 0.0
+        self.sessions = [(OSError(),)] * 8
+        while len(self.versions) < 9:
+            self.broker.turn(0.1)
+        pauses = [later - sooner for sooner, later in zip(self.times, self.times[1:])]
+        for pause, wanted in zip(pauses, [0.5, 1, 2, 4, 8, 16, 30, 30]):
+            self.assertAlmostEqual(pause, wanted, delta=0.2)
+
+    def test_it_sleeps_in_turns(self):
+        self.sessions = [(OSError(),)]
+        self.turns(3)
+        self.assertEqual(self.clock.slept[0], 0.1)
+        self.assertTrue(all(seconds <= 0.1 for seconds in self.clock.slept))
+
+    def test_a_long_connection_begins_with_a_short_pause_again(self):
+        self.broker.pause = 32
+        self.turns(2)
+        self.clock.now += connection.MAX_PAUSE + 1
+        self.session.lost = Lost("x")
+        self.turns(1)
+        self.assertEqual(self.broker.due, self.clock() + 1)
+        self.assertEqual((self.session.closed, self.broker.connection), (True, None))
+
+    def test_a_short_connection_does_not(self):
+        self.broker.pause = 32
+        self.turns(2)
+        self.clock.now += connection.MAX_PAUSE
+        self.session.lost = Lost("x")
+        self.turns(1)
+        self.assertEqual(self.broker.due, self.clock() + 32)
+
+    def test_a_broker_without_mqtt_5(self):
+        self.sessions = [(WrongProtocol("x"),)]
+        self.assertEqual(self.turns(4), [False, False, False, True])
+        self.assertEqual(self.versions, [5, 4])
+        self.assertEqual(len(self.logged), 1)
+
+    def test_a_name_that_is_used_twice(self):
+        for _ in range(4):
+            while not (self.broker.connection and self.broker.connection.is_open):
+                self.broker.turn(0.1)
+            self.session.lost = Lost("x")
+            self.broker.turn(0.1)
+        self.assert_logged("is there another bridge with this name?")
+        self.assertEqual((connection.SHORT, connection.OFTEN), (10, 3))
+
+    def test_a_long_connection_between_short_ones(self):
+        for seconds in (0, 0, connection.SHORT, 0, 0):
+            while not (self.broker.connection and self.broker.connection.is_open):
+                self.broker.turn(0.1)
+            self.clock.now += seconds
+            self.session.lost = Lost("x")
+            self.broker.turn(0.1)
+        self.assert_logged("is there another bridge", 0)
+
+    def test_the_same_reason_after_a_connection(self):
+        for _ in range(2):
+            while not (self.broker.connection and self.broker.connection.is_open):
+                self.broker.turn(0.1)
+            self.session.lost = Lost("x")
+            self.broker.turn(0.1)
+        self.assert_logged("no connection to h:1883: x", 2)
+
+    def test_constants(self):
+        self.assertEqual((connection.OPEN_WITHIN, connection.KEEPALIVE), (30, 30))
+
+    def test_losses_after_some_time_are_no_sign_of_that(self):
+        for _ in range(4):
+            while not (self.broker.connection and self.broker.connection.is_open):
+                self.broker.turn(0.1)
+            self.clock.now += connection.SHORT
+            self.session.lost = Lost("x")
+            self.broker.turn(0.1)
+        self.assert_logged("is there another bridge", 0)
+
+
+if __name__ == "__main__":
+    unittest.main()

@@ -1,0 +1,374 @@
+"""Tests of the messages of Home Assistant's discovery."""
+from __future__ import annotations
+
+import json
+import re
+import unittest
+
+from enogate_mqtt import VERSION, discovery
+from enogate_mqtt.entities import Table
+from enogate_mqtt.topics import Topics
+
+TOPICS = Topics("hall", "homeassistant")
+TABLE = Table()
+DEVICE = "01800ABC"
+OWN = f"enogate/hall/{DEVICE}"
+BOTH = {"availability": [{"topic": "enogate/hall/status"}, {"topic": "enogate/hall/gateway"}],
+        "availability_mode": "all"}
+BRIDGE = {"availability": [{"topic": "enogate/hall/status"}], "availability_mode": "all"}
+ORIGIN = {"name": "enogate-mqtt", "sw": VERSION}
+
+
+def read(messages: dict[str, str]) -> dict[str, dict]:
+    """The messages by component and name: `sensor TMP` for the topic homeassistant/sensor/enogate_hall/ID_TMP/config,
+    and `sensor teach` for .../enogate_hall/teach/config."""
+    found = {}
+    for topic, text in messages.items():
+        prefix, component, node, name, end = topic.split("/")
+        assert (prefix, node, end) == ("homeassistant", "enogate_hall", "config"), topic
+        found[f"{component} {name.removeprefix(DEVICE + '_')}"] = json.loads(text)
+    return found
+
+
+def about(eep: str, label: str = "", maker: int | None = None) -> dict:
+    return discovery.about_device(TOPICS, DEVICE, eep, label, maker)
+
+
+def configs(eep: str, *told: str, expire_after: int | None = None) -> dict[str, dict]:
+    """The messages of a device with this profile and readings at these places."""
+    rows = TABLE.of_profile(eep).values()
+    return read(discovery.configs(TOPICS, DEVICE, about(eep), rows, told, expire_after))
+
+
+def result(template: str, value: str) -> str:
+    """What Home Assistant makes of a value. Only the filters and words of the discovery messages are known: a template
+    becomes an expression of Python. tests/around/shown.py asks Jinja itself."""
+    def is_number(text):
+        return re.fullmatch(r"-?\d+(\.\d+)?", text) is not None
+    expression = re.sub(r"value \| (\w+)", r"\1(value)", template.removeprefix("{{").removesuffix("}}").strip())
+    return str(eval(expression, {"is_number": is_number, "float": float, "value": value}))
+
+
+class Entities(unittest.TestCase):
+    """One message of each kind, as a whole."""
+
+    def setUp(self):
+        self.maxDiff = None
+
+    def check(self, eep: str, key: str, wanted: dict, *told: str):
+        name = key.split()[1]
+        wanted = {**wanted, **BOTH, "unique_id": f"enogate_hall_{DEVICE}_{name}", "device": about(eep),
+                  "origin": ORIGIN}
+        self.assertEqual(configs(eep, *told)[key], wanted)
+
+    def test_a_contact(self):
+        self.check("D5-00-01", "binary_sensor CO", {
+            "name": "Contact", "state_topic": f"{OWN}/CO", "device_class": "opening", "payload_on": "open",
+            "payload_off": "closed"})
+
+    def test_a_measured_value(self):
+        self.check("A5-02-05", "sensor TMP", {
+            "name": "Temperature", "state_topic": f"{OWN}/TMP", "device_class": "temperature",
+            "state_class": "measurement", "unit_of_measurement": "°C",
+            "value_template": "{{ value if value | is_number else None }}"})
+
+    def test_a_diagnostic_value(self):
+        self.check("A5-06-01", "sensor SVC", {
+            "name": "Supply voltage", "state_topic": f"{OWN}/SVC", "device_class": "voltage",
+            "state_class": "measurement", "unit_of_measurement": "V", "entity_category": "diagnostic",
+            "value_template": "{{ value if value | is_number else None }}"})
+
+    def test_a_plain_number(self):
+        self.check("A5-10-05", "sensor SP", {
+            "name": "Set point", "state_topic": f"{OWN}/SP", "state_class": "measurement"})
+
+    def test_an_occupancy_button(self):
+        for eep in ["A5-08-01", "A5-10-05"]:
+            self.check(eep, "binary_sensor OCC", {
+                "name": "Occupancy button", "state_topic": f"{OWN}/OCC", "payload_on": "pressed",
+                "payload_off": "released"})
+
+    def test_named_states(self):
+        self.check("D2-01-12", "sensor EL_1", {
+            "name": "Error level 1", "state_topic": f"{OWN}/EL/1", "device_class": "enum",
+            "options": ["ok", "warning", "failure", "not_supported"], "entity_category": "diagnostic"})
+
+    def test_a_hidden_entity(self):
+        self.check("D2-01-0F", "binary_sensor LC_0", {
+            "name": "Local control", "state_topic": f"{OWN}/LC/0", "payload_on": "1", "payload_off": "0",
+            "entity_category": "diagnostic", "enabled_by_default": False})
+
+    def test_a_rocker_switch(self):
+        self.check("F6-02-01", "event press", {
+            "name": "Rocker", "state_topic": f"{OWN}/press", "device_class": "button",
+            "event_types": ["AI", "A0", "BI", "B0", "three_or_four", "released"]})
+
+    def test_a_switch(self):
+        self.check("D2-01-12", "switch OV_1", {
+            "name": "Channel 1", "state_topic": f"{OWN}/OV/1", "command_topic": f"{OWN}/OV/1/set",
+            "value_template": discovery.ON_OFF_OR_NONE})
+
+    def test_a_dimmer(self):
+        self.check("D2-01-02", "light OV_0", {
+            "name": None, "state_topic": f"{OWN}/OV/0", "command_topic": f"{OWN}/OV/0/set",
+            "state_value_template": discovery.ON_OFF_OR_NONE, "brightness_state_topic": f"{OWN}/OV/0",
+            "brightness_value_template": discovery.NUMBER_OR_NOTHING, "brightness_command_topic": f"{OWN}/OV/0/set",
+            "brightness_scale": 100, "on_command_type": "brightness"})
+
+    def test_a_blind(self):
+        self.check("D2-05-00", "cover POS_0", {
+            "name": None, "device_class": "blind", "state_topic": f"{OWN}/POS/0", "command_topic": f"{OWN}/POS/0/set",
+            "value_template": discovery.OPEN_CLOSED_OR_NONE, "position_topic": f"{OWN}/POS/0",
+            "position_template": discovery.NUMBER_OR_NOTHING, "set_position_topic": f"{OWN}/POS/0/set",
+            "position_open": 0, "position_closed": 100})
+
+    def test_what_each_device_has(self):
+        for eep in ["D5-00-01", "F6-02-01", "A5-FF-FF"]:
+            self.check(eep, "sensor dbm", {
+                "name": "Signal strength", "state_topic": f"{OWN}/dbm", "device_class": "signal_strength",
+                "state_class": "measurement", "unit_of_measurement": "dBm", "entity_category": "diagnostic",
+                "enabled_by_default": False})
+            self.check(eep, "sensor last_seen", {
+                "name": "Last seen", "state_topic": f"{OWN}/last_seen", "device_class": "timestamp",
+                "entity_category": "diagnostic"})
+        self.assertEqual(set(configs("A5-FF-FF")), {"sensor dbm", "sensor last_seen"})
+
+
+class Devices(unittest.TestCase):
+    """The messages of a device together."""
+
+    def test_the_channels_of_an_actuator(self):
+        start = {f"{kind}_{number}" for number in [0, 1] for kind in [
+            "switch OV", "binary_sensor PF", "binary_sensor PFD", "binary_sensor OC", "sensor EL", "binary_sensor LC"]}
+        start |= {"sensor dbm", "sensor last_seen"}
+        self.assertEqual(set(configs("D2-01-12")), start)
+        self.assertEqual(set(configs("D2-01-12", "IO", "OV", "OV/1", "MV_W/0", "MV", "dbm")), start | {"sensor MV_W_0"})
+
+    def test_channel_30_takes_no_command(self):
+        found = configs("D2-01-0F", "OV/30", "OV/29", "PF/30").keys()
+        self.assertEqual({key for key in found if key.startswith("switch")}, {"switch OV_0", "switch OV_29"})
+        self.assertIn("binary_sensor PF_30", found)
+
+    def test_two_readings_of_one_entity(self):
+        self.assertEqual(set(configs("A5-06-01", "ILL", "ILL1", "ILL2")),
+                         {"sensor SVC", "sensor ILL", "sensor dbm", "sensor last_seen"})
+
+    def test_every_message(self):
+        for eep in ["D5-00-01", "F6-03-01", "A5-08-01", "A5-12-01", "D2-01-02", "D2-01-12", "D2-05-00"]:
+            for key, config in configs(eep, expire_after=60).items():
+                self.assertEqual((config["device"], config["origin"]), (about(eep), ORIGIN), key)
+                if not key.startswith("device_automation"):
+                    self.assertEqual({name: config[name] for name in BOTH}, BOTH, key)
+                    self.assertEqual(config["unique_id"], f"enogate_hall_{DEVICE}_{key.split()[1]}")
+
+    def test_names_of_gateway_and_device_in_topics(self):
+        topics = Topics("roof", "ha/found")
+        rows = TABLE.of_profile("F6-01-01").values()
+        found = discovery.configs(topics, "0000000A", {}, rows, [], None)
+        self.assertEqual(set(found), {
+            "ha/found/event/enogate_roof/0000000A_press/config", "ha/found/sensor/enogate_roof/0000000A_dbm/config",
+            "ha/found/sensor/enogate_roof/0000000A_last_seen/config",
+            "ha/found/device_automation/enogate_roof/0000000A_press_pressed/config",
+            "ha/found/device_automation/enogate_roof/0000000A_press_released/config"})
+        config = json.loads(found["ha/found/event/enogate_roof/0000000A_press/config"])
+        self.assertEqual((config["state_topic"], config["unique_id"], config["availability"]), (
+            "enogate/roof/0000000A/press", "enogate_roof_0000000A_press",
+            [{"topic": "enogate/roof/status"}, {"topic": "enogate/roof/gateway"}]))
+
+    def test_the_text_of_a_message(self):
+        rows = TABLE.of_profile("F6-01-01").values()
+        found = discovery.configs(TOPICS, DEVICE, {"name": 'Tür "A" \\'}, rows, [], None)
+        self.assertEqual(
+            found[f"homeassistant/device_automation/enogate_hall/{DEVICE}_press_released/config"],
+            '{"automation_type":"trigger","device":{"name":"Tür \\"A\\" \\\\"},'
+            f'"origin":{{"name":"enogate-mqtt","sw":"{VERSION}"}},"payload":"released","subtype":"released",'
+            f'"topic":"enogate/hall/{DEVICE}/press","type":"button_short_release",'
+            '"value_template":"{{ value_json.event_type }}"}')
+
+
+class Expiry(unittest.TestCase):
+    """Which entities expire."""
+
+    def expiring(self, eep: str, *told: str) -> set[str]:
+        found = {key: config["expire_after"] for key, config in configs(eep, *told, expire_after=7200).items()
+                 if "expire_after" in config}
+        self.assertEqual(set(found.values()) | {7200}, {7200})
+        return set(found)
+
+    def test_devices_that_send_at_intervals(self):
+        self.assertEqual(self.expiring("D5-00-01"), {"binary_sensor CO"})
+        self.assertEqual(self.expiring("A5-02-05"), {"sensor TMP"})
+        self.assertEqual(self.expiring("A5-04-01"), {"sensor HUM", "sensor TMP"})
+        self.assertEqual(self.expiring("A5-06-01"), {"sensor SVC", "sensor ILL"})
+        self.assertEqual(self.expiring("A5-07-01"), {"sensor SVC", "binary_sensor PIRS"})
+        self.assertEqual(self.expiring("A5-08-01"), {"sensor SVC", "sensor ILL", "sensor TMP", "binary_sensor PIRS",
+                                                     "binary_sensor OCC"})
+        self.assertEqual(self.expiring("A5-09-04"), {"sensor HUM", "sensor CONC", "sensor TMP"})
+        self.assertEqual(self.expiring("A5-10-05"), {"sensor SP", "sensor TMP", "binary_sensor OCC"})
+
+    def test_devices_that_do_not(self):
+        for eep in ["F6-01-01", "F6-02-01", "F6-03-01", "A5-12-01", "A5-12-02", "A5-12-03", "D2-01-02", "D2-01-12",
+                    "D2-05-00"]:
+            self.assertEqual(self.expiring(eep, "MV_W/0", "MR_W/1"), set(), eep)
+
+    def test_without_a_time(self):
+        for key, config in configs("A5-08-01", expire_after=None).items():
+            self.assertNotIn("expire_after", config, key)
+
+
+class Triggers(unittest.TestCase):
+    """The device triggers of switches."""
+
+    def triggers(self, eep: str) -> dict[str, dict]:
+        return {key.split()[1]: config for key, config in configs(eep, expire_after=60).items()
+                if key.startswith("device_automation")}
+
+    def trigger(self, eep: str, word: str, kind: str) -> dict:
+        return {
+            "automation_type": "trigger", "type": kind, "subtype": word, "topic": f"{OWN}/press", "payload": word,
+            "value_template": "{{ value_json.event_type }}", "device": about(eep), "origin": ORIGIN}
+
+    def test_the_triggers_of_each_switch(self):
+        for eep, words in [
+            ("F6-01-01", ["pressed"]), ("F6-02-02", ["AI", "A0", "BI", "B0", "three_or_four"]),
+            ("F6-03-02", ["AI", "A0", "BI", "B0", "CI", "C0", "DI", "D0"]),
+        ]:
+            wanted = {f"press_{word}": self.trigger(eep, word, "button_short_press") for word in words}
+            wanted["press_released"] = self.trigger(eep, "released", "button_short_release")
+            self.assertEqual(self.triggers(eep), wanted, eep)
+
+    def test_no_other_device_has_triggers(self):
+        for eep in ["D5-00-01", "A5-08-01", "A5-10-05", "D2-01-12", "D2-05-00"]:
+            self.assertEqual(self.triggers(eep), {}, eep)
+
+
+class Gateway(unittest.TestCase):
+    """The entities of the gateway itself."""
+
+    def setUp(self):
+        self.maxDiff = None
+        self.found = read(discovery.gateway(TOPICS))
+
+    def test_its_entities(self):
+        device = {"identifiers": ["enogate_hall"], "name": "enogate hall", "model": "enogate", "sw_version": VERSION}
+        self.assertEqual(set(self.found), {
+            "binary_sensor status", "binary_sensor gateway", "binary_sensor module", "switch learn", "sensor readings",
+            "sensor responses", "sensor teach", "sensor ignored", "sensor refused"})
+        for key, config in self.found.items():
+            self.assertEqual((config.pop("device"), config.pop("origin")), (device, ORIGIN), key)
+            self.assertEqual(config.pop("unique_id"), f"enogate_hall_{key.split()[1]}")
+
+    def check(self, key: str, wanted: dict):
+        own = {name: value for name, value in self.found[key].items() if name not in ("device", "origin", "unique_id")}
+        self.assertEqual(own, wanted)
+
+    def test_what_is_connected(self):
+        for name, title, available in [("status", "Bridge", {}), ("gateway", "Gateway", BRIDGE),
+                                       ("module", "Radio module", BRIDGE)]:
+            self.check(f"binary_sensor {name}", {
+                "name": title, "state_topic": f"enogate/hall/{name}", "device_class": "connectivity",
+                "payload_on": "online", "payload_off": "offline", "entity_category": "diagnostic", **available})
+
+    def test_its_counters(self):
+        for name, title in [
+            ("readings", "Readings"), ("responses", "Module responses"), ("teach", "Teach-in telegrams"),
+            ("ignored", "Ignored packets"), ("refused", "Refused packets and orders"),
+        ]:
+            self.check(f"sensor {name}", {
+                "name": title, "state_topic": "enogate/hall/counters", "state_class": "total_increasing",
+                "value_template": f"{{{{ value_json.{name} }}}}", "entity_category": "diagnostic", **BOTH})
+
+    def test_the_learn_window(self):
+        self.check("switch learn", {
+            "name": "Learn window", "state_topic": "enogate/hall/learn", "command_topic": "enogate/hall/learn/set",
+            "icon": "mdi:access-point-plus", "entity_category": "config", **BOTH})
+
+
+class Descriptions(unittest.TestCase):
+    """The description of a device."""
+
+    def test_a_device(self):
+        self.assertEqual(about("D2-01-12"), {
+            "identifiers": ["enogate_hall_01800ABC"], "name": "D2-01-12 01800ABC",
+            "model": "Electronic switch, 2 channels (D2-01-12)", "via_device": "enogate_hall"})
+
+    def test_its_label(self):
+        for label in ["Front door", 'Meter "A" \\', "Tür", "{{ 1 }}"]:
+            self.assertEqual(about("D5-00-01", label)["name"], label)
+            rows = TABLE.of_profile("D5-00-01").values()
+            for text in discovery.configs(TOPICS, DEVICE, about("D5-00-01", label), rows, [], None).values():
+                self.assertEqual(json.loads(text)["device"]["name"], label)
+                self.assertNotIn("\n", text)
+
+    def test_models(self):
+        for eep, kind in [
+            ("F6-01-01", "Push button"), ("F6-02-01", "Rocker switch, 2 rockers"),
+            ("F6-02-02", "Rocker switch, 2 rockers"), ("F6-03-02", "Rocker switch, 4 rockers"), ("D5-00-01", "Contact"),
+            ("A5-02-30", "Temperature sensor"), ("A5-04-02", "Temperature and humidity sensor"),
+            ("A5-06-01", "Light sensor"), ("A5-07-01", "Motion sensor"),
+            ("A5-08-03", "Light, temperature and motion sensor"),
+            ("A5-09-04", "Carbon dioxide, humidity and temperature sensor"), ("A5-10-03", "Room operating panel"),
+            ("A5-12-01", "Electricity meter"), ("A5-12-02", "Gas meter"), ("A5-12-03", "Water meter"),
+            ("D2-01-00", "Electronic switch, 1 channel"), ("D2-01-0F", "Electronic switch, 1 channel"),
+            ("D2-01-10", "Electronic switch, 2 channels"), ("D2-05-00", "Blind control"),
+        ]:
+            self.assertEqual(about(eep)["model"], f"{kind} ({eep})")
+        self.assertEqual(about("A5-FF-FF")["model"], "A5-FF-FF")
+
+    def test_models_of_actuators_are_those_of_their_entities(self):
+        for number in range(0x13):
+            eep = f"D2-01-{number:02X}"
+            rows = TABLE.of_profile(eep)
+            kind = {"light": "Dimmer", "switch": "Electronic switch"}[rows["OV", "%"].entity]
+            channels = {1: "1 channel", 2: "2 channels"}[rows["OV", "%"].count]
+            self.assertEqual(about(eep)["model"], f"{kind}, {channels} ({eep})")
+
+    def test_manufacturers(self):
+        self.assertNotIn("manufacturer", about("D5-00-01"))
+        for maker, name in [
+            (0x001, "PEHA"), (0x00D, "Eltako"), (70, "NodOn (ID-RF)"), (0, "EnOcean manufacturer ID 0"),
+            (2047, "EnOcean manufacturer ID 2047"), (1999, "EnOcean manufacturer ID 1999"),
+        ]:
+            self.assertEqual(about("D5-00-01", maker=maker)["manufacturer"], name)
+
+    def test_the_table_of_manufacturers(self):
+        lines = discovery.MANUFACTURERS.read_text("utf-8").splitlines()
+        rows = [line for line in lines if line and not line.startswith("#")]
+        for line in rows:
+            self.assertRegex(line, r"^[0-7][0-9A-F]{2}\t\S[^\t]*\S$")
+        numbers = [line[:3] for line in rows]
+        self.assertEqual(numbers, sorted(set(numbers)))
+        self.assertEqual(len({line[4:] for line in rows}), len(rows))
+        self.assertLess(int(numbers[-1], 16), 2047)
+
+
+class Templates(unittest.TestCase):
+    """What Home Assistant makes of values and of words."""
+
+    def check(self, template: str, wanted: dict[str, str]):
+        self.assertEqual({value: result(template, value) for value in wanted}, wanted)
+
+    def test_a_number(self):
+        same = {value: value for value in ["0", "20.0784", "-40", "4294967295"]}
+        self.check(discovery.NUMBER_OR_NONE, {**same, "unknown": "None", "out_of_range": "None"})
+        self.check(discovery.NUMBER_OR_NOTHING, {**same, "unknown": "", "out_of_range": ""})
+
+    def test_a_switch(self):
+        self.check(discovery.ON_OFF_OR_NONE, {
+            "0": "OFF", "1": "ON", "100": "ON", "not_applicable": "None", "out_of_range": "None"})
+
+    def test_a_cover(self):
+        self.check(discovery.OPEN_CLOSED_OR_NONE, {
+            "0": "open", "99": "open", "100": "closed", "unknown": "None", "out_of_range": "None"})
+
+
+class Manufacturers(unittest.TestCase):
+    def test_some_that_everybody_knows(self):
+        for maker, name in ((0x00B, "EnOcean"), (0x00D, "Eltako"), (0x002, "Thermokon"), (0x005, None)):
+            with self.subTest(maker):
+                found = discovery.about_device(TOPICS, "01800ABC", "D5-00-01", "", maker)["manufacturer"]
+                self.assertEqual(found, name or f"EnOcean manufacturer ID {maker}")
+
+
+if __name__ == "__main__":
+    unittest.main()

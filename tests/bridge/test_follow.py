@@ -1,0 +1,242 @@
+"""Following the lines across rotation."""
+import os
+import unittest
+from unittest import mock
+
+from enogate_mqtt.follow import MAX_READ, Follower, Place
+from fakes import Case, Site
+
+
+class Following(Case):
+    def setUp(self):
+        super().setUp()
+        self.path = Site(self).lines
+
+    def write(self, text, path=None):
+        with (path or self.path).open("a") as file:
+            file.write(text)
+
+    def follower(self, place=None):
+        return Follower(str(self.path), place)
+
+    def read(self, follower, turns=8):
+        return [line.decode() for _ in range(turns) for line, _ in follower.read()]
+
+    def rotate(self, end=".1", ahead=0.0):
+        """The file gets another name; its time may be ahead."""
+        target = self.path.with_name(self.path.name + end)
+        self.path.rename(target)
+        if ahead:
+            now = target.stat().st_mtime + ahead
+            os.utime(target, (now, now))
+        return target
+
+    def test_lines_as_they_end(self):
+        follower = self.follower()
+        self.write("a\nb")
+        self.assertEqual(self.read(follower), ["a"])
+        self.write("c\n\nd\n")
+        self.assertEqual(self.read(follower), ["bc", "", "d"])
+
+    def test_places(self):
+        follower = self.follower()
+        self.write("one\ntwo\nthr")
+        (_, first), (_, second) = follower.read()
+        inode = self.path.stat().st_ino
+        self.assertEqual((first, second, follower.place),
+                         (Place(inode, 0, b""), Place(inode, 4, b"one\n"), Place(inode, 8, b"one\ntwo\n")))
+        again = self.follower(second)
+        self.write("ee\n")
+        self.assertEqual(self.read(again), ["two", "three"])
+
+    def test_a_place_has_64_bytes(self):
+        self.write("x" * 100 + "\n")
+        follower = self.follower()
+        self.read(follower)
+        self.assertEqual(follower.place.last, b"x" * 63 + b"\n")
+
+    def test_no_file(self):
+        self.path.unlink()
+        follower = self.follower()
+        self.assertEqual(follower.read(), [])
+        self.assertTrue(follower.is_at_end)
+        self.assertEqual(follower.fault, "No such file or directory")
+        self.write("a\n")
+        self.assertEqual(self.read(follower), ["a"])
+
+    def test_the_end_is_told(self):
+        follower = self.follower()
+        self.write("a\n")
+        follower.read()
+        self.assertFalse(follower.is_at_end)
+        follower.read()
+        self.assertTrue(follower.is_at_end)
+
+    def test_rotation(self):
+        for end in (".1", "-20261127", "-20261127-12"):
+            for ahead in (0, 3600, -3600):
+                with self.subTest((end, ahead)):
+                    self.setUp()
+                    follower = self.follower()
+                    self.write("a\n")
+                    self.assertEqual(self.read(follower), ["a"])
+                    old = self.rotate(end, ahead)
+                    self.write("b\n", old)
+                    self.write("c\n")
+                    self.assertEqual(self.read(follower), ["b", "c"])
+
+    def test_a_line_on_its_way_is_waited_for(self):
+        follower = self.follower()
+        self.write("a\n")
+        self.read(follower)
+        old = self.rotate()
+        self.write("c\n")
+        self.assertEqual(follower.read(), [])
+        self.write("b\n", old)
+        self.assertEqual(self.read(follower), ["b", "c"])
+
+    def test_two_rotations_at_once(self):
+        for ends in ((".2", ".1"), ("-20261126", "-20261127"), (".10", ".9"), ("-20261127-11", "-20261127-12")):
+            with self.subTest(ends):
+                self.setUp()
+                follower = self.follower()
+                self.write("a\n")
+                self.read(follower)
+                for end, text in zip(ends, ("b\n", "c\n")):
+                    self.write(text)
+                    self.rotate(end, 0)
+                self.write("d\n")
+                self.assertEqual(self.read(follower, 12), ["b", "c", "d"])
+
+    def test_rotation_while_it_is_stopped(self):
+        follower = self.follower()
+        self.write("a\nb\n")
+        (_, _), (_, place) = follower.read()
+        self.rotate(ahead=3600)
+        self.write("c\n")
+        self.assertEqual(self.read(self.follower(place)), ["b", "c"])
+        self.assertEqual(self.logged, [])
+
+    def test_an_old_file_that_is_compressed(self):
+        """Two rotations: the open file is compressed and removed, and the next one has another name."""
+        self.write("old\n")
+        self.rotate()
+        self.write("a\n")
+        follower = self.follower()
+        self.assertEqual(self.read(follower), ["a"])
+        self.path.with_name(self.path.name + ".1").rename(self.path.with_name(self.path.name + ".2"))
+        compressed = self.rotate()
+        self.write("b\n")
+        compressed.unlink()
+        self.assertEqual(self.read(follower), ["b"])
+
+    def test_other_files_are_no_lines(self):
+        follower = self.follower()
+        self.write("a\n")
+        self.read(follower)
+        for end in (".1.gz", ".bak", "-old", "~", ".1~"):
+            self.write("x\n", self.path.with_name(self.path.name + end))
+        self.assertEqual(self.read(follower), [])
+
+    def test_a_file_that_is_gone(self):
+        self.write("a\n")
+        follower = self.follower()
+        follower.read()
+        place = follower.place
+        self.path.unlink()
+        self.write("b\n")
+        self.assertEqual(self.read(self.follower(Place(place.inode + 1, 2, b"a\n"))), ["b"])
+        self.assert_logged("previous file not found, reading from the beginning")
+
+    def test_another_file_with_the_same_inode(self):
+        self.write("x\nb\n")
+        self.assertEqual(self.read(self.follower(Place(self.path.stat().st_ino, 2, b"a\n"))), ["x", "b"])
+        self.assert_logged("previous file not found")
+
+    def test_a_file_that_is_truncated(self):
+        follower = self.follower()
+        self.write("a\nhalf")
+        self.read(follower)
+        self.path.write_text("b\n")
+        self.assertEqual(self.read(follower), ["b"])
+        self.assert_logged("file truncated, reading from the beginning")
+
+    def test_a_line_without_its_end(self):
+        follower = self.follower()
+        self.write("half")
+        self.read(follower)
+        self.rotate()
+        self.write("b\n")
+        self.assertEqual(self.read(follower), ["b"])
+        self.assert_logged("incomplete line ignored: b'half'")
+
+    def test_a_line_of_two_megabytes(self):
+        follower = self.follower()
+        self.write("x" * (2 * MAX_READ + 10))
+        found = [line for _ in range(6) for line, _ in follower.read()]
+        self.assertTrue(found and all(len(line) <= 2 * MAX_READ for line in found))
+        self.assertLessEqual(len(follower.rest), MAX_READ)
+        self.write("\nb\n")
+        self.assertEqual(self.read(follower)[-1], "b")
+
+    def test_a_next_file_that_cannot_be_opened(self):
+        follower = self.follower()
+        self.write("a\n")
+        self.read(follower)
+        self.rotate()
+        self.write("b\n")
+        with mock.patch("os.open", side_effect=PermissionError(13, "Permission denied")):
+            for _ in range(5):
+                self.assertEqual(self.read(follower, 2), [])
+                self.assertTrue(follower.is_at_end)
+        self.assert_logged(f"cannot open {self.path}: Permission denied; retrying")
+        self.assertEqual(self.read(follower), ["b"])
+
+    def test_lines_after_the_end_was_seen(self):
+        follower = self.follower()
+        self.write("a\n")
+        self.read(follower)
+        old = self.rotate()
+        self.write("d\n")
+        found = []
+        for text in ("b\n", "c\n"):
+            found += self.read(follower, 1)
+            self.write(text, old)
+            found += self.read(follower, 1)
+        self.assertEqual(found + self.read(follower), ["b", "c", "d"])
+
+    def test_an_old_place_and_a_broken_link(self):
+        self.write("a\nb\n")
+        follower = self.follower()
+        place = follower.read()[1][1]
+        self.rotate()
+        (self.path.parent / "hall.lines.2").symlink_to("nowhere")
+        self.write("c\n")
+        self.assertEqual(self.read(self.follower(place)), ["b", "c"])
+
+    def test_a_folder_with_a_pattern_in_its_name(self):
+        folder = self.path.parent / "a[b]"
+        folder.mkdir()
+        self.path = folder / "hall.lines"
+        follower = self.follower()
+        self.write("a\n")
+        self.read(follower)
+        self.rotate()
+        self.write("b\n")
+        self.assertEqual(self.read(follower), ["b"])
+
+    def test_files_are_closed(self):
+        before = len(os.listdir("/proc/self/fd"))
+        follower = self.follower()
+        for number in range(5):
+            self.write(f"{number}\n")
+            self.read(follower)
+            self.rotate(f".{9 - number}")
+        self.write("x\n")
+        self.read(follower)
+        os.close(follower.file)
+        self.assertEqual(len(os.listdir("/proc/self/fd")), before)
+
+
+if __name__ == "__main__":
+    unittest.main()

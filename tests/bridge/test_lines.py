@@ -1,0 +1,90 @@
+"""The contents of lines."""
+import unittest
+from fractions import Fraction
+
+from enogate_mqtt import lines
+from enogate_mqtt.lines import BadLine, Deleted, EndOfList, Learned, Listed, Other, Reading, Response, Status, Strange
+from enogate_mqtt.lines import Telegram, content_of, decimal
+
+
+CONTACT = ('{"dbm":-45,"eep":"D5-00-01","id":"01800ABC","readings":[{"name":"CO","word":"closed"}],'
+           '"type":"reading"}')
+
+
+class Decimals(unittest.TestCase):
+    def test_finite_decimals_are_exact(self):
+        for value, text in ((Fraction(5), "5"), (Fraction(0), "0"), (Fraction(-3, 4), "-0.75"),
+                            (Fraction(1, 8), "0.125"),
+                            (Fraction(12345678, 1000), "12345.678"), (Fraction(10000011, 10), "1000001.1"),
+                            (Fraction(2**24 - 1, 1000), "16777.215"), (Fraction(1, 2**20), "0.00000095367431640625"),
+                            (Fraction(100), "100"), (Fraction(1000, 10), "100")):
+            with self.subTest(value):
+                self.assertEqual(decimal(value), text)
+
+    def test_other_fractions_have_six_digits_rounded_half_to_even(self):
+        for value, text in ((Fraction(1024, 51), "20.0784"), (Fraction(-1, 3), "-0.333333"),
+                            (Fraction(2, 3), "0.666667"),
+                            (Fraction(1, 3000), "0.000333333"), (Fraction(10**7, 3), "3333333"),
+                            (Fraction(1999999, 3), "666666"), (Fraction(200, 3), "66.6667")):
+            with self.subTest(value):
+                self.assertEqual(decimal(value), text)
+
+    def test_a_counter_does_not_step_backwards(self):
+        for divisor in (1, 10, 100, 1000):
+            texts = [decimal(Fraction(raw, divisor)) for raw in range(999_990, 1_000_040)]
+            numbers = list(map(Fraction, texts))
+            self.assertEqual(numbers, sorted(set(numbers)))
+
+
+class Contents(unittest.TestCase):
+    def test_each_type(self):
+        for line, content in (
+            (CONTACT.encode(),
+             Telegram("01800ABC", "D5-00-01", -45, (Reading("CO", "", "closed", None),))),
+            (b'{"dbm":null,"eep":"A5-12-01","id":"01800ABC","readings":[{"name":"TI","raw":3},'
+             b'{"den":51,"name":"T","num":1024,"unit":"C"},{"name":"H","out_of_range":251}],"type":"reading"}',
+             Telegram("01800ABC", "A5-12-01", None, (Reading("TI", "", "3", 3), Reading("T", "C", "20.0784", None),
+                                                     Reading("H", "", "out_of_range", None)))),
+            (b'{"eep":"D5-00-01","id":"01800ABC","maker":70,"result":"accepted","type":"teach"}',
+             Learned("01800ABC", "D5-00-01", 70)),
+            (b'{"eep":"D5-00-01","id":"01800ABC","maker":null,"result":"deleted","type":"teach"}', Deleted("01800ABC")),
+            (b'{"eep":"D5-00-01","id":"01800ABC","maker":null,"result":"full","type":"teach"}', Other()),
+            (b'{"eep":"D5-00-01","id":"01800ABC","label":"a \\"b\\"","maker":null,"type":"device"}',
+             Listed("01800ABC", "D5-00-01", 'a "b"', None)),
+            (b'{"count":2,"type":"list"}', EndOfList(2)),
+            (b'{"ignored":1,"mode":"as F6-02-01","readings":2,"refused":3,"responses":4,"teach":5,"type":"status"}',
+             Status("as F6-02-01", {"ignored": 1, "readings": 2, "refused": 3, "responses": 4, "teach": 5})),
+            (b'{"code":0,"data":"","name":"OK","type":"response"}', Response()),
+            (b'{"type":"ok"}', Other()), (b'{"error":"syntax","type":"error"}', Other()), (b'{"type":"new"}', Other()),
+        ):
+            with self.subTest(line):
+                self.assertEqual(content_of(line), content)
+
+    def test_lines_of_no_gateway(self):
+        for line in (b"", b"{", b"3", b"[]", b"null", b'{"kind":1}', b'{"type":"ok"}\xff', "{\"type\":\"ö\"}".encode(),
+                     b"[" * 100_000, b'"type"'):
+            with self.subTest(line[:20]):
+                with self.assertRaises(BadLine) as bad:
+                    content_of(line)
+                self.assertLess(len(str(bad.exception)), 300)
+
+    def test_unexpected_members(self):
+        for old, new in (("01800ABC", "01800abc"), ("01800ABC", "01800AB"), ("D5-00-01", "D5-00"), ("-45", '"x"'),
+                         ("-45", "true"), ("-45", "1.5"), ('"CO"', '"C/O"'), ('"CO"', '"C+"'), ('"CO"', '""'),
+                         ('"word":"closed"', '"num":1,"den":0,"unit":"C"'), ('"word":"closed"', '"num":1'),
+                         ('"closed"', "3"), ('"word":"closed"', '"raw":"3"'), ('"word":"closed"', '"out_of_range":"x"'),
+                         ('[{"name":"CO","word":"closed"}]', "3"), (',"readings":[{"name":"CO","word":"closed"}]', "")):
+            with self.subTest(new):
+                self.assertIsInstance(content_of(CONTACT.replace(old, new).encode()), Strange)
+        for line in (b'{"count":"2","type":"list"}', b'{"mode":"on","type":"status"}', b'{"type":["list"]}'):
+            with self.subTest(line):
+                self.assertIsInstance(content_of(line), (Strange, Other))
+
+    def test_a_complaint_shows_the_beginning(self):
+        line = b'{"count":"' + b"2" * 100 + b'","type":"list"}'
+        self.assertEqual(content_of(line), Strange(
+            f"line with unexpected members, not decoded: {line[:lines.SHOWN_OF_A_LINE]!r}"))
+
+
+if __name__ == "__main__":
+    unittest.main()

@@ -1,0 +1,116 @@
+"""Comparing what the broker retains."""
+import unittest
+
+from enogate_mqtt import reconcile
+from enogate_mqtt.reconcile import MAX_PARTS, MAX_UNKNOWN, QUIET, Part, Reconciler
+from fakes import Case, Clock, Retaining
+
+
+class Parts(unittest.TestCase):
+    def test_filters(self):
+        part = Part("x", ["enogate/hall/X/+", "enogate/hall/X/+/+", "a/b"])
+        for topic, is_match in (("enogate/hall/X/TMP", True), ("enogate/hall/X/OV/0", True), ("a/b", True),
+                                ("a/c", False),
+                                ("enogate/hall/X", False), ("enogate/hall/X/OV/0/set", False),
+                                ("enogate/hall/Y/TMP", False), ("enogateXhall/X/TMP", False), ("a/b/c", False)):
+            with self.subTest(topic):
+                self.assertEqual(part.matches(topic), is_match)
+
+    def test_a_flood_is_not_stored(self):
+        part = Part("x", ["a/+", "b"])
+        for number in range(MAX_UNKNOWN + 10):
+            part.note(f"a/{number}", "x")
+        part.note("b", "y")
+        self.assertEqual((len(part.retained), part.retained["b"]), (MAX_UNKNOWN + 1, "y"))
+
+
+class Reconciling(Case):
+    def setUp(self):
+        super().setUp()
+        self.clock, self.connection, self.compared = Clock(), Retaining({"x/1": "one", "x/2": "two",
+                                                                         "y/1": "three"}), []
+        self.reconciler = Reconciler(self.clock, self.compared.append)
+
+    def turn(self, seconds=0.1):
+        self.reconciler.turn(self.connection)
+        self.connection.turn(0)
+        received, self.connection.received = self.connection.received, []
+        for message in received:
+            self.reconciler.take(message.topic, message.payload.decode())
+        self.clock.now += seconds
+
+    def test_parts_are_compared(self):
+        self.reconciler.add([Part("x", ["x/+"]), Part("y", ["y/1", "y/2"])])
+        for _ in range(4):
+            self.turn()
+        self.assertEqual([(part.name, part.retained) for part in self.compared],
+                         [("x", {"x/1": "one", "x/2": "two"}), ("y", {"y/1": "three"})])
+        self.assertTrue(self.reconciler.is_done)
+
+    def test_few_parts_at_the_same_time(self):
+        self.assertEqual(MAX_PARTS, 8)
+        self.reconciler.add(Part(str(number), [f"{number}/+"]) for number in range(50))
+        most = 0
+        while not self.reconciler.is_done:
+            self.turn()
+            most = max(most, len(self.reconciler.active))
+        self.assertEqual((most, len(self.compared)), (8, 50))
+
+    def test_a_large_part_is_alone(self):
+        self.reconciler.add([Part("a", ["a/+"]), Part("all", ["+/+"], is_large=True), Part("b", ["b/+"])])
+        seen = []
+        while not self.reconciler.is_done:
+            self.turn()
+            seen.append([part.name for part in self.reconciler.active])
+        self.assertEqual([names for number, names in enumerate(seen) if names != seen[number - 1]],
+                         [["a"], ["all"], ["b"], []])
+
+    def test_the_subscription_ends_before_the_comparison(self):
+        self.reconciler.add([Part("x", ["x/+"])])
+        self.turn()
+        self.turn()
+        self.assertEqual(self.compared, [])
+        self.turn()
+        self.assertEqual(len(self.compared), 1)
+
+    def test_a_broker_that_answers_nothing(self):
+        self.connection.answers = False
+        self.reconciler.add([Part("x", ["x/+"])])
+        self.turn(0)
+        self.turn(QUIET - 0.1)
+        self.turn(0)
+        self.assertEqual(self.reconciler.active[0].is_cancelled, False)
+        self.turn(0.2)
+        self.turn(QUIET - 0.1)
+        self.assertEqual(self.reconciler.active[0].is_cancelled, True)
+        self.turn(0.2)
+        self.assertEqual(self.compared, [])
+        self.turn(0)
+        self.assertEqual([part.retained for part in self.compared], [{"x/1": "one", "x/2": "two"}])
+
+    def test_messages_keep_a_part_waiting(self):
+        self.connection.answers = False
+        self.reconciler.add([Part("x", ["x/+"])])
+        self.turn(0)
+        for _ in range(10):
+            self.reconciler.take("x/3", "x")
+            self.turn(QUIET - 1)
+        self.assertFalse(self.reconciler.active[0].is_cancelled)
+
+    def test_what_is_published_meanwhile_counts(self):
+        self.reconciler.add([Part("x", ["x/+"])])
+        self.turn()
+        self.reconciler.publish("x/1", "new")
+        self.reconciler.publish("y/1", "elsewhere")
+        self.reconciler.take("x/1", "old")
+        self.reconciler.take("x/2", "two")
+        self.turn()
+        self.turn()
+        self.assertEqual(self.compared[0].retained, {"x/1": "new", "x/2": "two"})
+
+    def test_constants(self):
+        self.assertEqual((reconcile.QUIET, reconcile.MAX_UNKNOWN), (5, 1000))
+
+
+if __name__ == "__main__":
+    unittest.main()

@@ -1,0 +1,219 @@
+"""The orders that the bridge gives by itself."""
+import math
+import unittest
+
+from enogate_mqtt.desk import Desk
+from enogate_mqtt.lines import EndOfList, Response, Status
+from enogate_mqtt.requests import ANSWER_WITHIN, MAX_PAUSE, MODULE_EVERY, STATUS_EVERY, Requests
+from fakes import Case, Site
+
+STATUS = Status("closed", {})
+
+
+class Asking(Case):
+    def setUp(self):
+        super().setUp()
+        self.site = Site(self)
+        self.clock = self.site.clock
+        self.requests = Requests(Desk(str(self.site.desk), self.clock), self.clock, 120)
+
+    def turn(self, seconds=0.0, needs_list=False):
+        """The orders that are given after so many seconds."""
+        self.clock.now += seconds
+        before = len(self.site.orders())
+        self.requests.turn(needs_list)
+        return self.site.orders()[before:]
+
+    def test_at_the_start(self):
+        self.assertEqual(self.turn(), ["list", "status"])
+        self.assertEqual(self.turn(1), [])
+
+    def times(self, order, seconds):
+        """When this order is given within so many seconds, from now on."""
+        return [second for second in range(seconds) if order in self.turn(1)]
+
+    def test_the_list_is_asked_for_with_growing_pauses(self):
+        self.turn()
+        times = self.times("list", 3000)
+        self.assertEqual([later - sooner for sooner, later in zip([-1, *times], times)],
+                         [5, 10, 20, 40, 80, 160, 320, 600,
+                                                                                          600, 600])
+        self.assertEqual(MAX_PAUSE, 600)
+
+    def test_an_answer_ends_this(self):
+        self.turn()
+        self.requests.list.answer()
+        self.assertEqual(self.times("list", 3000), [])
+
+    def test_it_is_asked_for_again_when_it_may_have_changed(self):
+        self.turn()
+        self.requests.list.answer()
+        self.assertEqual(self.turn(1000, needs_list=True)[0], "list")
+        self.requests.list.answer()
+        self.turn(1, needs_list=True)
+        self.assertEqual(self.times("list", 60)[0], 3)
+
+    def test_a_label_asks_for_the_list(self):
+        self.turn()
+        self.requests.list.answer()
+        with self.site.desk.open("a") as file:
+            file.write("label 01800ABC x\n")
+        self.assertEqual(self.turn(100), ["list", "status"])
+
+    def test_a_start_asks_for_all(self):
+        self.turn()
+        self.requests.take(STATUS)
+        self.requests.take(Response())
+        self.requests.list.answer()
+        self.turn(20)
+        self.site.desk.write_text("")
+        self.assertEqual(self.turn(1), ["list", "status", "base"])
+
+    def test_the_gateway_is_asked_each_minute(self):
+        self.turn()
+        self.requests.take(STATUS)
+        self.assertTrue(self.requests.gateway.is_online)
+        self.assertEqual(self.turn(STATUS_EVERY - 1).count("status"), 0)
+        self.assertEqual(self.turn(1).count("status"), 1)
+        self.assertEqual(STATUS_EVERY, 60)
+
+    def test_a_gateway_that_does_not_answer(self):
+        self.turn()
+        self.turn(ANSWER_WITHIN - 0.1)
+        self.assertIsNone(self.requests.gateway.is_online)
+        self.turn(0.1)
+        self.assertIs(self.requests.gateway.is_online, False)
+        self.assert_logged("WARNING: the gateway does not answer: orders are lost until it runs")
+        self.times("status", 600)
+        self.assert_logged("does not answer")
+        self.requests.take(STATUS)
+        self.assertIs(self.requests.gateway.is_online, True)
+        self.assert_logged("INFO: the gateway answers again")
+
+    def test_an_unanswered_question_counts_from_the_first(self):
+        self.requests.gateway.every = 10
+        self.turn()
+        self.turn(10)
+        self.turn(5)
+        self.assertIs(self.requests.gateway.is_online, False)
+
+    def test_it_may_stop_answering_later(self):
+        self.turn()
+        self.requests.take(STATUS)
+        self.turn(STATUS_EVERY)
+        self.turn(ANSWER_WITHIN)
+        self.assertIs(self.requests.gateway.is_online, False)
+
+    def test_the_first_answer_is_not_logged(self):
+        self.turn()
+        self.requests.take(STATUS)
+        self.assertEqual(self.logged, [])
+
+    def test_a_truncated_desk(self):
+        self.turn()
+        self.turn()
+        self.requests.take(STATUS)
+        self.site.desk.write_text("")
+        self.turn(1)
+        self.turn(ANSWER_WITHIN)
+        self.assert_logged("desk was truncated: if > was used in place of >>, restart the gateway")
+
+    def test_a_truncated_desk_of_a_gateway_that_was_started(self):
+        self.turn()
+        self.turn()
+        self.site.desk.write_text("")
+        self.turn(1)
+        self.requests.take(STATUS)
+        self.turn(STATUS_EVERY)
+        self.turn(ANSWER_WITHIN)
+        self.assert_logged("was truncated", 0)
+
+    def test_a_replaced_desk(self):
+        self.turn()
+        self.requests.take(STATUS)
+        new = self.site.folder / "new"
+        new.write_text("")
+        new.rename(self.site.desk)
+        self.turn(1)
+        self.turn(ANSWER_WITHIN)
+        self.assert_logged("desk was replaced by another file, which the gateway does not read: restart the gateway")
+
+    def test_the_module(self):
+        self.turn()
+        self.assertEqual(self.turn(5), ["list"])
+        self.requests.take(STATUS)
+        self.assertEqual(self.turn(1), ["base"])
+        self.requests.take(Response())
+        self.assertIs(self.requests.module.is_online, True)
+        times = []
+        for second in range(int(MODULE_EVERY) + 10):
+            times += [second] if "base" in self.turn(1) else []
+            self.requests.take(STATUS)
+        self.assertEqual(times, [MODULE_EVERY - 1])
+        self.assertEqual(MODULE_EVERY, 600)
+
+    def test_a_module_that_does_not_respond(self):
+        self.turn()
+        self.requests.take(STATUS)
+        self.turn(1)
+        self.turn(ANSWER_WITHIN)
+        self.assertIs(self.requests.module.is_online, False)
+        self.requests.take(Response())
+        self.assertIs(self.requests.module.is_online, True)
+
+    def test_a_learn_window_closes(self):
+        self.turn()
+        self.requests.take(STATUS)
+        self.requests.command(b"learn on\n")
+        self.assertIn("status", self.turn(1))
+        self.assertEqual(self.times("learn off", 300), [118])
+
+    def test_a_second_command_extends_the_window(self):
+        self.turn()
+        self.requests.command(b"learn on\n")
+        self.turn(60)
+        self.requests.command(b"learn on\n")
+        self.assertEqual(self.times("learn off", 300), [119])
+
+    def test_a_learn_window_that_was_closed(self):
+        self.turn()
+        self.requests.command(b"learn on\n")
+        self.requests.command(b"learn off\n")
+        self.assertEqual(self.times("learn off", 300), [])
+        self.assertEqual(self.requests.learn_until, math.inf)
+
+    def test_other_orders_open_no_window(self):
+        self.turn()
+        for orders in (b"learn on\nlist\n", b"learn as F6-02-01\n", b"list\n", b""):
+            self.requests.command(orders)
+        self.assertEqual(self.times("learn off", 300), [])
+
+    def test_the_window_is_closed_at_the_end(self):
+        self.requests.close_window()
+        self.assertEqual(self.site.orders(), [])
+        self.requests.command(b"learn on\n")
+        self.requests.close_window()
+        self.assertEqual(self.site.orders(), ["learn off"])
+
+    def test_a_window_that_cannot_be_closed_is_closed_later(self):
+        self.turn()
+        self.requests.command(b"learn on\n")
+        self.site.desk.unlink()
+        self.turn(130)
+        self.site.desk.touch()
+        self.assertIn("learn off", self.turn(1))
+
+    def test_without_a_desk_nothing_happens(self):
+        self.site.desk.unlink()
+        self.requests.turn(True)
+        self.assertEqual(self.logged, [])
+
+    def test_a_list_asks_for_the_status(self):
+        self.turn()
+        self.requests.take(STATUS)
+        self.requests.take(EndOfList(0))
+        self.assertIn("status", self.turn(1))
+
+
+if __name__ == "__main__":
+    unittest.main()

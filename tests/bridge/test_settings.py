@@ -1,0 +1,195 @@
+"""The command line and the environment variables."""
+import contextlib
+import io
+import ssl
+import subprocess
+import time
+import unittest
+from unittest import mock
+
+from enogate_mqtt import VERSION, main, settings
+from enogate_mqtt.devices import Device
+from enogate_mqtt.settings import Login, Options, Words, WrongSetting, read_login, read_options, read_words
+from fakes import Case, Site
+
+PATHS = ["--lines", "l", "--desk", "d", "--state", "s"]
+
+
+class CommandLine(unittest.TestCase):
+    def test_words(self):
+        self.assertEqual(read_words([*PATHS, "hall"]), Words("hall", "l", "d", "s", False))
+        self.assertEqual(read_words(["--print", "Hall_2-b"]), Words("Hall_2-b", None, None, None, True))
+
+    def test_wrong_words(self):
+        for words, why in (([], "required"),
+                           (["hall"], "--lines, --desk and --state are required, except with --print"),
+                           (PATHS[:4] + ["hall"], "required"), (["--print", "a/b"], "invalid gateway name: a/b"),
+                           (["--print", ""], "invalid gateway name"), (["--print", "hall", "x"], "unrecognized"),
+                           (["--print", "häll"], "invalid gateway name")):
+            with self.subTest(words), self.assertRaisesRegex(WrongSetting, why):
+                read_words(words)
+
+    def test_version(self):
+        out = io.StringIO()
+        with self.assertRaises(SystemExit) as end, contextlib.redirect_stdout(out):
+            read_words(["--version"])
+        self.assertEqual((end.exception.code, out.getvalue()), (0, f"enogate-mqtt {VERSION}\n"))
+
+
+class Environment(unittest.TestCase):
+    def test_defaults(self):
+        self.assertEqual(read_login({}), Login("localhost", 1883, None, None, None))
+        self.assertEqual(read_options({}), Options("homeassistant", 120, None))
+
+    def test_values(self):
+        site = Site(self)
+        password = site.folder / "password"
+        password.write_text("secret with a space \r\nmore\n")
+        found = read_login({"MQTT_HOST": "h", "MQTT_PORT": "65535", "MQTT_USER": "u",
+                            "MQTT_PASSWORD_FILE": str(password)})
+        self.assertEqual(found, Login("h", 65535, "u", "secret with a space ", None))
+        options = read_options({"MQTT_DISCOVERY": "a/b", "MQTT_LEARN_SECONDS": "30", "MQTT_EXPIRE_AFTER": "7200"})
+        self.assertEqual(options, Options("a/b", 30, 7200))
+        self.assertEqual(read_options({"MQTT_DISCOVERY": ""}).discovery, "")
+
+    def test_empty_values_are_the_defaults(self):
+        names = ("MQTT_PORT", "MQTT_USER", "MQTT_PASSWORD_FILE", "MQTT_TLS", "MQTT_CA_FILE")
+        self.assertEqual(read_login(dict.fromkeys(names, "")), read_login({}))
+        self.assertEqual(read_options({"MQTT_LEARN_SECONDS": "", "MQTT_EXPIRE_AFTER": ""}), read_options({}))
+
+    def test_tls(self):
+        login = read_login({"MQTT_TLS": "yes"})
+        self.assertEqual(login.port, 8883)
+        self.assertEqual((login.tls.verify_mode, login.tls.check_hostname), (ssl.CERT_REQUIRED, True))
+        self.assertEqual(read_login({"MQTT_TLS": "yes", "MQTT_PORT": "1"}).port, 1)
+        self.assertIsNone(read_login({"MQTT_TLS": "no"}).tls)
+
+    def test_certificates(self):
+        folder = Site(self).folder
+        subprocess.run(["openssl", "req", "-x509", "-newkey", "ec", "-pkeyopt", "ec_paramgen_curve:P-256", "-nodes",
+                        "-days", "2", "-subj", "/CN=x", "-keyout", folder / "key", "-out", folder / "crt"], check=True,
+                       capture_output=True)
+        files = {"MQTT_TLS": "yes", "MQTT_CA_FILE": str(folder / "crt"), "MQTT_CERT_FILE": str(folder / "crt"),
+                 "MQTT_KEY_FILE": str(folder / "key")}
+        self.assertEqual(len(read_login(files).tls.get_ca_certs()), 1)
+
+    def test_a_key_that_is_encrypted(self):
+        """It is refused: nobody is there who could type its password."""
+        with mock.patch("ssl.SSLContext.load_cert_chain", side_effect=ssl.SSLError("bad password")) as load:
+            with self.assertRaisesRegex(WrongSetting, "cannot load MQTT_CERT_FILE"):
+                read_login({"MQTT_TLS": "yes", "MQTT_CERT_FILE": "crt", "MQTT_KEY_FILE": "key"})
+        self.assertEqual(load.call_args.kwargs, {"password": ""})
+
+    def test_wrong_values(self):
+        site = Site(self)
+        (site.folder / "empty").write_text("\nx\n")
+        empty, none = str(site.folder / "empty"), str(site.folder / "none")
+        for environment, why in (
+            ({"MQTT_HOST": ""}, "MQTT_HOST is empty"), ({"MQTT_PORT": "0"}, "invalid MQTT_PORT: 0"),
+            ({"MQTT_PORT": "65536"}, "invalid MQTT_PORT: 65536"), ({"MQTT_PORT": "x"}, "expected 1 to 65535"),
+            ({"MQTT_PASSWORD_FILE": none}, f"cannot read MQTT_PASSWORD_FILE: {none}: No such file"),
+            ({"MQTT_PASSWORD_FILE": empty}, f"first line of MQTT_PASSWORD_FILE is empty: {empty}"),
+            ({"MQTT_TLS": "maybe"}, "invalid MQTT_TLS: maybe"), ({"MQTT_CA_FILE": "x"}, "MQTT_TLS is not yes"),
+            ({"MQTT_CERT_FILE": "x"}, "MQTT_TLS is not yes"), ({"MQTT_KEY_FILE": "x"}, "MQTT_TLS is not yes"),
+            ({"MQTT_TLS": "yes", "MQTT_KEY_FILE": "x"}, "MQTT_KEY_FILE is set, but MQTT_CERT_FILE is not"),
+            ({"MQTT_TLS": "yes", "MQTT_CA_FILE": none}, f"cannot load MQTT_CA_FILE: {none}: No such file"),
+            ({"MQTT_TLS": "yes", "MQTT_CERT_FILE": none}, "cannot load MQTT_CERT_FILE and MQTT_KEY_FILE"),
+        ):
+            with self.subTest(environment), self.assertRaisesRegex(WrongSetting, why):
+                read_login(environment)
+        with self.assertRaisesRegex(WrongSetting, "MQTT_PASSWORD_FILE is set, but MQTT_USER is not"):
+            (site.folder / "password").write_text("x\n")
+            read_login({"MQTT_PASSWORD_FILE": str(site.folder / "password")})
+        for environment, why in (({"MQTT_DISCOVERY": "a/#"}, "invalid MQTT_DISCOVERY: a/#"),
+                                 ({"MQTT_DISCOVERY": "/a"}, "invalid MQTT_DISCOVERY"),
+                                 ({"MQTT_DISCOVERY": "a+"}, "invalid MQTT_DISCOVERY"),
+                                 ({"MQTT_LEARN_SECONDS": "-1"}, "invalid MQTT_LEARN_SECONDS: -1"),
+                                 ({"MQTT_EXPIRE_AFTER": "1h"}, "invalid MQTT_EXPIRE_AFTER: 1h")):
+            with self.subTest(environment), self.assertRaisesRegex(WrongSetting, why):
+                read_options(environment)
+
+
+class Program(Case):
+    def run_it(self, *arguments, environment=None):
+        site = Site(self)
+        files = ["--lines", str(site.lines), "--desk", str(site.desk), "--state", str(site.state)]
+        with mock.patch("sys.argv", ["enogate-mqtt", *files, *arguments]), mock.patch("os.environ",
+                                                                                      environment or {}), \
+                contextlib.redirect_stderr(io.StringIO()):
+            with mock.patch("enogate_mqtt.log.set_up"):
+                return main.main(), site
+
+    def test_a_wrong_setting(self):
+        self.assertEqual(self.run_it("a/b")[0], 2)
+        self.assertEqual(self.run_it("hall", environment={"MQTT_PORT": "x"})[0], 2)
+        self.assertEqual(settings.STATUS, 2)
+        self.assert_logged("ERROR: invalid", 2)
+
+    def test_without_paho(self):
+        with mock.patch.dict("sys.modules", {"paho": None}):
+            self.assertEqual(self.run_it("hall")[0], 2)
+        self.assert_logged("ERROR: python3-paho-mqtt is not installed: ")
+
+    def test_a_state_that_does_not_open(self):
+        with mock.patch("enogate_mqtt.main.Bridge"), mock.patch("enogate_mqtt.main.import_paho"), \
+                mock.patch("enogate_mqtt.main.Store", side_effect=main.sqlite3.OperationalError("unable to open")):
+            self.assertEqual(self.run_it("hall")[0], 1)
+        self.assert_logged("unable to open")
+
+    def test_signals_end_it(self):
+        for number in (main.signal.SIGTERM, main.signal.SIGINT):
+            with self.subTest(number), mock.patch("enogate_mqtt.main.Bridge") as bridge, \
+                    mock.patch("enogate_mqtt.main.import_paho"), mock.patch("signal.signal") as handlers:
+                self.assertEqual(self.run_it("hall")[0], 0)
+                found = {call.args[0]: call.args[1] for call in handlers.call_args_list}
+                found[number](number, None)
+                self.assertIs(bridge.return_value.is_stopped, True)
+                bridge.return_value.run.assert_called_once_with()
+
+    def test_what_is_run(self):
+        """The state file decides what is adopted, and what is to be deleted."""
+        site = Site(self)
+        words = Words("hall", str(site.lines), str(site.desk), str(site.state), False)
+        options = Options("homeassistant", 60, 7200)
+        found = []
+        for removed in (set(), {"x/y"}):
+            with mock.patch("enogate_mqtt.main.Bridge") as bridge, mock.patch("enogate_mqtt.main.import_paho"), \
+                    mock.patch("signal.signal"):
+                main.run(words, options)
+            topics, broker, devices, follower, desk, requests, store = bridge.call_args.args[:7]
+            self.assertEqual(bridge.call_args.args[7:], (time.monotonic, time.time))
+            with mock.patch("enogate_mqtt.main.Connection") as connection:
+                broker.connect(4, True)
+            self.assertEqual(connection.call_args.args[2:], (topics, 4, time.monotonic, True))
+            found.append((topics.name, broker.name, devices.may_adopt, devices.removed, devices.expire_after,
+                          follower.path, desk.path, requests.learn_for))
+            store.save(main.NOWHERE, [], {}, {"x/y"})
+            store.connection.close()
+        files = (str(site.lines), str(site.desk), 60)
+        self.assertEqual(found, [("hall", "localhost:1883", True, set(), 7200, *files),
+                                 ("hall", "localhost:1883", False, {"x/y"}, 7200, *files)])
+        with mock.patch("enogate_mqtt.main.Bridge") as bridge, mock.patch("enogate_mqtt.main.import_paho"), \
+                mock.patch("signal.signal"):
+            main.run(words, Options("other", 60, 7200))
+        self.assertLess({"x/y", "homeassistant/binary_sensor/enogate_hall/status/config"},
+                        bridge.call_args.args[2].removed)
+
+    def test_an_interrupt(self):
+        with mock.patch("enogate_mqtt.main.run", side_effect=KeyboardInterrupt):
+            self.assertEqual(self.run_it("hall")[0], 1)
+
+    def test_another_prefix(self):
+        """The messages below the old prefix are deleted."""
+        site = Site(self)
+        store = main.Store(str(site.state), "old")
+        store.save(main.NOWHERE, ["01800ABC"], {"01800ABC": Device("01800ABC", "D5-00-01", "")}, set())
+        again = main.Store(str(site.state), "new")
+        topics = main.old_topics(main.Topics("hall", "new"), again)
+        self.assertIn("old/binary_sensor/enogate_hall/01800ABC_CO/config", topics)
+        self.assertIn("old/binary_sensor/enogate_hall/status/config", topics)
+        self.assertEqual(main.old_topics(main.Topics("hall", "old"), again), set())
+        self.assertEqual(main.old_topics(main.Topics("hall", ""), again), topics)
+
+
+if __name__ == "__main__":
+    unittest.main()

@@ -1,0 +1,153 @@
+"""The state file."""
+import sqlite3
+import unittest
+from unittest import mock
+
+from enogate_mqtt.devices import Device
+from enogate_mqtt.follow import Place
+from enogate_mqtt.store import Store
+from fakes import Case, Site
+
+PLACE = Place(7, 42, b"x\n")
+
+
+class Stores(Case):
+    def setUp(self):
+        super().setUp()
+        self.path = Site(self).state
+        self.device = Device("01800ABC", "D5-00-01", "Door", 70, {"CO": "open", "dbm": "-45"})
+
+    def open(self, discovery="homeassistant"):
+        return Store(str(self.path), discovery)
+
+    def test_a_new_file(self):
+        store = self.open()
+        self.assertEqual((store.place, store.devices, store.removed, store.old_discovery),
+                         (None, [], set(), "homeassistant"))
+
+    def test_what_was_saved_is_read(self):
+        other = Device("01800ABD", "A5-02-05")
+        self.assertTrue(self.open().save(PLACE, ["01800ABC", "01800ABD"], {"01800ABC": self.device, "01800ABD": other},
+                                         {"a/b"}))
+        store = self.open("other")
+        self.assertEqual((store.place, store.removed, store.old_discovery), (PLACE, {"a/b"}, "homeassistant"))
+        self.assertEqual(sorted(store.devices, key=lambda device: device.name), [self.device, other])
+
+    def test_changes(self):
+        store = self.open()
+        store.save(PLACE, ["01800ABC"], {"01800ABC": self.device}, {"a", "b"})
+        store.save(Place(8, 1, b"y"), [], {}, {"b"})
+        again = self.open()
+        self.assertEqual((again.place, again.devices, again.removed), (Place(8, 1, b"y"), [self.device], {"b"}))
+        again.save(PLACE, ["01800ABC"], {}, set())
+        self.assertEqual((self.open().devices, self.open().removed), ([], set()))
+
+    def test_it_survives_a_power_failure(self):
+        store = self.open()
+        pragmas = [store.connection.execute(f"PRAGMA {name}").fetchone()[0] for name in ("journal_mode", "synchronous")]
+        self.assertEqual(pragmas, ["wal", 1])
+
+    def test_all_is_of_one_moment(self):
+        store = self.open()
+        store.save(PLACE, ["01800ABC"], {"01800ABC": self.device}, {"a"})
+        with mock.patch.object(store, "save_device", side_effect=sqlite3.OperationalError("disk full")):
+            self.assertFalse(store.save(Place(9, 9, b""), ["01800ABC"], {}, set()))
+        again = self.open()
+        self.assertEqual((again.place, again.devices, again.removed), (PLACE, [self.device], {"a"}))
+
+    def test_a_failure_is_logged_once_and_what_failed_is_saved_later(self):
+        store = self.open()
+        with mock.patch.object(store, "save_device", side_effect=sqlite3.OperationalError("disk full")):
+            for _ in range(3):
+                self.assertFalse(store.save(PLACE, ["01800ABC"], {"01800ABC": self.device}, {"a"}))
+        self.assert_logged("ERROR: cannot save the state: disk full")
+        self.assertEqual(store.removed, set())
+        self.assertTrue(store.save(PLACE, ["01800ABC"], {"01800ABC": self.device}, {"a"}))
+        self.assertEqual((self.open().devices, self.open().removed), ([self.device], {"a"}))
+        with mock.patch.object(store, "save_device", side_effect=sqlite3.OperationalError("disk full")):
+            store.save(PLACE, ["01800ABC"], {}, set())
+        self.assert_logged("cannot save the state", 2)
+
+    def test_adoption(self):
+        """Until the broker was asked for everything, its readings may be taken."""
+        self.assertTrue(self.open().may_adopt)
+        self.open().save(PLACE, [], {}, set(), True)
+        self.assertTrue(self.open().may_adopt)
+        self.open().save(PLACE, [], {}, set(), False)
+        self.assertFalse(self.open().may_adopt)
+
+    def test_an_inode_that_is_too_large(self):
+        self.assertFalse(self.open().save(Place(2 ** 64, 0, b""), [], {}, set()))
+        self.assert_logged("cannot save the state")
+
+    def test_topics_that_change_later(self):
+        store, removed = self.open(), {"a"}
+        store.save(PLACE, [], {}, removed)
+        removed.add("b")
+        store.save(PLACE, [], {}, removed)
+        self.assertEqual(self.open().removed, {"a", "b"})
+
+    def is_replaced(self, reason):
+        store = self.open()
+        self.assert_logged(f"WARNING: {self.path}: {reason}")
+        self.assertEqual((store.place, store.devices), (None, []))
+        store.save(PLACE, [], {}, set())
+        self.assertEqual(self.open().place, PLACE)
+
+    def test_a_file_that_is_no_database(self):
+        self.path.write_text("something else" * 100)
+        self.is_replaced("file is not a database; replacing the file; its state is lost")
+
+    def test_a_damaged_file(self):
+        self.open().save(PLACE, ["01800ABC"], {"01800ABC": self.device}, set())
+        connection = sqlite3.connect(self.path)
+        connection.execute("PRAGMA wal_checkpoint(TRUNCATE)")
+        connection.close()
+        with self.path.open("r+b") as file:
+            file.seek(100)
+            file.write(b"\xff" * 8000)
+        self.is_replaced("")
+
+    def sql(self, text):
+        connection = sqlite3.connect(self.path)
+        connection.executescript(text)
+        connection.close()
+
+    def test_a_file_of_another_version(self):
+        for version in (0, 1, 3):
+            with self.subTest(version):
+                self.setUp()
+                self.sql(f"CREATE TABLE device (x); PRAGMA user_version = {version}")
+                self.is_replaced(f"version {version} of the state, expected 2")
+
+    def test_tables_of_another_form(self):
+        self.sql("CREATE TABLE device (x); PRAGMA user_version = 2")
+        self.is_replaced("no such column")
+
+    def test_readings_of_another_form(self):
+        for told in ("no JSON", "[]", '{"CO": 3}', "3"):
+            with self.subTest(told):
+                self.setUp()
+                self.open()
+                self.sql(f"INSERT INTO device VALUES ('01800ABC', 'D5-00-01', '', NULL, '{told}')")
+                self.is_replaced("")
+
+    def test_a_file_that_cannot_be_opened_is_left(self):
+        self.path.mkdir()
+        with self.assertRaises(sqlite3.OperationalError):
+            self.open()
+        self.assertTrue(self.path.is_dir())
+
+    def test_a_file_in_use_is_left(self):
+        self.open().save(PLACE, [], {}, set())
+        other = sqlite3.connect(self.path, isolation_level=None)
+        other.execute("BEGIN EXCLUSIVE")
+        with mock.patch("sqlite3.connect", return_value=sqlite3.connect(self.path, timeout=0)):
+            with self.assertRaisesRegex(sqlite3.OperationalError, "locked"):
+                self.open()
+        other.close()
+        self.assertEqual(self.open().place, PLACE)
+
+
+if __name__ == "__main__":
+    unittest.main()
