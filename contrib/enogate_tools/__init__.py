@@ -1,0 +1,4 @@
+"""The modules of enogate-port(1) and enogate-check(1)."""
+
+# the version of the program, which the test of the package compares with its source
+VERSION = "0.2.0"

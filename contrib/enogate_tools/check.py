@@ -1,0 +1,313 @@
+"""enogate-check: looks at everything that a gateway needs, and prints a sentence for each fault."""
+from __future__ import annotations
+
+import argparse
+import os
+import re
+import shlex
+import shutil
+import signal
+import sqlite3
+import stat
+import tempfile
+import time
+
+from . import VERSION, port as ports
+from .system import System, is_same
+
+OK, FAULT, UNCHECKED = "ok", "fault", "not checked"
+MEGABYTE = 1024 * 1024
+# The write-ahead log of the database grows to 4.3 MB.
+LEAST_SPACE = {"/var/lib": 5 * MEGABYTE, "/var/log": MEGABYTE}
+TABLES = {1: "enogate_device", 2: "enogate_device_v2"}
+NAME = re.compile(r"(?!mqtt)[A-Za-z0-9_-]+")
+
+
+def exists(path: str) -> bool:
+    """Whether there is such a file. Unlike os.path.exists, it fails if this user may not know."""
+    try:
+        os.stat(path)
+        return True
+    except (FileNotFoundError, NotADirectoryError):
+        return False
+
+
+class Check:
+    """The checks of one gateway. Each yields its findings: a kind, and a sentence."""
+
+    def __init__(self, name: str, system: System, sleep=time.sleep):
+        self.name, self.system, self.sleep = name, system, sleep
+        self.desk = system.path(f"/run/enogate/{name}/desk")
+        self.lines = system.path(f"/var/log/enogate/{name}.lines")
+        self.database = system.path(f"/var/lib/enogate/{name}.db")
+        self.gateway = system.gateway(self.desk)
+        self.start = system.start(os.path.dirname(self.desk))
+        self.settings = {"BASE": "", "SERIAL": "/dev/enocean", "TURNS": "864000", "EXPLAIN": ""}
+        self.restart = f"run: sudo systemctl restart enogate@{name}"
+
+    def findings(self):
+        """The findings of all checks, whatever the files are."""
+        for check in (self.of_settings, self.of_port, self.of_desk, self.of_lines, self.of_database, self.of_space,
+                      self.of_units):
+            try:
+                yield from check()
+            except PermissionError as error:
+                yield UNCHECKED, f"permission denied for {error.filename}: run enogate-check as root"
+            except OSError as error:
+                yield FAULT, f"{error.filename} cannot be read: {error.strerror}"
+
+    def of_settings(self):
+        """The settings of the gateway, which override those of all."""
+        for path in ("/etc/default/enogate", f"/etc/default/enogate-{self.name}"):
+            if path.endswith(self.name) and not exists(self.system.path(path)):
+                continue
+            with open(self.system.path(path), encoding="utf-8", errors="replace") as file:
+                for key, value in re.findall(r"^\s*(\w+)=(.*)$", file.read(), re.MULTILINE):
+                    self.settings[key] = "".join(shlex.split(value)[:1]) if value.count('"') % 2 == 0 else value
+        where = f"correct it in /etc/default/enogate-{self.name}"
+        base, turns = self.settings["BASE"], self.settings["TURNS"]
+        if base and not ports.is_base(base):
+            yield FAULT, f"BASE={base} is not a base ID ({ports.SHAPE}): {where}, or remove it"
+        if not (turns.isdecimal() and 1 <= int(turns) <= 4294967295):
+            yield FAULT, f"TURNS={turns} is not a number from 1 to 4294967295: {where}"
+        if self.settings["EXPLAIN"] not in ("", "--explain"):
+            yield FAULT, f"EXPLAIN={self.settings['EXPLAIN']} is neither empty nor --explain: {where}"
+        yield OK, f"settings: BASE={base} SERIAL={self.settings['SERIAL']} TURNS={turns}"
+
+    def of_port(self):
+        """The serial port: the node, rights, other users, and the lock or the settings of the line."""
+        path = self.settings["SERIAL"]
+        if not exists(path):
+            yield FAULT, f"no stick at {path}: plug it in, or correct SERIAL in /etc/default/enogate-{self.name}"
+            return
+        if not stat.S_ISCHR(os.stat(path).st_mode):
+            yield FAULT, f"{path} is not a serial port: correct SERIAL in /etc/default/enogate-{self.name}"
+            return
+        if not self.system.may(path, 6):
+            yield FAULT, (f"the user enogate may not read and write {path}: give it to the group dialout, for example "
+                          f"with a udev rule, or run: sudo chgrp dialout {path} && sudo chmod 660 {path}")
+        users, sees_all = self.system.users_of(path)
+        own = {self.gateway, self.start}
+        others = sorted({*users, *self.system.lockers_of(path)} - own, key=lambda user: user.number)
+        for user in others:
+            yield FAULT, f"{user} uses {path} too: end it, because each program receives only part of the data"
+        if not sees_all:
+            yield UNCHECKED, f"programs of other users that use {path} without a lock: run enogate-check as root"
+        if self.gateway:
+            yield from self.of_line(path)
+        elif self.start:
+            yield FAULT, f"the gateway is not started yet; see why: sudo journalctl -n 5 -t enogate-{self.name}"
+        elif not others:
+            yield from self.of_module(path)
+
+    def of_line(self, path: str):
+        """The settings of the line that a running gateway uses."""
+        port = os.open(path, os.O_RDONLY | os.O_NOCTTY | os.O_NONBLOCK)
+        try:
+            wrong = ports.differences(port)
+        finally:
+            os.close(port)
+        if wrong:
+            yield FAULT, f"another program changed the settings of {path} ({', '.join(wrong)}); {self.restart}"
+        else:
+            yield OK, f"port: {path}, used by {self.gateway}"
+
+    def of_module(self, path: str):
+        """The base ID of the module at a free port."""
+        try:
+            port = ports.open_port(path)
+        except ports.PortError as error:
+            if isinstance(error.__cause__, PermissionError):
+                yield UNCHECKED, f"the radio module at {path}: run enogate-check as root"
+            else:
+                yield FAULT, str(error)
+            return
+        try:
+            ports.configure(port, path)
+            reported = ports.ask_base(port, path)
+        except ports.PortError as error:
+            yield FAULT, str(error)
+            return
+        finally:
+            os.close(port)
+        base = self.settings["BASE"].upper()
+        if not reported:
+            yield FAULT, (f"no radio module answers at {path}: check that this is its port, and that it uses ESP3 at "
+                          "57,600 baud")
+        elif base not in ("", reported):
+            yield FAULT, (f"BASE is {base}, but the base ID of the radio module at {path} is {reported}: correct it in "
+                          f"/etc/default/enogate-{self.name}, or remove it")
+        else:
+            yield OK, f"port: {path}, with a radio module whose base ID is {reported}"
+
+    def of_desk(self):
+        """The desk, compared with what the running gateway has open."""
+        if not self.gateway:
+            if exists(os.path.dirname(self.desk)) and not self.system.may(os.path.dirname(self.desk), 7):
+                yield FAULT, f"the user enogate may not write in {os.path.dirname(self.desk)}: delete this directory"
+            yield OK, f"desk: no gateway reads {self.desk}, which each start empties"
+            return
+        files = self.system.open_files(self.gateway)
+        if files is None:
+            yield UNCHECKED, "whether the desk was truncated or replaced: run enogate-check as root"
+            return
+        held = [file for file in files if file.number > 2 and file.is_read_only and stat.S_ISREG(file.status.st_mode)]
+        if not exists(self.desk) or not any(is_same(file.status, os.stat(self.desk)) for file in held):
+            yield FAULT, (f"the desk {self.desk} was replaced or deleted, for example by an editor: no order reaches "
+                          f"the gateway, which reads the old file; {self.restart}, and give the orders again, with >>")
+            return
+        place, size = held[0].place, os.stat(self.desk).st_size
+        if place > size:
+            yield FAULT, (f"the desk {self.desk} was truncated (> in place of >>): the next {place - size} bytes of "
+                          f"orders are lost; {self.restart}, and give the orders again, with >>")
+        elif place < size and self.is_stuck(held[0].number, place):
+            yield FAULT, (f"the gateway does not read the desk: {size - place} bytes of orders are waiting, perhaps "
+                          f"because the radio module accepts no data; {self.restart}")
+        else:
+            yield OK, f"desk: {self.desk}, read up to byte {place} of {size}"
+
+    def is_stuck(self, number: int, place: int) -> bool:
+        """Whether the gateway has read nothing from the desk for two seconds."""
+        self.sleep(2)
+        return any(file.number == number and file.place == place
+                   for file in self.system.open_files(self.gateway) or [])
+
+    def of_lines(self):
+        """The output file."""
+        folder = os.path.dirname(self.lines)
+        for path, rights in ((folder, 3), (self.lines, 2)):
+            if exists(path) and not self.system.may(path, rights):
+                yield FAULT, f"the user enogate may not write {path}: run: sudo chown enogate:enogate {path}"
+        if not exists(self.lines):
+            yield OK, f"lines: {self.lines} does not exist yet"
+            return
+        with open(self.lines, "rb") as file:
+            size = file.seek(0, os.SEEK_END)
+            file.seek(max(size - 1, 0))
+            is_whole = file.read() in (b"", b"\n")
+        if is_whole:
+            yield OK, f"lines: {self.lines}, {size} bytes"
+        else:
+            yield FAULT, (f"the last line of {self.lines} is truncated, because the disk was full or the power failed: "
+                          "programs that read it must skip this line, and the next start of the gateway ends it")
+
+    def of_database(self):
+        """The database: rights, users, and contents."""
+        folder = os.path.dirname(self.database)
+        for path, rights in ((folder, 7), (self.database, 6), (self.database + "-wal", 6)):
+            if exists(path) and not self.system.may(path, rights):
+                yield FAULT, f"the user enogate may not read and write {path}: run: sudo chown enogate:enogate {path}"
+        if not exists(self.database):
+            yield OK, f"database: {self.database} does not exist yet; the first start makes it"
+            return
+        status = os.stat(self.database)
+        if not stat.S_ISREG(status.st_mode) or status.st_nlink > 1:
+            yield FAULT, f"{self.database} is not a regular file with one name: move it, or remove its other names"
+            return
+        users, sees_all = self.system.users_of(self.database)
+        others = sorted({*users, *self.system.lockers_of(self.database)} - {self.gateway}, key=lambda user: user.number)
+        for user in others:
+            yield FAULT, f"{user} uses the database {self.database}: end it"
+        if not sees_all and not others:
+            yield UNCHECKED, f"programs of other users that use {self.database}: run enogate-check as root"
+        if self.gateway:
+            yield OK, f"database: {self.database}, used by {self.gateway}"
+        elif not others:
+            yield self.of_contents()
+
+    def of_contents(self):
+        """What is in the database, read from a copy: SQLite may write to a file and its log even if it only reads."""
+        with tempfile.TemporaryDirectory() as folder:
+            for end in ("", "-wal"):
+                if exists(self.database + end):
+                    shutil.copyfile(self.database + end, f"{folder}/copy{end}")
+            connection = sqlite3.connect(f"{folder}/copy")
+            try:
+                return self.of_registry(connection)
+            except sqlite3.Error as error:
+                return FAULT, (f"{self.database} is not a database of enogate ({error}): restore a backup, or move the "
+                               "file away; the next start then begins without devices")
+            finally:
+                connection.close()
+
+    def of_registry(self, connection: sqlite3.Connection):
+        """The version and the number of devices."""
+        if not connection.execute("SELECT count(*) FROM sqlite_master WHERE name LIKE 'enogate_%'").fetchone()[0]:
+            return OK, f"database: {self.database} has no tables yet; the next start makes them"
+        version, = connection.execute("SELECT version FROM enogate_meta").fetchone() or (None,)
+        if version not in TABLES:
+            return FAULT, f"the version of {self.database} is {version}, not 1 or 2: install the newest enogate"
+        count, = connection.execute(f"SELECT count(*) FROM {TABLES[version]}").fetchone()
+        if count > 1000:
+            return FAULT, f"{self.database} has {count} devices, and a gateway takes 1,000: remove some with sqlite3"
+        return OK, f"database: {self.database}, version {version}, {count} devices"
+
+    def of_space(self):
+        """The disk space for the database and the lines."""
+        for path, least in LEAST_SPACE.items():
+            found = os.statvfs(self.system.path(path))
+            free = found.f_bavail * found.f_frsize
+            if free < least or (found.f_files and not found.f_favail):
+                yield FAULT, f"{path} has {free // 1024} KB and {found.f_favail} inodes left: delete files there"
+            else:
+                yield OK, f"disk space: {free // MEGABYTE} MB in {path}"
+
+    def of_units(self):
+        """Whether the gateway and, if it is enabled, its bridge run."""
+        unit, bridge = f"enogate@{self.name}", f"enogate-mqtt@{self.name}"
+        state = self.system.state(unit)
+        if not state:
+            yield UNCHECKED, f"whether {unit} and {bridge} run: systemctl does not answer"
+            return
+        if state in ("inactive", "failed") and not self.gateway:
+            yield FAULT, f"{unit} is not running ({state}): run: sudo systemctl start {unit}"
+        elif state == "active" and not self.gateway:
+            yield FAULT, f"{unit} is waiting, for a reason that this command prints: sudo journalctl -n 20 -u {unit}"
+        else:
+            yield OK, f"{unit} is {state}"
+        enabled, state = self.system.state(bridge, "is-enabled"), self.system.state(bridge)
+        if state == "failed" or (enabled == "enabled" and state == "inactive"):
+            yield FAULT, f"{bridge} is not running ({state}): run: sudo journalctl -n 20 -u {bridge}"
+        else:
+            yield OK, f"{bridge} is {state}"
+
+
+def names_of(system: System) -> list[str]:
+    """The gateways that have settings or a database."""
+    found = set()
+    for folder, shape in (("/etc/default", r"enogate-(?!mqtt)([\w-]+)"), ("/var/lib/enogate", r"([\w-]+)\.db")):
+        try:
+            found |= {match[1] for name in os.listdir(system.path(folder)) if (match := re.fullmatch(shape, name))}
+        except OSError:
+            pass
+    return sorted(found)
+
+
+def main(arguments: list[str] | None = None, system: System | None = None) -> int:
+    """Runs the program, and returns its exit status."""
+    parser = argparse.ArgumentParser(
+        prog="enogate-check", allow_abbrev=False, description="Check everything that a gateway needs: settings, serial "
+        "port, base ID, desk, output, database, disk space and units. Print one sentence per fault.",
+        epilog="The exit status is 0 if there is no fault, 1 if there are faults, and 2 if the command line is "
+        "invalid. Run it as root to check everything.")
+    parser.add_argument("name", metavar="NAME", nargs="?", help="name of the gateway (default: all of them)")
+    parser.add_argument("--verbose", action="store_true", help="also print what is in order")
+    parser.add_argument("--quiet", action="store_true", help="do not print what could not be checked")
+    parser.add_argument("--version", action="version", version=f"enogate-check {VERSION}")
+    words = parser.parse_args(arguments)
+    signal.signal(signal.SIGPIPE, signal.SIG_DFL)
+    if words.name is not None and not NAME.fullmatch(words.name):
+        parser.error(f"{words.name!r} is not the name of a gateway: use letters, digits, - and _, and do not begin it "
+                     "with mqtt")
+    system = system or System()
+    names = [words.name] if words.name else names_of(system)
+    if not names:
+        parser.error("no gateway has settings or a database: give a NAME")
+    shown = {FAULT} | ({UNCHECKED} if not words.quiet else set()) | ({OK} if words.verbose else set())
+    is_faulty = False
+    for name in names:
+        for kind, text in Check(name, system).findings():
+            is_faulty |= kind == FAULT
+            if kind in shown:
+                print(f"{name}: {'' if kind == FAULT else kind + ': '}{text}", flush=True)
+    return int(is_faulty)

@@ -1,0 +1,126 @@
+"""The serial port of a radio module: its lock, its settings, and the base ID that the module reports."""
+from __future__ import annotations
+
+import errno
+import fcntl
+import os
+import select
+import stat
+import termios
+import time
+
+# ESP3, packet type 5: the command CO_RD_IDBASE. The response has type 2, the code 0 and four bytes.
+QUESTION = bytes.fromhex("5500010005700838")
+RESPONSE = 2
+# A module answers within 0.5 s (ESP3); the rest is for a slow computer.
+ANSWERED_WITHIN = 2.0
+SHAPE = "8 hexadecimal digits from FF800000 to FFFFFF80; the last two are 00 or 80"
+
+# The settings as stty prints them: the line of the guide sets the same ones.
+IN_C_CC = {"min 0": (termios.VMIN, 0), "time 1": (termios.VTIME, 1)}
+OFF = {
+    "icrnl": (0, termios.ICRNL), "inlcr": (0, termios.INLCR), "igncr": (0, termios.IGNCR),
+    "istrip": (0, termios.ISTRIP), "ixon": (0, termios.IXON), "ixoff": (0, termios.IXOFF),
+    "opost": (1, termios.OPOST), "cstopb": (2, termios.CSTOPB), "parenb": (2, termios.PARENB),
+    "crtscts": (2, termios.CRTSCTS), "icanon": (3, termios.ICANON), "isig": (3, termios.ISIG),
+    "echo": (3, termios.ECHO),
+}
+
+
+class PortError(Exception):
+    """The port cannot be used. The text is a sentence that says why, and what to do."""
+
+
+def is_base(text: str) -> bool:
+    """Whether this is a base ID, in upper or lower case."""
+    if len(text) != 8 or not set(text) <= set("0123456789ABCDEFabcdef"):
+        return False
+    return 0xFF800000 <= int(text, 16) <= 0xFFFFFF80 and int(text, 16) % 128 == 0
+
+
+def crc8(data: bytes) -> int:
+    """The CRC of ESP3, with the polynomial x^8 + x^2 + x + 1."""
+    value = 0
+    for byte in data:
+        value ^= byte
+        for _ in range(8):
+            value = value << 1 & 0xFF ^ (0x07 if value & 0x80 else 0)
+    return value
+
+
+def base_in(stream: bytes) -> str | None:
+    """The base ID in the first response of the module, if there is one. Other packets are skipped."""
+    for start, byte in enumerate(stream):
+        header, rest = stream[start + 1:start + 5], stream[start + 6:]
+        if byte != 0x55 or len(header) < 4 or crc8(header + stream[start + 5:start + 6]):
+            continue
+        size = int.from_bytes(header[:2], "big")
+        body = rest[:size + header[2] + 1]
+        if header[3] != RESPONSE or size != 5 or len(body) < size + header[2] + 1 or crc8(body):
+            continue
+        if body[0] == 0:
+            return body[1:5].hex().upper()
+    return None
+
+
+def open_port(path: str) -> int:
+    """Opens and locks a port. The lock lasts until this descriptor, and each copy of it, is closed."""
+    try:
+        if not stat.S_ISCHR(os.stat(path).st_mode):
+            raise PortError(f"{path} is not a serial port: correct SERIAL")
+        port = os.open(path, os.O_RDWR | os.O_NOCTTY | os.O_NONBLOCK)
+    except OSError as error:
+        if error.errno in (errno.ENOENT, errno.ENODEV, errno.ENXIO, errno.ENOTDIR):
+            raise PortError(f"no stick at {path}: plug it in, or correct SERIAL") from error
+        if error.errno == errno.EACCES:
+            raise PortError(f"permission denied for {path}: let the group dialout read and write it") from error
+        raise PortError(f"{path} cannot be opened: {error.strerror}") from error
+    try:
+        fcntl.flock(port, fcntl.LOCK_EX | fcntl.LOCK_NB)
+    except OSError as error:
+        os.close(port)
+        raise PortError(f"another program has locked {path}: stop it, or correct SERIAL") from error
+    return port
+
+
+def configure(port: int, path: str) -> None:
+    """Sets everything that the line depends on, whatever the last program left: 57,600 baud, 8 data bits, no parity,
+    one stop bit, no flow control, raw, and a read that returns after 0.1 s even if no data arrives. What came before is
+    dropped: it could be the answer to a question of a start that was stopped."""
+    try:
+        old = termios.tcgetattr(port)
+        for place, value in IN_C_CC.values():
+            old[6][place] = value
+        flags = termios.CS8 | termios.CREAD | termios.CLOCAL | old[2] & termios.HUPCL
+        termios.tcsetattr(port, termios.TCSANOW, [0, 0, flags, 0, termios.B57600, termios.B57600, old[6]])
+        termios.tcflush(port, termios.TCIFLUSH)
+    except termios.error as error:
+        raise PortError(f"{path} is not a serial port: correct SERIAL") from error
+
+
+def differences(port: int) -> list[str]:
+    """The settings of an open port that keep a gateway from working, as stty prints them."""
+    now = termios.tcgetattr(port)
+    wrong = [name for name, (part, bit) in OFF.items() if now[part] & bit]
+    wrong += ["-clocal"] * (not now[2] & termios.CLOCAL) + ["not cs8"] * (now[2] & termios.CSIZE != termios.CS8)
+    wrong += ["not 57600 baud"] * (now[4:6] != [termios.B57600] * 2)
+    return wrong + [f"not {name}" for name, (place, value) in IN_C_CC.items() if now[6][place] not in
+                    (value, bytes([value]))]
+
+
+def ask_base(port: int, path: str, clock=time.monotonic) -> str | None:
+    """The base ID that the module reports, or None if it reports none in time."""
+    stream, end = b"", clock() + ANSWERED_WITHIN
+    try:
+        os.write(port, QUESTION)
+        while (left := end - clock()) > 0:
+            if select.select([port], [], [], left)[0]:
+                got = os.read(port, 4096)
+                stream += got
+                if base_in(stream) or not got:
+                    break
+    except BlockingIOError:
+        return None
+    except OSError as error:
+        raise PortError(f"{path} cannot be used: {error.strerror}") from error
+    return base_in(stream)

@@ -1,0 +1,143 @@
+"""What enogate-check looks at: files of a gateway, processes, locks, and units. Tests put others in their place."""
+from __future__ import annotations
+
+import dataclasses
+import grp
+import os
+import pwd
+import re
+import stat
+import subprocess
+
+
+@dataclasses.dataclass(frozen=True)
+class Process:
+    """A running process."""
+    number: int
+    name: str
+
+    def __str__(self):
+        return f"process {self.number} ({self.name})"
+
+
+@dataclasses.dataclass(frozen=True)
+class OpenFile:
+    """A file that a process has open, with the place at which it reads or writes next."""
+    number: int
+    status: os.stat_result
+    place: int
+    is_read_only: bool
+
+
+def output_of(command: list[str]) -> str:
+    """The first line that a command prints, or nothing if it cannot be run."""
+    try:
+        done = subprocess.run(command, capture_output=True, text=True, timeout=10, check=False)
+    except (OSError, subprocess.TimeoutExpired):
+        return ""
+    return done.stdout.partition("\n")[0]
+
+
+def identity(name: str = "enogate") -> tuple[int, set[int]] | None:
+    """The user and the groups with which the unit runs, or None if there is no such user."""
+    try:
+        user = pwd.getpwnam(name)
+        groups = {user.pw_gid} | {group.gr_gid for group in grp.getgrall() if name in group.gr_mem}
+        return user.pw_uid, groups | {group.gr_gid for group in grp.getgrall() if group.gr_name == "dialout"}
+    except KeyError:
+        return None
+
+
+class System:
+    """A machine: `root` is put before the directories of the gateways, `proc` has its processes."""
+
+    def __init__(self, root: str = "", proc: str = "/proc", run=output_of, user=identity):
+        self.root, self.proc, self.run, self.user = root, proc, run, user()
+
+    def path(self, path: str) -> str:
+        """A path on this machine."""
+        return self.root + path
+
+    def read(self, *parts: str) -> str:
+        """The text of a file of /proc, or nothing if it cannot be read."""
+        try:
+            with open(os.path.join(self.proc, *parts), encoding="utf-8", errors="replace") as file:
+                return file.read()
+        except OSError:
+            return ""
+
+    def process(self, number: int) -> Process:
+        """The process with this number."""
+        return Process(number, self.read(str(number), "comm").strip() or "of another user")
+
+    def processes(self) -> list[Process]:
+        """All processes but this one."""
+        numbers = sorted(int(name) for name in os.listdir(self.proc) if name.isdigit())
+        return [self.process(number) for number in numbers if number != os.getpid()]
+
+    def gateway(self, desk: str) -> Process | None:
+        """The gateway that reads this desk."""
+        for process in self.processes():
+            words = self.read(str(process.number), "cmdline").split("\0")
+            if process.name == "enogate" and "--desk" in words and words[words.index("--desk") + 1] == desk:
+                return process
+        return None
+
+    def start(self, folder: str) -> Process | None:
+        """The start of the unit with this folder, which waits for its port or asks the module."""
+        for process in self.processes():
+            words = self.read(str(process.number), "cmdline").split("\0")
+            if process.name == "enogate-port" and "--unit" in words and words[words.index("--unit") + 1] == folder:
+                return process
+        return None
+
+    def open_files(self, process: Process) -> list[OpenFile] | None:
+        """What a process has open, or None if this user may not see it."""
+        found = []
+        folder = os.path.join(self.proc, str(process.number))
+        try:
+            for name in os.listdir(os.path.join(folder, "fd")):
+                info = dict(re.findall(r"(pos|flags):\s*(\d+)", self.read(folder, "fdinfo", name)))
+                found.append(OpenFile(int(name), os.stat(os.path.join(folder, "fd", name)), int(info.get("pos", "0")),
+                                      int(info.get("flags", "2"), 8) & os.O_ACCMODE == os.O_RDONLY))
+        except PermissionError:
+            return None
+        except OSError:  # it has ended, or has closed this file
+            pass
+        return found
+
+    def users_of(self, path: str) -> tuple[list[Process], bool]:
+        """The processes that have a file or a device open, and whether this user can see those of all users."""
+        status, users, sees_all = os.stat(path), [], True
+        for process in self.processes():
+            files = self.open_files(process)
+            sees_all &= files is not None
+            if any(is_same(file.status, status) for file in files or []):
+                users.append(process)
+        return users, sees_all
+
+    def lockers_of(self, path: str) -> list[Process]:
+        """The processes that have locked a file or a device node."""
+        status = os.stat(path)
+        place = f"{os.major(status.st_dev):02x}:{os.minor(status.st_dev):02x}:{status.st_ino}"
+        numbers = re.findall(rf"^\d+: \w+ +\w+ +\w+ (\d+) {place} ", self.read("locks"), re.MULTILINE)
+        return [self.process(number) for number in sorted(set(map(int, numbers)) - {os.getpid()})]
+
+    def may(self, path: str, rights: int) -> bool:
+        """Whether the user of the unit has these rights on a path: 4 read, 2 write, 1 search. Without the user: yes."""
+        if self.user is None:
+            return True
+        status, (user, groups) = os.stat(path), self.user
+        shift = 6 if status.st_uid == user else 3 if status.st_gid in groups else 0
+        return user == 0 or stat.S_IMODE(status.st_mode) >> shift & rights == rights
+
+    def state(self, unit: str, question: str = "is-active") -> str:
+        """What systemctl answers about a unit, or nothing."""
+        return self.run(["systemctl", question, unit])
+
+
+def is_same(one: os.stat_result, other: os.stat_result) -> bool:
+    """Whether these are the same file, or the same device with whatever name."""
+    if stat.S_ISCHR(one.st_mode) and stat.S_ISCHR(other.st_mode):
+        return one.st_rdev == other.st_rdev
+    return (one.st_dev, one.st_ino) == (other.st_dev, other.st_ino)
