@@ -1,18 +1,18 @@
 # enogate: a gateway for EnOcean radio devices.
 #
-#   make demo        runs the first script of examples/, by a program that is built unproved if none
-#                    is there
-#   make test        the whole gate: every proof, edit, test and program; then the shell tests
-#   make build       proves and builds the program
-#   make package     makes the Debian package of the program that was built, in $(PACKAGES)
-#   make install     puts the program that was built, and what belongs to it, under
-#                    $(DESTDIR)$(PREFIX); packaging/files lists it
-#   make install-system   puts the units there, and what else a system wants of them; their
-#                    settings go to $(DESTDIR)/etc, if they are not there already
-#   make uninstall   takes all away from $(DESTDIR)$(PREFIX)
-#   make clean       removes all that was made
+#   make demo        run the first script of examples/; if the program is not built, rt builds one
+#                    without the proofs first, and its output is kept in target/demo
+#   make test        run the whole gate: all proofs, mutants, tests and programs, then the shell tests
+#   make build       verify and build the program
+#   make package     create the Debian package of the built program, in $(PACKAGES)
+#   make install     install the built program and its files under $(DESTDIR)$(PREFIX); packaging/files
+#                    lists them
+#   make install-system   install the units and their system files there, and their settings in
+#                    $(DESTDIR)/etc; existing settings are kept
+#   make uninstall   remove the installed files from $(DESTDIR)$(PREFIX); settings and devices are kept
+#   make clean       remove all generated files
 #
-# The kit's command `rt` has to be on the PATH for `demo`, `test` and `build`.
+# `demo`, `test` and `build` need the command `rt` of the Rattle toolchain on the PATH.
 
 PREFIX ?= /usr/local
 PACKAGES ?= .
@@ -22,25 +22,19 @@ SOURCES = crates.txt $(shell find crates -name out -prune -o -name '*.rt' -print
 .PHONY: demo build test package install install-system uninstall clean
 
 demo:
-	@echo '$$ enogate replay --base FF800000 <examples/contact.txt'
-	@if $(MAKE) --question $(PROGRAM); then \
-		$(PROGRAM) replay --base FF800000 <examples/contact.txt; \
-	else \
-		echo '(built unproved, in some 3 processor minutes: `make build` proves the program first)'; \
-		cd crates/enogate && rt try -- replay --base FF800000 <../../examples/contact.txt; \
-	fi
+	@scripts/demo $$($(MAKE) -s --no-print-directory --question $(PROGRAM) && echo $(PROGRAM))
 
 build: $(PROGRAM)
 
 $(PROGRAM): $(SOURCES)
-	@$(if $(INSTALLS),echo 'the program of these sources is not built: run `make build` first' >&2; exit 1)
+	@$(if $(INSTALLS),echo 'the program is not built from these sources: run `make build` first' >&2; exit 1)
 	cd crates/enogate && rt run -- replay --base FF800000 </dev/null
 	@touch $(PROGRAM)
 
 test:
 	tests/gate
 
-# These build nothing: root may run them, and a package has the program that is proved.
+# These never build: root may run them, and a package always contains the verified program.
 package install: INSTALLS = yes
 package: $(PROGRAM)
 	@packaging/debian/build "$(PACKAGES)"

@@ -10,18 +10,32 @@ import sys
 
 from profiles import BLIND, FOUR_BYTE, MEASUREMENT, STATE, SWITCHES, VARIABLE_LENGTH
 
-# The units of Home Assistant's device classes, and how it writes those of the profiles.
-UNITS = {
-    "temperature": {"°C"}, "humidity": {"%"}, "illuminance": {"lx"}, "voltage": {"V"}, "carbon_dioxide": {"ppm"},
-    "energy": {"Wh", "kWh"}, "power": {"W", "kW"}, "gas": {"m³"}, "water": {"m³"},
+# The units and the state classes that Home Assistant allows for a device class, and how it writes units of profiles.
+MEASURED, COUNTED = {"measurement"}, {"total", "total_increasing"}
+SENSORS = {
+    "temperature": ({"°C"}, MEASURED), "humidity": ({"%"}, MEASURED), "illuminance": ({"lx"}, MEASURED),
+    "voltage": ({"V"}, MEASURED), "carbon_dioxide": ({"ppm"}, MEASURED), "power": ({"W", "kW"}, MEASURED),
+    "energy": ({"Wh", "kWh"}, COUNTED), "gas": ({"m³"}, COUNTED), "water": ({"m³"}, COUNTED),
 }
 WRITTEN = {"C": "°C", "m3": "m³", "l/s": "L/s"}
 CLASSES = {
-    "sensor": {*UNITS, None}, "binary_sensor": {"opening", "motion", "occupancy", "problem", None}, "event": {"button"},
+    "sensor": {*SENSORS, None}, "binary_sensor": {"opening", "motion", "problem", None}, "event": {"button"},
     "switch": {None}, "light": {None}, "cover": {"blind"}, "-": {None},
 }
-STATES = {"measurement", "total_increasing", None}
-ACTUATORS = {"D2-01": {"switch", "light"}, "D2-05": {"cover"}}
+KEYS = {"class", "state", "unit", "on", "off", "options", "types", "diagnostic", "hidden", "cyclic"}
+
+# The units of values that only grow: meters and actuators count them. All other values go up and down.
+GROWING = {"Ws", "Wh", "kWh", "m3"}
+# The words of switches that are no press and no release: EB tells a press beside its rocker.
+NO_EVENT = {("EB", "pressed"), ("buttons", "none")}
+# D2-01 of EnOcean Equipment Profiles 2.6: the types that dim, and those with two channels. The others have one.
+DIMMING = {"02", "03", "04", "05", "09"}
+TWO_CHANNELS = {"10", "11", "12"}
+# The profiles of devices that send at intervals.
+CYCLIC = {"D5-00", "A5-02", "A5-04", "A5-06", "A5-07", "A5-08", "A5-09", "A5-10"}
+# The reading by which an actuator is driven, and the number in a reading of a channel or a tariff.
+DRIVEN = {"D2-01": "OV", "D2-05": "POS"}
+NUMBERED = {"A5-12": "TI", "D2-01": "IO", "D2-05": "CHN"}
 
 
 def rows_by_profile():
@@ -58,26 +72,73 @@ def fits(line, reading):
     return fnmatch.fnmatchcase(reading[0], line[0]) and tuple(line[1:3]) == reading[1:]
 
 
-def faults_of(line, reading, words, names):
-    """What is wrong of a line for this reading."""
-    _profiles, _name, unit, topic, by, entity, _title, *more = line
-    more = dict(word.partition("=")[::2] for word in more)
-    if more.get("class") not in CLASSES[entity] or more.get("state") not in STATES:
-        yield "an unknown class"
-    if more.get("class") in UNITS and more["unit"] not in UNITS[more["class"]]:
-        yield "a unit that its class has not"
-    if entity == "sensor" and more.get("unit", "-") != WRITTEN.get(unit, unit):
-        yield "another unit"
-    if by != "-" and by.partition("?" if "?" in by else ":")[0] not in names:
-        yield "a number that the profile does not tell"
+def component(reading):
+    """The kind of entity that drives an actuator by this reading, or None."""
+    eep, name, _unit = reading
+    if DRIVEN.get(eep[:5]) != name:
+        return None
+    return "cover" if eep[:5] == "D2-05" else "light" if eep[6:] in DIMMING else "switch"
+
+
+def numbers(reading):
+    """How the numbers of the entities of a reading are written in a line. What an actuator measures has no entity
+    before it is told."""
+    eep, name, _unit = reading
+    if eep[:5] not in NUMBERED:
+        return "-"
+    count = 2 if eep[:5] == "D2-01" and eep[6:] in TWO_CHANNELS else 1
+    return f"{NUMBERED[eep[:5]]}{'?' if name == 'MV' else ':'}{count}"
+
+
+def faults_of_words(entity, more, reading, words):
+    """What is wrong of the words that a line has for those of its reading."""
     own = {more[key] for key in ("on", "off") if key in more}
     own |= set("|".join(more[key] for key in ("options", "types") if key in more).split("|")) - {""}
-    if not own <= words or (entity == "binary_sensor" or "options" in more) and own != words:
+    if entity == "event":
+        words = {word for word in words if (reading[1], word) not in NO_EVENT}
+    has_words = entity in ("event", "binary_sensor") or "options" in more
+    if own != (words if has_words else set()):
         yield "other words"
-    if (entity == "-") != (topic == "-"):
+    if entity == "binary_sensor" and not {"on", "off"} <= more.keys():
+        yield "a binary sensor without its two words"
+    if not more.keys() <= KEYS or "unit" in more and entity != "sensor":
+        yield "a word that an entity of this kind has not"
+
+
+def faults_of_sensor(more, unit):
+    """What is wrong of a sensor for values of this unit."""
+    written = WRITTEN.get(unit, unit)
+    units, states = SENSORS.get(more.get("class"), ({written}, MEASURED | COUNTED))
+    state = more.get("state")
+    if more.get("unit", "-") != written or written not in units:
+        yield "another unit"
+    if unit != "-" and state != ("total_increasing" if unit in GROWING else "measurement"):
+        yield "another state class"
+    if state not in {*states, None}:
+        yield "a state class that its class has not"
+    if "class" not in more and written != "%" and any(written in units for units, _ in SENSORS.values()):
+        yield "no class"
+
+
+def faults_of(line, reading, words):
+    """What is wrong of a line for this reading."""
+    _profiles, _name, unit, topic, by, entity, title, *more = line
+    more = dict(word.partition("=")[::2] for word in more)
+    if more.get("class") not in CLASSES[entity]:
+        yield "an unknown class"
+    if (entity == "-") != (topic == "-") or entity == "-" and (by != "-" or more):
         yield "a topic without an entity, or the other way round"
-    if entity in ("switch", "light", "cover") and entity not in ACTUATORS.get(reading[0][:5], ()):
-        yield "an actuator of another profile"
+    yield from faults_of_words(entity, more, reading, words)
+    if entity == "sensor":
+        yield from faults_of_sensor(more, unit)
+    if component(reading) not in (None, entity) or entity in ("switch", "light", "cover") and not component(reading):
+        yield "an entity of another kind"
+    if entity != "-" and by != numbers(reading):
+        yield "other numbers"
+    if (title == "-") != (entity == "-" or component(reading) is not None and not by.endswith("2")):
+        yield "a name that it has not, or none"
+    if ("cyclic" in more) != (entity != "-" and reading[0][:5] in CYCLIC):
+        yield "it is cyclic and the device not, or the other way round"
 
 
 def main():
@@ -91,8 +152,7 @@ def main():
             wrong.append(f"{reading} has no line")
             continue
         used.add(lines.index(line))
-        names = {name for eep, name, _ in every if eep == reading[0]}
-        wrong += [f"{reading}: {fault}" for fault in faults_of(line, reading, words, names)]
+        wrong += [f"{reading}: {fault}" for fault in faults_of(line, reading, words)]
     wrong += [f"{line[:3]} is for no reading" for number, line in enumerate(lines) if number not in used]
     if len(every) < 357:
         wrong.append(f"the profiles have {len(every)} readings alone")

@@ -1,8 +1,11 @@
-"""What a text says of the program, one fact in each line: the manual page and the guide have to say the same.
+"""What a text says about the program, one fact per line: the manual page and the guide must say the same.
 
     tests/around/facts.py contrib/enogate.1
-    tests/around/facts.py docs/GUIDE.md
+    tests/around/facts.py docs/guide
+
+A folder stands for all its pages.
 """
+import pathlib
 import re
 import shlex
 import sys
@@ -21,25 +24,32 @@ def plain(page):
             yield line
 
 
+def items(part):
+    """The tagged paragraphs of a part of a manual page, each with its tag."""
+    return re.findall(r"^\.TP\n(.*)\n((?:(?!\.TP$).*\n)*)", part, re.MULTILINE)
+
+
 def of_page(text):
     """The facts of the manual page."""
     parts = dict(re.findall(r"^\.SH (.*)\n((?:(?!\.SH).*\n)*)", "\n".join(plain(text)) + "\n", re.MULTILINE))
     for usage in parts["SYNOPSIS"].replace("\n", " ").split("enogate")[1:3]:
         yield "usage", usage
     yield "opened", *opened(re.search(r"opened in this order:([^.]*)\.", parts["COMMANDS"])[1])
-    options = {tag.split()[0]: said for tag, said in re.findall(r"\.TP\n(--.*)\n([^.]*)", parts["OPTIONS"])}
+    options = {tag.split()[0]: said.split(".")[0] for tag, said in items(parts["OPTIONS"])}
     yield "base", *re.findall(r"[0-9A-F]{8}", options["--base"])
     yield "turns", *re.findall(r"\d+", options["--turns"])
-    words = parts["ORDERS"].split(".TP")[0]
-    for word, said in re.findall(r"^(CH|VAL|OFF|RAMP)\n([^;]*)", words, re.MULTILINE):
-        yield "range", word, *numbers(said)
-    reasons, errors = re.search(r"\nIts\nwhy\nis\n(.*)\nAn error is\n(.*)", parts["LINES"], re.DOTALL).groups()
-    for name, listed in (("why", reasons), ("error", errors)):
-        for word in re.findall(r"\w+", listed.replace("\nor\n", " ")):
-            yield name, word
-    for case in parts["EXIT STATUS"].split(".TP\n")[1:]:
-        for fault in re.findall(r"enogate: [a-z ]+", case):
-            yield "fault", case.split()[0], fault
+    for word, said in items(parts["ORDERS"]):
+        if word in ("CH", "VAL", "OFF", "RAMP"):
+            yield "range", word, *numbers(said)
+    for name, part in (("why", "PACKET LINES"), ("error", "ERRORS")):
+        for number, (word, _) in enumerate(items(parts[part])):
+            yield name, f"{number:02}", word
+    status = ""
+    for tag, _ in items(parts["EXIT STATUS"]):
+        if tag.startswith("enogate: "):
+            yield "fault", status, tag
+        else:
+            status = tag
 
 
 def of_guide(text):
@@ -47,20 +57,21 @@ def of_guide(text):
     for usage in re.findall(r"^`enogate ((?:live|replay) [^`]*)`", text, re.MULTILINE):
         yield "usage", usage
     yield "opened", *opened(re.search(r"It opens ([^.]*)\.", text)[1])
-    yield "base", *re.search(r"eight hexadecimal digits between `(\w+)` and `(\w+)`", text).groups()
+    yield "base", *re.search(r"It\s+lies\s+between\s+`(\w+)`\s+and\s+`(\w+)`", text).groups()
     yield "turns", *re.search(r"After N turns, (\d+) to (\d+)", text).groups()
     for word, said in re.findall(r"^\| `(CH|VAL|OFF|RAMP)` \|[^|]*\|([^|]*)\|$", text, re.MULTILINE):
         yield "range", word, *numbers(said)
-    for name, head in (("why", "| `why` | Means | Do |"), ("error", "| Error | When |")):
-        for word in re.findall(r"^\| `(\w+)` \|", text.split(head)[1].split("\n\n")[0], re.MULTILINE):
-            yield name, word
+    for name, head in (("why", "| `why` | Meaning | What to do |"), ("error", "| Error | When |")):
+        table = text.split(head)[1].split("\n\n")[0]
+        for number, word in enumerate(re.findall(r"^\| `(\w+)` \|", table, re.MULTILINE)):
+            yield name, f"{number:02}", word
     for status, fault in re.findall(r"^\| (\d) \| `(enogate: [a-z ]+)` \|", text, re.MULTILINE):
         yield "fault", status, fault
 
 
 def opened(said):
     """What is opened, in the order in which this text names it."""
-    return re.findall(r"the (database|serial line|desk|output)", said.replace("\n", " "))
+    return re.findall(r"the (database|serial port|desk|output)", said.replace("\n", " "))
 
 
 def numbers(said):
@@ -68,7 +79,10 @@ def numbers(said):
     return map(str, sorted(set(map(int, re.findall(r"\b\d+\b", said)))))
 
 
-path = sys.argv[1]
-facts = (of_guide if path.endswith(".md") else of_page)(open(path).read())
+path = pathlib.Path(sys.argv[1])
+if path.is_dir():
+    facts = of_guide("\n".join(page.read_text() for page in sorted(path.glob("*.md"))))
+else:
+    facts = of_page(path.read_text())
 for line in sorted(" ".join(" ".join(fact).split()) for fact in facts):
     print(line)

@@ -1,16 +1,19 @@
 """A stick with a radio module, as the tests play it: a pseudo-terminal, set as the guide sets a stick. What it brings
 stands in a file that grows, in lines of hexadecimal digits; what the gateway sends is added to another, without lines.
-It ends by a signal, and that pulls the stick out.
+With ANSWER it answers the question for its base ID by these digits, keeps nothing of the question, and does not have
+the terminal open itself. It ends by a signal, and that pulls the stick out.
 
-    tests/around/stick.py LINK BROUGHT SENT
+    tests/around/stick.py LINK BROUGHT SENT [ANSWER]
 """
 import os
 import select
 import sys
 import termios
+import time
 import tty
 
-link, brought, sent = sys.argv[1:]
+link, brought, sent, answer = (sys.argv[1:] + [""])[:4]
+QUESTION = bytes.fromhex("5500010005700838")
 master, slave = os.openpty()
 tty.setraw(slave)
 settings = termios.tcgetattr(slave)
@@ -18,6 +21,8 @@ settings[4] = settings[5] = termios.B57600
 settings[6][termios.VMIN], settings[6][termios.VTIME] = 0, 1
 termios.tcsetattr(slave, termios.TCSANOW, settings)
 os.symlink(os.ttyname(slave), link)
+if answer:
+    os.close(slave)
 with open(brought) as source, open(sent, "a") as sink:
     line = ""
     while True:
@@ -27,7 +32,14 @@ with open(brought) as source, open(sent, "a") as sink:
             line = ""
         if select.select([master], [], [], 0.02)[0]:
             try:
-                sink.write(os.read(master, 4096).hex())
-            except OSError:  # it was hung up
+                got = os.read(master, 4096)
+                if answer and QUESTION in got:
+                    got = got.replace(QUESTION, b"")
+                    os.write(master, bytes.fromhex(answer))
+                sink.write(got.hex())
+            except OSError:  # it was hung up, or nobody has it open
+                if answer:
+                    time.sleep(0.02)
+                    continue
                 break
             sink.flush()

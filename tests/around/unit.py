@@ -9,7 +9,7 @@ import shlex
 import sys
 
 unit, root, name = sys.argv[1:]
-words = {"%t": root + "/run", "%S": root + "/lib", "%L": root + "/log", "%i": name, "$$": "$"}
+words = {"%t": root + "/run", "%S": root + "/lib", "%L": root + "/log", "%i": name, "%%": "%", "$$": "$"}
 text = open(unit).read().replace("\\\n", "")
 
 

@@ -1,0 +1,49 @@
+"""A stand-in for a gateway with very many devices, which are actuators with two channels (D2-01-12). It answers `list`,
+`status` and `base` at a desk as a gateway does, any other order with ok, and reads the desk as fast as one: 256 bytes,
+ten times a second. Lines that are there already are kept; with --told it first writes two readings of each device.
+
+    tests/around/gateway.py DESK LINES COUNT [--told]
+"""
+import json
+import sys
+import time
+
+STATUS = {"ignored": 0, "mode": "closed", "readings": 0, "refused": 0, "responses": 0, "teach": 0, "type": "status"}
+RESPONSE = {"code": 0, "data": "FF800000", "name": "OK", "type": "response"}
+
+
+def reading(device, channel):
+    numbers = {"PF": 0, "PFD": 0, "OC": 0, "IO": channel, "LC": 1}
+    readings = [{"name": name, "raw": number} for name, number in numbers.items()]
+    readings += [{"name": "EL", "word": "ok"}, {"den": 1, "name": "OV", "num": 100, "unit": "%"}]
+    return {"dbm": -45, "eep": "D2-01-12", "id": device, "readings": readings, "type": "reading"}
+
+
+def answers(order, devices):
+    if order == "list":
+        yield from ({"eep": "D2-01-12", "id": name, "label": "", "maker": 70, "type": "device"} for name in devices)
+        yield {"count": len(devices), "type": "list"}
+    elif order == "status":
+        yield STATUS
+    else:
+        yield {"type": "ok"}
+        yield from [RESPONSE] if order == "base" else []
+
+
+def main():
+    devices = [f"{0x01800000 + number:08X}" for number in range(int(sys.argv[3]))]
+    with open(sys.argv[1], "w+", encoding="utf-8") as desk, open(sys.argv[2], "a", encoding="utf-8") as lines:
+        def write(found):
+            lines.write("".join(json.dumps(line, separators=(",", ":")) + "\n" for line in found))
+            lines.flush()
+        if "--told" in sys.argv:
+            write(reading(name, channel) for name in devices for channel in (0, 1))
+        rest = ""
+        while True:
+            *orders, rest = (rest + desk.read(256)).split("\n")
+            for order in orders:
+                write(answers(order, devices))
+            time.sleep(0.1)
+
+
+main()

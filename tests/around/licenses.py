@@ -1,0 +1,61 @@
+"""Whether packaging/debian/copyright has a paragraph for each crate of the toolchain that the program is built from,
+with the notices of its license as they are, and the text of that license. It prints what is missing.
+
+    tests/around/licenses.py FOLDER      the crates of the toolchain
+"""
+import pathlib
+import re
+import sys
+
+kit = pathlib.Path(sys.argv[1])
+root = pathlib.Path(__file__).resolve().parents[2]
+paragraphs = re.split(r"\n\n+", (root / "packaging/debian/copyright").read_text())
+fields = [dict(re.findall(r"^([A-Z]\w+):((?:.*\n?)(?:[ \t].*\n?)*)", text + "\n", re.MULTILINE)) for text in paragraphs]
+
+
+def used(crate):
+    """The crates of the toolchain that a crate names, but for those that are its own modules."""
+    sources = [path for path in (kit / crate / "src").rglob("*.rt") if "tests" not in path.parts]
+    own = {path.stem for path in sources} | {path.parent.name for path in sources}
+    names = {name for path in sources for name in re.findall(r"^\s*(?:pub )?use (\w+)(?:::|;)", path.read_text(), re.M)}
+    return {name for name in names - own if (kit / name / "src").is_dir()}
+
+
+def all_crates():
+    """All crates of the toolchain in the program."""
+    lines = [line.split(":") for line in (root / "crates.txt").read_text().split("\n") if ":" in line]
+    todo = {name for _, names in lines for name in names.split() if (kit / name / "src").is_dir()}
+    found = set()
+    while todo:
+        crate = todo.pop()
+        found.add(crate)
+        todo |= used(crate) - found
+    return sorted(found)
+
+
+def plain(text):
+    """A text without its lines, and without what marks the empty ones of a paragraph."""
+    return " ".join(re.sub(r"^ \.$", "", text, flags=re.M).split())
+
+
+texts = {name["License"].split("\n")[0].strip(): plain(name["License"].partition("\n")[2])
+         for name in fields if "License" in name and "Files" not in name}
+wrong = []
+for crate in all_crates():
+    for license in sorted((kit / crate).glob("LICENSE*")):
+        text = license.read_text()
+        if "Apache License" in text:
+            kind, notices = "Apache-2.0", []
+        else:
+            kind, notices = "Expat", [line.strip() for line in text.split("\n") if line.startswith("Copyright")]
+            if plain(text[text.index("Permission is hereby"):]) != texts.get("Expat"):
+                wrong.append(f"{crate}: {license.name} has another text")
+        own = [field for field in fields if field.get("Files", "").strip() == f"rattle/{crate}/*"]
+        if not own or kind not in own[0]["License"]:
+            wrong.append(f"{crate}: no paragraph with the license {kind}")
+        else:
+            wrong += [f"{crate}: {line}" for line in notices if line not in own[0]["Copyright"]]
+    if not any(path for path in (kit / crate).glob("LICENSE*")) and (kit / crate / "NOTICE").exists():
+        wrong.append(f"{crate}: a notice without a license")
+print(*wrong, sep="\n", end="\n" if wrong else "")
+sys.exit(bool(wrong))
