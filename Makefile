@@ -3,6 +3,7 @@
 #   make demo        run the first script of examples/; if the program is not built, rt builds one
 #                    without the proofs first, and its output is kept in target/demo
 #   make test        run the whole gate: all proofs, mutants, tests and programs, then the shell tests
+#   make mutants     try all mutants of crates/NAME/mutants, and record which are refused
 #   make build       verify and build the program
 #   make package     create the Debian package of the built program, in $(PACKAGES)
 #   make install     install the built program and its files under $(DESTDIR)$(PREFIX); packaging/files
@@ -12,14 +13,14 @@
 #   make uninstall   remove the installed files from $(DESTDIR)$(PREFIX); settings and devices are kept
 #   make clean       remove all generated files
 #
-# `demo`, `test` and `build` need the command `rt` of the Rattle toolchain on the PATH.
+# `demo`, `test`, `mutants` and `build` need the command `rt` of the Rattle toolchain on the PATH.
 
 PREFIX ?= /usr/local
 PACKAGES ?= .
 PROGRAM = crates/enogate/out/enogate
 SOURCES = crates.txt $(shell find crates -name out -prune -o -name '*.rt' -print -o -name '*.antt' -print)
 
-.PHONY: demo build test package install install-system uninstall clean
+.PHONY: demo build test mutants package install install-system uninstall clean
 
 demo:
 	@scripts/demo $$($(MAKE) -s --no-print-directory --question $(PROGRAM) && echo $(PROGRAM))
@@ -33,6 +34,9 @@ $(PROGRAM): $(SOURCES)
 
 test:
 	tests/gate
+
+mutants: $(PROGRAM)
+	tests/minutes scripts/mutants --record
 
 # These never build: root may run them, and a package always contains the verified program.
 package install: INSTALLS = yes

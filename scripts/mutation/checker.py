@@ -1,0 +1,112 @@
+"""Checks a crate with other texts in place of its own. It uses the kit's module rtlib, as `rt must-fail` does."""
+import os
+import re
+import shutil
+import subprocess
+import sys
+import tempfile
+
+from mutation.verdicts import Check
+
+RT = shutil.which("rt") or sys.exit("mutants: there is no rt on the PATH")
+KIT = os.path.dirname(os.path.dirname(os.path.realpath(RT)))
+sys.path.insert(0, f"{KIT}/bin")
+sys.dont_write_bytecode = True
+import rtlib  # noqa: E402 (it stands in the folder that the lines above find)
+
+
+class NotBuilt(Exception):
+    """Why a crate cannot be checked as it is."""
+
+
+def lanes():
+    """How many checks run at a time."""
+    return int(os.environ.get("RT_JOBS") or len(os.sched_getaffinity(0)))
+
+
+def crates(root):
+    """The crates of this repository, each after those that it uses."""
+    return rtlib.crates_below(root)
+
+
+def newest(crate):
+    return max(os.path.getmtime(it) for it in rtlib.files_of(crate.folder))
+
+
+def has_libraries(crate):
+    """Whether the libraries below are those of the sources: as `rt check` stamps them or, with no stamp, as `rt ci` leaves them."""
+    below = crate.below()
+    if any(os.path.exists(f"{it.folder}/out/rlib/stamp") for it in below):
+        return all(it.is_built() for it in below)
+    return all(os.path.isdir(it.rlib) and os.path.getmtime(it.rlib) > max(map(newest, [it, *it.below()])) for it in below)
+
+
+def linked(one, other):
+    """Copies a kept file, or links it if it holds a proof: a check replaces such a file and never changes it."""
+    if one.endswith(".oantt"):
+        try:
+            return os.link(one, other)
+        except OSError:
+            pass
+    return shutil.copy2(one, other)
+
+
+def listing(folder):
+    """What tells whether a file of the folder was changed, lost or added."""
+    files = sorted(f"{at}/{name}" for at, _, names in os.walk(folder) for name in names)
+    return [(it, os.stat(it).st_size, os.stat(it).st_mtime_ns) for it in files]
+
+
+class Checker:
+    """The checks of one crate. Each begins with what a check of the unchanged crate proved, the seed."""
+
+    def __init__(self, crate):
+        self.crate, self.folder = crate, crate.folder
+        self.room = tempfile.TemporaryDirectory(prefix="mutation-")
+        self.seed, self.files = f"{self.room.name}/seed", None
+        self.seconds = self.checks = 0
+
+    def begin(self):
+        """Checks the unchanged crate, over what an earlier `rt check` left, if anything. Returns this check."""
+        if not has_libraries(self.crate):
+            raise NotBuilt(f"the libraries below {self.crate.name} are not built: run `make build`")
+        kept = f"{self.folder}/out/incremental"
+        if os.path.isdir(kept):
+            shutil.copytree(kept, self.seed, symlinks=True, copy_function=linked)
+        else:
+            os.mkdir(self.seed)
+        found = self.run({}, self.seed)
+        self.files = listing(self.seed)
+        return found
+
+    def check(self, texts):
+        """Checks the crate with these texts of files, by path, in place of its own."""
+        with tempfile.TemporaryDirectory(prefix="kept-", dir=self.room.name) as kept:
+            shutil.copytree(self.seed, kept, symlinks=True, copy_function=linked, dirs_exist_ok=True)
+            return self.run(texts, kept)
+
+    def run(self, texts, kept):
+        # (tests/minutes knows the checks by this prefix)
+        with tempfile.TemporaryDirectory(prefix="mutants-", dir=self.room.name) as copy:
+            for part in rtlib.PARTS:
+                if os.path.isdir(f"{self.folder}/{part}"):
+                    shutil.copytree(f"{self.folder}/{part}", f"{copy}/{part}")
+            for path, text in texts.items():
+                with open(f"{copy}/{path}", "w", encoding="utf-8") as it:
+                    it.write(text)
+            words = [rtlib.RATTLE, "check", *self.crate.words(["--jobs", "1"], keeps=False), "--incremental", kept]
+            how = {"stdin": subprocess.DEVNULL, "stdout": subprocess.PIPE, "stderr": subprocess.STDOUT}
+            with subprocess.Popen(words, cwd=copy, **how) as ran:
+                printed = ran.stdout.read().decode(errors="replace")
+                _, status, used = os.wait4(ran.pid, 0)
+                ran.returncode = os.waitstatus_to_exitcode(status)
+        self.seconds += used.ru_utime + used.ru_stime
+        self.checks += 1
+        return Check(ran.returncode, printed)
+
+    def is_sound(self):
+        """Whether no check has changed the seed."""
+        return listing(self.seed) == self.files
+
+    def close(self):
+        self.room.cleanup()

@@ -1,0 +1,73 @@
+"""Which functions a check names how, which call which, and which mutants may therefore be tried in one check."""
+import re
+
+CALL = re.compile(r"((?:\bself)?\.|\b\w+::|)\b([a-z_]\w*)\b")
+NO_CALLS = re.compile(r'//.*|"(?:[^"\\]|\\.)*"')
+
+
+class Graph:
+    """The functions of a crate. A check of it named `names`, each after those that it calls."""
+
+    def __init__(self, crate, functions, names):
+        self.crate, self.functions, self.names = crate, functions, names
+        place = {name: at for at, name in enumerate(names)}
+        self.reported = {it.key: self.names_of(it) for it in functions}
+        self.rank = {key: place[found[0]] for key, found in self.reported.items() if found}
+        self.calls = {it.key: self.calls_of(it) for it in functions}
+        self.reaches = {key: self.reach_of(key) for key in self.calls}
+
+    def names_of(self, function):
+        """The names that a check gives this function and its closures. There are none if no name, or more than one, fits."""
+        if function.type:
+            # (a method is named in the module of its type, which another file may hold)
+            parts = [it.split("::") for it in self.names if it.endswith(f"::{function.name}")]
+            joined = {(function.type + it).lower() for it in function.trait} or {function.type.lower()}
+            exact = [it for it in parts if it[-2].lower() in joined]
+            found = ["::".join(it) for it in exact or [it for it in parts if it[-2].startswith(function.type)]]
+        else:
+            path = function.path.removeprefix("src/").removesuffix(".rt").split("/")
+            module = "::".join([self.crate, *([] if path in (["lib"], ["main"]) else path)])
+            found = [it for it in self.names if it == f"{module}::{function.name}"]
+        if len(found) != 1:
+            return []
+        inner = f"{found[0].rpartition('::')[0]}::fn::{function.name}::"
+        return found + [it for it in self.names if it.startswith(inner)]
+
+    def calls_of(self, function):
+        """The functions that this body may call: those of such a name that the check named earlier."""
+        own, found = self.rank.get(function.key, -1), set()
+        for before, name in CALL.findall(NO_CALLS.sub("", function.body)):
+            named = [it for it in self.functions if it.name == name and self.rank.get(it.key, -1) < own]
+            of = before.rstrip(":").replace("Self", function.type)
+            if before.endswith("."):
+                mine = [it for it in named if it.key[1:3] == function.key[1:3]] if before == "self." else []
+                named = mine or [it for it in named if it.type]
+            elif before:
+                named = [it for it in named if it.type == of or not it.type and it.path.endswith(f"{of}.rt")]
+            else:
+                named = [it for it in named if not it.type]
+            found.update(it.key for it in named)
+        return found
+
+    def reach_of(self, start):
+        found, left = set(), [*self.calls[start]]
+        while left:
+            it = left.pop()
+            left += [] if it in found else self.calls[it]
+            found.add(it)
+        return found
+
+    def clash(self, one, other):
+        """Whether two functions are one, or one calls the other, directly or through others."""
+        return one == other or one in self.reaches[other] or other in self.reaches[one]
+
+    def batches(self, mutants):
+        """The mutants in as few lists as a simple search finds, so that in none two functions clash. Callees come first."""
+        found = []
+        for mutant in sorted(mutants, key=lambda it: (len(self.reaches[it.function.key]), it.name)):
+            key = mutant.function.key
+            batch = next((it for it in found if not any(self.clash(key, one.function.key) for one in it)), None)
+            if batch is None:
+                found.append(batch := [])
+            batch.append(mutant)
+        return found

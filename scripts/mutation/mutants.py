@@ -1,0 +1,114 @@
+"""A mutant: a file of `file:`, `old:` and `new:` lines, as in must-fail/, and the function whose body it changes."""
+import os
+import re
+from typing import NamedTuple
+
+from mutation.sources import Function, functions_of
+
+GHOSTS = re.compile(r"^ *(?:ghost\b|//).*\n?", re.M)
+CLAUSES = re.compile(r"\s*\b(?:requires|ensures)\b.*", re.S)
+
+
+class Unusable(Exception):
+    """Why a mutant cannot be applied, or says nothing of the code."""
+
+
+class Mutant(NamedTuple):
+    name: str
+    text: str
+    edits: tuple[tuple[str, str, str], ...]  # path of a file, and the text in it that another replaces
+    function: Function | None  # the only one that it changes, or None if it changes more, or something else
+    fault: str  # why it is unusable, or ""
+
+
+def read(path):
+    with open(path, encoding="utf-8") as it:
+        return it.read()
+
+
+def edits_in(text):
+    path, old, edits = "", "", []
+    for line in text.split("\n"):
+        if line.startswith("file: "):
+            path = line[len("file: ") :].strip()
+        elif line.startswith("old: "):
+            old = line[len("old: ") :]
+        elif line.startswith("new:"):
+            if not path or not old:
+                raise Unusable("a 'new:' line stands before any 'file:' or 'old:' line")
+            edits.append((path, old, re.sub(r"\A ", "", line[len("new:") :])))
+            old = ""
+    if not edits:
+        raise Unusable("it has no 'file:', 'old:' and 'new:' lines in this order")
+    return tuple(edits)
+
+
+def applied(folder, edits):
+    """The new texts of the files of this crate that these edits change, by path."""
+    texts = {}
+    for path, old, new in edits:
+        if not re.fullmatch(r"(src|specs|proofs)/[\w/]+\.(rt|antt)", path):
+            raise Unusable(f"'file: {path}' names no file of src/, specs/ or proofs/")
+        if path not in texts:
+            if not os.path.isfile(f"{folder}/{path}"):
+                raise Unusable(f"there is no file {path}")
+            texts[path] = read(f"{folder}/{path}")
+        if texts[path].count(old) != 1:
+            raise Unusable(f"an 'old:' text is in {path} {texts[path].count(old)} times, and not once: {old.strip()[:60]}")
+        texts[path] = texts[path].replace(old, new)
+    return texts
+
+
+def changed_function(folder, edits):
+    """The function of src/ whose body alone these edits change, or None. An edit of clauses, proofs or comments only is unusable."""
+    bodies, is_code, is_more = [], False, False
+    for path, text in applied(folder, edits).items():
+        if path.startswith("specs/"):
+            is_code = is_more = True
+            continue
+        if path.startswith("proofs/"):
+            continue
+        (old, old_rest), (new, new_rest) = functions_of(path, read(f"{folder}/{path}")), functions_of(path, text)
+        if [it.key for it in old] != [it.key for it in new]:
+            return None
+        is_more |= old_rest != new_rest or any(one.head != other.head for one, other in zip(old, new))
+        is_code |= code("\n".join(old_rest)) != code("\n".join(new_rest))
+        is_code |= any(code_of(one) != code_of(other) for one, other in zip(old, new))
+        bodies += [one for one, other in zip(old, new) if one.body != other.body]
+    if not is_code:
+        raise Unusable("it changes no code: only a clause, a proof, a comment or nothing")
+    return bodies[0] if len(bodies) == 1 and not is_more else None
+
+
+def code(text):
+    """The text without its ghost lines and comments."""
+    return GHOSTS.sub("", text).strip()
+
+
+def code_of(function):
+    return CLAUSES.sub("", function.head).rstrip("{ \n"), code(function.body)
+
+
+def read_mutant(folder, path):
+    """The mutant of this file, for the crate in this folder."""
+    text, edits, function, fault = read(path), (), None, ""
+    try:
+        edits = edits_in(text)
+        function = changed_function(folder, edits)
+    except Unusable as why:
+        fault = str(why)
+    return Mutant(os.path.basename(path), text, edits, function, fault)
+
+
+def together(folder, mutants):
+    """The new texts of the files that these mutants change, by path. Each mutant is applied to the unchanged file, since the
+    'new:' of one may hold the 'old:' of another."""
+    if len(mutants) == 1:
+        return applied(folder, mutants[0].edits)
+    lines = {path: read(f"{folder}/{path}").split("\n") for path in {it.function.path for it in mutants}}
+    # (from the last function to the first, so that the lines before keep their numbers)
+    for mutant in sorted(mutants, key=lambda it: -it.function.line):
+        old, text = mutant.function, applied(folder, mutant.edits)[mutant.function.path]
+        new = next(it for it in functions_of(old.path, text)[0] if it.key == old.key)
+        lines[old.path][old.line : old.line + len(old.lines)] = new.lines
+    return {path: "\n".join(it) for path, it in lines.items()}

@@ -1,0 +1,110 @@
+"""One run of scripts/mutants over the crates of a repository."""
+import collections
+import concurrent.futures
+import glob
+import os
+import subprocess
+
+from mutation import checker, record
+from mutation.mutants import read, read_mutant
+from mutation.tries import Tries
+
+# How many recorded mutants a run tries again.
+SAMPLE = 8
+
+
+def mutants_of(folder):
+    return [read_mutant(folder, it) for it in sorted(glob.glob(f"{folder}/mutants/*.edit"))]
+
+
+def miscounted(root, crates):
+    """The crates that do not have as many mutants as tests/mutant-counts says."""
+    want = record.counts_of(root)
+    have = {it.name: len(glob.glob(f"{it.folder}/mutants/*.edit") + glob.glob(f"{it.folder}/must-fail/*.edit")) for it in crates}
+    return [
+        f"{name} has {have.get(name, 0)} mutants, and {record.COUNTS} says {want.get(name, 0)}"
+        for name in sorted({*want, *have})
+        if have.get(name, 0) != want.get(name, 0)
+    ]
+
+
+def commits(root):
+    """How many commits led to this state, or 0 if git does not say."""
+    ran = subprocess.run(["git", "-C", root, "rev-list", "--count", "HEAD"], capture_output=True, text=True, check=False)
+    return 0 if ran.returncode else int(ran.stdout)
+
+
+class Run:
+    """The tries of these crates' mutants, as many checks at a time as there are lanes."""
+
+    def __init__(self, root, crates, lanes, make_checker=checker.Checker):
+        self.root, self.crates, self.make_checker = root, crates, make_checker
+        self.pool = concurrent.futures.ThreadPoolExecutor(lanes)
+        self.mutants = {it.name: mutants_of(it.folder) for it in crates}
+        self.digests = {it.name: self.digests_of(it) for it in crates}
+        self.tried, self.faults = {}, []
+
+    def digests_of(self, crate):
+        given = record.read_by(crate, self.root, read(f"{checker.KIT}/KIT-ID"))
+        return {it.name: record.digest(given, it) for it in self.mutants[crate.name]}
+
+    def lanes(self, function, items):
+        return list(self.pool.map(function, items))
+
+    def new_and_sample(self):
+        """The mutants that are not recorded, and a sample of those that are, by crate."""
+        old = {}
+        for name, found in self.mutants.items():
+            known = record.recorded(self.root, name)
+            old[name] = [it for it in found if (self.digests[name][it.name], it.name) in known]
+        crate, sample = record.sample_of(old, SAMPLE, commits(self.root))
+        return {
+            name: [it for it in found if it not in old[name] or name == crate and it in sample]
+            for name, found in self.mutants.items()
+        }
+
+    def try_all(self, chosen):
+        """Tries the mutants of each crate, and prints a line for it. Crates that cost more begin first."""
+        crates = sorted((it for it in self.crates if chosen[it.name]), key=lambda it: -it.need())
+        with concurrent.futures.ThreadPoolExecutor(len(crates) or 1) as threads:
+            for tries in threads.map(lambda it: self.try_crate(it, chosen[it.name]), crates):
+                self.tried[tries.name] = tries.results
+                print(summary(tries), flush=True)
+
+    def try_crate(self, crate, mutants):
+        checks = self.make_checker(crate)
+        paths = sorted(glob.glob(f"{crate.folder}/src/**/*.rt", recursive=True))
+        sources = {os.path.relpath(it, crate.folder): read(it) for it in paths}
+        tries, fault = Tries(crate.name, sources, checks, self.lanes), ""
+        try:
+            fault = tries.begin()
+            if not fault:
+                tries.try_all(mutants)
+                fault = "" if checks.is_sound() else f"{crate.name}: a check changed what the others began with"
+        except checker.NotBuilt as why:
+            fault = str(why)
+        finally:
+            checks.close()
+        self.faults += [fault] if fault else []
+        return tries
+
+    def write_records(self):
+        for name in (it for it, found in self.mutants.items() if found):
+            record.write_record(self.root, name, self.digests[name], self.tried.get(name, {}))
+
+    def lines(self):
+        """A line for each mutant that was tried, with whether it is refused."""
+        for name, results in sorted(self.tried.items()):
+            for mutant, it in sorted(results.items()):
+                where = f" ({it.where})" if it.where else ""
+                yield it.outcome.is_refusal, f"{name}/{mutant}: {it.outcome.value}: {it.text}{where}"
+
+    @property
+    def untried(self):
+        return sum(map(len, self.mutants.values())) - sum(map(len, self.tried.values()))
+
+
+def summary(tries):
+    counts = collections.Counter(f"{it.outcome.value} ({it.where})" for it in tries.results.values())
+    text = ", ".join(f"{count} {outcome}" for outcome, count in sorted(counts.items()))
+    return f"{tries.name}: {text or 'no result'}; {tries.checker.checks} checks, {tries.checker.seconds:.0f} processor seconds"

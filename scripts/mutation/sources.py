@@ -1,0 +1,84 @@
+"""The functions of a Rattle file, found by its layout: `rt fmt` has indented it."""
+import re
+from typing import NamedTuple
+
+HEAD = re.compile(r"^ *(?:pub(?:\([^)]*\))? )?(?:const )?(?:unsafe )?fn (\w+)")
+BLOCK = re.compile(r"^(?:pub(?:\([^)]*\))? )?(?:unsafe )?(impl|trait)\b(.*)")
+
+
+class Function(NamedTuple):
+    """A function that has a body."""
+
+    path: str  # of its file, from the folder of the crate
+    type: str  # the type or trait whose method it is, or ""
+    trait: tuple[str, ...]  # of a trait's impl: the trait's words as one, with their paths and without
+    name: str
+    head: str
+    body: str
+    line: int  # where its head begins, from 0
+
+    @property
+    def key(self):
+        """What stays the same when a file is edited."""
+        return self[:4]
+
+    @property
+    def lines(self):
+        return f"{self.head}\n{self.body}".split("\n")
+
+
+def body_of(lines, start):
+    """The lines that open and close the body of the function whose head begins here, or None if it has no body."""
+    indent = lines[start][: len(lines[start]) - len(lines[start].lstrip())]
+    opens = re.compile(rf"{indent}(?:\{{|\).*\{{|where\b.*\{{)$")
+    at = start
+    while not (opens.match(lines[at]) or at == start and lines[at].endswith("{")):
+        at += 1
+        # (clauses are indented further; after a head without a body comes a line that is not)
+        if at == len(lines) or not re.match(rf"$|{indent}(?: +\S|[{{)]|where\b)", lines[at]):
+            return None
+    close = next((it for it in range(start + 1, len(lines)) if lines[it] == f"{indent}}}"), None)
+    return close and (at, close)
+
+
+def without_parameters(text):
+    """The words after `impl` or `trait`, without lifetimes, parameters of its own and `where`."""
+    text = re.sub(r"'\w+,? ?|\s*(?:where\b.*)?\{?$", "", text).strip()
+    depth = 0
+    for at, it in enumerate(text if text.startswith("<") else ""):
+        depth += (it == "<") - (it == ">" and text[at - 1] != "-")
+        if not depth:
+            return text[at + 1 :].strip()
+    return text
+
+
+def owner_of(line):
+    """The type, and the words of the trait, that the functions of this block belong to."""
+
+    def words(text):
+        return re.findall(r"\w+", re.sub(r"\w+::", "", text))
+
+    made, _, of = without_parameters(BLOCK.match(line)[2]).partition(" for ")
+    if not of:
+        return words(re.split(r":(?!:)", made)[0])[0], ()
+    return words(of)[0], ("".join(words(made)), "".join(re.findall(r"\w+", re.sub(r"^[^<]*::", "", made))))
+
+
+def functions_of(path, text):
+    """The functions of a file that have bodies, and its other lines without comments, with one for each function."""
+    lines, at, found, rest, owner = text.split("\n"), 0, [], [], ("", ())
+    while at < len(lines):
+        if BLOCK.match(lines[at]):
+            owner = owner_of(lines[at])
+        elif lines[at] == "}":
+            owner = "", ()
+        name = HEAD.match(lines[at])
+        ends = name and body_of(lines, at)
+        if ends:
+            head, body = "\n".join(lines[at : ends[0] + 1]), "\n".join(lines[ends[0] + 1 : ends[1] + 1])
+            found.append(Function(path, *owner, name[1], head, body, at))
+            rest, at = [*rest, f"fn {name[1]}"], ends[1]
+        elif lines[at].strip() and not lines[at].lstrip().startswith("//"):
+            rest.append(lines[at])
+        at += 1
+    return found, rest

@@ -1,0 +1,75 @@
+"""What a check printed: a line for each function, and the verdict on the crate."""
+import enum
+import re
+
+LINE = re.compile(r"^fn (\S+): (.*)$", re.M)
+LIMIT = re.compile(r"antt ran out of (stack|the (steps|memory)\b)|(outgrew the memory limit|stopped at the step limit) \(")
+# (what a mutant that only makes a statement false never causes)
+UNREADABLE = re.compile(r"is not in scope|has no field|is no name|operand is missing|expected the end|cannot continue")
+STALE = re.compile(r"Run the lower steps again")
+
+
+class Outcome(enum.Enum):
+    OWN = "refused at its own function"
+    ALONE = "refused alone, at other functions or statements"
+    LIMIT = "refused by a limit of the prover"
+    MISSED = "NOT REFUSED"
+    UNUSABLE = "CANNOT BE APPLIED"
+    LOST = "ITS FUNCTION IS NOT REPORTED"
+    UNKNOWN = "NO RESULT"
+
+    @property
+    def is_refusal(self):
+        return self in (Outcome.OWN, Outcome.ALONE, Outcome.LIMIT)
+
+
+class Check:
+    """One check: its exit status, and what it printed."""
+
+    def __init__(self, status, printed):
+        self.status, self.printed = status, printed
+        self.functions = dict(LINE.findall(printed))
+
+    @property
+    def refused(self):
+        """The functions whose own proofs fail. One that only calls such a function is not among them."""
+        return [name for name, text in self.functions.items() if is_refusal(text)]
+
+    def is_proved(self, names):
+        return all(self.functions.get(it) == "proved" for it in names)
+
+    @property
+    def unreadable(self):
+        """The first message that the prover cannot read a text of src/ or specs/, or ""."""
+        for line in self.printed.split("\n"):
+            found = re.match(r"(?:\./)?(?:src|specs)/\S+:\d+:\d+: error: (`[^`]*`: )?(.*)", line)
+            if found and (not found[1] or UNREADABLE.search(re.sub(r"`[^`]*`", "", found[2]))):
+                return line[:160]
+        return ""
+
+    @property
+    def first_error(self):
+        lines = self.printed.rstrip("\n").split("\n")
+        return next((it for it in lines if re.match(r"\S+:\d+:\d+: error|error", it)), lines[-1])[:160]
+
+    def outcome(self, names):
+        """What a mutant came to whose function has these names and that was checked alone, and the function or text that shows it."""
+        last = self.printed.rstrip("\n").rpartition("\n")[2]
+        if STALE.search(self.printed):
+            return Outcome.UNKNOWN, "the kept work of a library could not be used"
+        if self.status == 1 and self.unreadable:
+            return Outcome.UNUSABLE, self.unreadable
+        if self.status == 1 and last.startswith("logic=not-proved"):
+            own = [it for it in names if it in self.refused]
+            return (Outcome.OWN, own[0]) if own else (Outcome.ALONE, ", ".join(self.refused[:3]) or self.first_error)
+        if self.status == 0:
+            return Outcome.MISSED, names[0] if names else ""
+        if self.status == 3 and LIMIT.search(self.printed):
+            return Outcome.LIMIT, self.first_error
+        if self.status == 1:
+            return Outcome.UNUSABLE, self.first_error
+        return Outcome.UNKNOWN, f"status {self.status}: {self.first_error}"
+
+
+def is_refusal(text):
+    return "it calls" not in text and (text == "not proved" or text.startswith("no proof"))

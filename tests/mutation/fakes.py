@@ -1,0 +1,101 @@
+"""A crate in a folder, and a prover that knows only words: for the unit tests of scripts/mutation."""
+import os
+import tempfile
+import unittest
+
+from mutation.sources import functions_of
+from mutation.verdicts import Check
+
+# `twice` calls `once`, and `thrice` calls both; `other` and Pair::sum call nothing.
+SOURCES = {
+    "src/lib.rt": """\
+pub mod pairs;
+
+const STEP: u64 = 1;
+
+pub fn once(a: u64) -> u64 {
+    a + STEP
+}
+
+pub fn twice(a: u64) -> u64 {
+    once(once(a))
+}
+
+pub fn thrice(a: u64) -> u64 {
+    let b = twice(a);
+    once(b)
+}
+
+pub fn other(a: u64) -> u64 {
+    a
+}
+""",
+    "src/pairs.rt": """\
+impl Pair {
+    pub fn sum(&self) -> u64 {
+        self.first + self.second
+    }
+}
+""",
+}
+NAMES = ["tiny::once", "tiny::twice", "tiny::thrice", "tiny::other", "tiny::pairs::Pair::sum"]
+CALLS = {"tiny::twice": ["tiny::once"], "tiny::thrice": ["tiny::once", "tiny::twice"]}
+
+
+def edit(path, *pairs):
+    """The text of a mutant: pairs of old and new texts."""
+    return f"file: {path}\n" + "".join(f"old: {old}\nnew: {new}\n" for old, new in pairs)
+
+
+class FakeChecker:
+    """A prover that refuses each function whose body has the word WRONG, and all if STEP has it.
+
+    WORSE makes the own proof of `other` fail, GIBBERISH is no program, HIDDEN is not reported, and DEEP runs out of steps."""
+
+    def __init__(self, folder, sources):
+        self.folder, self.sources, self.labels, self.status = folder, sources, [], 0
+
+    def begin(self):
+        return self.check({})
+
+    def check(self, texts):
+        texts = {**self.sources, **texts}
+        self.labels.append(sum("WRONG" in it for it in texts.values()))
+        whole = "\n".join(texts.values())
+        if "GIBBERISH" in whole:
+            return Check(1, "src/lib.rt:1:1: error[syntax]: what is this\n")
+        if "DEEP" in whole:
+            return Check(3, "src/lib.rt:1:1: error: antt ran out of steps\nantt ran out of the steps\n")
+        said = {name: "proved" for name in NAMES}
+        functions = [it for path, text in texts.items() for it in functions_of(path, text)[0]]
+        for name, function in zip(NAMES, functions):
+            if "HIDDEN" in function.body:
+                del said[name]
+            elif "WRONG" in function.body or "STEP: u64 = WRONG" in whole:
+                said[name] = "not proved"
+        if "WORSE" in whole:
+            said["tiny::other"] = "not proved"
+        for name, callees in CALLS.items():
+            refused = [it for it in callees if said.get(it, "proved") != "proved"]
+            if refused and said.get(name) == "proved":
+                said[name] = f"no proof: it calls {refused[0]}, which is not proved"
+        proved = all(it == "proved" for it in said.values())
+        lines = [f"fn {name}: {text}" for name, text in said.items()]
+        return Check(0 if proved else 1, "\n".join([*lines, "logic=proved" if proved else "logic=not-proved"]) + "\n")
+
+
+class InFolder(unittest.TestCase):
+    """A test with the crate `tiny` in a folder of its own."""
+
+    def setUp(self):
+        room = tempfile.TemporaryDirectory()
+        self.addCleanup(room.cleanup)
+        self.folder = f"{room.name}/tiny"
+        for path, text in SOURCES.items():
+            self.write(path, text)
+
+    def write(self, path, text):
+        os.makedirs(os.path.dirname(f"{self.folder}/{path}"), exist_ok=True)
+        with open(f"{self.folder}/{path}", "w", encoding="utf-8") as it:
+            it.write(text)
+        return f"{self.folder}/{path}"

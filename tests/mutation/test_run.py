@@ -1,0 +1,170 @@
+"""Unit tests of scripts/mutation/run.py, with a prover that knows only words."""
+import contextlib
+import io
+import os
+import types
+import unittest
+
+from fakes import SOURCES, FakeChecker, InFolder, edit
+from mutation import checker, record
+from mutation.run import SAMPLE, Run, miscounted
+
+
+class Fake(FakeChecker):
+    """A checker as Run makes it."""
+
+    checks, seconds, sound, opened = 2, 3.4, True, 0
+
+    def __init__(self, crate):
+        super().__init__(crate.folder, SOURCES)
+        Fake.opened += 1
+
+    def is_sound(self):
+        return self.sound
+
+    def close(self):
+        Fake.opened -= 1
+
+
+class NotBuilt(Fake):
+    def begin(self):
+        raise checker.NotBuilt("the libraries below tiny are not built")
+
+
+class Unsound(Fake):
+    sound = False
+
+
+class Runs(InFolder):
+    def setUp(self):
+        super().setUp()
+        self.root = os.path.dirname(self.folder)
+        self.write("../HANDLES", "Handles allowed: none.\n")
+        of = {"name": "tiny", "folder": self.folder, "deps": [], "of_kit": ("std",), "below": lambda: [], "need": lambda: 1}
+        self.crate = types.SimpleNamespace(**of)
+
+    def add(self, name, old, new, path="src/lib.rt", folder="mutants"):
+        self.write(f"{folder}/{name}.edit", edit(path, (old, new)))
+
+    def run_with(self, made=Fake):
+        return Run(self.root, [self.crate], 2, made)
+
+    def tried(self, run, chosen):
+        printed = io.StringIO()
+        with contextlib.redirect_stdout(printed):
+            run.try_all(chosen)
+        self.assertEqual(Fake.opened, 0)
+        return printed.getvalue()
+
+    def test_all_mutants(self):
+        self.add("one", "    a + STEP", "    WRONG")
+        self.add("pair", "self.first", "WRONG", "src/pairs.rt")
+        self.add("same", "    once(b)", "    once(b + 0)")
+        run = self.run_with()
+        printed = self.tried(run, run.mutants)
+        want = "tiny: 1 NOT REFUSED (alone), 2 refused at its own function (batch); 2 checks, 3 processor seconds\n"
+        self.assertEqual(printed, want)
+        self.assertEqual(
+            [*run.lines()],
+            [
+                (True, "tiny/one.edit: refused at its own function: tiny::once (batch)"),
+                (True, "tiny/pair.edit: refused at its own function: tiny::pairs::Pair::sum (batch)"),
+                (False, "tiny/same.edit: NOT REFUSED: tiny::thrice (alone)"),
+            ],
+        )
+        self.assertEqual((run.untried, run.faults), (0, []))
+
+    def test_only_new_mutants_and_a_sample(self):
+        for at in range(SAMPLE + 3):
+            self.add(f"one{at:02}", "    a + STEP", f"    WRONG {at}")
+        run = self.run_with()
+        self.assertEqual(len(run.new_and_sample()["tiny"]), SAMPLE + 3)
+        self.tried(run, run.mutants)
+        run.write_records()
+        self.add("new", "    a + STEP", "    WRONG at last")
+        self.add("one00", "    a + STEP", "    WRONG again")
+        run = self.run_with()
+        chosen = [it.name for it in run.new_and_sample()["tiny"]]
+        self.assertEqual(chosen, ["new.edit", "one00.edit", *(f"one{at:02}.edit" for at in range(1, SAMPLE + 1))])
+        self.tried(run, run.new_and_sample())
+        self.assertEqual(run.untried, 2)
+
+    def test_a_record_keeps_what_was_not_tried(self):
+        self.add("one", "    a + STEP", "    WRONG")
+        self.add("two", "    once(once(a))", "    WRONG")
+        run = self.run_with()
+        self.tried(run, run.mutants)
+        run.write_records()
+        before = {*record.recorded(self.root, "tiny")}
+        os.remove(f"{self.folder}/mutants/two.edit")
+        run = self.run_with()
+        self.tried(run, {"tiny": []})
+        run.write_records()
+        self.assertEqual({name for _, name in before}, {"one.edit", "two.edit"})
+        self.assertEqual({name for _, name in record.recorded(self.root, "tiny")}, {"one.edit"})
+
+    def test_a_crate_whose_libraries_are_not_built(self):
+        self.add("one", "    a + STEP", "    WRONG")
+        run = self.run_with(NotBuilt)
+        self.assertIn("tiny: no result", self.tried(run, run.mutants))
+        self.assertEqual((run.faults, run.untried), (["the libraries below tiny are not built"], 1))
+
+    def test_checks_that_change_what_they_began_with(self):
+        self.add("one", "    a + STEP", "    WRONG")
+        run = self.run_with(Unsound)
+        self.tried(run, run.mutants)
+        self.assertEqual(run.faults, ["tiny: a check changed what the others began with"])
+
+    def test_the_counts(self):
+        self.add("one", "    a + STEP", "    WRONG")
+        self.add("two", "    a + STEP", "    WRONG", folder="must-fail")
+        for text, faults in (
+            ("tiny 2\n", []),
+            ("tiny 1\n", ["tiny has 2 mutants, and tests/mutant-counts says 1"]),
+            ("", ["tiny has 2 mutants, and tests/mutant-counts says 0"]),
+            ("tiny 2\nlow 3\n", ["low has 0 mutants, and tests/mutant-counts says 3"]),
+        ):
+            self.write("../tests/mutant-counts", text)
+            self.assertEqual(miscounted(self.root, [self.crate]), faults)
+
+
+class Libraries(InFolder):
+    """Whether the libraries below a crate are those of the sources."""
+
+    def setUp(self):
+        super().setUp()
+        root = os.path.dirname(self.folder)
+        self.write("../low/src/lib.rt", "")
+        self.write("../low/out/rlib/low.rlib/format", "")
+        of = {"name": "low", "folder": f"{root}/low", "rlib": f"{root}/low/out/rlib/low.rlib", "built": True}
+        self.low = types.SimpleNamespace(**of, below=lambda: [], is_built=lambda: self.low.built)
+        self.high = types.SimpleNamespace(name="tiny", folder=self.folder, below=lambda: [self.low])
+        self.age("src/lib.rt", 10)
+        self.age("out/rlib/low.rlib", 20)
+
+    def age(self, path, seconds):
+        os.utime(f"{self.low.folder}/{path}", (seconds, seconds))
+
+    def test_none_below(self):
+        self.assertTrue(checker.has_libraries(types.SimpleNamespace(below=lambda: [])))
+
+    def test_a_stamp_decides(self):
+        self.write("../low/out/rlib/stamp", "")
+        self.age("src/lib.rt", 30)
+        self.assertTrue(checker.has_libraries(self.high))
+        self.low.built = False
+        self.assertFalse(checker.has_libraries(self.high))
+
+    def test_without_a_stamp_the_library_is_newer_than_its_sources(self):
+        self.low.built = False
+        self.assertTrue(checker.has_libraries(self.high))
+        self.age("src/lib.rt", 30)
+        self.assertFalse(checker.has_libraries(self.high))
+
+    def test_no_library(self):
+        self.low.rlib += ".none"
+        self.assertFalse(checker.has_libraries(self.high))
+
+
+if __name__ == "__main__":
+    unittest.main()

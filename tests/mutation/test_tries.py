@@ -1,0 +1,107 @@
+"""Unit tests of scripts/mutation/tries.py, with a prover that knows only words."""
+import unittest
+
+from fakes import SOURCES, FakeChecker, InFolder, edit
+from mutation.mutants import read_mutant
+from mutation.tries import Tries
+from mutation.verdicts import Outcome
+
+ONCE, TWICE, THRICE, SUM = "    a + STEP", "    once(once(a))", "    once(b)", "self.first"
+
+
+class Crate(InFolder):
+    def setUp(self):
+        super().setUp()
+        self.checker = FakeChecker(self.folder, SOURCES)
+        self.tries = Tries("tiny", SOURCES, self.checker)
+        self.assertEqual(self.tries.begin(), "")
+        self.mutants = []
+
+    def add(self, name, *pairs, path="src/lib.rt"):
+        self.mutants.append(read_mutant(self.folder, self.write(f"mutants/{name}.edit", edit(path, *pairs))))
+
+    def results(self):
+        self.tries.try_all(self.mutants)
+        return {name.removesuffix(".edit"): (it.outcome, it.where) for name, it in self.tries.results.items()}
+
+    def test_a_batch(self):
+        self.add("one", (ONCE, "    WRONG"))
+        self.add("pair", (SUM, "WRONG"), path="src/pairs.rt")
+        self.assertEqual(self.results(), {"one": (Outcome.OWN, "batch"), "pair": (Outcome.OWN, "batch")})
+        self.assertEqual(self.tries.results["pair.edit"].text, "tiny::pairs::Pair::sum")
+        # (one check of the unchanged crate, and one of both)
+        self.assertEqual(self.checker.labels, [0, 2])
+
+    def test_a_mutant_that_is_proved_is_not_refused(self):
+        self.add("one", (ONCE, "    WRONG"))
+        self.add("same", (SUM, "self.second"), path="src/pairs.rt")
+        self.assertEqual(self.results(), {"one": (Outcome.OWN, "batch"), "same": (Outcome.MISSED, "alone")})
+
+    def test_one_that_only_calls_a_refused_function_is_not_refused(self):
+        # (the graph does not see that `twice` calls `once`, so both come into one batch)
+        self.add("one", (ONCE, "    WRONG"))
+        self.add("same", (TWICE, "    once(once(a + 0))"))
+        self.tries.graph.reaches = {key: set() for key in self.tries.graph.reaches}
+        self.assertEqual(self.results(), {"one": (Outcome.OWN, "batch"), "same": (Outcome.MISSED, "alone")})
+
+    def test_what_a_batch_leaves_open_is_tried_in_another(self):
+        self.add("one", (ONCE, "    WRONG"))
+        self.add("open", (TWICE, "    once(once(a + 0))"))
+        self.add("open-too", (SUM, "HIDDEN"), path="src/pairs.rt")
+        self.tries.graph.reaches = {key: set() for key in self.tries.graph.reaches}
+        self.assertEqual(self.results()["open"], (Outcome.MISSED, "alone"))
+
+    def test_of_mutants_of_one_function_each_is_tried(self):
+        self.add("one", (ONCE, "    WRONG"))
+        self.add("other", (ONCE, "    a"))
+        self.assertEqual(self.results(), {"one": (Outcome.OWN, "alone"), "other": (Outcome.MISSED, "alone")})
+
+    def test_one_that_does_not_compile_does_not_decide_for_the_others(self):
+        self.add("one", (ONCE, "    WRONG"))
+        self.add("bad", (SUM, "GIBBERISH"), path="src/pairs.rt")
+        self.assertEqual(self.results(), {"one": (Outcome.OWN, "alone"), "bad": (Outcome.UNUSABLE, "alone")})
+
+    def test_one_that_makes_another_function_fail(self):
+        self.add("one", (ONCE, "    WRONG"))
+        self.add("worse", (SUM, "WORSE"), path="src/pairs.rt")
+        self.assertEqual(self.results(), {"one": (Outcome.OWN, "alone"), "worse": (Outcome.ALONE, "alone")})
+        self.assertEqual(self.tries.results["worse.edit"].text, "tiny::other")
+
+    def test_what_changes_more_than_one_body_is_tried_alone(self):
+        self.add("const", ("STEP: u64 = 1", "STEP: u64 = WRONG"))
+        self.add("const-too", ("STEP: u64 = 1", "STEP: u64 = 0 + 1"))
+        self.add("one", (ONCE, "    WRONG"))
+        want = {"const": (Outcome.ALONE, "alone"), "const-too": (Outcome.MISSED, "alone"), "one": (Outcome.OWN, "alone")}
+        self.assertEqual(self.results(), want)
+
+    def test_a_limit_of_the_prover(self):
+        self.add("deep", (ONCE, "    DEEP"))
+        self.assertEqual(self.results(), {"deep": (Outcome.LIMIT, "alone")})
+
+    def test_what_cannot_be_applied_is_not_checked(self):
+        self.add("misspelt", ("a + STAP", "a"))
+        self.assertEqual(self.results(), {"misspelt": (Outcome.UNUSABLE, "")})
+        self.assertEqual(len(self.checker.labels), 1)
+
+    def test_a_function_that_is_not_reported(self):
+        self.write("src/unused.rt", "fn unused() {\n    0\n}\n")
+        self.tries = Tries("tiny", {**SOURCES, "src/unused.rt": "fn unused() {\n    0\n}\n"}, self.checker)
+        self.tries.begin()
+        self.add("unused", ("    0", "    WRONG"), path="src/unused.rt")
+        self.assertEqual(self.results(), {"unused": (Outcome.LOST, "")})
+
+    def test_a_crate_that_is_not_proved_has_no_results(self):
+        wrong = {**SOURCES, "src/lib.rt": SOURCES["src/lib.rt"].replace(ONCE, "    WRONG")}
+        self.assertIn("not proved as it is", Tries("tiny", wrong, FakeChecker(self.folder, wrong)).begin())
+
+    def test_every_mutant_has_a_result(self):
+        for at, text in enumerate((ONCE, TWICE, THRICE)):
+            self.add(f"wrong{at}", (text, f"    WRONG{text}"))
+            self.add(f"same{at}", (text, f"{text} + 0"))
+        found = self.results()
+        want = {f"{name}{at}": (Outcome.OWN if name == "wrong" else Outcome.MISSED) for name in ("wrong", "same") for at in range(3)}
+        self.assertEqual({name: it[0] for name, it in found.items()}, want)
+
+
+if __name__ == "__main__":
+    unittest.main()

@@ -1,0 +1,79 @@
+"""Unit tests of scripts/mutation/verdicts.py: the lines are as `rattle check` prints them."""
+import unittest
+
+from mutation.verdicts import Check, Outcome
+
+REFUSED = """\
+src/lib.rt:4:5: error: `tiny::once`: 1 of 3 parts is not proved
+fn tiny::once: not proved
+fn tiny::twice: no proof: it calls tiny::once, which is not proved
+fn tiny::thrice: no proof: its loop has no measure
+fn tiny::other: proved
+fn tiny::last: could not tell
+logic=not-proved
+"""
+
+
+class Checks(unittest.TestCase):
+    def test_only_own_proofs_that_fail_are_refusals(self):
+        self.assertEqual(Check(1, REFUSED).refused, ["tiny::once", "tiny::thrice"])
+
+    def test_proved_means_each_name(self):
+        it = Check(1, REFUSED)
+        self.assertTrue(it.is_proved(["tiny::other"]))
+        for names in (["tiny::other", "tiny::once"], ["tiny::last"], ["tiny::none"]):
+            self.assertFalse(it.is_proved(names))
+
+    def outcome(self, status, printed, *names):
+        return Check(status, printed).outcome(names)
+
+    def test_refused_at_its_own_function(self):
+        self.assertEqual(self.outcome(1, REFUSED, "tiny::once"), (Outcome.OWN, "tiny::once"))
+        self.assertEqual(self.outcome(1, REFUSED, "tiny::fn::a::closure0", "tiny::thrice"), (Outcome.OWN, "tiny::thrice"))
+
+    def test_refused_elsewhere(self):
+        self.assertEqual(self.outcome(1, REFUSED, "tiny::other"), (Outcome.ALONE, "tiny::once, tiny::thrice"))
+        self.assertEqual(self.outcome(1, REFUSED), (Outcome.ALONE, "tiny::once, tiny::thrice"))
+        only = "specs/Lib.antt:3:1: error: `a`: false\nfn tiny::once: proved\nlogic=not-proved\n"
+        self.assertEqual(self.outcome(1, only), (Outcome.ALONE, "specs/Lib.antt:3:1: error: `a`: false"))
+
+    def test_proved_is_missed(self):
+        printed = "fn tiny::once: proved\nlogic=proved functions=1\n"
+        self.assertEqual(self.outcome(0, printed, "tiny::once"), (Outcome.MISSED, "tiny::once"))
+
+    def test_a_limit(self):
+        for text in ("antt ran out of stack", "antt ran out of the steps that the check of one declaration may take"):
+            self.assertIs(self.outcome(3, f"src/lib.rt:1:1: error: {text}\nrattle: no verdict\n")[0], Outcome.LIMIT)
+
+    def test_no_verdict_for_another_reason(self):
+        for status, printed in ((3, "rattle: no verdict: a bug\n"), (2, "rattle: what is this\n"), (-9, ""), (3, REFUSED)):
+            self.assertIs(self.outcome(status, printed, "tiny::once")[0], Outcome.UNKNOWN)
+
+    def test_what_does_not_compile(self):
+        kind, text = self.outcome(1, "src/lib.rt:4:5: error[types]: no\nhelp: none\n", "tiny::once")
+        self.assertEqual((kind, text), (Outcome.UNUSABLE, "src/lib.rt:4:5: error[types]: no"))
+
+    def test_what_the_prover_cannot_read(self):
+        for line in (
+            "src/lib.rt:4:5: error: `tiny::once`: `b` is not in scope",
+            "./specs/Lib.antt:4:5: error: an unclosed brace",
+            "specs/Lib.antt:4:5: error: `a`: `b` has no field `c`",
+        ):
+            self.assertIs(self.outcome(1, f"{line}\n{REFUSED}", "tiny::once")[0], Outcome.UNUSABLE, line)
+        for line in (
+            "src/lib.rt:4:5: error: `tiny::once`: 1 of 3 parts is not proved",
+            "proofs/once/Proof.antt:4:5: error: `tiny::once`: `b` is not in scope",
+        ):
+            self.assertIs(self.outcome(1, f"{line}\n{REFUSED}", "tiny::once")[0], Outcome.OWN, line)
+
+    def test_kept_work_that_cannot_be_used(self):
+        printed = "error: module M of .Rattle-below-specs is another. Run the lower steps again\n" + REFUSED
+        self.assertIs(self.outcome(1, printed, "tiny::once")[0], Outcome.UNKNOWN)
+
+    def test_which_outcomes_are_refusals(self):
+        refusals = [it for it in Outcome if it.is_refusal]
+        self.assertEqual(refusals, [Outcome.OWN, Outcome.ALONE, Outcome.LIMIT])
+
+
+if __name__ == "__main__":
+    unittest.main()
