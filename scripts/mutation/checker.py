@@ -1,6 +1,5 @@
 """Checks a crate with other texts in place of its own. It uses the kit's module rtlib, as `rt must-fail` does."""
 import os
-import re
 import shutil
 import subprocess
 import sys
@@ -34,11 +33,13 @@ def newest(crate):
 
 
 def has_libraries(crate):
-    """Whether the libraries below are those of the sources: as `rt check` stamps them or, with no stamp, as `rt ci` leaves them."""
+    """Whether the libraries below are those of the sources. `rt check` stamps them; those of `rt ci` have no stamp."""
     below = crate.below()
     if any(os.path.exists(f"{it.folder}/out/rlib/stamp") for it in below):
         return all(it.is_built() for it in below)
-    return all(os.path.isdir(it.rlib) and os.path.getmtime(it.rlib) > max(map(newest, [it, *it.below()])) for it in below)
+    return all(
+        os.path.isdir(it.rlib) and os.path.getmtime(it.rlib) > max(map(newest, [it, *it.below()])) for it in below
+    )
 
 
 def linked(one, other):

@@ -17,7 +17,7 @@ class Graph:
         self.reaches = {key: self.reach_of(key) for key in self.calls}
 
     def names_of(self, function):
-        """The names that a check gives this function and its closures. There are none if no name, or more than one, fits."""
+        """The names that a check gives this function and its closures: none if no name fits, or more than one."""
         if function.type:
             # (a method is named in the module of its type, which another file may hold)
             parts = [it.split("::") for it in self.names if it.endswith(f"::{function.name}")]
@@ -62,7 +62,7 @@ class Graph:
         return one == other or one in self.reaches[other] or other in self.reaches[one]
 
     def batches(self, mutants):
-        """The mutants in as few lists as a simple search finds, so that in none two functions clash. Callees come first."""
+        """Few lists of the mutants, callees first, so that no two functions of a list clash."""
         found = []
         for mutant in sorted(mutants, key=lambda it: (len(self.reaches[it.function.key]), it.name)):
             key = mutant.function.key

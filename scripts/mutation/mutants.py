@@ -54,13 +54,15 @@ def applied(folder, edits):
                 raise Unusable(f"there is no file {path}")
             texts[path] = read(f"{folder}/{path}")
         if texts[path].count(old) != 1:
-            raise Unusable(f"an 'old:' text is in {path} {texts[path].count(old)} times, and not once: {old.strip()[:60]}")
+            raise Unusable(
+                f"an 'old:' text is in {path} {texts[path].count(old)} times, and not once: {old.strip()[:60]}"
+            )
         texts[path] = texts[path].replace(old, new)
     return texts
 
 
 def changed_function(folder, edits):
-    """The function of src/ whose body alone these edits change, or None. An edit of clauses, proofs or comments only is unusable."""
+    """The function of src/ whose body alone these edits change, or None. Edits of no code are unusable."""
     bodies, is_code, is_more = [], False, False
     for path, text in applied(folder, edits).items():
         if path.startswith("specs/"):
@@ -101,8 +103,9 @@ def read_mutant(folder, path):
 
 
 def together(folder, mutants):
-    """The new texts of the files that these mutants change, by path. Each mutant is applied to the unchanged file, since the
-    'new:' of one may hold the 'old:' of another."""
+    """The new texts of the files that these mutants change, by path.
+
+    Each mutant is applied to the unchanged file, since the 'new:' of one may hold the 'old:' of another."""
     if len(mutants) == 1:
         return applied(folder, mutants[0].edits)
     lines = {path: read(f"{folder}/{path}").split("\n") for path in {it.function.path for it in mutants}}

@@ -25,7 +25,7 @@ def content(path):
 
 
 def read_by(crate, root, kit):
-    """A sum of what a check of the crate reads: the kit's name, HANDLES, and the crate and all below it with their files."""
+    """A sum of what a check of the crate reads: the kit's name, HANDLES, and the files of the crate and all below."""
     texts = [kit.encode(), content(f"{root}/HANDLES")]
     for it in sorted([crate, *crate.below()], key=lambda it: it.name):
         texts.append(repr((it.name, sorted(dep.name for dep in it.deps), sorted(it.of_kit))).encode())
@@ -63,8 +63,11 @@ def write_record(root, crate, digests, results):
 def sample_of(names, size, turn):
     """The crate and the mutants of this turn: one after another, the lists that hold each recorded mutant once.
 
-    `names` has the recorded mutants by crate. A list is of one crate, since each crate costs a check of it unchanged."""
-    lots = [(crate, found[at : at + size]) for crate, found in sorted(names.items()) for at in range(0, len(found), size)]
+    `names` has the recorded mutants by crate. A list is of one crate, since each crate costs a check of it unchanged.
+    """
+    lots = [
+        (crate, found[at : at + size]) for crate, found in sorted(names.items()) for at in range(0, len(found), size)
+    ]
     return lots[turn % len(lots)] if lots else ("", [])
 
 

@@ -20,7 +20,10 @@ def mutants_of(folder):
 def miscounted(root, crates):
     """The crates that do not have as many mutants as tests/mutant-counts says."""
     want = record.counts_of(root)
-    have = {it.name: len(glob.glob(f"{it.folder}/mutants/*.edit") + glob.glob(f"{it.folder}/must-fail/*.edit")) for it in crates}
+    have = {
+        it.name: len(glob.glob(f"{it.folder}/mutants/*.edit") + glob.glob(f"{it.folder}/must-fail/*.edit"))
+        for it in crates
+    }
     return [
         f"{name} has {have.get(name, 0)} mutants, and {record.COUNTS} says {want.get(name, 0)}"
         for name in sorted({*want, *have})
@@ -30,7 +33,9 @@ def miscounted(root, crates):
 
 def commits(root):
     """How many commits led to this state, or 0 if git does not say."""
-    ran = subprocess.run(["git", "-C", root, "rev-list", "--count", "HEAD"], capture_output=True, text=True, check=False)
+    ran = subprocess.run(
+        ["git", "-C", root, "rev-list", "--count", "HEAD"], capture_output=True, text=True, check=False
+    )
     return 0 if ran.returncode else int(ran.stdout)
 
 
@@ -107,4 +112,5 @@ class Run:
 def summary(tries):
     counts = collections.Counter(f"{it.outcome.value} ({it.where})" for it in tries.results.values())
     text = ", ".join(f"{count} {outcome}" for outcome, count in sorted(counts.items()))
-    return f"{tries.name}: {text or 'no result'}; {tries.checker.checks} checks, {tries.checker.seconds:.0f} processor seconds"
+    cost = f"{tries.checker.checks} checks, {tries.checker.seconds:.0f} processor seconds"
+    return f"{tries.name}: {text or 'no result'}; {cost}"

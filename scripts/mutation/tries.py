@@ -48,7 +48,9 @@ class Tries:
         for _ in range(2):
             # (what a batch leaves open has a chance in a second one, without the mutant that it met in the first)
             opened = [one for found in self.lanes(self.try_batch, self.graph.batches(batched)) for one in found]
-            batched, proved = [it for it, is_proved in opened if not is_proved], [it for it, is_proved in opened if is_proved]
+            batched, proved = [it for it, is_proved in opened if not is_proved], [
+                it for it, is_proved in opened if is_proved
+            ]
             alone += proved
             if not batched:
                 break

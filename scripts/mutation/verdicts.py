@@ -3,7 +3,9 @@ import enum
 import re
 
 LINE = re.compile(r"^fn (\S+): (.*)$", re.M)
-LIMIT = re.compile(r"antt ran out of (stack|the (steps|memory)\b)|(outgrew the memory limit|stopped at the step limit) \(")
+LIMIT = re.compile(
+    r"antt ran out of (stack|the (steps|memory)\b)|(outgrew the memory limit|stopped at the step limit) \("
+)
 # (what a mutant that only makes a statement false never causes)
 UNREADABLE = re.compile(r"is not in scope|has no field|is no name|operand is missing|expected the end|cannot continue")
 STALE = re.compile(r"Run the lower steps again")
@@ -53,7 +55,9 @@ class Check:
         return next((it for it in lines if re.match(r"\S+:\d+:\d+: error|error", it)), lines[-1])[:160]
 
     def outcome(self, names):
-        """What a mutant came to whose function has these names and that was checked alone, and the function or text that shows it."""
+        """What a mutant came to that was checked alone, and the function or text that shows it.
+
+        `names` are those of the function that it changes."""
         last = self.printed.rstrip("\n").rpartition("\n")[2]
         if STALE.search(self.printed):
             return Outcome.UNKNOWN, "the kept work of a library could not be used"

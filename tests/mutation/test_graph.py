@@ -30,7 +30,9 @@ class Names(unittest.TestCase):
 
     def test_methods_have_the_module_of_their_type(self):
         text = "impl Framer {\n    fn f() {\n    }\n}\n"
-        self.assertEqual(self.names("src/a.rt", text, "tiny::b::Framer::f", "tiny::b::Frame::f"), ["tiny::b::Framer::f"])
+        self.assertEqual(
+            self.names("src/a.rt", text, "tiny::b::Framer::f", "tiny::b::Frame::f"), ["tiny::b::Framer::f"]
+        )
         self.assertEqual(self.names("src/a.rt", text, "tiny::b::Framer::g"), [])
 
     def test_methods_of_traits_have_the_traits_words(self):
@@ -64,17 +66,22 @@ class Batches(InFolder):
     def test_callees_of_callees(self):
         text = "fn a() {\n}\n\nfn b() {\n    a()\n}\n\nfn c() {\n    b()\n}\n"
         graph = Graph("tiny", functions({"src/lib.rt": text}), ["tiny::a", "tiny::b", "tiny::c"])
-        self.assertEqual({key[3]: self.named(it) for key, it in graph.reaches.items()}, {"a": set(), "b": {"a"}, "c": {"a", "b"}})
+        self.assertEqual(
+            {key[3]: self.named(it) for key, it in graph.reaches.items()}, {"a": set(), "b": {"a"}, "c": {"a", "b"}}
+        )
 
     def test_methods_are_found_by_their_type(self):
         sources = {
             "src/a.rt": "impl One {\n    fn f(&self) {\n    }\n\n    fn g(&self) {\n        self.f()\n    }\n}\n",
-            "src/b.rt": "impl Two {\n    fn f() {\n    }\n\n    fn h() {\n        Self::f()\n    }\n\n    fn i(it: One) {\n        it.g()\n    }\n}\n",
+            "src/b.rt": "impl Two {\n    fn f() {\n    }\n\n    fn h() {\n        Self::f()\n    }\n\n"
+            "    fn i(it: One) {\n        it.g()\n    }\n}\n",
             "src/c.rt": "fn j() {\n    One::g();\n    a::f()\n}\n\nfn k() {\n    f()\n}\n",
         }
         names = ["One::f", "One::g", "Two::f", "Two::h", "Two::i", "c::j", "c::k"]
         graph = Graph("tiny", functions(sources), [f"tiny::{it}" for it in names])
-        calls = {key[3]: {key[1:4:2] for key in found} for key, found in graph.calls.items() if key[1:4:2] != ("Two", "f")}
+        calls = {
+            key[3]: {key[1:4:2] for key in found} for key, found in graph.calls.items() if key[1:4:2] != ("Two", "f")
+        }
         self.assertEqual(calls["g"], {("One", "f")})
         self.assertEqual(calls["h"], {("Two", "f")})
         self.assertEqual(calls["i"], {("One", "g")})
@@ -83,7 +90,10 @@ class Batches(InFolder):
 
     def mutants(self, *texts):
         found = [("src/lib.rt", f"    {it}", f"    WRONG {it}") for it in texts]
-        return [read_mutant(self.folder, self.write(f"mutants/{at}.edit", edit(it[0], it[1:]))) for at, it in enumerate(found)]
+        return [
+            read_mutant(self.folder, self.write(f"mutants/{at}.edit", edit(it[0], it[1:])))
+            for at, it in enumerate(found)
+        ]
 
     def test_no_caller_is_beside_its_callee_and_no_function_is_twice(self):
         found = self.mutants("a + STEP", "once(once(a))", "let b = twice(a);", "once(b)", "a\n".strip() + " + STEP")

@@ -26,7 +26,11 @@ class Mutants(InFolder):
         self.assertEqual((it.function, it.fault), (None, ""))
 
     def test_a_constant_and_a_head_are_no_body(self):
-        for pair in (("STEP: u64 = 1", "STEP: u64 = 2"), ("pub fn other(a", "pub fn other(mut a"), ("fn other", "fn others")):
+        for pair in (
+            ("STEP: u64 = 1", "STEP: u64 = 2"),
+            ("pub fn other(a", "pub fn other(mut a"),
+            ("fn other", "fn others"),
+        ):
             it = self.mutant(edit("src/lib.rt", pair))
             self.assertEqual((it.function, it.fault), (None, ""))
 
@@ -51,7 +55,10 @@ class Mutants(InFolder):
             self.assertIn(fault, self.mutant(text).fault, text)
 
     def test_clauses_ghosts_and_comments_are_no_code(self):
-        self.write("src/lib.rt", "pub fn f(a: u64) -> u64\n    ensures { result ≡ a }\n{\n    ghost let b = a;\n    // one\n    a\n}\n")
+        self.write(
+            "src/lib.rt",
+            "pub fn f(a: u64) -> u64\n    ensures { result ≡ a }\n{\n    ghost let b = a;\n    // one\n    a\n}\n",
+        )
         self.write("proofs/f/Proof.antt", "a\n")
         for path, pair in (
             ("src/lib.rt", ("result ≡ a", "result ≤ a")),
@@ -92,7 +99,8 @@ class Together(InFolder):
 
     def test_the_new_text_of_one_may_hold_the_old_text_of_another(self):
         found = self.of(
-            edit("src/lib.rt", ("    a + STEP", "    once(once(a))")), edit("src/lib.rt", ("    once(once(a))", "    a + STEP"))
+            edit("src/lib.rt", ("    a + STEP", "    once(once(a))")),
+            edit("src/lib.rt", ("    once(once(a))", "    a + STEP")),
         )
         self.assertEqual(found["src/lib.rt"].count("once(once(a))"), 1)
         self.assertIn("pub fn twice(a: u64) -> u64 {\n    a + STEP\n}", found["src/lib.rt"])
@@ -106,7 +114,8 @@ class Together(InFolder):
         self.assertTrue(found["src/lib.rt"].endswith("{\n    let b = 0;\n    b\n}\n"))
 
     def test_twin_functions_of_two_types(self):
-        twins = "impl One {\n    fn f(&self) -> u64 {\n        1\n    }\n}\n\nimpl Two {\n    fn f(&self) -> u64 {\n        1 + 0\n    }\n}\n"
+        form = "impl {} {{\n    fn f(&self) -> u64 {{\n        {}\n    }}\n}}\n"
+        twins = form.format("One", "1") + "\n" + form.format("Two", "1 + 0")
         self.write("src/twins.rt", twins)
         found = self.of(edit("src/twins.rt", ("1 + 0", "2")), edit("src/lib.rt", ("a + STEP", "a")))
         self.assertEqual(found["src/twins.rt"], twins.replace("1 + 0", "2"))

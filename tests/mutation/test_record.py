@@ -102,7 +102,9 @@ class Samples(unittest.TestCase):
         self.assertEqual(record.sample_of(self.NAMES, 4, 4), ("a", ["1", "2"]))
 
     def test_each_mutant_is_in_one_sample_of_a_round(self):
-        found = [(crate, it) for turn in range(4) for crate, names in [record.sample_of(self.NAMES, 4, turn)] for it in names]
+        found = [
+            (crate, it) for turn in range(4) for crate, names in [record.sample_of(self.NAMES, 4, turn)] for it in names
+        ]
         self.assertEqual(sorted(found), sorted((crate, it) for crate, names in self.NAMES.items() for it in names))
 
     def test_nothing_recorded(self):

@@ -40,7 +40,14 @@ class Runs(InFolder):
         super().setUp()
         self.root = os.path.dirname(self.folder)
         self.write("../HANDLES", "Handles allowed: none.\n")
-        of = {"name": "tiny", "folder": self.folder, "deps": [], "of_kit": ("std",), "below": lambda: [], "need": lambda: 1}
+        of = {
+            "name": "tiny",
+            "folder": self.folder,
+            "deps": [],
+            "of_kit": ("std",),
+            "below": lambda: [],
+            "need": lambda: 1,
+        }
         self.crate = types.SimpleNamespace(**of)
 
     def add(self, name, old, new, path="src/lib.rt", folder="mutants"):

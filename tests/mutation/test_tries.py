@@ -71,7 +71,11 @@ class Crate(InFolder):
         self.add("const", ("STEP: u64 = 1", "STEP: u64 = WRONG"))
         self.add("const-too", ("STEP: u64 = 1", "STEP: u64 = 0 + 1"))
         self.add("one", (ONCE, "    WRONG"))
-        want = {"const": (Outcome.ALONE, "alone"), "const-too": (Outcome.MISSED, "alone"), "one": (Outcome.OWN, "alone")}
+        want = {
+            "const": (Outcome.ALONE, "alone"),
+            "const-too": (Outcome.MISSED, "alone"),
+            "one": (Outcome.OWN, "alone"),
+        }
         self.assertEqual(self.results(), want)
 
     def test_a_limit_of_the_prover(self):
@@ -99,7 +103,11 @@ class Crate(InFolder):
             self.add(f"wrong{at}", (text, f"    WRONG{text}"))
             self.add(f"same{at}", (text, f"{text} + 0"))
         found = self.results()
-        want = {f"{name}{at}": (Outcome.OWN if name == "wrong" else Outcome.MISSED) for name in ("wrong", "same") for at in range(3)}
+        want = {
+            f"{name}{at}": (Outcome.OWN if name == "wrong" else Outcome.MISSED)
+            for name in ("wrong", "same")
+            for at in range(3)
+        }
         self.assertEqual({name: it[0] for name, it in found.items()}, want)
 
 

@@ -29,7 +29,9 @@ class Checks(unittest.TestCase):
 
     def test_refused_at_its_own_function(self):
         self.assertEqual(self.outcome(1, REFUSED, "tiny::once"), (Outcome.OWN, "tiny::once"))
-        self.assertEqual(self.outcome(1, REFUSED, "tiny::fn::a::closure0", "tiny::thrice"), (Outcome.OWN, "tiny::thrice"))
+        self.assertEqual(
+            self.outcome(1, REFUSED, "tiny::fn::a::closure0", "tiny::thrice"), (Outcome.OWN, "tiny::thrice")
+        )
 
     def test_refused_elsewhere(self):
         self.assertEqual(self.outcome(1, REFUSED, "tiny::other"), (Outcome.ALONE, "tiny::once, tiny::thrice"))
@@ -46,7 +48,12 @@ class Checks(unittest.TestCase):
             self.assertIs(self.outcome(3, f"src/lib.rt:1:1: error: {text}\nrattle: no verdict\n")[0], Outcome.LIMIT)
 
     def test_no_verdict_for_another_reason(self):
-        for status, printed in ((3, "rattle: no verdict: a bug\n"), (2, "rattle: what is this\n"), (-9, ""), (3, REFUSED)):
+        for status, printed in (
+            (3, "rattle: no verdict: a bug\n"),
+            (2, "rattle: what is this\n"),
+            (-9, ""),
+            (3, REFUSED),
+        ):
             self.assertIs(self.outcome(status, printed, "tiny::once")[0], Outcome.UNKNOWN)
 
     def test_what_does_not_compile(self):
