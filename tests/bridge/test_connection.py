@@ -488,10 +488,10 @@ class Brokers(Case):
 
 
 class Day(Case):
-    """The broker is away for a day, in which the gateway goes on. A turn takes a minute, and has two lines: so the bridge
-    keeps less than it may keep, or the day would be too short."""
+    """The broker is away for a day, in which the gateway goes on. A turn takes two minutes, and has two lines: they are
+    fewer than a bridge keeps, so this one keeps less."""
 
-    TURNS, KEPT = 1440, 1000
+    TURNS, KEPT = 720, 500
 
     def setUp(self):
         super().setUp()
@@ -513,7 +513,7 @@ class Day(Case):
         """Turns in which one of 50 devices sends, and the gateway answers the bridge, or does not."""
         for number in range(count):
             self.site.tell(reading(f"018000{number % 50:02X}"), status() if answers else OK)
-            self.site.turns(1, 60)
+            self.site.turns(1, 120)
 
     def returns(self):
         """The broker is there again."""
@@ -529,16 +529,11 @@ class Day(Case):
         self.turns(self.TURNS)
         self.assertEqual(self.logged, [
             "WARNING: no connection to h:1883: Connection refused",
-            "WARNING: broker unavailable: 1000 lines kept, dropping the oldest"])
+            "WARNING: broker unavailable: 500 lines kept, dropping the oldest"])
         self.assertGreaterEqual(self.attempts, self.TURNS // 2)
         self.assertEqual(len(bridge.outbox.entries), self.KEPT)
-
-    def test_the_return(self):
-        self.site.start()
-        self.turns(self.TURNS)
-        self.logged.clear()
         self.returns()
-        self.assertEqual(self.logged, ["INFO: connected to h:1883"])
+        self.assertEqual(self.logged[2:], ["INFO: connected to h:1883"])
         last = self.site.lines.read_text().split("\n")[-self.KEPT - 1:-1]
         self.assertEqual([text for topic, text, _ in self.session.published if topic == "enogate/hall/lines"], last)
 
@@ -547,14 +542,14 @@ class Day(Case):
         self.turns(self.TURNS // 2)
         self.turns(self.TURNS // 2, answers=False)
         self.assertEqual(sorted(self.logged), [
-            "WARNING: broker unavailable: 1000 lines kept, dropping the oldest",
+            "WARNING: broker unavailable: 500 lines kept, dropping the oldest",
             "WARNING: no connection to h:1883: Connection refused",
             "WARNING: the gateway does not answer: orders are lost until it runs"])
 
     def test_the_journal_of_reasons_that_change(self):
         self.reasons = ["No route to host", "Connection refused"]
         self.site.start()
-        self.turns(self.KEPT // 2)
+        self.turns(self.KEPT // 3)
         self.assertEqual(self.logged, ["WARNING: no connection to h:1883: Connection refused",
                                        "WARNING: no connection to h:1883: No route to host"])
 
@@ -566,7 +561,7 @@ class Day(Case):
         for _ in range(4):
             self.turns(self.TURNS // 4)
             sizes.append(tracemalloc.get_traced_memory()[0])
-        # a quarter of a day has 720 lines; later ones are in place of the first ones
+        # a quarter of a day has 360 lines; from the second one on, new ones replace old ones
         self.assertGreater(sizes[1], sizes[0])
         self.assertLess(sizes[3], sizes[1] + 50_000)
 
