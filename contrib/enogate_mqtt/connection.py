@@ -214,7 +214,8 @@ class Broker:
         self.connect, self.name, self.clock, self.sleep, self.fraction = connect, name, clock, sleep, fraction
         self.connection: Connection | None = None
         self.pause, self.due, self.version = FIRST_PAUSE, 0.0, 5
-        self.last_reason = ""
+        # the reasons that were logged since the last connection
+        self.reasons: set[str] = set()
         self.short = 0
 
     def turn(self, seconds: float) -> bool:
@@ -233,7 +234,7 @@ class Broker:
             return False
         if self.connection.is_open and not was_open:
             logging.info("connected to %s%s", self.name, self.connection.complaint)
-            self.last_reason = ""
+            self.reasons.clear()
         return self.connection.is_open and not was_open
 
     def wait_or_connect(self, seconds: float) -> bool:
@@ -260,9 +261,9 @@ class Broker:
             if self.short == OFTEN:
                 logging.warning("the connection is lost again and again: is there another bridge with this name?")
         self.drop()
-        if why != self.last_reason:
+        if why not in self.reasons:
             logging.warning("no connection to %s: %s", self.name, why)
-            self.last_reason = why
+            self.reasons.add(why)
         self.due = self.clock() + self.pause * (0.5 + self.fraction() / 2)
         self.pause = min(2 * self.pause, MAX_PAUSE)
 

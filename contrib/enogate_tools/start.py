@@ -77,16 +77,17 @@ class Starter:
                      "correct or remove BASE, and restart the gateway")
 
     def wait(self) -> int:
-        """Like `prepare`, but waits until the port can be used. Each reason is reported once."""
-        reported = ""
+        """Like `prepare`, but waits until the port can be used. Each reason is reported once, even if it comes back:
+        a stick with a loose plug may change between two reasons for days."""
+        reported: set[str] = set()
         while True:
             try:
                 port = self.prepare()
                 break
             except ports.PortError as error:
-                if str(error) != reported:
+                if str(error) not in reported:
                     self.say(WARNING, f"{error}; waiting")
-                    reported = str(error)
+                    reported.add(str(error))
             self.sleep(PAUSE)
         if reported:
             self.say(NOTICE, f"{self.path} can be used now")

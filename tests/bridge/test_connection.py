@@ -1,13 +1,14 @@
 """The connection to the broker, over stand-ins for paho 1.6 and paho 2."""
+import tracemalloc
 import types
 import unittest
 import unittest.mock
 
-from enogate_mqtt import connection
+from enogate_mqtt import connection, outbox
 from enogate_mqtt.connection import Broker, Connection, Lost, Received, WrongProtocol
 from enogate_mqtt.settings import Login
 from enogate_mqtt.topics import Message, Topics
-from fakes import Case, Clock
+from fakes import OK, Case, Clock, Retaining, Site, reading, status
 
 TOPICS = Topics("hall", "homeassistant")
 
@@ -400,7 +401,7 @@ class Brokers(Case):
         self.sessions = [(Lost("one"),), (Lost("two"),), (Lost("two"),), (Lost("one"),)]
         for _ in range(1000):
             self.broker.turn(0.1)
-        self.assertEqual([line.rsplit(" ", 1)[1] for line in self.logged[:4]], ["one", "two", "one", "h:1883"])
+        self.assertEqual([line.rsplit(" ", 1)[1] for line in self.logged], ["one", "two", "h:1883"])
 
     def test_pauses_grow_to_a_minute(self):
         self.sessions = [(OSError(),)] * 9
@@ -484,6 +485,85 @@ class Brokers(Case):
             self.session.lost = Lost("x")
             self.broker.turn(0.1)
         self.assert_logged("is there another bridge", 0)
+
+
+class Day(Case):
+    """The broker is away for a day, in which the gateway goes on. A turn takes two minutes, and has two lines: they are
+    fewer than a bridge keeps, so this one keeps less."""
+
+    TURNS, KEPT = 720, 500
+
+    def setUp(self):
+        super().setUp()
+        self.site, self.session, self.attempts = Site(self), None, 0
+        self.reasons = ["Connection refused"]
+        # all pauses are as short as they may be
+        self.site.broker = Broker(self.connect, "h:1883", self.site.clock, lambda _: None, lambda: 0.0)
+        patch = unittest.mock.patch.object(outbox, "MAX_LINES", self.KEPT)
+        patch.start()
+        self.addCleanup(patch.stop)
+
+    def connect(self, _version, _is_reader):
+        if self.session:
+            return self.session
+        self.attempts += 1
+        raise Lost(self.reasons[self.attempts % len(self.reasons)])
+
+    def turns(self, count, answers=True):
+        """Turns in which one of 50 devices sends, and the gateway answers the bridge, or does not."""
+        for number in range(count):
+            self.site.tell(reading(f"018000{number % 50:02X}"), status() if answers else OK)
+            self.site.turns(1, 120)
+
+    def returns(self):
+        """The broker is there again."""
+        session = self.session = Retaining({})
+        session.is_open, session.complaint, session.began = False, "", self.site.clock()
+        turn = session.turn
+        session.turn = lambda seconds: setattr(session, "is_open", True) or turn(seconds)
+        self.site.tell(status())
+        self.site.turns(200, 0.05)
+
+    def test_the_journal(self):
+        bridge = self.site.start()
+        self.turns(self.TURNS)
+        self.assertEqual(self.logged, [
+            "WARNING: no connection to h:1883: Connection refused",
+            "WARNING: broker unavailable: 500 lines kept, dropping the oldest"])
+        self.assertGreaterEqual(self.attempts, self.TURNS // 2)
+        self.assertEqual(len(bridge.outbox.entries), self.KEPT)
+        self.returns()
+        self.assertEqual(self.logged[2:], ["INFO: connected to h:1883"])
+        last = self.site.lines.read_text().split("\n")[-self.KEPT - 1:-1]
+        self.assertEqual([text for topic, text, _ in self.session.published if topic == "enogate/hall/lines"], last)
+
+    def test_the_journal_of_a_gateway_that_is_silent_too(self):
+        self.site.start()
+        self.turns(self.TURNS // 2)
+        self.turns(self.TURNS // 2, answers=False)
+        self.assertEqual(sorted(self.logged), [
+            "WARNING: broker unavailable: 500 lines kept, dropping the oldest",
+            "WARNING: no connection to h:1883: Connection refused",
+            "WARNING: the gateway does not answer: orders are lost until it runs"])
+
+    def test_the_journal_of_reasons_that_change(self):
+        self.reasons = ["No route to host", "Connection refused"]
+        self.site.start()
+        self.turns(self.KEPT // 3)
+        self.assertEqual(self.logged, ["WARNING: no connection to h:1883: Connection refused",
+                                       "WARNING: no connection to h:1883: No route to host"])
+
+    def test_the_memory(self):
+        self.site.start()
+        tracemalloc.start()
+        self.addCleanup(tracemalloc.stop)
+        sizes = []
+        for _ in range(4):
+            self.turns(self.TURNS // 4)
+            sizes.append(tracemalloc.get_traced_memory()[0])
+        # a quarter of a day has 360 lines; from the second one on, new ones replace old ones
+        self.assertGreater(sizes[1], sizes[0])
+        self.assertLess(sizes[3], sizes[1] + 50_000)
 
 
 if __name__ == "__main__":

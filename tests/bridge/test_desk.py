@@ -1,6 +1,7 @@
 """The desk."""
 import errno
 import os
+import signal
 import unittest
 from unittest import mock
 
@@ -56,6 +57,11 @@ class Desks(Case):
     def test_a_pipe_that_nobody_reads(self):
         self.path.unlink()
         os.mkfifo(self.path)
+        # a desk that waits for a reader would wait for good
+        former = signal.signal(signal.SIGALRM, lambda *_: self.fail("it waits"))
+        self.addCleanup(signal.signal, signal.SIGALRM, former)
+        self.addCleanup(signal.alarm, 0)
+        signal.alarm(10)
         with self.assertRaises(OSError) as error:
             self.desk.append(b"list\n")
         self.assertEqual(error.exception.errno, errno.ENXIO)
