@@ -514,6 +514,23 @@ class Bridging(Case):
         self.site.turns(30)
         self.assertEqual(self.site.bridge.devices.changed, set())
 
+    def test_that_the_broker_was_asked_for_everything_is_saved(self):
+        """The readings of a gateway may be adopted until then, even if the bridge is started again in between."""
+        self.start(*listing(*DEVICES))
+        self.site.turns(30)
+        read = self.site.broker.read
+
+        def slow():
+            reader = read()
+            reader.answers = False
+            return reader
+        self.site.broker.read = slow
+        self.site.tell(*listing(*DEVICES))
+        self.site.turns(30)
+        self.assertEqual((self.site.bridge.devices.may_adopt, self.site.bridge.store.may_adopt), (True, True))
+        self.site.turns(400)
+        self.assertEqual((self.site.bridge.devices.may_adopt, self.site.bridge.store.may_adopt), (False, False))
+
     def test_an_answer_in_the_turn_of_the_connection(self):
         self.site.start()
         self.site.turns(2)
