@@ -43,7 +43,8 @@ class Desk:
             if size + len(orders) > MAX_SIZE:
                 raise OSError("file is full until the gateway restarts")
             if not is_own:
-                self.take_allowance(len(orders))
+                # the end that the last line of the longest message got does not count
+                self.take_allowance(min(len(orders), MAX_BURST))
             text = orders if size == 0 or self.ends_with_line(size) else b"\n" + orders
             if os.write(file, text) != len(text):
                 raise OSError("incomplete write")

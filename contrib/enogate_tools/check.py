@@ -151,12 +151,13 @@ class Check:
         if files is None:
             yield UNCHECKED, "whether the desk was truncated or replaced: run enogate-check as root"
             return
-        held = [file for file in files if file.number > 2 and file.is_read_only and stat.S_ISREG(file.status.st_mode)]
-        if not exists(self.desk) or not any(is_same(file.status, os.stat(self.desk)) for file in held):
+        desk = os.stat(self.desk) if exists(self.desk) else None
+        held = [file for file in files if file.number > 2 and file.is_read_only and desk and is_same(file.status, desk)]
+        if not desk or not held or not stat.S_ISREG(desk.st_mode):
             yield FAULT, (f"the desk {self.desk} was replaced or deleted, for example by an editor: no order reaches "
                           f"the gateway, which reads the old file; {self.restart}, and give the orders again, with >>")
             return
-        place, size = held[0].place, os.stat(self.desk).st_size
+        place, size = held[0].place, desk.st_size
         if place > size:
             yield FAULT, (f"the desk {self.desk} was truncated (> in place of >>): the next {place - size} bytes of "
                           f"orders are lost; {self.restart}, and give the orders again, with >>")

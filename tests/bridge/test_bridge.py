@@ -252,6 +252,15 @@ class Bridging(Case):
         self.site.turns()
         self.assertEqual(self.site.orders()[2:], ["add 01800ABC D5-00-01", "list", "switch 01800ABD 0 on"])
 
+    def test_the_longest_message(self):
+        """16,384 bytes are passed on at once, also if the last line has no end."""
+        for payload in (b"status\n" * 2340 + b"base", b"status\n" * 2340 + b"dim\n"):
+            self.setUp()
+            self.start()
+            self.site.send(HALL + "orders", payload)
+            self.site.turns()
+            self.assertEqual((len(payload), len(self.site.orders()), self.logged), (16384, 2 + 2341, []))
+
     def test_messages_that_are_ignored(self):
         self.start()
         self.site.send(HALL + "orders", b"x" * 20000)
