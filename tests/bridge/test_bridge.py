@@ -367,6 +367,21 @@ class Bridging(Case):
         self.site.turns()
         self.assertEqual(self.lines(), [])
 
+    def test_lines_that_are_not_there(self):
+        """The journal has one line if they are missing at the start; they are read when they come."""
+        for is_missing in (False, True):
+            self.setUp()
+            if is_missing:
+                self.site.lines.unlink()
+            found = self.site.start()
+            with mock.patch.object(found, "turn") as turn:
+                turn.side_effect = lambda: setattr(found, "is_stopped", turn.call_count == 3)
+                found.run()
+            self.assertEqual(self.logged, [
+                f"WARNING: cannot open {self.site.lines}: No such file or directory; retrying"] * is_missing)
+        self.site.tell(OK)
+        self.assertEqual([line for line, _ in found.follower.read()], [json.dumps(OK).encode()])
+
     def test_a_run_that_is_stopped_at_once(self):
         self.site.tell(OK)
         self.site.start()
@@ -539,6 +554,21 @@ class Bridging(Case):
         self.assertEqual((self.site.bridge.devices.may_adopt, self.site.bridge.store.may_adopt), (True, True))
         self.site.turns(400)
         self.assertEqual((self.site.bridge.devices.may_adopt, self.site.bridge.store.may_adopt), (False, False))
+
+    def test_a_loss_while_the_broker_is_asked_for_everything(self):
+        """It is asked again on the next connection."""
+        stray = {HALL + "01800AFF/TMP": "3"}
+        self.start()
+        self.site.broker.memory |= stray
+        self.site.tell(*listing(*DEVICES))
+        self.site.turns(1)
+        self.site.broker.lose()
+        self.site.turns()
+        self.assertTrue(self.site.bridge.devices.may_adopt)
+        self.site.broker.join()
+        self.site.turns(60)
+        self.assertFalse(self.site.bridge.devices.may_adopt)
+        self.assertFalse(stray.keys() & self.site.broker.memory.keys())
 
     def test_an_answer_in_the_turn_of_the_connection(self):
         self.site.start()

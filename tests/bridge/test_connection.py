@@ -316,6 +316,9 @@ class Connecting(Case):
         found = self.connect()
         found.close()
         self.assertTrue(self.client.closed)
+        # paho has closed it
+        self.client.socket = lambda: None
+        found.close()
 
 
 class Session:

@@ -188,6 +188,7 @@ class Known(unittest.TestCase):
                       learned("01800ABC")],
                       listing(("01800ABC", "A5-02-05", ""))[:1] + [learned("01800ABC", "A5-04-01")],
                       listing(("01800ABC", "A5-02-05", "")) + [learned("01800ABC")],
+                      [learned("01800ABC")] + listing(("01800ABC", "A5-02-05", "")),
                       listing(("01800ABC", "A5-02-05", "")) + [reading("01800ABC", "A5-04-01", [
                           {"den": 1, "name": "HUM", "num": 20, "unit": "%"}])]):
             with self.subTest(lines):
