@@ -193,8 +193,9 @@ class Bridging(Case):
         self.assertLess(stray.keys(), self.site.broker.memory.keys())
         self.site.tell(*listing(*DEVICES))
         self.site.turns(30)
-        self.assertEqual(self.site.bridge.devices.known["01800ABC"].told["TMP"], "20")
-        self.assertEqual(self.site.broker.memory[HALL + "01800ABC/TMP"], "20")
+        self.assertEqual(self.site.bridge.devices.known["01800ABC"].told, {"TMP": "20", "dbm": "-45"})
+        self.assertEqual([self.site.broker.memory[HALL + "01800ABC/" + place] for place in ("TMP", "dbm")],
+                         ["20", "-45"])
         self.assertFalse(stray.keys() & self.site.broker.memory.keys())
         self.assertIn(HALL + "note/x", self.site.broker.memory)
 
