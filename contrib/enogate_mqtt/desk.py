@@ -70,9 +70,11 @@ class Desk:
         before = self.inode
         if inode != before or size < self.seen:
             self.inode, self.seen, self.last = inode, 0, b"\n"
-            if inode == 0:
-                return News.NONE
-            return News.TRUNCATED if inode == before else News.REPLACED if before else News.CREATED
+            if inode != 0:
+                return News.TRUNCATED if inode == before else News.REPLACED if before else News.CREATED
+        if inode == 0:
+            # opening a pipe that nobody writes would block
+            return News.NONE
         added = self.last + self.read(self.seen, size - self.seen)
         self.seen += len(added) - len(self.last)
         self.last = added[1 - len(LABEL):]

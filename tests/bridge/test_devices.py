@@ -181,6 +181,13 @@ class Known(unittest.TestCase):
         self.assertEqual(self.devices.known["01800ABC"].told, {"TMP": "20", "last_seen": "2026"})
         self.assertFalse(self.devices.adopt("enogate/hall/01800ABD/TMP", "20"))
 
+    def test_adoption_after_another_start(self):
+        """A device that has sent something keeps to that; of one that has not, the broker may know more."""
+        known = [Device("01800ABC", "A5-04-01", "", None, {"TMP": "20"}), Device("01800ABD", "A5-04-01", "")]
+        self.devices = self.make(may_adopt=True, known=known)
+        self.assertFalse(self.devices.adopt("enogate/hall/01800ABC/HUM", "50"))
+        self.assertTrue(self.devices.adopt("enogate/hall/01800ABD/HUM", "50"))
+
     def test_states_of_an_earlier_life_are_not_adopted(self):
         """A device that lines taught, deleted or gave another profile has no older states."""
         for lines in ([learned("01800ABC")],

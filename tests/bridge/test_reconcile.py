@@ -97,6 +97,28 @@ class Reconciling(Case):
             self.turn(QUIET - 1)
         self.assertFalse(self.reconciler.active[0].is_cancelled)
 
+    def test_a_part_after_a_long_silence(self):
+        self.connection.answers = False
+        self.clock.now += 1000
+        self.reconciler.add([Part("z", ["z/+"])])
+        self.turn(QUIET - 0.1)
+        self.turn()
+        self.assertFalse(self.reconciler.active[0].is_cancelled)
+
+    def test_an_answer_for_one_part_keeps_another_one_waiting(self):
+        self.connection.answers = False
+        self.reconciler.add([Part("x", ["x/+"]), Part("y", ["y/+"])])
+        self.turn(0)
+        self.connection.received.clear()
+        one, other = self.reconciler.active
+        for _ in range(2):
+            # the answer to the request, and then that to its cancellation
+            self.connection.unanswered.discard(one.number)
+            self.turn(QUIET - 1)
+        self.assertEqual((self.compared, other.is_cancelled), ([one], False))
+        self.turn(0)
+        self.assertFalse(other.is_cancelled)
+
     def test_what_is_published_meanwhile_counts(self):
         self.reconciler.add([Part("x", ["x/+"])])
         self.turn()
