@@ -179,11 +179,13 @@ class Program(Case):
         """With --print the settings of what is published apply, and nothing else is needed."""
         lines = b"".join(json.dumps(line).encode() + b"\n" for line in (learned("01800ABC"), reading("01800ABC")))
         out = io.StringIO()
-        with mock.patch("sys.argv", ["enogate-mqtt", "--print", "hall"]), mock.patch("signal.signal"), \
+        with mock.patch("sys.argv", ["enogate-mqtt", "--print", "hall"]), mock.patch("signal.signal") as handler, \
                 mock.patch("os.environ", {"MQTT_DISCOVERY": "ha", "MQTT_EXPIRE_AFTER": "7200"}), \
                 mock.patch("sys.stdin", mock.Mock(buffer=io.BytesIO(lines))), \
                 mock.patch("enogate_mqtt.log.set_up"), contextlib.redirect_stdout(out):
             self.assertEqual(main.main(), 0)
+        # a pipe that is closed ends it without a message
+        handler.assert_called_once_with(main.signal.SIGPIPE, main.signal.SIG_DFL)
         printed = {line.split(" ")[0]: line.split(" ", 2)[1:] for line in out.getvalue().splitlines()}
         self.assertEqual(printed["enogate/hall/01800ABC/TMP"], ["retained", "20"])
         self.assertEqual(printed["enogate/hall/lines"], ["-", json.dumps(reading("01800ABC"))])
