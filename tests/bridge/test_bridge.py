@@ -350,10 +350,10 @@ class Bridging(Case):
 
     def test_another_bridge_of_before_is_found_dead(self):
         self.start()
-        self.site.send(HALL + "status", b"offline")
-        self.site.send(HALL + "status", b"online")
-        self.site.turns()
-        self.assertEqual(self.site.told(HALL + "status"), [(HALL + "status", "online")] * 2)
+        for payload, times in ((b"online", 1), (b"offline", 2), (b"online", 2)):
+            self.site.send(HALL + "status", payload)
+            self.site.turns()
+            self.assertEqual(self.site.told(HALL + "status"), [(HALL + "status", "online")] * times)
 
     def test_the_end(self):
         self.start()
