@@ -22,6 +22,15 @@ class Parts(unittest.TestCase):
             part.note(f"a/{number}", "x")
         part.note("b", "y")
         self.assertEqual((len(part.retained), part.retained["b"]), (MAX_UNKNOWN + 1, "y"))
+        part.note("a/0", "new")
+        self.assertEqual(part.retained["a/0"], "new")
+
+    def test_a_topic_that_comes_often_is_no_flood(self):
+        part = Part("x", ["a/+"])
+        for number in range(MAX_UNKNOWN + 10):
+            part.note("a/1", str(number))
+        part.note("a/2", "y")
+        self.assertEqual(part.retained, {"a/1": str(MAX_UNKNOWN + 9), "a/2": "y"})
 
 
 class Reconciling(Case):
