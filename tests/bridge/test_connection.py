@@ -172,8 +172,9 @@ class Connecting(Case):
                                     (4, 5, "connack 5")):
             found = self.connect(version)
             self.client.on_connect(self.client, None, {}, code)
-            with self.assertRaisesRegex(Lost, f"^rejected by the broker: {text}$"):
+            with self.assertRaisesRegex(Lost, f"^rejected by the broker: {text}$") as lost:
                 found.turn(0)
+            self.assertNotIsInstance(lost.exception, WrongProtocol)
 
     def test_a_broker_without_mqtt_5(self):
         for code in (1, Code(132)):

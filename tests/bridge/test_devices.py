@@ -206,11 +206,14 @@ class Known(unittest.TestCase):
     def test_with_a_state_file_nothing_is_adopted(self):
         self.take(*listing(("01800ABC", "A5-02-05", "")))
         self.assertFalse(self.devices.adopt("enogate/hall/01800ABC/TMP", "20"))
+        self.devices = self.make(known=[Device("01800ABC", "A5-02-05", "")])
+        self.assertFalse(self.devices.adopt("enogate/hall/01800ABC/TMP", "20"))
 
     def test_changes_are_noted(self):
-        self.take(reading("01800ABC"))
-        self.assertEqual(self.devices.changed, {"01800ABC"})
-        self.devices.changed = set()
+        for _ in range(2):
+            self.take(reading("01800ABC"))
+            self.assertEqual(self.devices.changed, {"01800ABC"})
+            self.devices.changed = set()
         self.take(learned("01800ABC", result="deleted"))
         self.assertEqual(self.devices.changed, {"01800ABC"})
 
