@@ -43,7 +43,8 @@ class Desk:
             if size + len(orders) > MAX_SIZE:
                 raise OSError("file is full until the gateway restarts")
             if not is_own:
-                self.take_allowance(len(orders))
+                # the end that the last line of the longest message got does not count
+                self.take_allowance(min(len(orders), MAX_BURST))
             text = orders if size == 0 or self.ends_with_line(size) else b"\n" + orders
             if os.write(file, text) != len(text):
                 raise OSError("incomplete write")
@@ -69,9 +70,11 @@ class Desk:
         before = self.inode
         if inode != before or size < self.seen:
             self.inode, self.seen, self.last = inode, 0, b"\n"
-            if inode == 0:
-                return News.NONE
-            return News.TRUNCATED if inode == before else News.REPLACED if before else News.CREATED
+            if inode != 0:
+                return News.TRUNCATED if inode == before else News.REPLACED if before else News.CREATED
+        if inode == 0:
+            # opening a pipe that nobody writes would block
+            return News.NONE
         added = self.last + self.read(self.seen, size - self.seen)
         self.seen += len(added) - len(self.last)
         self.last = added[1 - len(LABEL):]

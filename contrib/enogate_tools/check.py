@@ -32,6 +32,14 @@ def exists(path: str) -> bool:
         return False
 
 
+def unquoted(value: str) -> str:
+    """A value without its quotes; unchanged if one of them has no partner."""
+    try:
+        return "".join(shlex.split(value)[:1])
+    except ValueError:
+        return value
+
+
 class Check:
     """The checks of one gateway. Each yields its findings: a kind, and a sentence."""
 
@@ -58,12 +66,11 @@ class Check:
 
     def of_settings(self):
         """The settings of the gateway, which override those of all."""
-        for path in ("/etc/default/enogate", f"/etc/default/enogate-{self.name}"):
-            if path.endswith(self.name) and not exists(self.system.path(path)):
-                continue
-            with open(self.system.path(path), encoding="utf-8", errors="replace") as file:
+        of_all, own = (self.system.path(f"/etc/default/enogate{end}") for end in ("", f"-{self.name}"))
+        for path in (of_all, own) if exists(own) else (of_all,):
+            with open(path, encoding="utf-8", errors="replace") as file:
                 for key, value in re.findall(r"^\s*(\w+)=(.*)$", file.read(), re.MULTILINE):
-                    self.settings[key] = "".join(shlex.split(value)[:1]) if value.count('"') % 2 == 0 else value
+                    self.settings[key] = unquoted(value)
         where = f"correct it in /etc/default/enogate-{self.name}"
         base, turns = self.settings["BASE"], self.settings["TURNS"]
         if base and not ports.is_base(base):
@@ -151,12 +158,13 @@ class Check:
         if files is None:
             yield UNCHECKED, "whether the desk was truncated or replaced: run enogate-check as root"
             return
-        held = [file for file in files if file.number > 2 and file.is_read_only and stat.S_ISREG(file.status.st_mode)]
-        if not exists(self.desk) or not any(is_same(file.status, os.stat(self.desk)) for file in held):
+        desk = os.stat(self.desk) if exists(self.desk) else None
+        held = [file for file in files if file.number > 2 and file.is_read_only and desk and is_same(file.status, desk)]
+        if not desk or not held or not stat.S_ISREG(desk.st_mode):
             yield FAULT, (f"the desk {self.desk} was replaced or deleted, for example by an editor: no order reaches "
                           f"the gateway, which reads the old file; {self.restart}, and give the orders again, with >>")
             return
-        place, size = held[0].place, os.stat(self.desk).st_size
+        place, size = held[0].place, desk.st_size
         if place > size:
             yield FAULT, (f"the desk {self.desk} was truncated (> in place of >>): the next {place - size} bytes of "
                           f"orders are lost; {self.restart}, and give the orders again, with >>")

@@ -193,8 +193,9 @@ class Bridging(Case):
         self.assertLess(stray.keys(), self.site.broker.memory.keys())
         self.site.tell(*listing(*DEVICES))
         self.site.turns(30)
-        self.assertEqual(self.site.bridge.devices.known["01800ABC"].told["TMP"], "20")
-        self.assertEqual(self.site.broker.memory[HALL + "01800ABC/TMP"], "20")
+        self.assertEqual(self.site.bridge.devices.known["01800ABC"].told, {"TMP": "20", "dbm": "-45"})
+        self.assertEqual([self.site.broker.memory[HALL + "01800ABC/" + place] for place in ("TMP", "dbm")],
+                         ["20", "-45"])
         self.assertFalse(stray.keys() & self.site.broker.memory.keys())
         self.assertIn(HALL + "note/x", self.site.broker.memory)
 
@@ -251,6 +252,15 @@ class Bridging(Case):
         self.site.send(HALL + "01800ABD/OV/0/set", b"ON")
         self.site.turns()
         self.assertEqual(self.site.orders()[2:], ["add 01800ABC D5-00-01", "list", "switch 01800ABD 0 on"])
+
+    def test_the_longest_message(self):
+        """16,384 bytes are passed on at once, also if the last line has no end."""
+        for payload in (b"status\n" * 2340 + b"base", b"status\n" * 2340 + b"dim\n"):
+            self.setUp()
+            self.start()
+            self.site.send(HALL + "orders", payload)
+            self.site.turns()
+            self.assertEqual((len(payload), len(self.site.orders()), self.logged), (16384, 2 + 2341, []))
 
     def test_messages_that_are_ignored(self):
         self.start()
@@ -340,10 +350,10 @@ class Bridging(Case):
 
     def test_another_bridge_of_before_is_found_dead(self):
         self.start()
-        self.site.send(HALL + "status", b"offline")
-        self.site.send(HALL + "status", b"online")
-        self.site.turns()
-        self.assertEqual(self.site.told(HALL + "status"), [(HALL + "status", "online")] * 2)
+        for payload, times in ((b"online", 1), (b"offline", 2), (b"online", 2)):
+            self.site.send(HALL + "status", payload)
+            self.site.turns()
+            self.assertEqual(self.site.told(HALL + "status"), [(HALL + "status", "online")] * times)
 
     def test_the_end(self):
         self.start()
@@ -357,6 +367,21 @@ class Bridging(Case):
         self.site.broker.join()
         self.site.turns()
         self.assertEqual(self.lines(), [])
+
+    def test_lines_that_are_not_there(self):
+        """The journal has one line if they are missing at the start; they are read when they come."""
+        for is_missing in (False, True):
+            self.setUp()
+            if is_missing:
+                self.site.lines.unlink()
+            found = self.site.start()
+            with mock.patch.object(found, "turn") as turn:
+                turn.side_effect = lambda: setattr(found, "is_stopped", turn.call_count == 3)
+                found.run()
+            self.assertEqual(self.logged, [
+                f"WARNING: cannot open {self.site.lines}: No such file or directory; retrying"] * is_missing)
+        self.site.tell(OK)
+        self.assertEqual([line for line, _ in found.follower.read()], [json.dumps(OK).encode()])
 
     def test_a_run_that_is_stopped_at_once(self):
         self.site.tell(OK)
@@ -513,6 +538,38 @@ class Bridging(Case):
         self.site.bridge.devices.changed.add("01800ABC")
         self.site.turns(30)
         self.assertEqual(self.site.bridge.devices.changed, set())
+
+    def test_that_the_broker_was_asked_for_everything_is_saved(self):
+        """The readings of a gateway may be adopted until then, even if the bridge is started again in between."""
+        self.start(*listing(*DEVICES))
+        self.site.turns(30)
+        read = self.site.broker.read
+
+        def slow():
+            reader = read()
+            reader.answers = False
+            return reader
+        self.site.broker.read = slow
+        self.site.tell(*listing(*DEVICES))
+        self.site.turns(30)
+        self.assertEqual((self.site.bridge.devices.may_adopt, self.site.bridge.store.may_adopt), (True, True))
+        self.site.turns(400)
+        self.assertEqual((self.site.bridge.devices.may_adopt, self.site.bridge.store.may_adopt), (False, False))
+
+    def test_a_loss_while_the_broker_is_asked_for_everything(self):
+        """It is asked again on the next connection."""
+        stray = {HALL + "01800AFF/TMP": "3"}
+        self.start()
+        self.site.broker.memory |= stray
+        self.site.tell(*listing(*DEVICES))
+        self.site.turns(1)
+        self.site.broker.lose()
+        self.site.turns()
+        self.assertTrue(self.site.bridge.devices.may_adopt)
+        self.site.broker.join()
+        self.site.turns(60)
+        self.assertFalse(self.site.bridge.devices.may_adopt)
+        self.assertFalse(stray.keys() & self.site.broker.memory.keys())
 
     def test_an_answer_in_the_turn_of_the_connection(self):
         self.site.start()

@@ -173,8 +173,9 @@ class Connecting(Case):
                                     (4, 5, "connack 5")):
             found = self.connect(version)
             self.client.on_connect(self.client, None, {}, code)
-            with self.assertRaisesRegex(Lost, f"^rejected by the broker: {text}$"):
+            with self.assertRaisesRegex(Lost, f"^rejected by the broker: {text}$") as lost:
                 found.turn(0)
+            self.assertNotIsInstance(lost.exception, WrongProtocol)
 
     def test_a_broker_without_mqtt_5(self):
         for code in (1, Code(132)):
@@ -259,6 +260,14 @@ class Connecting(Case):
         found.turn(0.1)
         self.assertEqual(len(found.received), 5 + connection.MAX_LOOPS)
 
+    def test_a_turn_handles_all_acknowledgements(self):
+        found = self.connect()
+        numbers = [found.publish(Message("a", "x", True)) for _ in range(5)]
+        self.client.steps = [lambda number=number: self.client.on_publish(self.client, None, number)
+                             for number in numbers]
+        found.turn(0.1)
+        self.assertEqual(found.unacknowledged, set())
+
     def test_a_loss(self):
         found = self.connect()
         self.client.steps = [lambda: 7]
@@ -317,6 +326,9 @@ class Connecting(Case):
         found = self.connect()
         found.close()
         self.assertTrue(self.client.closed)
+        # paho has closed it
+        self.client.socket = lambda: None
+        found.close()
 
 
 class Session:
@@ -381,6 +393,14 @@ class Brokers(Case):
 
     def test_an_opening_is_told_once(self):
         self.assertEqual(self.turns(4), [False, True, False, False])
+        self.assert_logged("INFO: connected to h:1883")
+
+    def test_a_connection_that_is_not_open_yet(self):
+        self.sessions = [(None, False)]
+        self.assertEqual(self.turns(5), [False] * 5)
+        self.assertEqual(self.logged, [])
+        self.session.opens = True
+        self.assertEqual(self.turns(2), [True, False])
         self.assert_logged("INFO: connected to h:1883")
 
     def test_a_complaint_is_logged(self):

@@ -140,6 +140,13 @@ class Desks(Case):
         self.assertIs(self.desk.news(), News.CREATED)
         self.assertIs(self.desk.news(), News.LABELLED)
 
+    def test_a_pipe_has_no_news(self):
+        self.path.unlink()
+        os.mkfifo(self.path)
+        with mock.patch("builtins.open", side_effect=AssertionError("it would wait for a program that writes")):
+            self.assertIs(self.desk.news(), News.NONE)
+            self.assertIs(self.desk.news(), News.NONE)
+
     def test_labels(self):
         self.write("label 01800ABC at the beginning\n")
         self.assertIs(self.desk.news(), News.LABELLED)

@@ -181,6 +181,13 @@ class Known(unittest.TestCase):
         self.assertEqual(self.devices.known["01800ABC"].told, {"TMP": "20", "last_seen": "2026"})
         self.assertFalse(self.devices.adopt("enogate/hall/01800ABD/TMP", "20"))
 
+    def test_adoption_after_another_start(self):
+        """A device that has sent something keeps to that; of one that has not, the broker may know more."""
+        known = [Device("01800ABC", "A5-04-01", "", None, {"TMP": "20"}), Device("01800ABD", "A5-04-01", "")]
+        self.devices = self.make(may_adopt=True, known=known)
+        self.assertFalse(self.devices.adopt("enogate/hall/01800ABC/HUM", "50"))
+        self.assertTrue(self.devices.adopt("enogate/hall/01800ABD/HUM", "50"))
+
     def test_states_of_an_earlier_life_are_not_adopted(self):
         """A device that lines taught, deleted or gave another profile has no older states."""
         for lines in ([learned("01800ABC")],
@@ -188,6 +195,7 @@ class Known(unittest.TestCase):
                       learned("01800ABC")],
                       listing(("01800ABC", "A5-02-05", ""))[:1] + [learned("01800ABC", "A5-04-01")],
                       listing(("01800ABC", "A5-02-05", "")) + [learned("01800ABC")],
+                      [learned("01800ABC")] + listing(("01800ABC", "A5-02-05", "")),
                       listing(("01800ABC", "A5-02-05", "")) + [reading("01800ABC", "A5-04-01", [
                           {"den": 1, "name": "HUM", "num": 20, "unit": "%"}])]):
             with self.subTest(lines):
@@ -198,11 +206,14 @@ class Known(unittest.TestCase):
     def test_with_a_state_file_nothing_is_adopted(self):
         self.take(*listing(("01800ABC", "A5-02-05", "")))
         self.assertFalse(self.devices.adopt("enogate/hall/01800ABC/TMP", "20"))
+        self.devices = self.make(known=[Device("01800ABC", "A5-02-05", "")])
+        self.assertFalse(self.devices.adopt("enogate/hall/01800ABC/TMP", "20"))
 
     def test_changes_are_noted(self):
-        self.take(reading("01800ABC"))
-        self.assertEqual(self.devices.changed, {"01800ABC"})
-        self.devices.changed = set()
+        for _ in range(2):
+            self.take(reading("01800ABC"))
+            self.assertEqual(self.devices.changed, {"01800ABC"})
+            self.devices.changed = set()
         self.take(learned("01800ABC", result="deleted"))
         self.assertEqual(self.devices.changed, {"01800ABC"})
 

@@ -364,7 +364,17 @@ class Templates(unittest.TestCase):
 
 class Manufacturers(unittest.TestCase):
     def test_some_that_everybody_knows(self):
-        for maker, name in ((0x00B, "EnOcean"), (0x00D, "Eltako"), (0x002, "Thermokon"), (0x005, None)):
+        for maker, name in (
+            (0x001, "PEHA"), (0x002, "Thermokon"), (0x003, "Servodan"), (0x004, "Echoflex Solutions"), (0x005, None),
+            (0x009, "Distech Controls"), (0x00A, "Kieback&Peter"), (0x00B, "EnOcean"), (0x00D, "Eltako"),
+            (0x00E, "Leviton"), (0x00F, "Honeywell"), (0x010, "Spartan Peripheral Devices"), (0x011, "Siemens"),
+            (0x014, "Elsner Elektronik"), (0x015, "Diehl Controls"), (0x016, "BSC Computer"),
+            (0x019, "Intesis Software"), (0x01A, "Viessmann"), (0x01D, "Sauter"), (0x01F, "Osram Sylvania"),
+            (0x021, "Delta Controls"), (0x023, "NanoSense"), (0x027, "Maico"), (0x029, "Magnum Energy Solutions"),
+            (0x02D, "Afriso-Euro-Index"), (0x033, "Permundo"), (0x034, "Eurotronic Technology"),
+            (0x03C, "Pressac Communications"), (0x040, "Jäger Direkt"), (0x046, "NodOn (ID-RF)"), (0x049, "Micropelt"),
+            (0x04A, "Caleffi"), (0x053, "Oventrop"), (0x05C, "Hoppe"), (0x05D, "Siegenia-Aubi"), (0x7FF, None),
+        ):
             with self.subTest(maker):
                 found = discovery.about_device(TOPICS, "01800ABC", "D5-00-01", "", maker)["manufacturer"]
                 self.assertEqual(found, name or f"EnOcean manufacturer ID {maker}")

@@ -221,9 +221,12 @@ class Following(Case):
         follower = self.follower()
         self.write("a\n")
         self.read(follower)
-        self.rotate()
-        self.write("b\n")
-        self.assertEqual(self.read(follower), ["b"])
+        place = follower.place
+        self.write("b\n", self.rotate())
+        self.write("c\n")
+        self.assertEqual(self.read(follower), ["b", "c"])
+        self.assertEqual(self.read(self.follower(place)), ["b", "c"])
+        self.assertEqual(self.logged, [])
 
     def test_files_are_closed(self):
         before = len(os.listdir("/proc/self/fd"))

@@ -22,6 +22,15 @@ class Parts(unittest.TestCase):
             part.note(f"a/{number}", "x")
         part.note("b", "y")
         self.assertEqual((len(part.retained), part.retained["b"]), (MAX_UNKNOWN + 1, "y"))
+        part.note("a/0", "new")
+        self.assertEqual(part.retained["a/0"], "new")
+
+    def test_a_topic_that_comes_often_is_no_flood(self):
+        part = Part("x", ["a/+"])
+        for number in range(MAX_UNKNOWN + 10):
+            part.note("a/1", str(number))
+        part.note("a/2", "y")
+        self.assertEqual(part.retained, {"a/1": str(MAX_UNKNOWN + 9), "a/2": "y"})
 
 
 class Reconciling(Case):
@@ -96,6 +105,28 @@ class Reconciling(Case):
             self.reconciler.take("x/3", "x")
             self.turn(QUIET - 1)
         self.assertFalse(self.reconciler.active[0].is_cancelled)
+
+    def test_a_part_after_a_long_silence(self):
+        self.connection.answers = False
+        self.clock.now += 1000
+        self.reconciler.add([Part("z", ["z/+"])])
+        self.turn(QUIET - 0.1)
+        self.turn()
+        self.assertFalse(self.reconciler.active[0].is_cancelled)
+
+    def test_an_answer_for_one_part_keeps_another_one_waiting(self):
+        self.connection.answers = False
+        self.reconciler.add([Part("x", ["x/+"]), Part("y", ["y/+"])])
+        self.turn(0)
+        self.connection.received.clear()
+        one, other = self.reconciler.active
+        for _ in range(2):
+            # the answer to the request, and then that to its cancellation
+            self.connection.unanswered.discard(one.number)
+            self.turn(QUIET - 1)
+        self.assertEqual((self.compared, other.is_cancelled), ([one], False))
+        self.turn(0)
+        self.assertFalse(other.is_cancelled)
 
     def test_what_is_published_meanwhile_counts(self):
         self.reconciler.add([Part("x", ["x/+"])])

@@ -168,6 +168,16 @@ class Asking(Case):
         self.assertIn("status", self.turn(1))
         self.assertEqual(self.times("learn off", 300), [118])
 
+    def test_the_status_is_asked_for_after_a_window_has_closed(self):
+        self.turn()
+        self.requests.list.answer()
+        self.requests.take(STATUS)
+        self.requests.command(b"learn on\n")
+        self.turn(1)
+        self.assertEqual(self.turn(60), ["status"])
+        self.assertEqual(self.turn(59), ["learn off"])
+        self.assertEqual(self.turn(0.1), ["status"])
+
     def test_a_second_command_extends_the_window(self):
         self.turn()
         self.requests.command(b"learn on\n")

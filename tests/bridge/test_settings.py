@@ -1,6 +1,7 @@
 """The command line and the environment variables."""
 import contextlib
 import io
+import json
 import ssl
 import subprocess
 import time
@@ -10,7 +11,7 @@ from unittest import mock
 from enogate_mqtt import VERSION, main, settings
 from enogate_mqtt.devices import Device
 from enogate_mqtt.settings import Login, Options, Words, WrongSetting, read_login, read_options, read_words
-from fakes import Case, Site
+from fakes import Case, Site, learned, reading
 
 PATHS = ["--lines", "l", "--desk", "d", "--state", "s"]
 
@@ -173,6 +174,23 @@ class Program(Case):
             main.run(words, Options("other", 60, 7200))
         self.assertLess({"x/y", "homeassistant/binary_sensor/enogate_hall/status/config"},
                         bridge.call_args.args[2].removed)
+
+    def test_what_is_printed(self):
+        """With --print the settings of what is published apply, and nothing else is needed."""
+        lines = b"".join(json.dumps(line).encode() + b"\n" for line in (learned("01800ABC"), reading("01800ABC")))
+        out = io.StringIO()
+        with mock.patch("sys.argv", ["enogate-mqtt", "--print", "hall"]), mock.patch("signal.signal") as handler, \
+                mock.patch("os.environ", {"MQTT_DISCOVERY": "ha", "MQTT_EXPIRE_AFTER": "7200"}), \
+                mock.patch("sys.stdin", mock.Mock(buffer=io.BytesIO(lines))), \
+                mock.patch("enogate_mqtt.log.set_up"), contextlib.redirect_stdout(out):
+            self.assertEqual(main.main(), 0)
+        # a pipe that is closed ends it without a message
+        handler.assert_called_once_with(main.signal.SIGPIPE, main.signal.SIG_DFL)
+        printed = {line.split(" ")[0]: line.split(" ", 2)[1:] for line in out.getvalue().splitlines()}
+        self.assertEqual(printed["enogate/hall/01800ABC/TMP"], ["retained", "20"])
+        self.assertEqual(printed["enogate/hall/lines"], ["-", json.dumps(reading("01800ABC"))])
+        kind, config = printed["ha/sensor/enogate_hall/01800ABC_TMP/config"]
+        self.assertEqual((kind, json.loads(config)["expire_after"]), ("retained", 7200))
 
     def test_an_interrupt(self):
         with mock.patch("enogate_mqtt.main.run", side_effect=KeyboardInterrupt):

@@ -1,4 +1,5 @@
 """The state file."""
+import pathlib
 import sqlite3
 import unittest
 from unittest import mock
@@ -107,6 +108,19 @@ class Stores(Case):
             file.seek(100)
             file.write(b"\xff" * 8000)
         self.is_replaced("")
+
+    def test_a_damaged_file_with_a_log(self):
+        """What a power failure may leave: a log of pages that belong to the damaged file."""
+        store = self.open()
+        store.save(PLACE, ["01800ABC"], {"01800ABC": self.device}, set())
+        store.connection.execute("PRAGMA wal_checkpoint(TRUNCATE)")
+        store.save(Place(8, 1, b"y"), [], {}, {"a"})
+        left = {end: pathlib.Path(f"{self.path}{end}").read_bytes() for end in ("", "-wal")}
+        store.connection.close()
+        self.path.write_bytes(b"\xff" * 100 + left[""][100:])
+        pathlib.Path(f"{self.path}-wal").write_bytes(left["-wal"])
+        self.assertGreater(len(left["-wal"]), 1000)
+        self.is_replaced("file is not a database")
 
     def sql(self, text):
         connection = sqlite3.connect(self.path)
