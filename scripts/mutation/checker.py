@@ -103,7 +103,7 @@ class Checker:
                 ran.returncode = os.waitstatus_to_exitcode(status)
         self.seconds += used.ru_utime + used.ru_stime
         self.checks += 1
-        return Check(ran.returncode, printed)
+        return Check(ran.returncode, printed, texts)
 
     def is_sound(self):
         """Whether no check has changed the seed."""

@@ -63,8 +63,9 @@ class Tries:
             return [(mutants[0], True)]
         check = self.checker.check(together(self.checker.folder, mutants))
         own = {name for it in mutants for name in self.names_of(it)}
-        if not check.functions or check.unreadable or not own.issuperset(check.refused):
-            # one does not compile, cannot be read, or makes the own proof of another function fail
+        if not check.functions or not check.is_whole or check.unreadable or not own.issuperset(check.refused):
+            # one does not compile, cannot be read, or makes the own proof of another function fail, or the check had
+            # no verdict
             half = len(mutants) // 2
             return self.try_batch(mutants[:half]) + self.try_batch(mutants[half:])
         opened = []
