@@ -34,6 +34,14 @@ class Mutants(InFolder):
             it = self.mutant(edit("src/lib.rt", pair))
             self.assertEqual((it.function, it.fault), (None, ""))
 
+    def test_a_body_and_something_else_are_no_single_body(self):
+        for pairs in (
+            (("STEP: u64 = 1", "STEP: u64 = 2"), ("    a + STEP", "    a")),
+            (("pub fn once(a", "pub fn once(mut a"), ("    a + STEP", "    a")),
+        ):
+            it = self.mutant(edit("src/lib.rt", *pairs))
+            self.assertEqual((it.function, it.fault), (None, ""))
+
     def test_a_definition_is_tried_but_belongs_to_no_function(self):
         self.write("specs/Lib.antt", "def a := 1\n")
         it = self.mutant(edit("specs/Lib.antt", ("def a := 1", "def a := 2")))

@@ -204,6 +204,33 @@ class Libraries(InFolder):
         self.age("src/lib.rt", 30)
         self.assertFalse(checker.has_libraries(self.high))
 
+    def lowest(self, has_stamp, is_built):
+        """Adds a library below `low`."""
+        folder = os.path.dirname(self.folder) + "/lowest"
+        self.write("../lowest/src/lib.rt", "")
+        self.write("../lowest/out/rlib/lowest.rlib/format", "")
+        if has_stamp:
+            self.write("../lowest/out/rlib/stamp", "")
+        rlib = f"{folder}/out/rlib/lowest.rlib"
+        of = {"name": "lowest", "folder": folder, "rlib": rlib, "below": lambda: [], "is_built": lambda: is_built}
+        lowest = types.SimpleNamespace(**of)
+        self.low.below = lambda: [lowest]
+        self.high.below = lambda: [lowest, self.low]
+        return lowest
+
+    def test_one_stamp_decides_for_all(self):
+        self.lowest(has_stamp=True, is_built=True)
+        self.assertTrue(checker.has_libraries(self.high))
+        self.low.built = False
+        self.assertFalse(checker.has_libraries(self.high))
+
+    def test_without_a_stamp_a_library_is_newer_than_the_sources_below_it(self):
+        lowest = self.lowest(has_stamp=False, is_built=False)
+        for source, is_current in ((15, True), (30, False)):
+            os.utime(f"{lowest.folder}/src/lib.rt", (source, source))
+            os.utime(lowest.rlib, (40, 40))
+            self.assertEqual(checker.has_libraries(self.high), is_current)
+
     def test_no_library(self):
         self.low.rlib += ".none"
         self.assertFalse(checker.has_libraries(self.high))
