@@ -1,4 +1,4 @@
-"""Which functions a check names how, which call which, and which mutants may therefore be tried in one check."""
+"""The names that a check gives the functions, their calls, and which mutants can therefore be tried in one check."""
 import collections
 import re
 
@@ -51,7 +51,7 @@ class Graph:
         return [name] + [it for it in self.names if it.startswith(inner)]
 
     def calls_of(self, function):
-        """The functions that this body may call: those of such a name that the check named earlier."""
+        """The functions that this body may call: those with a name in it that the check named earlier."""
         own, found = self.rank.get(function.key, -1), set()
         for before, name in CALL.findall(NO_CALLS.sub("", function.body)):
             named = [it for it in self.functions if it.name == name and self.rank.get(it.key, -1) < own]
@@ -79,7 +79,7 @@ class Graph:
         return one == other or one in self.reaches[other] or other in self.reaches[one]
 
     def batches(self, mutants):
-        """Few lists of the mutants, callees first, so that no two functions of a list clash."""
+        """The mutants in a few lists, callees first. No two functions of a list clash."""
         found = []
         for mutant in sorted(mutants, key=lambda it: (len(self.reaches[it.function.key]), it.name)):
             key = mutant.function.key

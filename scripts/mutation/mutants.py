@@ -10,14 +10,14 @@ CLAUSES = re.compile(r"\s*\b(?:requires|ensures)\b.*", re.S)
 
 
 class Unusable(Exception):
-    """Why a mutant cannot be applied, or says nothing of the code."""
+    """Why a mutant cannot be applied, or shows nothing about the code."""
 
 
 class Mutant(NamedTuple):
     name: str
     text: str
     edits: tuple[tuple[str, str, str], ...]  # path of a file, and the text in it that another replaces
-    function: Function | None  # the only one that it changes, or None if it changes more, or something else
+    function: Function | None  # the one whose body it changes, or None if it changes more or something else
     fault: str  # why it is unusable, or ""
 
 
@@ -68,14 +68,14 @@ def applied(folder, edits):
 
 
 def changed_function(folder, edits):
-    """The function of src/ whose body alone these edits change, or None. Edits of no code are unusable."""
+    """The function of src/ if these edits change only its body, or None. Edits of no code are unusable."""
     bodies, is_code, is_more = [], False, False
     for path, text in applied(folder, edits).items():
         if path.startswith("specs/"):
             is_code = is_more = True
             continue
         if path.startswith("proofs/"):
-            # (a batch has the changed bodies alone)
+            # (only the changed bodies come into a batch)
             is_more = True
             continue
         (old, old_rest), (new, new_rest) = functions_of(path, read(f"{folder}/{path}")), functions_of(path, text)

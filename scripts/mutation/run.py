@@ -9,7 +9,7 @@ from mutation import checker, record
 from mutation.mutants import read, read_mutant
 from mutation.tries import Tries
 
-# How many recorded mutants a run tries again.
+# The number of recorded mutants that a run tries again.
 SAMPLE = 8
 
 
@@ -94,7 +94,7 @@ class Run:
             checks.close()
         left = {it.name for it in mutants} - {*tries.results}
         if fault:
-            # (what such checks found is not recorded)
+            # (the results of such checks must not be recorded)
             tries.results.clear()
         elif left:
             fault = f"{crate.name}: {min(left)} was not tried"

@@ -6,10 +6,10 @@ LINE = re.compile(r"^fn (\S+): (.*)$", re.M)
 LIMIT = re.compile(
     r"antt ran out of (stack|the (steps|memory)\b)|(outgrew the memory limit|stopped at the step limit) \("
 )
-# (what a mutant that only makes a statement false never causes)
+# (a mutant that only makes a statement false causes none of these)
 UNREADABLE = re.compile(r"is not in scope|has no field|is no name|operand is missing|expected the end|cannot continue")
 STALE = re.compile(r"Run the lower steps again")
-# (what a function lacks whose own proof does not fail: the proof of another one)
+# (the reasons why a function has no proof although its own does not fail: it uses another one without a proof)
 OF_ANOTHER = re.compile(r"it calls|it passes|a call of")
 
 
@@ -28,7 +28,7 @@ class Outcome(enum.Enum):
 
 
 class Check:
-    """One check: its exit status, what it printed, and the paths of the files that were edited for it."""
+    """One check: its exit status, its output, and the paths of the files that were edited for it."""
 
     def __init__(self, status, printed, edited=()):
         self.status, self.printed, self.edited = status, printed, edited
@@ -67,7 +67,7 @@ class Check:
         return next((it for it in lines if re.match(r"\S+:\d+:\d+: error|error", it)), lines[-1])[:160]
 
     def outcome(self, names):
-        """What a mutant came to that was checked alone, and the function or text that shows it.
+        """The outcome for a mutant that was checked by itself, and the function or text that shows it.
 
         `names` are those of the function that it changes."""
         if STALE.search(self.printed):
