@@ -25,7 +25,7 @@ def content(path):
 
 
 def read_by(crate, root, kit):
-    """A checksum of what a check of the crate reads: the kit's name, HANDLES, its files and those of all crates below."""
+    """A sum of what a check of the crate reads: the kit's name, HANDLES, its files and those of all crates below."""
     texts = [kit.encode(), content(f"{root}/HANDLES")]
     for it in sorted([crate, *crate.below()], key=lambda it: it.name):
         texts.append(repr((it.name, sorted(dep.name for dep in it.deps), sorted(it.of_kit))).encode())

@@ -88,6 +88,8 @@ class Run:
             if not fault:
                 tries.try_all(mutants)
                 fault = "" if checks.is_sound() else f"{crate.name}: a check changed what the others began with"
+                if self.digests_of(crate) != self.digests[crate.name]:
+                    fault = f"{crate.name}: a file that the checks read was changed during the run"
         except checker.NotBuilt as why:
             fault = str(why)
         finally:

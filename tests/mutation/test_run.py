@@ -125,6 +125,15 @@ class Runs(InFolder):
         run.write_records()
         self.assertEqual(record.recorded(self.root, "tiny"), {})
 
+    def test_files_that_change_during_the_run(self):
+        self.add("one", "    a + STEP", "    WRONG")
+        run = self.run_with()
+        self.write("src/new.rt", "")
+        self.tried(run, run.mutants)
+        run.write_records()
+        self.assertEqual(run.faults, ["tiny: a file that the checks read was changed during the run"])
+        self.assertEqual(record.recorded(self.root, "tiny"), {})
+
     def test_a_mutant_without_a_result(self):
         self.add("one", "    a + STEP", "    WRONG")
         self.add("two", "    once(once(a))", "    WRONG")
