@@ -11,7 +11,7 @@ RT = shutil.which("rt") or sys.exit("mutants: there is no rt on the PATH")
 KIT = os.path.dirname(os.path.dirname(os.path.realpath(RT)))
 sys.path.insert(0, f"{KIT}/bin")
 sys.dont_write_bytecode = True
-import rtlib  # noqa: E402 (it stands in the folder that the lines above find)
+import rtlib  # noqa: E402 (it is in the folder that the lines above find)
 
 
 class NotBuilt(Exception):
@@ -33,7 +33,7 @@ def newest(crate):
 
 
 def has_libraries(crate):
-    """Whether the libraries below are those of the sources. `rt check` stamps them; those of `rt ci` have no stamp."""
+    """Whether the libraries below are built from the sources. `rt check` stamps them, `rt ci` does not."""
     below = crate.below()
     if any(os.path.exists(f"{it.folder}/out/rlib/stamp") for it in below):
         return all(it.is_built() for it in below)
@@ -53,13 +53,13 @@ def linked(one, other):
 
 
 def listing(folder):
-    """What tells whether a file of the folder was changed, lost or added."""
+    """The names, sizes and times of the files of the folder. They show whether one was changed, lost or added."""
     files = sorted(f"{at}/{name}" for at, _, names in os.walk(folder) for name in names)
     return [(it, os.stat(it).st_size, os.stat(it).st_mtime_ns) for it in files]
 
 
 class Checker:
-    """The checks of one crate. Each begins with what a check of the unchanged crate proved, the seed."""
+    """The checks of one crate. Each begins with the seed, which holds what a check of the unchanged crate proved."""
 
     def __init__(self, crate):
         self.crate, self.folder = crate, crate.folder
@@ -68,7 +68,7 @@ class Checker:
         self.seconds = self.checks = 0
 
     def begin(self):
-        """Checks the unchanged crate, over what an earlier `rt check` left, if anything. Returns this check."""
+        """Checks the unchanged crate, and returns this check. It uses the results of an earlier `rt check`, if any."""
         if not has_libraries(self.crate):
             raise NotBuilt(f"the libraries below {self.crate.name} are not built: run `make build`")
         kept = f"{self.folder}/out/incremental"
@@ -87,7 +87,7 @@ class Checker:
             return self.run(texts, kept)
 
     def run(self, texts, kept):
-        # (tests/minutes knows the checks by this prefix)
+        # (tests/minutes recognizes the checks by this prefix)
         with tempfile.TemporaryDirectory(prefix="mutants-", dir=self.room.name) as copy:
             for part in rtlib.PARTS:
                 if os.path.isdir(f"{self.folder}/{part}"):
@@ -103,7 +103,7 @@ class Checker:
                 ran.returncode = os.waitstatus_to_exitcode(status)
         self.seconds += used.ru_utime + used.ru_stime
         self.checks += 1
-        return Check(ran.returncode, printed)
+        return Check(ran.returncode, printed, texts)
 
     def is_sound(self):
         """Whether no check has changed the seed."""

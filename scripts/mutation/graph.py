@@ -1,4 +1,5 @@
-"""Which functions a check names how, which call which, and which mutants may therefore be tried in one check."""
+"""The names that a check gives the functions, their calls, and which mutants can therefore be tried in one check."""
+import collections
 import re
 
 CALL = re.compile(r"((?:\bself)?\.|\b\w+::|)\b([a-z_]\w*)\b")
@@ -11,30 +12,46 @@ class Graph:
     def __init__(self, crate, functions, names):
         self.crate, self.functions, self.names = crate, functions, names
         place = {name: at for at, name in enumerate(names)}
-        self.reported = {it.key: self.names_of(it) for it in functions}
+        self.reported = self.names_by_key()
         self.rank = {key: place[found[0]] for key, found in self.reported.items() if found}
         self.calls = {it.key: self.calls_of(it) for it in functions}
         self.reaches = {key: self.reach_of(key) for key in self.calls}
 
-    def names_of(self, function):
-        """The names that a check gives this function and its closures: none if no name fits, or more than one."""
+    def names_by_key(self):
+        """The names that a check gives each function and its closures. It gives none if no name or several names fit,
+        or if the name fits several functions."""
+        exact = {it: self.exact_names(it) for it in self.functions}
+        taken = {name for names in exact.values() for name in names}
+        fitting = {it: names or self.similar_names(it, taken) for it, names in exact.items()}
+        uses = collections.Counter(names[0] for names in fitting.values() if len(names) == 1)
+        return {
+            it.key: self.with_closures(it, *names) if len(names) == 1 and uses[names[0]] == 1 else []
+            for it, names in fitting.items()
+        }
+
+    def exact_names(self, function):
         if function.type:
             # (a method is named in the module of its type, which another file may hold)
-            parts = [it.split("::") for it in self.names if it.endswith(f"::{function.name}")]
             joined = {(function.type + it).lower() for it in function.trait} or {function.type.lower()}
-            exact = [it for it in parts if it[-2].lower() in joined]
-            found = ["::".join(it) for it in exact or [it for it in parts if it[-2].startswith(function.type)]]
-        else:
-            path = function.path.removeprefix("src/").removesuffix(".rt").split("/")
-            module = "::".join([self.crate, *([] if path in (["lib"], ["main"]) else path)])
-            found = [it for it in self.names if it == f"{module}::{function.name}"]
-        if len(found) != 1:
-            return []
-        inner = f"{found[0].rpartition('::')[0]}::fn::{function.name}::"
-        return found + [it for it in self.names if it.startswith(inner)]
+            return [it for it in self.methods(function.name) if it.split("::")[-2].lower() in joined]
+        path = function.path.removeprefix("src/").removesuffix(".rt").split("/")
+        module = "::".join([self.crate, *([] if path in (["lib"], ["main"]) else path)])
+        return [it for it in self.names if it == f"{module}::{function.name}"]
+
+    def similar_names(self, function, taken):
+        """The names of methods that begin with this one's type, without those that are exactly another function's."""
+        found = self.methods(function.name) if function.type else []
+        return [it for it in found if it.split("::")[-2].startswith(function.type) and it not in taken]
+
+    def methods(self, name):
+        return [it for it in self.names if it.endswith(f"::{name}")]
+
+    def with_closures(self, function, name):
+        inner = f"{name.rpartition('::')[0]}::fn::{function.name}::"
+        return [name] + [it for it in self.names if it.startswith(inner)]
 
     def calls_of(self, function):
-        """The functions that this body may call: those of such a name that the check named earlier."""
+        """The functions that this body may call: those with a name in it that the check named earlier."""
         own, found = self.rank.get(function.key, -1), set()
         for before, name in CALL.findall(NO_CALLS.sub("", function.body)):
             named = [it for it in self.functions if it.name == name and self.rank.get(it.key, -1) < own]
@@ -62,7 +79,7 @@ class Graph:
         return one == other or one in self.reaches[other] or other in self.reaches[one]
 
     def batches(self, mutants):
-        """Few lists of the mutants, callees first, so that no two functions of a list clash."""
+        """The mutants in a few lists, callees first. No two functions of a list clash."""
         found = []
         for mutant in sorted(mutants, key=lambda it: (len(self.reaches[it.function.key]), it.name)):
             key = mutant.function.key

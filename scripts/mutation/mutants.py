@@ -10,14 +10,14 @@ CLAUSES = re.compile(r"\s*\b(?:requires|ensures)\b.*", re.S)
 
 
 class Unusable(Exception):
-    """Why a mutant cannot be applied, or says nothing of the code."""
+    """Why a mutant cannot be applied, or shows nothing about the code."""
 
 
 class Mutant(NamedTuple):
     name: str
     text: str
     edits: tuple[tuple[str, str, str], ...]  # path of a file, and the text in it that another replaces
-    function: Function | None  # the only one that it changes, or None if it changes more, or something else
+    function: Function | None  # the one whose body it changes, or None if it changes more or something else
     fault: str  # why it is unusable, or ""
 
 
@@ -32,12 +32,18 @@ def edits_in(text):
         if line.startswith("file: "):
             path = line[len("file: ") :].strip()
         elif line.startswith("old: "):
+            if old:
+                raise Unusable("an 'old:' line has no 'new:' line")
             old = line[len("old: ") :]
         elif line.startswith("new:"):
             if not path or not old:
                 raise Unusable("a 'new:' line stands before any 'file:' or 'old:' line")
             edits.append((path, old, re.sub(r"\A ", "", line[len("new:") :])))
             old = ""
+        elif line.startswith(("file:", "old:")):
+            raise Unusable(f"there is no text after '{line.strip()}', or no space before it")
+    if old:
+        raise Unusable("an 'old:' line has no 'new:' line")
     if not edits:
         raise Unusable("it has no 'file:', 'old:' and 'new:' lines in this order")
     return tuple(edits)
@@ -47,7 +53,7 @@ def applied(folder, edits):
     """The new texts of the files of this crate that these edits change, by path."""
     texts = {}
     for path, old, new in edits:
-        if not re.fullmatch(r"(src|specs|proofs)/[\w/]+\.(rt|antt)", path):
+        if not re.fullmatch(r"(src|specs|proofs)(/\w+)+\.(rt|antt)", path):
             raise Unusable(f"'file: {path}' names no file of src/, specs/ or proofs/")
         if path not in texts:
             if not os.path.isfile(f"{folder}/{path}"):
@@ -62,13 +68,15 @@ def applied(folder, edits):
 
 
 def changed_function(folder, edits):
-    """The function of src/ whose body alone these edits change, or None. Edits of no code are unusable."""
+    """The function of src/ if these edits change only its body, or None. Edits of no code are unusable."""
     bodies, is_code, is_more = [], False, False
     for path, text in applied(folder, edits).items():
         if path.startswith("specs/"):
             is_code = is_more = True
             continue
         if path.startswith("proofs/"):
+            # (only the changed bodies come into a batch)
+            is_more = True
             continue
         (old, old_rest), (new, new_rest) = functions_of(path, read(f"{folder}/{path}")), functions_of(path, text)
         if [it.key for it in old] != [it.key for it in new]:

@@ -25,7 +25,7 @@ def content(path):
 
 
 def read_by(crate, root, kit):
-    """A sum of what a check of the crate reads: the kit's name, HANDLES, and the files of the crate and all below."""
+    """A sum of what a check of the crate reads: the kit's name, HANDLES, its files and those of all crates below."""
     texts = [kit.encode(), content(f"{root}/HANDLES")]
     for it in sorted([crate, *crate.below()], key=lambda it: it.name):
         texts.append(repr((it.name, sorted(dep.name for dep in it.deps), sorted(it.of_kit))).encode())
@@ -46,7 +46,7 @@ def recorded(root, crate):
 
 
 def write_record(root, crate, digests, results):
-    """Writes what was refused now, with its function, and what an earlier run refused and this one did not try.
+    """Writes the mutants that this run refused, each with its function, and those of earlier runs that it did not try.
 
     `digests` has each mutant of the crate, by name; `results` those that were tried."""
     known, lines = recorded(root, crate), []
@@ -61,9 +61,9 @@ def write_record(root, crate, digests, results):
 
 
 def sample_of(names, size, turn):
-    """The crate and the mutants of this turn: one after another, the lists that hold each recorded mutant once.
+    """The crate and the mutants of this turn. The turns go through lists that hold each recorded mutant once.
 
-    `names` has the recorded mutants by crate. A list is of one crate, since each crate costs a check of it unchanged.
+    `names` has the recorded mutants by crate. A list is of one crate, since each crate costs a check without mutants.
     """
     lots = [
         (crate, found[at : at + size]) for crate, found in sorted(names.items()) for at in range(0, len(found), size)

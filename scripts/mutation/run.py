@@ -9,7 +9,7 @@ from mutation import checker, record
 from mutation.mutants import read, read_mutant
 from mutation.tries import Tries
 
-# How many recorded mutants a run tries again.
+# The number of recorded mutants that a run tries again.
 SAMPLE = 8
 
 
@@ -18,13 +18,15 @@ def mutants_of(folder):
 
 
 def miscounted(root, crates):
-    """The crates that do not have as many mutants as tests/mutant-counts says."""
+    """The crates that do not have as many mutants as tests/mutant-counts says, and files that are no mutants."""
     want = record.counts_of(root)
     have = {
         it.name: len(glob.glob(f"{it.folder}/mutants/*.edit") + glob.glob(f"{it.folder}/must-fail/*.edit"))
         for it in crates
     }
-    return [
+    others = {file for it in crates for file in record.files_below(f"{it.folder}/mutants")}
+    others -= {file for it in crates for file in glob.glob(f"{it.folder}/mutants/*.edit")}
+    return [f"{os.path.relpath(it, root)} has another name than mutants have" for it in sorted(others)] + [
         f"{name} has {have.get(name, 0)} mutants, and {record.COUNTS} says {want.get(name, 0)}"
         for name in sorted({*want, *have})
         if have.get(name, 0) != want.get(name, 0)
@@ -61,7 +63,7 @@ class Run:
         old = {}
         for name, found in self.mutants.items():
             known = record.recorded(self.root, name)
-            old[name] = [it for it in found if (self.digests[name][it.name], it.name) in known]
+            old[name] = [it for it in found if not it.fault and (self.digests[name][it.name], it.name) in known]
         crate, sample = record.sample_of(old, SAMPLE, commits(self.root))
         return {
             name: [it for it in found if it not in old[name] or name == crate and it in sample]
@@ -86,10 +88,18 @@ class Run:
             if not fault:
                 tries.try_all(mutants)
                 fault = "" if checks.is_sound() else f"{crate.name}: a check changed what the others began with"
+                if self.digests_of(crate) != self.digests[crate.name]:
+                    fault = f"{crate.name}: a file that the checks read was changed during the run"
         except checker.NotBuilt as why:
             fault = str(why)
         finally:
             checks.close()
+        left = {it.name for it in mutants} - {*tries.results}
+        if fault:
+            # (the results of such checks must not be recorded)
+            tries.results.clear()
+        elif left:
+            fault = f"{crate.name}: {min(left)} was not tried"
         self.faults += [fault] if fault else []
         return tries
 

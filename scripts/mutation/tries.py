@@ -1,4 +1,4 @@
-"""The tries of one crate's mutants: in batches, what these leave open in halves and then alone."""
+"""The tries of one crate's mutants: first in batches, then by themselves if no batch decides about them."""
 from typing import NamedTuple
 
 from mutation.graph import Graph
@@ -46,7 +46,7 @@ class Tries:
         left = [it for it in mutants if it.name not in self.results]
         batched, alone = [it for it in left if it.function], [it for it in left if not it.function]
         for _ in range(2):
-            # (what a batch leaves open has a chance in a second one, without the mutant that it met in the first)
+            # (a second batch may decide without the mutant that was in the way in the first)
             opened = [one for found in self.lanes(self.try_batch, self.graph.batches(batched)) for one in found]
             batched, proved = [it for it, is_proved in opened if not is_proved], [
                 it for it, is_proved in opened if is_proved
@@ -63,8 +63,9 @@ class Tries:
             return [(mutants[0], True)]
         check = self.checker.check(together(self.checker.folder, mutants))
         own = {name for it in mutants for name in self.names_of(it)}
-        if not check.functions or check.unreadable or not own.issuperset(check.refused):
-            # one does not compile, cannot be read, or makes the own proof of another function fail
+        if not check.functions or not check.is_whole or check.unreadable or not own.issuperset(check.refused):
+            # one does not compile, cannot be read, or makes the own proof of another function fail, or the check had
+            # no verdict
             half = len(mutants) // 2
             return self.try_batch(mutants[:half]) + self.try_batch(mutants[half:])
         opened = []

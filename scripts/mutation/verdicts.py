@@ -6,9 +6,11 @@ LINE = re.compile(r"^fn (\S+): (.*)$", re.M)
 LIMIT = re.compile(
     r"antt ran out of (stack|the (steps|memory)\b)|(outgrew the memory limit|stopped at the step limit) \("
 )
-# (what a mutant that only makes a statement false never causes)
+# (a mutant that only makes a statement false causes none of these)
 UNREADABLE = re.compile(r"is not in scope|has no field|is no name|operand is missing|expected the end|cannot continue")
 STALE = re.compile(r"Run the lower steps again")
+# (the reasons why a function has no proof although its own does not fail: it uses another one without a proof)
+OF_ANOTHER = re.compile(r"it calls|it passes|a call of")
 
 
 class Outcome(enum.Enum):
@@ -26,10 +28,11 @@ class Outcome(enum.Enum):
 
 
 class Check:
-    """One check: its exit status, and what it printed."""
+    """One check: its exit status, its output, and the paths of the files that were edited for it."""
 
-    def __init__(self, status, printed):
-        self.status, self.printed = status, printed
+    def __init__(self, status, printed, edited=()):
+        self.status, self.printed, self.edited = status, printed, edited
+        self.last = printed.rstrip("\n").rpartition("\n")[2]
         self.functions = dict(LINE.findall(printed))
 
     @property
@@ -37,15 +40,24 @@ class Check:
         """The functions whose own proofs fail. One that only calls such a function is not among them."""
         return [name for name, text in self.functions.items() if is_refusal(text)]
 
+    @property
+    def is_whole(self):
+        """Whether the check came to a verdict on the crate. Otherwise its lines do not decide about a mutant."""
+        if self.status == 0:
+            return not self.refused
+        return self.status == 1 and self.last.startswith("logic=not-proved") and not STALE.search(self.printed)
+
     def is_proved(self, names):
         return all(self.functions.get(it) == "proved" for it in names)
 
     @property
     def unreadable(self):
-        """The first message that the prover cannot read a text of src/ or specs/, or ""."""
+        """The first message that the prover cannot read a text of src/, specs/ or an edited file, or ""."""
         for line in self.printed.split("\n"):
-            found = re.match(r"(?:\./)?(?:src|specs)/\S+:\d+:\d+: error: (`[^`]*`: )?(.*)", line)
-            if found and (not found[1] or UNREADABLE.search(re.sub(r"`[^`]*`", "", found[2]))):
+            found = re.match(r"(?:\./)?(\S+?):\d+:\d+: error: (`[^`]*`: )?(.*)", line)
+            if not found or not found[1].startswith(("src/", "specs/")) and found[1] not in self.edited:
+                continue
+            if not found[2] or UNREADABLE.search(re.sub(r"`[^`]*`", "", found[3])):
                 return line[:160]
         return ""
 
@@ -55,15 +67,14 @@ class Check:
         return next((it for it in lines if re.match(r"\S+:\d+:\d+: error|error", it)), lines[-1])[:160]
 
     def outcome(self, names):
-        """What a mutant came to that was checked alone, and the function or text that shows it.
+        """The outcome for a mutant that was checked by itself, and the function or text that shows it.
 
         `names` are those of the function that it changes."""
-        last = self.printed.rstrip("\n").rpartition("\n")[2]
         if STALE.search(self.printed):
             return Outcome.UNKNOWN, "the kept work of a library could not be used"
         if self.status == 1 and self.unreadable:
             return Outcome.UNUSABLE, self.unreadable
-        if self.status == 1 and last.startswith("logic=not-proved"):
+        if self.status == 1 and self.last.startswith("logic=not-proved"):
             own = [it for it in names if it in self.refused]
             return (Outcome.OWN, own[0]) if own else (Outcome.ALONE, ", ".join(self.refused[:3]) or self.first_error)
         if self.status == 0:
@@ -76,4 +87,4 @@ class Check:
 
 
 def is_refusal(text):
-    return "it calls" not in text and (text == "not proved" or text.startswith("no proof"))
+    return text == "not proved" or text.startswith("no proof") and not OF_ANOTHER.search(text)

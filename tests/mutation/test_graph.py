@@ -14,7 +14,7 @@ def functions(sources):
 class Names(unittest.TestCase):
     def names(self, path, text, *reported):
         (function,) = functions_of(path, text)[0]
-        return Graph("tiny", [function], list(reported)).names_of(function)
+        return Graph("tiny", [function], list(reported)).reported[function.key]
 
     def test_free_functions_have_their_files_module(self):
         text = "fn f() {\n}\n"
@@ -43,6 +43,30 @@ class Names(unittest.TestCase):
     def test_two_names_that_fit_are_none(self):
         text = "impl Framer {\n    fn f() {\n    }\n}\n"
         self.assertEqual(self.names("src/a.rt", text, "tiny::a::Framer::f", "tiny::b::Framer::f"), [])
+
+
+class Twins(unittest.TestCase):
+    """Functions that one name may belong to."""
+
+    def reported(self, sources, *names):
+        return [[*names] for names in Graph("tiny", functions(sources), list(names)).reported.values()]
+
+    def test_a_name_of_two_functions_is_neithers(self):
+        text = "impl Framer {\n    fn f() {\n    }\n}\n"
+        self.assertEqual(self.reported({"src/a.rt": text, "src/b.rt": text}, "tiny::a::Framer::f"), [[], []])
+
+    def test_two_functions_of_one_key_have_no_name(self):
+        text = "impl Framer<u8> {\n    fn f() {\n    }\n}\n\nimpl Framer<u16> {\n    fn f() {\n    }\n}\n"
+        self.assertEqual(self.reported({"src/a.rt": text}, "tiny::a::Framer::f"), [[]])
+
+    def test_a_name_that_is_exactly_anothers_is_not_taken(self):
+        form = "impl From<{0}> for Framer {{\n    fn from() {{\n    }}\n}}\n"
+        sources = {"src/a.rt": form.format("One"), "src/b.rt": form.format("Two")}
+        self.assertEqual(self.reported(sources, "tiny::FramerFromTwo::from"), [[], ["tiny::FramerFromTwo::from"]])
+
+    def test_a_name_that_only_begins_with_the_type(self):
+        text = "impl Into<One> for Framer {\n    fn into() {\n    }\n}\n"
+        self.assertEqual(self.reported({"src/a.rt": text}, "tiny::FramerInto::into"), [["tiny::FramerInto::into"]])
 
 
 class Batches(InFolder):

@@ -34,6 +34,14 @@ class Mutants(InFolder):
             it = self.mutant(edit("src/lib.rt", pair))
             self.assertEqual((it.function, it.fault), (None, ""))
 
+    def test_a_body_and_something_else_are_no_single_body(self):
+        for pairs in (
+            (("STEP: u64 = 1", "STEP: u64 = 2"), ("    a + STEP", "    a")),
+            (("pub fn once(a", "pub fn once(mut a"), ("    a + STEP", "    a")),
+        ):
+            it = self.mutant(edit("src/lib.rt", *pairs))
+            self.assertEqual((it.function, it.fault), (None, ""))
+
     def test_a_definition_is_tried_but_belongs_to_no_function(self):
         self.write("specs/Lib.antt", "def a := 1\n")
         it = self.mutant(edit("specs/Lib.antt", ("def a := 1", "def a := 2")))
@@ -45,6 +53,12 @@ class Mutants(InFolder):
             ("file: src/lib.rt\nnew: b\n", "before any"),
             ("file: src/lib.rt\n", "in this order"),
             ("", "in this order"),
+            ("file: src/lib.rt\nold: a + STEP\nnew: a\nnew: b\n", "before any"),
+            ("file: src/lib.rt\nold: a + STEP\nnew: a\nold: once(b)\n", "has no 'new:' line"),
+            ("file: src/lib.rt\nold: a + STEP\nold: once(b)\nnew: a\n", "has no 'new:' line"),
+            ("file: src/lib.rt\nold: a + STEP\nnew: a\nfile:src/pairs.rt\n", "no space before it"),
+            ("file: src/lib.rt\nold: a + STEP\nnew: a\nold:\n", "no space before it"),
+            (edit("src//lib.rt", ("a + STEP", "a")), "no file of src/"),
             (edit("src/none.rt", ("a", "b")), "no file src/none.rt"),
             (edit("docs/a.md", ("a", "b")), "no file of src/"),
             (edit("src/../src/lib.rt", ("a + STEP", "a")), "no file of src/"),

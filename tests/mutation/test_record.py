@@ -62,6 +62,10 @@ class Digests(InFolder):
         self.write("src/b.rt", "bc")
         self.assertNotEqual(self.digest(), before)
 
+    def test_a_sum_of_several_texts_depends_on_where_each_ends(self):
+        self.assertNotEqual(record.sum_of(b"ab", b"c"), record.sum_of(b"a", b"bc"))
+        self.assertNotEqual(record.sum_of(b"ab"), record.sum_of(b"ab", b""))
+
 
 class Records(InFolder):
     def write_record(self, digests, **results):
@@ -106,6 +110,10 @@ class Samples(unittest.TestCase):
             (crate, it) for turn in range(4) for crate, names in [record.sample_of(self.NAMES, 4, turn)] for it in names
         ]
         self.assertEqual(sorted(found), sorted((crate, it) for crate, names in self.NAMES.items() for it in names))
+
+    def test_a_round_has_as_many_samples_as_there_are_lists(self):
+        found = [record.sample_of(self.NAMES, 2, turn)[1] for turn in range(6)]
+        self.assertEqual(["".join(it) for it in found], ["12", "12", "34", "56", "78", "9"])
 
     def test_nothing_recorded(self):
         self.assertEqual(record.sample_of({"a": []}, 4, 7), ("", []))

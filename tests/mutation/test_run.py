@@ -4,6 +4,7 @@ import io
 import os
 import types
 import unittest
+from unittest import mock
 
 from fakes import SOURCES, FakeChecker, InFolder, edit
 from mutation import checker, record
@@ -121,6 +122,41 @@ class Runs(InFolder):
         run = self.run_with(Unsound)
         self.tried(run, run.mutants)
         self.assertEqual(run.faults, ["tiny: a check changed what the others began with"])
+        run.write_records()
+        self.assertEqual(record.recorded(self.root, "tiny"), {})
+
+    def test_files_that_change_during_the_run(self):
+        self.add("one", "    a + STEP", "    WRONG")
+        run = self.run_with()
+        self.write("src/new.rt", "")
+        self.tried(run, run.mutants)
+        run.write_records()
+        self.assertEqual(run.faults, ["tiny: a file that the checks read was changed during the run"])
+        self.assertEqual(record.recorded(self.root, "tiny"), {})
+
+    def test_a_mutant_without_a_result(self):
+        self.add("one", "    a + STEP", "    WRONG")
+        self.add("two", "    once(once(a))", "    WRONG")
+        run = self.run_with()
+        with mock.patch("mutation.tries.Tries.try_alone", lambda tries, it: (run.mutants["tiny"][0], None)):
+            with contextlib.suppress(AttributeError):
+                self.tried(run, run.mutants)
+        self.assertEqual(run.faults, ["tiny: two.edit was not tried"])
+
+    def test_an_exception_in_a_check_ends_the_run(self):
+        self.add("one", "    a + STEP", "    WRONG")
+        run = self.run_with()
+        with mock.patch("mutation.tries.Tries.try_alone", side_effect=OSError("no space left")):
+            with self.assertRaises(OSError):
+                self.tried(run, run.mutants)
+
+    def test_a_recorded_mutant_that_cannot_be_applied_is_tried(self):
+        self.add("one", "    a + STAP", "    WRONG")
+        run = self.run_with()
+        self.write("../tests/refusals/tiny", f"{run.digests['tiny']['one.edit']} one.edit tiny::once\n")
+        with mock.patch("mutation.record.sample_of", lambda *_: ("", [])):
+            self.tried(run, run.new_and_sample())
+        self.assertEqual([is_refused for is_refused, _ in run.lines()], [False])
 
     def test_the_counts(self):
         self.add("one", "    a + STEP", "    WRONG")
@@ -133,6 +169,15 @@ class Runs(InFolder):
         ):
             self.write("../tests/mutant-counts", text)
             self.assertEqual(miscounted(self.root, [self.crate]), faults)
+
+    def test_a_file_that_is_no_mutant(self):
+        self.write("../tests/mutant-counts", "tiny 1\n")
+        self.add("one", "    a + STEP", "    WRONG")
+        for path in ("two.edti", ".three.edit", "more/four.edit"):
+            self.write(f"mutants/{path}", "")
+        names = (".three.edit", "more/four.edit", "two.edti")
+        want = [f"tiny/mutants/{it} has another name than mutants have" for it in names]
+        self.assertEqual(miscounted(self.root, [self.crate]), want)
 
 
 class Libraries(InFolder):
@@ -167,6 +212,33 @@ class Libraries(InFolder):
         self.assertTrue(checker.has_libraries(self.high))
         self.age("src/lib.rt", 30)
         self.assertFalse(checker.has_libraries(self.high))
+
+    def lowest(self, has_stamp, is_built):
+        """Adds a library below `low`."""
+        folder = os.path.dirname(self.folder) + "/lowest"
+        self.write("../lowest/src/lib.rt", "")
+        self.write("../lowest/out/rlib/lowest.rlib/format", "")
+        if has_stamp:
+            self.write("../lowest/out/rlib/stamp", "")
+        rlib = f"{folder}/out/rlib/lowest.rlib"
+        of = {"name": "lowest", "folder": folder, "rlib": rlib, "below": lambda: [], "is_built": lambda: is_built}
+        lowest = types.SimpleNamespace(**of)
+        self.low.below = lambda: [lowest]
+        self.high.below = lambda: [lowest, self.low]
+        return lowest
+
+    def test_one_stamp_decides_for_all(self):
+        self.lowest(has_stamp=True, is_built=True)
+        self.assertTrue(checker.has_libraries(self.high))
+        self.low.built = False
+        self.assertFalse(checker.has_libraries(self.high))
+
+    def test_without_a_stamp_a_library_is_newer_than_the_sources_below_it(self):
+        lowest = self.lowest(has_stamp=False, is_built=False)
+        for source, is_current in ((15, True), (30, False)):
+            os.utime(f"{lowest.folder}/src/lib.rt", (source, source))
+            os.utime(lowest.rlib, (40, 40))
+            self.assertEqual(checker.has_libraries(self.high), is_current)
 
     def test_no_library(self):
         self.low.rlib += ".none"

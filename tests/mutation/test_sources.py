@@ -84,6 +84,11 @@ class Functions(unittest.TestCase):
         self.assertTrue(second.body.startswith("    if a < b {"))
         self.assertTrue(second.body.endswith("    }\n}"))
 
+    def test_a_head_may_end_with_its_bounds(self):
+        for bounds in ("where T: Copy {", "where\n    T: Copy,\n{"):
+            (it,) = self.of(f"fn f<T>(\n    a: T,\n) -> T\n{bounds}\n    a\n}}\n")
+            self.assertEqual((it.head.endswith(bounds), it.body), (True, "    a\n}"))
+
     def test_lines_are_those_of_the_file(self):
         for text in (FREE, BLOCKS):
             lines = text.split("\n")

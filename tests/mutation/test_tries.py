@@ -4,7 +4,7 @@ import unittest
 from fakes import SOURCES, FakeChecker, InFolder, edit
 from mutation.mutants import read_mutant
 from mutation.tries import Tries
-from mutation.verdicts import Outcome
+from mutation.verdicts import Check, Outcome
 
 ONCE, TWICE, THRICE, SUM = "    a + STEP", "    once(once(a))", "    once(b)", "self.first"
 
@@ -77,6 +77,31 @@ class Crate(InFolder):
             "one": (Outcome.OWN, "alone"),
         }
         self.assertEqual(self.results(), want)
+
+    def test_a_batch_whose_check_ends_early_decides_nothing(self):
+        # (the lines that a killed check printed say `not proved` of a mutant that is proved alone)
+        def killed_in_batches(texts, check=self.checker.check):
+            found = check(texts)
+            lines = found.printed.replace("Pair::sum: proved", "Pair::sum: not proved")
+            return Check(-9, lines) if "WRONG" in "".join(texts.values()) and len(texts) > 1 else found
+
+        self.checker.check = killed_in_batches
+        self.add("one", (ONCE, "    WRONG"))
+        self.add("same", (SUM, "self.second"), path="src/pairs.rt")
+        self.assertEqual(self.results(), {"one": (Outcome.OWN, "alone"), "same": (Outcome.MISSED, "alone")})
+
+    def test_a_mutant_with_a_proof_is_tried_alone(self):
+        # (the body is refused with the proof as it is, and proved with the mutant's)
+        def proved_with_it(texts, check=self.checker.check):
+            is_new = "new" in texts.get("proofs/sum/Proof.antt", "")
+            return check({path: text.replace("WRONG", "") if is_new else text for path, text in texts.items()})
+
+        self.checker.check = proved_with_it
+        self.write("proofs/sum/Proof.antt", "old\n")
+        self.add("one", (ONCE, "    WRONG"))
+        text = edit("src/pairs.rt", (SUM, "WRONG")) + edit("proofs/sum/Proof.antt", ("old", "new"))
+        self.mutants.append(read_mutant(self.folder, self.write("mutants/proof.edit", text)))
+        self.assertEqual(self.results()["proof"], (Outcome.MISSED, "alone"))
 
     def test_a_limit_of_the_prover(self):
         self.add("deep", (ONCE, "    DEEP"))

@@ -18,6 +18,25 @@ class Checks(unittest.TestCase):
     def test_only_own_proofs_that_fail_are_refusals(self):
         self.assertEqual(Check(1, REFUSED).refused, ["tiny::once", "tiny::thrice"])
 
+    def test_a_proof_that_another_one_lacks_is_no_refusal(self):
+        for reason in ("it calls `f`", "it passes `f`, which has no proof", "a call of a function without a proof"):
+            self.assertEqual(Check(1, f"fn tiny::once: no proof: {reason}\nlogic=not-proved\n").refused, [])
+
+    def test_a_check_that_is_whole_has_a_verdict(self):
+        proved = "fn tiny::once: proved\nlogic=proved functions=1\n"
+        for status, printed in ((1, REFUSED), (0, proved)):
+            self.assertTrue(Check(status, printed).is_whole)
+        for status, printed in (
+            (-9, REFUSED),
+            (3, REFUSED),
+            (0, REFUSED),
+            (1, REFUSED.removesuffix("logic=not-proved\n")),
+            (1, "error: module M is another. Run the lower steps again\n" + REFUSED),
+            (1, proved),
+            (1, ""),
+        ):
+            self.assertFalse(Check(status, printed).is_whole, (status, printed))
+
     def test_proved_means_each_name(self):
         it = Check(1, REFUSED)
         self.assertTrue(it.is_proved(["tiny::other"]))
@@ -72,6 +91,12 @@ class Checks(unittest.TestCase):
             "proofs/once/Proof.antt:4:5: error: `tiny::once`: `b` is not in scope",
         ):
             self.assertIs(self.outcome(1, f"{line}\n{REFUSED}", "tiny::once")[0], Outcome.OWN, line)
+
+    def test_an_edited_proof_has_to_be_read(self):
+        path = "proofs/once/Proof.antt"
+        printed = f"{path}:4:5: error: `tiny::once`: `b` is not in scope\n{REFUSED}"
+        self.assertIs(Check(1, printed, {path: "b"}).outcome(["tiny::once"])[0], Outcome.UNUSABLE)
+        self.assertIs(Check(1, printed, {"src/lib.rt": "b"}).outcome(["tiny::once"])[0], Outcome.OWN)
 
     def test_kept_work_that_cannot_be_used(self):
         printed = "error: module M of .Rattle-below-specs is another. Run the lower steps again\n" + REFUSED

@@ -1,0 +1,104 @@
+"""Unit tests of scripts/mutation/checker.py, with a shell script in the place of the prover."""
+import os
+import types
+import unittest
+from unittest import mock
+
+from fakes import SOURCES, InFolder
+from mutation import checker
+
+# It prints what was passed, and each file that it finds, adds one to what it keeps, and ends with the status in
+# src/status.
+PROVER = """\
+#!/bin/sh
+echo "words: $*"
+for kept in "$@"; do :; done
+(cd "$kept" && ls | sed 's/^/kept: /')
+echo 1 >"$kept/added$(ls "$kept" | wc -l)"
+grep -rh a src specs 2>/dev/null
+status=$(cat src/status 2>/dev/null)
+case $status in KILL) kill -9 $$ ;; esac
+exit ${status:-0}
+"""
+
+
+class Checks(InFolder):
+    def setUp(self):
+        super().setUp()
+        prover = self.write("../prover", PROVER)
+        os.chmod(prover, 0o755)
+        words = lambda flags, keeps: ["words", *flags, f"keeps={keeps}"]  # noqa: E731
+        crate = types.SimpleNamespace(name="tiny", folder=self.folder, below=lambda: [], words=words)
+        patch = mock.patch.object(checker.rtlib, "RATTLE", prover)
+        patch.start()
+        self.addCleanup(patch.stop)
+        self.checker = checker.Checker(crate)
+        self.addCleanup(self.checker.close)
+
+    def kept(self, check):
+        return [it for it in check.printed.splitlines() if it.startswith("kept: ")]
+
+    def test_the_words(self):
+        first = self.checker.begin().printed.splitlines()[0]
+        self.assertEqual(first, f"words: check words --jobs 1 keeps=False --incremental {self.checker.seed}")
+
+    def test_the_texts_stand_in_place_of_the_files(self):
+        self.checker.begin()
+        check = self.checker.check({"src/pairs.rt": "another text\n"})
+        self.assertIn("\nanother text\n", check.printed)
+        self.assertIn("    a + STEP\n", check.printed)
+        self.assertNotIn("impl Pair", check.printed)
+        self.assertEqual([*check.edited], ["src/pairs.rt"])
+        with open(f"{self.folder}/src/pairs.rt", encoding="utf-8") as it:
+            self.assertEqual(it.read(), SOURCES["src/pairs.rt"])
+
+    def test_each_check_begins_with_the_seed(self):
+        self.write("out/incremental/before", "")
+        self.assertEqual(self.kept(self.checker.begin()), ["kept: before"])
+        for _ in range(2):
+            self.assertEqual(self.kept(self.checker.check({})), ["kept: added1", "kept: before"])
+        self.assertTrue(self.checker.is_sound())
+        self.assertEqual(os.listdir(f"{self.folder}/out/incremental"), ["before"])
+
+    def test_a_change_of_the_seed_is_seen(self):
+        self.write("out/incremental/before", "one")
+        self.checker.begin()
+        path = f"{self.checker.seed}/before"
+        for change in (
+            lambda: os.utime(path, (1, 1)),
+            lambda: os.truncate(path, 1),
+            lambda: os.rename(path, f"{path}s"),
+            lambda: os.remove(f"{path}s"),
+        ):
+            self.checker.files = checker.listing(self.checker.seed)
+            self.assertTrue(self.checker.is_sound())
+            change()
+            self.assertFalse(self.checker.is_sound())
+
+    def test_the_status_is_the_provers(self):
+        self.checker.begin()
+        for text, status in (("0", 0), ("1", 1), ("3", 3), ("KILL", -9)):
+            self.assertEqual(self.checker.check({"src/status": text}).status, status)
+
+    def test_what_the_checks_cost(self):
+        self.checker.begin()
+        self.checker.check({})
+        self.assertEqual(self.checker.checks, 2)
+        self.assertGreater(self.checker.seconds, 0)
+
+    def test_a_file_with_a_proof_is_linked_and_others_are_copied(self):
+        for name, is_one in (("a.oantt", True), ("index", False)):
+            made = checker.linked(self.write(f"kept/{name}", ""), f"{self.folder}/{name}")
+            self.assertEqual(os.path.samefile(f"{self.folder}/kept/{name}", made or f"{self.folder}/{name}"), is_one)
+
+
+class Parts(unittest.TestCase):
+    def test_lanes(self):
+        with mock.patch.dict(os.environ, {"RT_JOBS": "3"}):
+            self.assertEqual(checker.lanes(), 3)
+        with mock.patch.dict(os.environ, {"RT_JOBS": ""}):
+            self.assertEqual(checker.lanes(), len(os.sched_getaffinity(0)))
+
+
+if __name__ == "__main__":
+    unittest.main()

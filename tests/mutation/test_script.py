@@ -1,0 +1,103 @@
+"""Unit tests of scripts/mutants itself, with a run and crates that are made up."""
+import contextlib
+import importlib.machinery
+import importlib.util
+import io
+import os
+import types
+import unittest
+from unittest import mock
+
+PATH = os.path.realpath(f"{__file__}/../../../scripts/mutants")
+
+
+def loaded():
+    loader = importlib.machinery.SourceFileLoader("mutants_script", PATH)
+    module = importlib.util.module_from_spec(importlib.util.spec_from_loader("mutants_script", loader))
+    loader.exec_module(module)
+    return module
+
+
+class FakeRun:
+    """What scripts/mutants asks of a run."""
+
+    untried, mutants = 5, "all"
+
+    def __init__(self, found, faults, done):
+        self.found, self.faults, self.done = found, faults, done
+
+    def new_and_sample(self):
+        return "new and a sample"
+
+    def try_all(self, chosen):
+        self.done.append(f"tried {chosen}")
+
+    def write_records(self):
+        self.done.append("recorded")
+
+    def lines(self):
+        yield from self.found
+
+
+class Script(unittest.TestCase):
+    def main(self, *words, found=((True, "low/a: refused"),), faults=(), miscounted=()):
+        """The status of a run with these words, what it printed, and what it did."""
+        script, done, printed = loaded(), [], io.StringIO()
+        crates = [types.SimpleNamespace(name=it) for it in ("low", "high")]
+
+        def made(_root, chosen, lanes):
+            done.append(f"{' '.join(it.name for it in chosen)} in {lanes}")
+            return FakeRun(found, [*faults], done)
+
+        with (
+            mock.patch.object(script.checker, "crates", lambda _: crates),
+            mock.patch.object(script.checker, "lanes", lambda: 3),
+            mock.patch.object(script, "Run", made),
+            mock.patch.object(script, "miscounted", lambda *_: [*miscounted]),
+            contextlib.redirect_stdout(printed),
+            contextlib.redirect_stderr(printed),
+        ):
+            try:
+                status = script.main([*words])
+            except SystemExit as it:
+                status = it.code
+        return status, printed.getvalue(), done
+
+    def test_all_mutants_of_all_crates(self):
+        want = (0, "mutants: 1 refused in this run, 5 not tried, 0 faults\n", ["low high in 3", "tried all"])
+        self.assertEqual(self.main(), want)
+
+    def test_new_mutants(self):
+        status, printed, done = self.main("--new")
+        self.assertEqual((status, done), (0, ["low high in 3", "tried new and a sample"]))
+        self.assertTrue(printed.endswith("1 refused in this run, 5 recorded, 0 faults\n"), printed)
+
+    def test_a_record_is_written_on_request(self):
+        self.assertEqual(self.main("--record")[2], ["low high in 3", "tried all", "recorded"])
+
+    def test_crates_by_name(self):
+        self.assertEqual(self.main("high")[2], ["high in 3", "tried all"])
+        status, printed, done = self.main("high", "none")
+        self.assertEqual((status, done), (2, []))
+        self.assertIn("no crate has the name none", printed)
+
+    def test_a_line_for_each_mutant(self):
+        found = ((True, "low/a: refused"), (False, "low/b: NOT REFUSED"))
+        last = "mutants: low/b: NOT REFUSED\nmutants: 1 refused in this run, 5 not tried, 1 faults\n"
+        self.assertEqual(self.main("--list", found=found)[:2], (1, f"low/a: refused\n{last}"))
+        self.assertEqual(self.main(found=found)[:2], (1, last))
+
+    def test_each_fault_fails_the_run(self):
+        for given in (
+            {"found": ((False, "a fault"),)},
+            {"faults": ["a fault"]},
+            {"miscounted": ["a fault"]},
+        ):
+            status, printed, _ = self.main(**given)
+            self.assertEqual(status, 1, given)
+            self.assertIn("mutants: a fault\n", printed)
+            self.assertIn(" 1 faults\n", printed)
+
+
+if __name__ == "__main__":
+    unittest.main()
