@@ -11,15 +11,6 @@ fn words_of(rt: &HostRuntime, line: &str) -> Result<Vec<String>, Fail> {
     Ok(words)
 }
 
-/// The line is taken, and says this.
-fn taken(rt: &HostRuntime, line: &str, wanted: Options<'_>) -> Result<(), Fail> {
-    let words = words_of(rt, line)?;
-    match read(rt.alloc(), words.as_slice()) {
-        Ok(options) if options == wanted => Ok(()),
-        _ => Err(Fail::from(line)),
-    }
-}
-
 /// `clap` refuses the line in this way.
 fn refused(rt: &HostRuntime, line: &str, wanted: ErrorKind) -> Result<(), Fail> {
     let words = words_of(rt, line)?;
@@ -38,112 +29,184 @@ fn told(rt: &HostRuntime, line: &str) -> Result<String, Fail> {
     }
 }
 
-#[test]
-fn lines_of_replay(rt: HostRuntime) -> Result<(), Fail> {
-    for (line, base, db, explain) in [
-        ("enogate replay --base FF800000", 0xFF80_0000, None, false),
-        ("enogate replay --base=ffffff80", 0xFFFF_FF80, None, false),
-        (
-            "enogate replay --db x.db --base FF800000",
-            0xFF80_0000,
-            Some("x.db"),
-            false,
-        ),
-        (
-            "enogate replay --base FF800000 --db=a/b",
-            0xFF80_0000,
-            Some("a/b"),
-            false,
-        ),
-        (
-            "enogate replay --base FF800000 --explain",
-            0xFF80_0000,
-            None,
-            true,
-        ),
-        (
-            "enogate replay --explain --db x.db --base FF800000",
-            0xFF80_0000,
-            Some("x.db"),
-            true,
-        ),
-        (
-            "enogate replay --base FF800000 --db=--explain",
-            0xFF80_0000,
-            Some("--explain"),
-            false,
-        ),
-    ] {
-        let wanted = Options {
-            base,
-            db,
-            explain,
-            task: Task::Replay,
-        };
-        taken(&rt, line, wanted)?;
-    }
-    Ok(())
+/// A line, and what it says.
+struct Taken {
+    line: &'static str,
+    wanted: Options<'static>,
 }
 
-#[test]
-fn lines_of_live(rt: HostRuntime) -> Result<(), Fail> {
-    for (line, db, explain, turns) in [
-        (
-            "enogate live --base FF800000 --serial /dev/s --desk in/d --out o --turns 20",
-            None,
-            false,
-            20,
-        ),
-        (
-            "enogate live --turns=20 --out=o --desk=in/d --serial=/dev/s --base=FF800000",
-            None,
-            false,
-            20,
-        ),
-        (
-            "enogate live --db x.db --turns 1 --base ff800000 --out o --serial /dev/s --desk in/d",
-            Some("x.db"),
-            false,
-            1,
-        ),
-        (
-            "enogate live --turns 4294967295 --base FF800000 --serial /dev/s --desk in/d --out o --db a/b",
-            Some("a/b"),
-            false,
-            4_294_967_295,
-        ),
-        (
-            "enogate live --turns +0020 --base FF800000 --serial /dev/s --desk in/d --out o",
-            None,
-            false,
-            20,
-        ),
-        (
-            "enogate live --base FF800000 --serial /dev/s --desk in/d --out o --turns 20 --explain",
-            None,
-            true,
-            20,
-        ),
-        (
-            "enogate live --explain --turns 1 --db x.db --base FF800000 --out o --serial /dev/s --desk in/d",
-            Some("x.db"),
-            true,
-            1,
-        ),
-    ] {
-        let task = Task::Live(LiveOptions {
-            serial: "/dev/s",
-            desk: "in/d",
-            out: "o",
-            turns,
-        });
-        let wanted = Options {
+const TAKEN: [Taken; 14] = [
+    Taken {
+        line: "enogate replay --base FF800000",
+        wanted: Options {
             base: 0xFF80_0000,
-            db,
-            explain,
-            task,
-        };
-        taken(&rt, line, wanted)?;
+            db: None,
+            explain: false,
+            task: Task::Replay,
+        },
+    },
+    Taken {
+        line: "enogate replay --base=ffffff80",
+        wanted: Options {
+            base: 0xFFFF_FF80,
+            db: None,
+            explain: false,
+            task: Task::Replay,
+        },
+    },
+    Taken {
+        line: "enogate replay --db x.db --base FF800000",
+        wanted: Options {
+            base: 0xFF80_0000,
+            db: Some("x.db"),
+            explain: false,
+            task: Task::Replay,
+        },
+    },
+    Taken {
+        line: "enogate replay --base FF800000 --db=a/b",
+        wanted: Options {
+            base: 0xFF80_0000,
+            db: Some("a/b"),
+            explain: false,
+            task: Task::Replay,
+        },
+    },
+    Taken {
+        line: "enogate replay --base FF800000 --explain",
+        wanted: Options {
+            base: 0xFF80_0000,
+            db: None,
+            explain: true,
+            task: Task::Replay,
+        },
+    },
+    Taken {
+        line: "enogate replay --explain --db x.db --base FF800000",
+        wanted: Options {
+            base: 0xFF80_0000,
+            db: Some("x.db"),
+            explain: true,
+            task: Task::Replay,
+        },
+    },
+    Taken {
+        line: "enogate replay --base FF800000 --db=--explain",
+        wanted: Options {
+            base: 0xFF80_0000,
+            db: Some("--explain"),
+            explain: false,
+            task: Task::Replay,
+        },
+    },
+    Taken {
+        line: "enogate live --base FF800000 --serial /dev/s --desk in/d --out o --turns 20",
+        wanted: Options {
+            base: 0xFF80_0000,
+            db: None,
+            explain: false,
+            task: Task::Live(LiveOptions {
+                serial: "/dev/s",
+                desk: "in/d",
+                out: "o",
+                turns: 20,
+            }),
+        },
+    },
+    Taken {
+        line: "enogate live --turns=20 --out=o --desk=in/d --serial=/dev/s --base=FF800000",
+        wanted: Options {
+            base: 0xFF80_0000,
+            db: None,
+            explain: false,
+            task: Task::Live(LiveOptions {
+                serial: "/dev/s",
+                desk: "in/d",
+                out: "o",
+                turns: 20,
+            }),
+        },
+    },
+    Taken {
+        line: "enogate live --db x.db --turns 1 --base ff800000 --out o --serial /dev/s --desk in/d",
+        wanted: Options {
+            base: 0xFF80_0000,
+            db: Some("x.db"),
+            explain: false,
+            task: Task::Live(LiveOptions {
+                serial: "/dev/s",
+                desk: "in/d",
+                out: "o",
+                turns: 1,
+            }),
+        },
+    },
+    Taken {
+        line: "enogate live --turns 4294967295 --base FF800000 --serial /dev/s --desk in/d --out o --db a/b",
+        wanted: Options {
+            base: 0xFF80_0000,
+            db: Some("a/b"),
+            explain: false,
+            task: Task::Live(LiveOptions {
+                serial: "/dev/s",
+                desk: "in/d",
+                out: "o",
+                turns: 4_294_967_295,
+            }),
+        },
+    },
+    Taken {
+        line: "enogate live --turns +0020 --base FF800000 --serial /dev/s --desk in/d --out o",
+        wanted: Options {
+            base: 0xFF80_0000,
+            db: None,
+            explain: false,
+            task: Task::Live(LiveOptions {
+                serial: "/dev/s",
+                desk: "in/d",
+                out: "o",
+                turns: 20,
+            }),
+        },
+    },
+    Taken {
+        line: "enogate live --base FF800000 --serial /dev/s --desk in/d --out o --turns 20 --explain",
+        wanted: Options {
+            base: 0xFF80_0000,
+            db: None,
+            explain: true,
+            task: Task::Live(LiveOptions {
+                serial: "/dev/s",
+                desk: "in/d",
+                out: "o",
+                turns: 20,
+            }),
+        },
+    },
+    Taken {
+        line: "enogate live --explain --turns 1 --db x.db --base FF800000 --out o --serial /dev/s --desk in/d",
+        wanted: Options {
+            base: 0xFF80_0000,
+            db: Some("x.db"),
+            explain: true,
+            task: Task::Live(LiveOptions {
+                serial: "/dev/s",
+                desk: "in/d",
+                out: "o",
+                turns: 1,
+            }),
+        },
+    },
+];
+
+#[test]
+fn lines_that_are_taken(rt: HostRuntime) -> Result<(), Fail> {
+    for case in &TAKEN {
+        let words = words_of(&rt, case.line)?;
+        match read(rt.alloc(), words.as_slice()) {
+            Ok(options) if options == case.wanted => {}
+            _ => return Err(Fail::from(case.line)),
+        }
     }
     Ok(())
 }
@@ -166,27 +229,116 @@ fn bad_bases(rt: HostRuntime) -> Result<(), Fail> {
     Ok(())
 }
 
+/// A beginning of lines, several ends of it, parted by `|`, and how `clap` refuses the lines.
+struct Refusal {
+    line: &'static str,
+    ends: &'static str,
+    kind: ErrorKind,
+}
+
+const REFUSALS: [Refusal; 18] = [
+    Refusal {
+        line: "enogate replay --help",
+        ends: "",
+        kind: ErrorKind::DisplayHelp,
+    },
+    Refusal {
+        line: "enogate live --help",
+        ends: "",
+        kind: ErrorKind::DisplayHelp,
+    },
+    Refusal {
+        line: "enogate --help",
+        ends: "",
+        kind: ErrorKind::DisplayHelp,
+    },
+    Refusal {
+        line: "enogate --version",
+        ends: "",
+        kind: ErrorKind::DisplayVersion,
+    },
+    Refusal {
+        line: "enogate replay",
+        ends: "",
+        kind: ErrorKind::MissingRequiredArgument,
+    },
+    Refusal {
+        line: "enogate live",
+        ends: "",
+        kind: ErrorKind::MissingRequiredArgument,
+    },
+    Refusal {
+        line: "enogate play",
+        ends: "",
+        kind: ErrorKind::InvalidSubcommand,
+    },
+    Refusal {
+        line: "enogate",
+        ends: "",
+        kind: ErrorKind::MissingSubcommand,
+    },
+    Refusal {
+        line: "enogate replay --store x --base FF800000",
+        ends: "",
+        kind: ErrorKind::UnknownArgument,
+    },
+    // Options of `live`.
+    Refusal {
+        line: "enogate replay --base FF800000 --",
+        ends: "serial 1|desk 1|out 1|turns 1",
+        kind: ErrorKind::UnknownArgument,
+    },
+    // A flag has no value, and is given once.
+    Refusal {
+        line: "enogate replay --base FF800000 ",
+        ends: "--explain --explain",
+        kind: ErrorKind::ArgumentConflict,
+    },
+    Refusal {
+        line: "enogate replay --base FF800000 ",
+        ends: "--explain=yes|--explain=",
+        kind: ErrorKind::TooManyValues,
+    },
+    Refusal {
+        line: "enogate replay --base FF800000 ",
+        ends: "--explain yes|--explains|-e",
+        kind: ErrorKind::UnknownArgument,
+    },
+    Refusal {
+        line: "enogate live --base FF800000 --serial s --desk d --out o --turns 1 ",
+        ends: "--explain --explain",
+        kind: ErrorKind::ArgumentConflict,
+    },
+    Refusal {
+        line: "enogate live --base FF800000 --serial s --desk d --out o --turns 1 ",
+        ends: "--explain=yes|--explain=",
+        kind: ErrorKind::TooManyValues,
+    },
+    Refusal {
+        line: "enogate live --base FF800000 --serial s --desk d --out o --turns 1 ",
+        ends: "--explain yes|--explains|-e",
+        kind: ErrorKind::UnknownArgument,
+    },
+    Refusal {
+        line: "enogate --explain",
+        ends: "",
+        kind: ErrorKind::UnknownArgument,
+    },
+    // Turns.
+    Refusal {
+        line: "enogate live --base FF800000 --serial s --desk d --out o --turns=",
+        ends: "0|4294967296|18446744073709551617|-1|1x|0x10|1.0|",
+        kind: ErrorKind::ValueValidation,
+    },
+];
+
 #[test]
 fn refused_lines(rt: HostRuntime) -> Result<(), Fail> {
-    for (line, kind) in [
-        ("enogate replay --help", ErrorKind::DisplayHelp),
-        ("enogate live --help", ErrorKind::DisplayHelp),
-        ("enogate --help", ErrorKind::DisplayHelp),
-        ("enogate --version", ErrorKind::DisplayVersion),
-        ("enogate replay", ErrorKind::MissingRequiredArgument),
-        ("enogate live", ErrorKind::MissingRequiredArgument),
-        ("enogate play", ErrorKind::InvalidSubcommand),
-        ("enogate", ErrorKind::MissingSubcommand),
-        (
-            "enogate replay --store x --base FF800000",
-            ErrorKind::UnknownArgument,
-        ),
-    ] {
-        refused(&rt, line, kind)?;
-    }
-    for option in ["serial", "desk", "out", "turns"] {
-        let line = format!(in rt.alloc(); "enogate replay --base FF800000 --{option} 1")?;
-        refused(&rt, line.as_str(), ErrorKind::UnknownArgument)?;
+    for case in &REFUSALS {
+        for end in case.ends.split('|') {
+            let line = format!(in rt.alloc(); "{}{end}", case.line)?;
+            refused(&rt, line.as_str(), case.kind)?;
+        }
     }
     Ok(())
 }
@@ -216,153 +368,126 @@ fn options_of_live(rt: HostRuntime) -> Result<(), Fail> {
     Ok(())
 }
 
-// A flag has no value, and is given once.
+/// A line, and what is told where it is refused.
+struct Text {
+    line: &'static str,
+    text: &'static str,
+}
+
+const TEXTS: [Text; 4] = [
+    Text {
+        line: "enogate replay --help",
+        text: "Run a recorded script from standard input to standard output\n\n\
+            Usage: enogate replay [OPTIONS] --base <ID>\n\n\
+            Options:\n      \
+            --base <ID>  Base ID of the radio module, 8 hexadecimal digits\n      \
+            --db <PATH>  SQLite file of learned devices; without this option they are kept in memory only\n      \
+            --explain    Report what was done with each packet, and why\n  \
+            -h, --help       Print help\n",
+    },
+    Text {
+        line: "enogate live --help",
+        text: "Run a gateway on a serial port\n\n\
+            Usage: enogate live [OPTIONS] --base <ID> --serial <PATH> --desk <PATH> --out <PATH> --turns <N>\n\n\
+            Options:\n      \
+            --base <ID>      Base ID of the radio module, 8 hexadecimal digits\n      \
+            --serial <PATH>  Serial port of the radio module\n      \
+            --desk <PATH>    File with orders, one per line\n      \
+            --out <PATH>     Output file, created or truncated\n      \
+            --turns <N>      Number of read cycles before exiting, 1 to 4294967295\n      \
+            --db <PATH>      SQLite file of learned devices; without this option they are kept in memory only\n      \
+            --explain        Report what was done with each packet, and why\n  \
+            -h, --help           Print help\n",
+    },
+    Text {
+        line: "enogate --help",
+        text: "A gateway for EnOcean radio devices\n\n\
+            Usage: enogate <COMMAND>\n\n\
+            Commands:\n  \
+            replay  Run a recorded script from standard input to standard output\n  \
+            live    Run a gateway on a serial port\n  \
+            help    Print this message or the help of the given subcommand(s)\n\n\
+            Options:\n  \
+            -h, --help     Print help\n  \
+            -V, --version  Print version\n",
+    },
+    Text {
+        line: "enogate --version",
+        text: "enogate 0.2.0\n",
+    },
+];
+
 #[test]
-fn bad_explains(rt: HostRuntime) -> Result<(), Fail> {
-    for command in [
-        "replay --base FF800000",
-        "live --base FF800000 --serial s --desk d --out o --turns 1",
-    ] {
-        for (flag, kind) in [
-            ("--explain --explain", ErrorKind::ArgumentConflict),
-            ("--explain=yes", ErrorKind::TooManyValues),
-            ("--explain=", ErrorKind::TooManyValues),
-            ("--explain yes", ErrorKind::UnknownArgument),
-            ("--explains", ErrorKind::UnknownArgument),
-            ("-e", ErrorKind::UnknownArgument),
-        ] {
-            let line = format!(in rt.alloc(); "enogate {command} {flag}")?;
-            refused(&rt, line.as_str(), kind)?;
-        }
+fn texts_told(rt: HostRuntime) -> Result<(), Fail> {
+    for case in &TEXTS {
+        assert_eq!(rt; told(&rt, case.line)?.as_str(), case.text, "{}", case.line);
     }
-    refused(&rt, "enogate --explain", ErrorKind::UnknownArgument)
+    Ok(())
 }
 
+/// Options, and what is planned by them.
+struct Planned {
+    options: Options<'static>,
+    plan: Plan<'static>,
+}
+
+const PLANNED: [Planned; 2] = [
+    Planned {
+        options: Options {
+            base: 0xFFA1_B280,
+            db: Some("x.db"),
+            explain: true,
+            task: Task::Replay,
+        },
+        plan: Plan {
+            db: Some("x.db"),
+            remembered: 1024,
+            base: 0xFFA1_B280,
+            explain: true,
+            service: Service::Replay {
+                reads: 4_000_000_000,
+            },
+        },
+    },
+    Planned {
+        options: Options {
+            base: 0xFF80_0000,
+            db: None,
+            explain: false,
+            task: Task::Live(LiveOptions {
+                serial: "/dev/s",
+                desk: "in/d",
+                out: "o",
+                turns: 4_294_967_295,
+            }),
+        },
+        plan: Plan {
+            db: None,
+            remembered: 1024,
+            base: 0xFF80_0000,
+            explain: false,
+            service: Service::Live {
+                serial: Opened {
+                    path: "/dev/s",
+                    access: Access::ReadAndWrite,
+                },
+                desk: Opened {
+                    path: "in/d",
+                    access: Access::Read,
+                },
+                out: Opened {
+                    path: "o",
+                    access: Access::WriteAnew,
+                },
+                turns: 4_294_967_295,
+            },
+        },
+    },
+];
+
 #[test]
-fn bad_turns(rt: HostRuntime) -> Result<(), Fail> {
-    for turns in [
-        "0",
-        "4294967296",
-        "18446744073709551617",
-        "-1",
-        "1x",
-        "0x10",
-        "1.0",
-        "",
-    ] {
-        let line = format!(in rt.alloc();
-            "enogate live --base FF800000 --serial s --desk d --out o --turns={turns}"
-        )?;
-        refused(&rt, line.as_str(), ErrorKind::ValueValidation)?;
+fn plans(rt: HostRuntime) {
+    for case in &PLANNED {
+        assert_eq!(rt; case.options.plan(), case.plan);
     }
-    Ok(())
-}
-
-#[test]
-fn help_of_replay(rt: HostRuntime) -> Result<(), Fail> {
-    assert_eq!(rt;
-        told(&rt, "enogate replay --help")?.as_str(),
-        "Run a recorded script from standard input to standard output\n\n\
-        Usage: enogate replay [OPTIONS] --base <ID>\n\n\
-        Options:\n      \
-        --base <ID>  Base ID of the radio module, 8 hexadecimal digits\n      \
-        --db <PATH>  SQLite file of learned devices; without this option they are kept in memory only\n      \
-        --explain    Report what was done with each packet, and why\n  \
-        -h, --help       Print help\n"
-    );
-    Ok(())
-}
-
-#[test]
-fn help_of_live(rt: HostRuntime) -> Result<(), Fail> {
-    assert_eq!(rt;
-        told(&rt, "enogate live --help")?.as_str(),
-        "Run a gateway on a serial port\n\n\
-        Usage: enogate live [OPTIONS] --base <ID> --serial <PATH> --desk <PATH> --out <PATH> --turns <N>\n\n\
-        Options:\n      \
-        --base <ID>      Base ID of the radio module, 8 hexadecimal digits\n      \
-        --serial <PATH>  Serial port of the radio module\n      \
-        --desk <PATH>    File with orders, one per line\n      \
-        --out <PATH>     Output file, created or truncated\n      \
-        --turns <N>      Number of read cycles before exiting, 1 to 4294967295\n      \
-        --db <PATH>      SQLite file of learned devices; without this option they are kept in memory only\n      \
-        --explain        Report what was done with each packet, and why\n  \
-        -h, --help           Print help\n"
-    );
-    Ok(())
-}
-
-#[test]
-fn help_of_both(rt: HostRuntime) -> Result<(), Fail> {
-    assert_eq!(rt;
-        told(&rt, "enogate --help")?.as_str(),
-        "A gateway for EnOcean radio devices\n\n\
-        Usage: enogate <COMMAND>\n\n\
-        Commands:\n  \
-        replay  Run a recorded script from standard input to standard output\n  \
-        live    Run a gateway on a serial port\n  \
-        help    Print this message or the help of the given subcommand(s)\n\n\
-        Options:\n  \
-        -h, --help     Print help\n  \
-        -V, --version  Print version\n"
-    );
-    Ok(())
-}
-
-#[test]
-fn version_text(rt: HostRuntime) -> Result<(), Fail> {
-    assert_eq!(rt; told(&rt, "enogate --version")?.as_str(), "enogate 0.2.0\n");
-    Ok(())
-}
-
-#[test]
-fn the_plan_of_a_replay(rt: HostRuntime) {
-    let options = Options {
-        base: 0xFFA1_B280,
-        db: Some("x.db"),
-        explain: true,
-        task: Task::Replay,
-    };
-    let wanted = Plan {
-        db: Some("x.db"),
-        remembered: 1024,
-        base: 0xFFA1_B280,
-        explain: true,
-        service: Service::Replay {
-            reads: 4_000_000_000,
-        },
-    };
-    assert_eq!(rt; options.plan(), wanted);
-}
-
-fn opened(path: &str, access: Access) -> Opened<'_> {
-    Opened { path, access }
-}
-
-#[test]
-fn the_plan_of_a_live_gateway(rt: HostRuntime) {
-    let options = Options {
-        base: 0xFF80_0000,
-        db: None,
-        explain: false,
-        task: Task::Live(LiveOptions {
-            serial: "/dev/s",
-            desk: "in/d",
-            out: "o",
-            turns: 4_294_967_295,
-        }),
-    };
-    let wanted = Plan {
-        db: None,
-        remembered: 1024,
-        base: 0xFF80_0000,
-        explain: false,
-        service: Service::Live {
-            serial: opened("/dev/s", Access::ReadAndWrite),
-            desk: opened("in/d", Access::Read),
-            out: opened("o", Access::WriteAnew),
-            turns: 4_294_967_295,
-        },
-    };
-    assert_eq!(rt; options.plan(), wanted);
 }

@@ -1,7 +1,6 @@
 //! The framer beside the plain one: after each byte of 10,000 made-up streams both hold the same packets.
-ghost use Rattle.std.specs.Prelude.{◌<◌};
-
 use crate::plain::PlainFramer;
+use crate::streams::feed_pieces;
 use esp3_frames::{check8, read_packet};
 use esp3_resync::{Framer, PacketBuf};
 use std::alloc::{AllocError, Global};
@@ -199,30 +198,6 @@ fn compare(alloc: Global, bytes: &[u8], counts: &mut Counts) -> Result<bool, All
     Ok(true)
 }
 
-// How many packets the bytes hold, taken in runs from pieces of this length.
-fn packets_in_runs(alloc: Global, bytes: &[u8], size: usize) -> Result<u32, AllocError>
-    requires { 0 < size }
-{
-    let mut framer = Framer::new(alloc)?;
-    let mut buffer = PacketBuf::new(alloc)?;
-    let mut count: u32 = 0;
-    for piece in bytes.chunks(size) {
-        let mut rest = piece;
-        for _ in 0..=bytes.len() {
-            if !framer.is_ready() {
-                let taken = framer.push_run(rest);
-                rest = &rest[taken..];
-            }
-            if framer.take(&mut buffer) {
-                count = count.saturating_add(1);
-            } else if rest.is_empty() {
-                break;
-            }
-        }
-    }
-    Ok(count)
-}
-
 #[test]
 fn as_a_plain_framer(rt: HostRuntime) -> Result<(), Fail> {
     let alloc = rt.alloc();
@@ -232,6 +207,7 @@ fn as_a_plain_framer(rt: HostRuntime) -> Result<(), Fail> {
         longest: 0,
     };
     let mut bytes = Vec::new(alloc);
+    let mut found = Vec::new(alloc);
     for stream in 0..10_000_u64 {
         bytes.clear();
         push_stream(&mut bytes, &mut draws, stream)?;
@@ -239,7 +215,8 @@ fn as_a_plain_framer(rt: HostRuntime) -> Result<(), Fail> {
         let same = compare(alloc, &bytes, &mut counts)?;
         assert_eq!(rt; (stream, same), (stream, true));
         let size = 1 + (stream % 300) as usize;
-        let in_runs = packets_in_runs(alloc, &bytes, size)?;
+        found.clear();
+        let in_runs = feed_pieces(alloc, &bytes, size, &mut found)?;
         assert_eq!(rt;
             (stream, before.saturating_add(in_runs)),
             (stream, counts.packets)

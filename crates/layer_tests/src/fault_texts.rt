@@ -8,6 +8,50 @@ use profiles_rps::Unreadable;
 use std::error::Error;
 use std::test::Fail;
 
+const OF_HEADERS: [(HeaderFault, &str); 3] = [
+    (HeaderFault::NotSync, "no sync byte"),
+    (HeaderFault::HeaderCheck, "wrong check byte of the header"),
+    (HeaderFault::EmptyPacket, "empty packet"),
+];
+
+const OF_PACKETS: [(PacketFault, &str); 3] = [
+    (PacketFault::EmptyPacket, "empty packet"),
+    (PacketFault::TooLong, "packet too long"),
+    (PacketFault::NoRoom, "no room for the packet"),
+];
+
+const OF_TELEGRAMS: [(TelegramFault, &str); 3] = [
+    (TelegramFault::NotRadio, "no radio packet"),
+    (TelegramFault::OtherKind, "a telegram of another kind"),
+    (TelegramFault::BadLength, "a telegram of a wrong length"),
+];
+
+const OF_READINGS: [(Unreadable, &str); 4] = [
+    (Unreadable::NotSupported, "the profile is not supported"),
+    (
+        Unreadable::WrongKind,
+        "the telegram is of another kind than the profile",
+    ),
+    (
+        Unreadable::WrongLength,
+        "the payload has another length than the profile's messages",
+    ),
+    (
+        Unreadable::OtherMessage,
+        "the message is of another sort than those that are read",
+    ),
+];
+
+const OF_ORDERS: [(OrderFault, &str); 4] = [
+    (OrderFault::Syntax, "not an order"),
+    (OrderFault::Range, "a number out of range"),
+    (OrderFault::UnknownDevice, "an unknown device"),
+    (
+        OrderFault::WrongProfile,
+        "no order for the profile of the device",
+    ),
+];
+
 /// The faults say these texts.
 fn say<E: Error>(rt: &HostRuntime, cases: &[(E, &str)]) -> Result<(), Fail> {
     for (fault, wanted) in cases {
@@ -19,69 +63,12 @@ fn say<E: Error>(rt: &HostRuntime, cases: &[(E, &str)]) -> Result<(), Fail> {
 }
 
 #[test]
-fn of_packets(rt: HostRuntime) -> Result<(), Fail> {
-    say(
-        &rt,
-        &[
-            (HeaderFault::NotSync, "no sync byte"),
-            (HeaderFault::HeaderCheck, "wrong check byte of the header"),
-            (HeaderFault::EmptyPacket, "empty packet"),
-        ],
-    )?;
-    say(
-        &rt,
-        &[
-            (PacketFault::EmptyPacket, "empty packet"),
-            (PacketFault::TooLong, "packet too long"),
-            (PacketFault::NoRoom, "no room for the packet"),
-        ],
-    )
-}
-
-#[test]
-fn of_telegrams(rt: HostRuntime) -> Result<(), Fail> {
-    say(
-        &rt,
-        &[
-            (TelegramFault::NotRadio, "no radio packet"),
-            (TelegramFault::OtherKind, "a telegram of another kind"),
-            (TelegramFault::BadLength, "a telegram of a wrong length"),
-        ],
-    )?;
-    say(
-        &rt,
-        &[
-            (Unreadable::NotSupported, "the profile is not supported"),
-            (
-                Unreadable::WrongKind,
-                "the telegram is of another kind than the profile",
-            ),
-            (
-                Unreadable::WrongLength,
-                "the payload has another length than the profile's messages",
-            ),
-            (
-                Unreadable::OtherMessage,
-                "the message is of another sort than those that are read",
-            ),
-        ],
-    )
-}
-
-#[test]
-fn of_the_desk(rt: HostRuntime) -> Result<(), Fail> {
-    say(
-        &rt,
-        &[
-            (OrderFault::Syntax, "not an order"),
-            (OrderFault::Range, "a number out of range"),
-            (OrderFault::UnknownDevice, "an unknown device"),
-            (
-                OrderFault::WrongProfile,
-                "no order for the profile of the device",
-            ),
-        ],
-    )?;
+fn texts(rt: HostRuntime) -> Result<(), Fail> {
+    say(&rt, &OF_HEADERS)?;
+    say(&rt, &OF_PACKETS)?;
+    say(&rt, &OF_TELEGRAMS)?;
+    say(&rt, &OF_READINGS)?;
+    say(&rt, &OF_ORDERS)?;
     say(&rt, &[(Failed, "a read or a write failed")])?;
     say(&rt, &[(Refused::BadBase, "not a base ID")])
 }

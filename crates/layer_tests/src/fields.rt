@@ -3,37 +3,45 @@ use bit_fields::{get, put};
 
 #[test]
 fn fields_read(rt: HostRuntime) {
-    assert_eq!(rt; get::<4, 13, 11>(&[0x08, 0x28, 0x46, 0x80]), 70);
-    assert_eq!(rt; get::<4, 28, 1>(&[0x00, 0x00, 0x00, 0x08]), 1);
-    assert_eq!(rt; get::<2, 15, 1>(&[0xFF, 0xFE]), 0);
-    assert_eq!(rt; get::<2, 15, 1>(&[0x00, 0x01]), 1);
-    assert_eq!(rt; get::<1, 0, 1>(&[0x80]), 1);
-    assert_eq!(rt; get::<4, 0, 32>(&[0x12, 0x34, 0x56, 0x78]), 0x1234_5678);
-    assert_eq!(rt;
-        get::<5, 4, 32>(&[0xF1, 0x23, 0x45, 0x67, 0x8F]),
-        0x1234_5678
-    );
+    for (row, (found, wanted)) in [
+        (get::<4, 13, 11>(&[0x08, 0x28, 0x46, 0x80]), 70),
+        (get::<4, 28, 1>(&[0x00, 0x00, 0x00, 0x08]), 1),
+        (get::<2, 15, 1>(&[0xFF, 0xFE]), 0),
+        (get::<2, 15, 1>(&[0x00, 0x01]), 1),
+        (get::<1, 0, 1>(&[0x80]), 1),
+        (get::<4, 0, 32>(&[0x12, 0x34, 0x56, 0x78]), 0x1234_5678),
+        (
+            get::<5, 4, 32>(&[0xF1, 0x23, 0x45, 0x67, 0x8F]),
+            0x1234_5678,
+        ),
+    ]
+    .into_iter()
+    .enumerate()
+    {
+        assert_eq!(rt; found, wanted, "row {row}");
+    }
 }
 
 #[test]
 fn fields_written(rt: HostRuntime) {
     let mut byte = [0x91];
     put::<1, 4, 3>(&mut byte, 5);
-    assert_eq!(rt; byte, [0x9B]);
-
     let mut whole = [0; 4];
     put::<4, 0, 32>(&mut whole, 4_294_967_295);
-    assert_eq!(rt; whole, [0xFF; 4]);
-
     let mut across = [0xFF; 4];
     put::<4, 6, 10>(&mut across, 0);
-    assert_eq!(rt; across, [0xFC, 0x00, 0xFF, 0xFF]);
-
     let mut last = [0x00, 0x00];
     put::<2, 15, 1>(&mut last, 1);
-    assert_eq!(rt; last, [0x00, 0x01]);
-
     let mut five = [0xFF; 5];
     put::<5, 4, 32>(&mut five, 0x1234_5678);
-    assert_eq!(rt; five, [0xF1, 0x23, 0x45, 0x67, 0x8F]);
+    let cases: [(&[u8], &[u8]); 5] = [
+        (&byte, &[0x9B]),
+        (&whole, &[0xFF; 4]),
+        (&across, &[0xFC, 0x00, 0xFF, 0xFF]),
+        (&last, &[0x00, 0x01]),
+        (&five, &[0xF1, 0x23, 0x45, 0x67, 0x8F]),
+    ];
+    for (found, wanted) in cases {
+        assert_eq!(rt; found, wanted);
+    }
 }

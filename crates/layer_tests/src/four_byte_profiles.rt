@@ -1,11 +1,8 @@
-//! Telegrams whose readings are known, and each refusal.
-use crate::wanted::Wanted::{OutOfRange, Raw, Value, Word};
-use crate::wanted::{Wanted, say};
-use erp1_telegrams::{BROADCAST, Eep, Telegram};
-use profiles_4bs::{read, supports};
-use profiles_rps::{Reading, Readings, Unreadable, What};
-use std::process::Abort;
-use std::test::Fail;
+//! Telegrams of 4BS whose readings are known, each refusal, and the profiles.
+use crate::readings::Wanted::{OutOfRange, Raw, Value, Word};
+use crate::readings::{Read, Refusal, Types};
+use erp1_telegrams::Eep;
+use profiles_rps::{Reading, Unreadable, What};
 
 /// A temperature sensor of 0 to 40 C.
 const TEMPERATURE: Eep = Eep {
@@ -14,206 +11,272 @@ const TEMPERATURE: Eep = Eep {
     typ: 0x05,
 };
 
-fn eep(func: u8, typ: u8) -> Eep {
-    Eep {
+/// A humidity and temperature sensor.
+const HUMIDITY: Eep = Eep {
+    rorg: 0xA5,
+    func: 0x04,
+    typ: 0x01,
+};
+
+/// An occupancy sensor.
+const OCCUPANCY: Eep = Eep {
+    rorg: 0xA5,
+    func: 0x07,
+    typ: 0x01,
+};
+
+/// A central command, which no sensor sends.
+const OTHER: Eep = Eep {
+    rorg: 0xA5,
+    func: 0x38,
+    typ: 0x08,
+};
+
+pub const READ: [Read; 17] = [
+    Read {
+        eep: TEMPERATURE,
+        payload: &[0x00, 0x00, 0x00, 0x08],
+        status: 0x00,
+        readings: &[("TMP", Value(40, 1, "C"))],
+    },
+    Read {
+        eep: TEMPERATURE,
+        payload: &[0x00, 0x00, 0x7F, 0x08],
+        status: 0x00,
+        readings: &[("TMP", Value(1024, 51, "C"))],
+    },
+    Read {
+        eep: TEMPERATURE,
+        payload: &[0x00, 0x00, 0xFF, 0x08],
+        status: 0x00,
+        readings: &[("TMP", Value(0, 1, "C"))],
+    },
+    Read {
+        eep: Eep {
+            rorg: 0xA5,
+            func: 0x02,
+            typ: 0x20,
+        },
+        payload: &[0x00, 0x00, 0x00, 0x08],
+        status: 0x00,
+        readings: &[("TMP", Value(206, 5, "C"))],
+    },
+    Read {
+        eep: HUMIDITY,
+        payload: &[0x00, 0xFB, 0x7D, 0x0A],
+        status: 0x00,
+        readings: &[("HUM", OutOfRange(251)), ("TMP", Value(20, 1, "C"))],
+    },
+    Read {
+        eep: HUMIDITY,
+        payload: &[0x00, 0xFB, 0x7D, 0x08],
+        status: 0x00,
+        readings: &[("HUM", OutOfRange(251))],
+    },
+    Read {
+        eep: Eep {
+            rorg: 0xA5,
+            func: 0x12,
+            typ: 0x01,
+        },
+        payload: &[0xFF, 0xFF, 0xFF, 0x0B],
+        status: 0x00,
+        readings: &[("MR", Value(3355443, 200, "kWh")), ("TI", Raw(0))],
+    },
+    Read {
+        eep: Eep {
+            rorg: 0xA5,
+            func: 0x02,
+            typ: 0x30,
+        },
+        payload: &[0x00, 0x03, 0xFF, 0x08],
+        status: 0x00,
+        readings: &[("TMP", Value(-40, 1, "C"))],
+    },
+    Read {
+        eep: Eep {
+            rorg: 0xA5,
+            func: 0x04,
+            typ: 0x02,
+        },
+        payload: &[0x00, 0xFA, 0x00, 0x0A],
+        status: 0x00,
+        readings: &[("HUM", Value(100, 1, "%")), ("TMP", Value(-20, 1, "C"))],
+    },
+    Read {
+        eep: Eep {
+            rorg: 0xA5,
+            func: 0x06,
+            typ: 0x01,
+        },
+        payload: &[0xFF, 0xFF, 0x00, 0x09],
+        status: 0x00,
+        readings: &[("SVC", Value(51, 10, "V")), ("ILL2", Value(30000, 1, "lx"))],
+    },
+    Read {
+        eep: Eep {
+            rorg: 0xA5,
+            func: 0x06,
+            typ: 0x02,
+        },
+        payload: &[0x00, 0x00, 0xFF, 0x08],
+        status: 0x00,
+        readings: &[("SVC", Value(0, 1, "V")), ("ILL1", Value(1020, 1, "lx"))],
+    },
+    Read {
+        eep: OCCUPANCY,
+        payload: &[0xFA, 0x00, 0x80, 0x09],
+        status: 0x00,
+        readings: &[("SVC", Value(5, 1, "V")), ("PIRS", Word("on"))],
+    },
+    Read {
+        eep: OCCUPANCY,
+        payload: &[0xFA, 0x00, 0x7F, 0x08],
+        status: 0x00,
+        readings: &[("PIRS", Word("off"))],
+    },
+    Read {
+        eep: Eep {
+            rorg: 0xA5,
+            func: 0x08,
+            typ: 0x03,
+        },
+        payload: &[0xFF, 0xFF, 0x00, 0x09],
+        status: 0x00,
+        readings: &[
+            ("SVC", Value(51, 10, "V")),
+            ("ILL", Value(1530, 1, "lx")),
+            ("TMP", Value(-30, 1, "C")),
+            ("PIRS", Word("on")),
+            ("OCC", Word("released")),
+        ],
+    },
+    Read {
+        eep: Eep {
+            rorg: 0xA5,
+            func: 0x09,
+            typ: 0x04,
+        },
+        payload: &[0xC8, 0xFF, 0xFF, 0x0E],
+        status: 0x00,
+        readings: &[
+            ("HUM", Value(100, 1, "%")),
+            ("CONC", Value(2550, 1, "ppm")),
+            ("TMP", Value(51, 1, "C")),
+        ],
+    },
+    Read {
+        eep: Eep {
+            rorg: 0xA5,
+            func: 0x10,
+            typ: 0x05,
+        },
+        payload: &[0x00, 0x2A, 0x00, 0x08],
+        status: 0x00,
+        readings: &[
+            ("SP", Raw(42)),
+            ("TMP", Value(40, 1, "C")),
+            ("OCC", Word("pressed")),
+        ],
+    },
+    Read {
+        eep: Eep {
+            rorg: 0xA5,
+            func: 0x12,
+            typ: 0x02,
+        },
+        payload: &[0x00, 0x00, 0x07, 0x1C],
+        status: 0x00,
+        readings: &[("MR", Value(7, 1, "l/s")), ("TI", Raw(1))],
+    },
+];
+
+/// The reading that is there before a refusal.
+pub const BEFORE: Reading = Reading {
+    name: "TI",
+    what: What::Raw(7),
+};
+
+pub const REFUSED: [Refusal; 5] = [
+    Refusal {
+        eep: OTHER,
+        rorg: 0xD5,
+        payload: &[0x00],
+        status: 0x00,
+        why: Unreadable::NotSupported,
+    },
+    Refusal {
+        eep: OTHER,
         rorg: 0xA5,
-        func,
-        typ,
-    }
-}
+        payload: &[0x08, 0x28, 0x46, 0x80],
+        status: 0x00,
+        why: Unreadable::NotSupported,
+    },
+    Refusal {
+        eep: TEMPERATURE,
+        rorg: 0xD5,
+        payload: &[0x00],
+        status: 0x00,
+        why: Unreadable::WrongKind,
+    },
+    Refusal {
+        eep: TEMPERATURE,
+        rorg: 0xD2,
+        payload: &[0x00, 0x00, 0x00, 0x08],
+        status: 0x00,
+        why: Unreadable::WrongKind,
+    },
+    Refusal {
+        eep: TEMPERATURE,
+        rorg: 0xA5,
+        payload: &[0x08, 0x28, 0x46, 0x80],
+        status: 0x00,
+        why: Unreadable::OtherMessage,
+    },
+];
 
-fn telegram(payload: u32) -> Result<Telegram, Fail> {
-    Ok(Telegram::new(
-        0xA5,
-        &payload.to_be_bytes(),
-        0x0180_0ABC,
-        0x00,
-        BROADCAST,
-        None,
-    )?)
-}
-
-/// A payload, its first byte the highest, is read as it is expected.
-fn check(
-    rt: &impl Abort,
-    eep: Eep,
-    payload: u32,
-    expected: &[(&'static str, Wanted)],
-) -> Result<(), Fail> {
-    let mut readings = Readings::new();
-    assert_eq!(rt; read(eep, &telegram(payload)?, &mut readings), Ok(()));
-    say(rt, &readings, expected);
-    Ok(())
-}
-
-#[test]
-fn worked_readings(rt: HostRuntime) -> Result<(), Fail> {
-    let humidity = eep(0x04, 0x01);
-    let past_its_range = ("HUM", OutOfRange(251));
-    let meter = ("MR", Value(3355443, 200, "kWh"));
-    check(&rt, TEMPERATURE, 0x0000_0008, &[("TMP", Value(40, 1, "C"))])?;
-    check(
-        &rt,
-        TEMPERATURE,
-        0x0000_7F08,
-        &[("TMP", Value(1024, 51, "C"))],
-    )?;
-    check(&rt, TEMPERATURE, 0x0000_FF08, &[("TMP", Value(0, 1, "C"))])?;
-    check(
-        &rt,
-        eep(0x02, 0x20),
-        0x0000_0008,
-        &[("TMP", Value(206, 5, "C"))],
-    )?;
-    check(
-        &rt,
-        humidity,
-        0x00FB_7D0A,
-        &[past_its_range, ("TMP", Value(20, 1, "C"))],
-    )?;
-    check(&rt, humidity, 0x00FB_7D08, &[past_its_range])?;
-    check(&rt, eep(0x12, 0x01), 0xFFFF_FF0B, &[meter, ("TI", Raw(0))])
-}
-
-#[test]
-fn temperature_humidity_and_light(rt: HostRuntime) -> Result<(), Fail> {
-    let humidity = ("HUM", Value(100, 1, "%"));
-    let empty = ("SVC", Value(0, 1, "V"));
-    let full = ("SVC", Value(51, 10, "V"));
-    check(
-        &rt,
-        eep(0x02, 0x30),
-        0x0003_FF08,
-        &[("TMP", Value(-40, 1, "C"))],
-    )?;
-    check(
-        &rt,
-        eep(0x04, 0x02),
-        0x00FA_000A,
-        &[humidity, ("TMP", Value(-20, 1, "C"))],
-    )?;
-    check(
-        &rt,
-        eep(0x06, 0x01),
-        0xFFFF_0009,
-        &[full, ("ILL2", Value(30000, 1, "lx"))],
-    )?;
-    check(
-        &rt,
-        eep(0x06, 0x02),
-        0x0000_FF08,
-        &[empty, ("ILL1", Value(1020, 1, "lx"))],
-    )
-}
-
-#[test]
-fn occupancy(rt: HostRuntime) -> Result<(), Fail> {
-    let full = ("SVC", Value(51, 10, "V"));
-    let light = ("ILL", Value(1530, 1, "lx"));
-    let temperature = ("TMP", Value(-30, 1, "C"));
-    let on = ("PIRS", Word("on"));
-    let released = ("OCC", Word("released"));
-    check(
-        &rt,
-        eep(0x07, 0x01),
-        0xFA00_8009,
-        &[("SVC", Value(5, 1, "V")), on],
-    )?;
-    check(&rt, eep(0x07, 0x01), 0xFA00_7F08, &[("PIRS", Word("off"))])?;
-    check(
-        &rt,
-        eep(0x08, 0x03),
-        0xFFFF_0009,
-        &[full, light, temperature, on, released],
-    )
-}
-
-#[test]
-fn gas_panel_and_meter(rt: HostRuntime) -> Result<(), Fail> {
-    let humidity = ("HUM", Value(100, 1, "%"));
-    let concentration = ("CONC", Value(2550, 1, "ppm"));
-    let temperature = ("TMP", Value(40, 1, "C"));
-    let pressed = ("OCC", Word("pressed"));
-    let flow = ("MR", Value(7, 1, "l/s"));
-    let warmest = ("TMP", Value(51, 1, "C"));
-    check(
-        &rt,
-        eep(0x09, 0x04),
-        0xC8FF_FF0E,
-        &[humidity, concentration, warmest],
-    )?;
-    check(
-        &rt,
-        eep(0x10, 0x05),
-        0x002A_0008,
-        &[("SP", Raw(42)), temperature, pressed],
-    )?;
-    check(&rt, eep(0x12, 0x02), 0x0000_071C, &[flow, ("TI", Raw(1))])
-}
-
-#[test]
-fn refusals(rt: HostRuntime) -> Result<(), Fail> {
-    let contact = Telegram::new(0xD5, &[0x00], 0x0180_0ABC, 0x00, BROADCAST, None)?;
-    let teach_in = telegram(0x0828_4680)?;
-    let four_bytes = Telegram::new(0xD2, &[0, 0, 0, 8], 0x0180_0ABC, 0x00, BROADCAST, None)?;
-    let cases: [(Eep, &Telegram, Unreadable); 5] = [
-        (eep(0x38, 0x08), &contact, Unreadable::NotSupported),
-        (eep(0x38, 0x08), &teach_in, Unreadable::NotSupported),
-        (TEMPERATURE, &contact, Unreadable::WrongKind),
-        (TEMPERATURE, &four_bytes, Unreadable::WrongKind),
-        (TEMPERATURE, &teach_in, Unreadable::OtherMessage),
-    ];
-    let before = Reading {
-        name: "TI",
-        what: What::Raw(7),
-    };
-    let mut readings = Readings::new();
-    readings.push(before);
-    for (eep, telegram, refusal) in cases {
-        assert_eq!(rt; read(eep, telegram, &mut readings), Err(refusal));
-        assert_eq!(rt; readings.as_slice(), [before].as_slice());
-    }
-    Ok(())
-}
-
-/// The types that stand beside this FUNC.
-fn types_of<'a>(func: u8, table: &[(u8, &'a [u8])]) -> &'a [u8] {
-    for (other, types) in table {
-        if *other == func {
-            return types;
-        }
-    }
-    &[]
-}
-
-#[test]
-fn supported_profiles(rt: HostRuntime) {
-    let supported: [(u8, &[u8]); 8] = [
-        (
-            0x02,
-            &[
-                0x01, 0x02, 0x03, 0x04, 0x05, 0x06, 0x07, 0x08, 0x09, 0x0A, 0x0B, 0x10, 0x11, 0x12,
-                0x13, 0x14, 0x15, 0x16, 0x17, 0x18, 0x19, 0x1A, 0x1B, 0x20, 0x30,
-            ],
-        ),
-        (0x04, &[0x01, 0x02]),
-        (0x06, &[0x01, 0x02]),
-        (0x07, &[0x01]),
-        (0x08, &[0x01, 0x02, 0x03]),
-        (0x09, &[0x04]),
-        (0x10, &[0x03, 0x05]),
-        (0x12, &[0x01, 0x02, 0x03]),
-    ];
-    for rorg in [0xF6, 0xD5, 0xA5, 0xD2, 0xD4] {
-        for func in 0..=0xFFu8 {
-            let types = types_of(func, &supported);
-            for typ in 0..=0xFFu8 {
-                assert_eq!(rt;
-                    supports(Eep { rorg, func, typ }),
-                    rorg == 0xA5 && types.contains(&typ),
-                    "{rorg} {func} {typ}"
-                );
-            }
-        }
-    }
-}
+pub const SUPPORTED: [Types; 8] = [
+    Types {
+        rorg: 0xA5,
+        func: 0x02,
+        types: &[
+            0x01, 0x02, 0x03, 0x04, 0x05, 0x06, 0x07, 0x08, 0x09, 0x0A, 0x0B, 0x10, 0x11, 0x12,
+            0x13, 0x14, 0x15, 0x16, 0x17, 0x18, 0x19, 0x1A, 0x1B, 0x20, 0x30,
+        ],
+    },
+    Types {
+        rorg: 0xA5,
+        func: 0x04,
+        types: &[0x01, 0x02],
+    },
+    Types {
+        rorg: 0xA5,
+        func: 0x06,
+        types: &[0x01, 0x02],
+    },
+    Types {
+        rorg: 0xA5,
+        func: 0x07,
+        types: &[0x01],
+    },
+    Types {
+        rorg: 0xA5,
+        func: 0x08,
+        types: &[0x01, 0x02, 0x03],
+    },
+    Types {
+        rorg: 0xA5,
+        func: 0x09,
+        types: &[0x04],
+    },
+    Types {
+        rorg: 0xA5,
+        func: 0x10,
+        types: &[0x03, 0x05],
+    },
+    Types {
+        rorg: 0xA5,
+        func: 0x12,
+        types: &[0x01, 0x02, 0x03],
+    },
+];

@@ -6,52 +6,178 @@ fn parts(fraction: Fraction) -> (i64, i64) {
     (fraction.num(), fraction.den())
 }
 
-#[test]
-fn values_between_the_bounds(rt: HostRuntime) {
-    assert_eq!(rt; scale(127, 255, 0, 0, 400).map(parts), Some((1024, 51)));
-    assert_eq!(rt; scale(255, 255, 0, -400, 0).map(parts), Some((-40, 1)));
-    assert_eq!(rt; scale(0, 1023, 0, -100, 412).map(parts), Some((206, 5)));
-    assert_eq!(rt; scale(25, 0, 250, 0, 1000).map(parts), Some((10, 1)));
+/// A number, which is `low` tenths at `first` and `high` tenths at `last`, and its value as a numerator and a
+/// denominator.
+struct Scaled {
+    raw: u32,
+    first: u32,
+    last: u32,
+    low: i32,
+    high: i32,
+    wanted: Option<(i64, i64)>,
 }
 
-#[test]
-fn the_bounds_are_within_and_what_is_past_them_is_not(rt: HostRuntime) {
-    assert_eq!(rt; scale(10, 10, 20, -5, 5).map(parts), Some((-1, 2)));
-    assert_eq!(rt; scale(20, 10, 20, -5, 5).map(parts), Some((1, 2)));
-    assert_eq!(rt; scale(20, 20, 10, -5, 5).map(parts), Some((-1, 2)));
-    assert_eq!(rt; scale(10, 20, 10, -5, 5).map(parts), Some((1, 2)));
-    assert!(rt; scale(9, 10, 20, -5, 5).is_none());
-    assert!(rt; scale(21, 10, 20, -5, 5).is_none());
-    assert!(rt; scale(9, 20, 10, -5, 5).is_none());
-    assert!(rt; scale(21, 20, 10, -5, 5).is_none());
-    assert!(rt; scale(256, 0, 255, 0, 51).is_none());
-}
+const SCALED: [Scaled; 17] = [
+    // Between the bounds.
+    Scaled {
+        raw: 127,
+        first: 255,
+        last: 0,
+        low: 0,
+        high: 400,
+        wanted: Some((1024, 51)),
+    },
+    Scaled {
+        raw: 255,
+        first: 255,
+        last: 0,
+        low: -400,
+        high: 0,
+        wanted: Some((-40, 1)),
+    },
+    Scaled {
+        raw: 0,
+        first: 1023,
+        last: 0,
+        low: -100,
+        high: 412,
+        wanted: Some((206, 5)),
+    },
+    Scaled {
+        raw: 25,
+        first: 0,
+        last: 250,
+        low: 0,
+        high: 1000,
+        wanted: Some((10, 1)),
+    },
+    // The bounds are within, and what is past them is not.
+    Scaled {
+        raw: 10,
+        first: 10,
+        last: 20,
+        low: -5,
+        high: 5,
+        wanted: Some((-1, 2)),
+    },
+    Scaled {
+        raw: 20,
+        first: 10,
+        last: 20,
+        low: -5,
+        high: 5,
+        wanted: Some((1, 2)),
+    },
+    Scaled {
+        raw: 20,
+        first: 20,
+        last: 10,
+        low: -5,
+        high: 5,
+        wanted: Some((-1, 2)),
+    },
+    Scaled {
+        raw: 10,
+        first: 20,
+        last: 10,
+        low: -5,
+        high: 5,
+        wanted: Some((1, 2)),
+    },
+    Scaled {
+        raw: 9,
+        first: 10,
+        last: 20,
+        low: -5,
+        high: 5,
+        wanted: None,
+    },
+    Scaled {
+        raw: 21,
+        first: 10,
+        last: 20,
+        low: -5,
+        high: 5,
+        wanted: None,
+    },
+    Scaled {
+        raw: 9,
+        first: 20,
+        last: 10,
+        low: -5,
+        high: 5,
+        wanted: None,
+    },
+    Scaled {
+        raw: 21,
+        first: 20,
+        last: 10,
+        low: -5,
+        high: 5,
+        wanted: None,
+    },
+    Scaled {
+        raw: 256,
+        first: 0,
+        last: 255,
+        low: 0,
+        high: 51,
+        wanted: None,
+    },
+    // The widest bounds.
+    Scaled {
+        raw: 65_535,
+        first: 65_535,
+        last: 0,
+        low: -1_000_000,
+        high: 1_000_000,
+        wanted: Some((-100_000, 1)),
+    },
+    Scaled {
+        raw: 0,
+        first: 65_535,
+        last: 0,
+        low: -1_000_000,
+        high: 1_000_000,
+        wanted: Some((100_000, 1)),
+    },
+    Scaled {
+        raw: 1,
+        first: 65_535,
+        last: 0,
+        low: -1_000_000,
+        high: 1_000_000,
+        wanted: Some((1_310_660_000, 13_107)),
+    },
+    Scaled {
+        raw: 65_536,
+        first: 0,
+        last: 65_535,
+        low: 0,
+        high: 1,
+        wanted: None,
+    },
+];
 
 #[test]
-fn the_widest_bounds(rt: HostRuntime) {
-    assert_eq!(rt;
-        scale(65_535, 65_535, 0, -1_000_000, 1_000_000).map(parts),
-        Some((-100_000, 1))
-    );
-    assert_eq!(rt;
-        scale(0, 65_535, 0, -1_000_000, 1_000_000).map(parts),
-        Some((100_000, 1))
-    );
-    assert_eq!(rt;
-        scale(1, 65_535, 0, -1_000_000, 1_000_000).map(parts),
-        Some((1_310_660_000, 13_107))
-    );
-    assert!(rt; scale(65_536, 0, 65_535, 0, 1).is_none());
+fn scaled_numbers(rt: HostRuntime) {
+    for (row, case) in SCALED.iter().enumerate() {
+        let tenths = -1_000_000..=1_000_000;
+        assert!(rt; case.first <= 65_535 && case.last <= 65_535 && case.first != case.last);
+        assert!(rt; tenths.contains(&case.low) && tenths.contains(&case.high));
+        let found = scale(case.raw, case.first, case.last, case.low, case.high).map(parts);
+        assert_eq!(rt; found, case.wanted, "row {row}");
+    }
 }
 
 #[test]
 fn quotients(rt: HostRuntime) {
-    assert_eq!(rt; parts(over(16_777_215, 1000)), (3_355_443, 200));
-    assert_eq!(rt; parts(over(0, 1000)), (0, 1));
-    assert_eq!(rt; parts(over(7, 1)), (7, 1));
-}
-
-#[test]
-fn the_default_is_nought(rt: HostRuntime) {
+    for (found, wanted) in [
+        (over(16_777_215, 1000), (3_355_443, 200)),
+        (over(0, 1000), (0, 1)),
+        (over(7, 1), (7, 1)),
+    ] {
+        assert_eq!(rt; parts(found), wanted);
+    }
     assert_eq!(rt; Fraction::default(), over(0, 1));
 }

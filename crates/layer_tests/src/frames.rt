@@ -1,8 +1,8 @@
 //! Headers and packets of the standard, and of this gateway's limits.
 use arrayvec::ArrayVec;
 use esp3_frames::{
-    Header, HeaderFault, LONGEST_PACKET, PacketFault, check8, check8_between, check8_next,
-    first_packet, read_header, read_packet, write_packet,
+    Header, HeaderFault, LONGEST_PACKET, PacketFault, PacketRef, check8, check8_between,
+    check8_next, first_packet, read_header, read_packet, write_packet,
 };
 use std::alloc::{AllocError, Global};
 use std::test::Fail;
@@ -12,208 +12,440 @@ const CONTACT: [u8; 21] = [
     0xFF, 0xFF, 0x2D, 0x00, 0x1F,
 ];
 
-#[test]
-fn check_bytes(rt: HostRuntime) {
-    assert_eq!(rt; check8(&[0x00, 0x07, 0x07, 0x01]), 0x7A);
-    assert_eq!(rt; check8(&[0x08]), 0x38);
-    assert_eq!(rt; check8(&[]), 0x00);
-    assert_eq!(rt; check8_next(0x7A, 0x7A), 0x00);
-    assert_eq!(rt; check8_next(0x00, 0x08), 0x38);
-    // The check value that catalogues of CRCs give for this one, CRC-8/SMBUS.
-    assert_eq!(rt; check8(b"123456789"), 0xF4);
+/// Of what a check byte is asked.
+enum Of {
+    /// Some bytes.
+    Bytes(&'static [u8]),
+    /// Bytes whose check byte is known, and one more.
+    Next { before: u8, byte: u8 },
+    /// So many bytes behind others: the check byte of the others, and that of all.
+    Between { before: u8, all: u8, len: usize },
 }
 
-// Of the packet above, the check byte of its header and that of its data; and then of rows of the bytes 3, 10, 17, ..
-// (each 7 more than the last, modulo 256) behind "123456789". Another program computed them.
-#[test]
-fn check_bytes_between(rt: HostRuntime) {
-    assert_eq!(rt; check8_between(0xAC, 0x6D, 4), 0x7A);
-    assert_eq!(rt; check8_between(0x65, 0x7C, 14), 0x1F);
-    assert_eq!(rt; check8_between(0xF4, 0xF4, 0), 0x00);
-    assert_eq!(rt; check8_between(0xF4, 0xCB, 1), 0x09);
-    assert_eq!(rt; check8_between(0xF4, 0xCC, 8), 0xBA);
-    assert_eq!(rt; check8_between(0xF4, 0x67, 126), 0x99);
-    assert_eq!(rt; check8_between(0xF4, 0x7E, 127), 0x8A);
-    assert_eq!(rt; check8_between(0xF4, 0x0E, 128), 0xCC);
-    assert_eq!(rt; check8_between(0xF4, 0xE6, 254), 0x12);
-    assert_eq!(rt; check8_between(0xF4, 0x92, 256), 0xD2);
-    assert_eq!(rt; check8_between(0xF4, 0x3B, 1_279), 0x7E);
-    assert_eq!(rt; check8_between(0xF4, 0x0B, 65_790), 0x50);
+/// A check byte.
+struct Check {
+    of: Of,
+    wanted: u8,
 }
+
+/// Check bytes of the packet above and of short texts.
+const CHECKS: [Check; 18] = [
+    Check {
+        of: Of::Bytes(&[0x00, 0x07, 0x07, 0x01]),
+        wanted: 0x7A,
+    },
+    Check {
+        of: Of::Bytes(&[0x08]),
+        wanted: 0x38,
+    },
+    Check {
+        of: Of::Bytes(&[]),
+        wanted: 0x00,
+    },
+    Check {
+        of: Of::Next {
+            before: 0x7A,
+            byte: 0x7A,
+        },
+        wanted: 0x00,
+    },
+    Check {
+        of: Of::Next {
+            before: 0x00,
+            byte: 0x08,
+        },
+        wanted: 0x38,
+    },
+    // The check value that catalogues of CRCs give for this one, CRC-8/SMBUS.
+    Check {
+        of: Of::Bytes(b"123456789"),
+        wanted: 0xF4,
+    },
+    // Of the packet above, the check byte of its header and that of its data; and then of rows of the bytes 3, 10, 17,
+    // .. (each 7 more than the last, modulo 256) behind "123456789". Another program computed them.
+    Check {
+        of: Of::Between {
+            before: 0xAC,
+            all: 0x6D,
+            len: 4,
+        },
+        wanted: 0x7A,
+    },
+    Check {
+        of: Of::Between {
+            before: 0x65,
+            all: 0x7C,
+            len: 14,
+        },
+        wanted: 0x1F,
+    },
+    Check {
+        of: Of::Between {
+            before: 0xF4,
+            all: 0xF4,
+            len: 0,
+        },
+        wanted: 0x00,
+    },
+    Check {
+        of: Of::Between {
+            before: 0xF4,
+            all: 0xCB,
+            len: 1,
+        },
+        wanted: 0x09,
+    },
+    Check {
+        of: Of::Between {
+            before: 0xF4,
+            all: 0xCC,
+            len: 8,
+        },
+        wanted: 0xBA,
+    },
+    Check {
+        of: Of::Between {
+            before: 0xF4,
+            all: 0x67,
+            len: 126,
+        },
+        wanted: 0x99,
+    },
+    Check {
+        of: Of::Between {
+            before: 0xF4,
+            all: 0x7E,
+            len: 127,
+        },
+        wanted: 0x8A,
+    },
+    Check {
+        of: Of::Between {
+            before: 0xF4,
+            all: 0x0E,
+            len: 128,
+        },
+        wanted: 0xCC,
+    },
+    Check {
+        of: Of::Between {
+            before: 0xF4,
+            all: 0xE6,
+            len: 254,
+        },
+        wanted: 0x12,
+    },
+    Check {
+        of: Of::Between {
+            before: 0xF4,
+            all: 0x92,
+            len: 256,
+        },
+        wanted: 0xD2,
+    },
+    Check {
+        of: Of::Between {
+            before: 0xF4,
+            all: 0x3B,
+            len: 1_279,
+        },
+        wanted: 0x7E,
+    },
+    Check {
+        of: Of::Between {
+            before: 0xF4,
+            all: 0x0B,
+            len: 65_790,
+        },
+        wanted: 0x50,
+    },
+];
+
+#[test]
+fn check_bytes(rt: HostRuntime) {
+    for (row, case) in CHECKS.iter().enumerate() {
+        let found = match case.of {
+            Of::Bytes(bytes) => check8(bytes),
+            Of::Next { before, byte } => check8_next(before, byte),
+            Of::Between { before, all, len } => check8_between(before, all, len),
+        };
+        assert_eq!(rt; found, case.wanted, "row {row}");
+    }
+}
+
+/// The first six bytes of a packet, and what they say.
+struct HeaderCase {
+    bytes: [u8; 6],
+    wanted: Result<Header, HeaderFault>,
+}
+
+/// The last three have two faults each, and the first of the two is told.
+const HEADERS: [HeaderCase; 10] = [
+    HeaderCase {
+        bytes: [0x55, 0x00, 0x07, 0x07, 0x01, 0x7A],
+        wanted: Ok(Header {
+            data_len: 7,
+            opt_len: 7,
+            kind: 1,
+        }),
+    },
+    HeaderCase {
+        bytes: [0x55, 0x04, 0x01, 0x00, 0x09, 0x0C],
+        wanted: Ok(Header {
+            data_len: 1025,
+            opt_len: 0,
+            kind: 9,
+        }),
+    },
+    HeaderCase {
+        bytes: [0x54, 0x00, 0x07, 0x07, 0x01, 0x7A],
+        wanted: Err(HeaderFault::NotSync),
+    },
+    HeaderCase {
+        bytes: [0x55, 0x00, 0x07, 0x07, 0x01, 0x7B],
+        wanted: Err(HeaderFault::HeaderCheck),
+    },
+    HeaderCase {
+        bytes: [0x55, 0x00, 0x00, 0x00, 0x00, 0x00],
+        wanted: Err(HeaderFault::EmptyPacket),
+    },
+    HeaderCase {
+        bytes: [0x55, 0xFF, 0xFF, 0xFF, 0x09, 0x12],
+        wanted: Ok(Header {
+            data_len: 65_535,
+            opt_len: 255,
+            kind: 9,
+        }),
+    },
+    HeaderCase {
+        bytes: [0x55, 0x00, 0x00, 0x01, 0x09, 0x2A],
+        wanted: Ok(Header {
+            data_len: 0,
+            opt_len: 1,
+            kind: 9,
+        }),
+    },
+    HeaderCase {
+        bytes: [0x54, 0x00, 0x00, 0x00, 0x00, 0x00],
+        wanted: Err(HeaderFault::NotSync),
+    },
+    HeaderCase {
+        bytes: [0x54, 0x00, 0x07, 0x07, 0x01, 0x7B],
+        wanted: Err(HeaderFault::NotSync),
+    },
+    HeaderCase {
+        bytes: [0x55, 0x00, 0x00, 0x00, 0x00, 0x01],
+        wanted: Err(HeaderFault::HeaderCheck),
+    },
+];
 
 #[test]
 fn headers(rt: HostRuntime) {
-    let contact = Header {
-        data_len: 7,
-        opt_len: 7,
-        kind: 1,
-    };
-    assert_eq!(rt;
-        read_header(&[0x55, 0x00, 0x07, 0x07, 0x01, 0x7A]),
-        Ok(contact)
-    );
-    let longer = Header {
-        data_len: 1025,
-        opt_len: 0,
-        kind: 9,
-    };
-    assert_eq!(rt;
-        read_header(&[0x55, 0x04, 0x01, 0x00, 0x09, 0x0C]),
-        Ok(longer)
-    );
-    assert_eq!(rt;
-        read_header(&[0x54, 0x00, 0x07, 0x07, 0x01, 0x7A]),
-        Err(HeaderFault::NotSync)
-    );
-    assert_eq!(rt;
-        read_header(&[0x55, 0x00, 0x07, 0x07, 0x01, 0x7B]),
-        Err(HeaderFault::HeaderCheck)
-    );
-    assert_eq!(rt;
-        read_header(&[0x55, 0x00, 0x00, 0x00, 0x00, 0x00]),
-        Err(HeaderFault::EmptyPacket)
-    );
-    let longest = Header {
-        data_len: 65_535,
-        opt_len: 255,
-        kind: 9,
-    };
-    assert_eq!(rt;
-        read_header(&[0x55, 0xFF, 0xFF, 0xFF, 0x09, 0x12]),
-        Ok(longest)
-    );
-    let without_data = Header {
-        data_len: 0,
-        opt_len: 1,
-        kind: 9,
-    };
-    assert_eq!(rt;
-        read_header(&[0x55, 0x00, 0x00, 0x01, 0x09, 0x2A]),
-        Ok(without_data)
-    );
-}
-
-// Each of these has two faults, and the first of the two is told.
-#[test]
-fn headers_with_two_faults(rt: HostRuntime) {
-    assert_eq!(rt;
-        read_header(&[0x54, 0x00, 0x00, 0x00, 0x00, 0x00]),
-        Err(HeaderFault::NotSync)
-    );
-    assert_eq!(rt;
-        read_header(&[0x54, 0x00, 0x07, 0x07, 0x01, 0x7B]),
-        Err(HeaderFault::NotSync)
-    );
-    assert_eq!(rt;
-        read_header(&[0x55, 0x00, 0x00, 0x00, 0x00, 0x01]),
-        Err(HeaderFault::HeaderCheck)
-    );
-}
-
-#[test]
-fn a_packet(rt: HostRuntime) -> Result<(), Fail> {
-    let packet = read_packet(&CONTACT).ok_or("no packet")?;
-    assert_eq!(rt; packet.kind, 1);
-    assert_eq!(rt; packet.body, &CONTACT[6..13]);
-    assert_eq!(rt; packet.opt, &CONTACT[13..20]);
-    let mut out = ArrayVec::<u8, 24>::new();
-    assert_eq!(rt; write_packet(1, packet.body, packet.opt, &mut out), Ok(()));
-    assert_eq!(rt; out.as_slice(), CONTACT.as_slice());
-    assert_eq!(rt;
-        write_packet(1, packet.body, packet.opt, &mut out),
-        Err(PacketFault::NoRoom)
-    );
-    assert_eq!(rt;
-        write_packet(1, &[], &[], &mut out),
-        Err(PacketFault::EmptyPacket)
-    );
-    Ok(())
-}
-
-// A packet at the front, with more bytes after it or none.
-#[test]
-fn a_first_packet(rt: HostRuntime) -> Result<(), Fail> {
-    let mut more = [0x55; 24];
-    more[..21].copy_from_slice(&CONTACT);
-    for bytes in [&more[..], &more[..21]] {
-        let (packet, len) = first_packet(bytes).ok_or("no packet")?;
-        assert_eq!(rt; (packet.kind, len), (1, 21));
-        assert_eq!(rt; packet.body, &CONTACT[6..13]);
-        assert_eq!(rt; packet.opt, &CONTACT[13..20]);
+    for (row, case) in HEADERS.iter().enumerate() {
+        assert_eq!(rt; read_header(&case.bytes), case.wanted, "row {row}");
     }
-    assert!(rt; first_packet(&more[..20]).is_none());
-    assert!(rt; first_packet(&more[1..]).is_none());
-    more[20] = 0x1E;
-    assert!(rt; first_packet(&more).is_none());
-    Ok(())
 }
 
-// One wrong check byte, though the other fits; a byte too few, and a byte too many.
 #[test]
-fn no_packets(rt: HostRuntime) {
-    let mut wrong = CONTACT;
-    wrong[5] = 0x7B;
-    assert!(rt; read_packet(&wrong).is_none());
-    wrong[5] = 0x7A;
-    wrong[20] = 0x1E;
-    assert!(rt; read_packet(&wrong).is_none());
-    assert!(rt; read_packet(&CONTACT[..20]).is_none());
-    let mut longer = [0; 22];
-    longer[..21].copy_from_slice(&CONTACT);
-    assert!(rt; read_packet(&longer).is_none());
-    assert!(rt; read_packet(&longer[..21]).is_some());
+fn a_packet_written(rt: HostRuntime) {
+    let mut out = ArrayVec::<u8, 24>::new();
+    let (body, opt) = (&CONTACT[6..13], &CONTACT[13..20]);
+    assert_eq!(rt; write_packet(1, body, opt, &mut out), Ok(()));
+    assert_eq!(rt; out.as_slice(), CONTACT.as_slice());
+    let again = write_packet(1, body, opt, &mut out);
+    let empty = write_packet(1, &[], &[], &mut out);
+    assert_eq!(rt;
+        (again, empty),
+        (Err(PacketFault::NoRoom), Err(PacketFault::EmptyPacket))
+    );
 }
 
-// These six bytes, and so many bytes 00 behind them.
-fn before_zeros(alloc: Global, bytes: &[u8; 6], count: usize) -> Result<Vec<u8>, AllocError> {
+/// Bytes: whether they are the packet above, and whether it stands at their front.
+struct Part {
+    bytes: &'static [u8],
+    is_packet: bool,
+    is_first: bool,
+}
+
+const PARTS: [Part; 8] = [
+    Part {
+        bytes: &CONTACT,
+        is_packet: true,
+        is_first: true,
+    },
+    // More bytes after it.
+    Part {
+        bytes: &[
+            0x55, 0x00, 0x07, 0x07, 0x01, 0x7A, 0xD5, 0x09, 0x01, 0x80, 0x0A, 0xBC, 0x00, 0x01,
+            0xFF, 0xFF, 0xFF, 0xFF, 0x2D, 0x00, 0x1F, 0x55, 0x55, 0x55,
+        ],
+        is_packet: false,
+        is_first: true,
+    },
+    Part {
+        bytes: &[
+            0x55, 0x00, 0x07, 0x07, 0x01, 0x7A, 0xD5, 0x09, 0x01, 0x80, 0x0A, 0xBC, 0x00, 0x01,
+            0xFF, 0xFF, 0xFF, 0xFF, 0x2D, 0x00, 0x1F, 0x00,
+        ],
+        is_packet: false,
+        is_first: true,
+    },
+    // One wrong check byte, though the other fits.
+    Part {
+        bytes: &[
+            0x55, 0x00, 0x07, 0x07, 0x01, 0x7B, 0xD5, 0x09, 0x01, 0x80, 0x0A, 0xBC, 0x00, 0x01,
+            0xFF, 0xFF, 0xFF, 0xFF, 0x2D, 0x00, 0x1F,
+        ],
+        is_packet: false,
+        is_first: false,
+    },
+    Part {
+        bytes: &[
+            0x55, 0x00, 0x07, 0x07, 0x01, 0x7A, 0xD5, 0x09, 0x01, 0x80, 0x0A, 0xBC, 0x00, 0x01,
+            0xFF, 0xFF, 0xFF, 0xFF, 0x2D, 0x00, 0x1E,
+        ],
+        is_packet: false,
+        is_first: false,
+    },
+    Part {
+        bytes: &[
+            0x55, 0x00, 0x07, 0x07, 0x01, 0x7A, 0xD5, 0x09, 0x01, 0x80, 0x0A, 0xBC, 0x00, 0x01,
+            0xFF, 0xFF, 0xFF, 0xFF, 0x2D, 0x00, 0x1E, 0x55, 0x55, 0x55,
+        ],
+        is_packet: false,
+        is_first: false,
+    },
+    // A byte too few, at the end or at the front.
+    Part {
+        bytes: &[
+            0x55, 0x00, 0x07, 0x07, 0x01, 0x7A, 0xD5, 0x09, 0x01, 0x80, 0x0A, 0xBC, 0x00, 0x01,
+            0xFF, 0xFF, 0xFF, 0xFF, 0x2D, 0x00,
+        ],
+        is_packet: false,
+        is_first: false,
+    },
+    Part {
+        bytes: &[
+            0x00, 0x07, 0x07, 0x01, 0x7A, 0xD5, 0x09, 0x01, 0x80, 0x0A, 0xBC, 0x00, 0x01, 0xFF,
+            0xFF, 0xFF, 0xFF, 0x2D, 0x00, 0x1F, 0x55, 0x55, 0x55,
+        ],
+        is_packet: false,
+        is_first: false,
+    },
+];
+
+#[test]
+fn parts_of_a_packet(rt: HostRuntime) {
+    let contact = PacketRef {
+        kind: 1,
+        body: &CONTACT[6..13],
+        opt: &CONTACT[13..20],
+    };
+    for (row, part) in PARTS.iter().enumerate() {
+        let found = (read_packet(part.bytes), first_packet(part.bytes));
+        let wanted = (
+            part.is_packet.then_some(contact),
+            part.is_first.then_some((contact, 21)),
+        );
+        assert_eq!(rt; found, wanted, "row {row}");
+    }
+}
+
+/// A header with so many bytes 00 behind it: all but the last are data and optional data, and the last is their check
+/// byte, since the check byte of such data is 00. Then the lengths of the two in the packet, if it is one.
+struct Zeros {
+    header: [u8; 6],
+    count: usize,
+    wanted: Option<(u8, usize, usize)>,
+}
+
+const ZEROS: [Zeros; 3] = [
+    Zeros {
+        header: [0x55, 0xFF, 0xFF, 0xFF, 0x09, 0x12],
+        count: 65_791,
+        wanted: Some((9, 65_535, 255)),
+    },
+    Zeros {
+        header: [0x55, 0xFF, 0xFF, 0xFF, 0x09, 0x12],
+        count: 65_790,
+        wanted: None,
+    },
+    Zeros {
+        header: [0x55, 0x00, 0x00, 0xFF, 0x09, 0xE8],
+        count: 256,
+        wanted: Some((9, 0, 255)),
+    },
+];
+
+// The header, and the zeros behind it.
+fn text_of(alloc: Global, case: &Zeros) -> Result<Vec<u8>, AllocError> {
     let mut text = Vec::new(alloc);
-    text.extend_from_slice(bytes)?;
-    text.extend_from_slice(&vec![in alloc; 0; count]?)?;
+    text.extend_from_slice(&case.header)?;
+    text.extend_from_slice(&vec![in alloc; 0; case.count]?)?;
     Ok(text)
 }
 
-fn are_zeros(bytes: &[u8], count: usize) -> bool {
-    bytes.len() == count && bytes.iter().all(|byte| *byte == 0)
-}
-
-// All bytes behind these headers are 00, and so is the check byte of such data.
 #[test]
 fn long_packets_of_zeros(rt: HostRuntime) -> Result<(), Fail> {
-    let longest = [0x55, 0xFF, 0xFF, 0xFF, 0x09, 0x12];
-    let text = before_zeros(rt.alloc(), &longest, 65_791)?;
-    let packet = read_packet(&text).ok_or("no packet of 65,797 bytes")?;
-    assert_eq!(rt; packet.kind, 9);
-    assert!(rt; are_zeros(packet.body, 65_535) && are_zeros(packet.opt, 255));
-    let shorter = before_zeros(rt.alloc(), &longest, 65_790)?;
-    assert!(rt; read_packet(&shorter).is_none());
-    let without_data = [0x55, 0x00, 0x00, 0xFF, 0x09, 0xE8];
-    let text = before_zeros(rt.alloc(), &without_data, 256)?;
-    let packet = read_packet(&text).ok_or("no packet without data")?;
-    assert!(rt; packet.body.is_empty() && are_zeros(packet.opt, 255));
+    for (row, case) in ZEROS.iter().enumerate() {
+        let text = text_of(rt.alloc(), case)?;
+        let packet = read_packet(&text);
+        let lengths = packet.map(|it| (it.kind, it.body.len(), it.opt.len()));
+        assert_eq!(rt; lengths, case.wanted, "row {row}");
+        if let Some(packet) = packet {
+            let mut content = packet.body.iter().chain(packet.opt.iter());
+            assert!(rt; content.all(|byte| *byte == 0), "row {row}");
+        }
+    }
     Ok(())
 }
 
-// What is not too long has no room here, and is looked at first for its length.
+/// A packet of so many bytes 00, how it is written into memory for 262 bytes, and how many bytes are there then.
+struct Written {
+    data_len: usize,
+    opt_len: usize,
+    wanted: Result<(), PacketFault>,
+    len: usize,
+}
+
+/// What is not too long has no room here, and is looked at first for its length.
+const WRITTEN: [Written; 4] = [
+    Written {
+        data_len: 65_536,
+        opt_len: 0,
+        wanted: Err(PacketFault::TooLong),
+        len: 0,
+    },
+    Written {
+        data_len: 0,
+        opt_len: 256,
+        wanted: Err(PacketFault::TooLong),
+        len: 0,
+    },
+    Written {
+        data_len: 65_535,
+        opt_len: 255,
+        wanted: Err(PacketFault::NoRoom),
+        len: 0,
+    },
+    Written {
+        data_len: 0,
+        opt_len: 255,
+        wanted: Ok(()),
+        len: 262,
+    },
+];
+
 #[test]
 fn longest_packets(rt: HostRuntime) -> Result<(), Fail> {
     assert_eq!(rt; LONGEST_PACKET, 65_797);
-    let too_long = vec![in rt.alloc(); 0; 65_536]?;
-    let longest = vec![in rt.alloc(); 0; 65_535]?;
+    let zeros = vec![in rt.alloc(); 0; 65_536]?;
     let mut out = ArrayVec::<u8, 262>::new();
-    assert_eq!(rt;
-        write_packet(9, &too_long, &[], &mut out),
-        Err(PacketFault::TooLong)
-    );
-    assert_eq!(rt;
-        write_packet(9, &[], &[0; 256], &mut out),
-        Err(PacketFault::TooLong)
-    );
-    assert_eq!(rt;
-        write_packet(9, &longest, &[0; 255], &mut out),
-        Err(PacketFault::NoRoom)
-    );
-    assert_eq!(rt; out.len(), 0);
-    assert_eq!(rt; write_packet(9, &[], &[0; 255], &mut out), Ok(()));
-    assert_eq!(rt; out.len(), 262);
+    for (row, case) in WRITTEN.iter().enumerate() {
+        let data = zeros.get(..case.data_len).ok_or("too much data")?;
+        let opt = zeros.get(..case.opt_len).ok_or("too much data")?;
+        let done = write_packet(9, data, opt, &mut out);
+        assert_eq!(rt; (done, out.len()), (case.wanted, case.len), "row {row}");
+    }
     Ok(())
 }

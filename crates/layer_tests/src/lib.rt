@@ -33,6 +33,8 @@ mod plain;
 #[cfg(test)]
 mod profile_rows;
 #[cfg(test)]
+mod readings;
+#[cfg(test)]
 mod streams;
 #[cfg(test)]
 mod switch_profiles;
@@ -44,5 +46,3 @@ mod teaching;
 mod telegrams;
 #[cfg(test)]
 mod variable_length_profiles;
-#[cfg(test)]
-mod wanted;

@@ -3,7 +3,6 @@ use actuator_commands::laws::{ids_are_spelled, lines_have_two_faults, orders_are
 use actuator_commands::{Order, OrderFault, Quantity, id_of, parse};
 use erp1_telegrams::Eep;
 use learned_devices::Label;
-use std::process::Abort;
 
 const DEVICE: u32 = 0x0180_0ABC;
 
@@ -13,161 +12,325 @@ const CONTACT: Eep = Eep {
     typ: 0x01,
 };
 
+/// A central command.
+const LAMP: Eep = Eep {
+    rorg: 0xA5,
+    func: 0x38,
+    typ: 0x08,
+};
+
+const FIRST: Eep = Eep {
+    rorg: 0x00,
+    func: 0x00,
+    typ: 0x00,
+};
+
+const LAST: Eep = Eep {
+    rorg: 0xFF,
+    func: 0xFF,
+    typ: 0xFF,
+};
+
+/// A line, and the order that it spells, or why it is none.
+struct Spelled {
+    line: &'static [u8],
+    wanted: Result<Order, OrderFault>,
+}
+
+const SPELLED: [Spelled; 41] = [
+    Spelled {
+        line: b"learn on",
+        wanted: Ok(Order::LearnOn),
+    },
+    Spelled {
+        line: b"learn on answer",
+        wanted: Ok(Order::LearnOnAnswer),
+    },
+    Spelled {
+        line: b"learn as D5-00-01",
+        wanted: Ok(Order::LearnAs(CONTACT)),
+    },
+    Spelled {
+        line: b"learn as d5-00-01",
+        wanted: Ok(Order::LearnAs(CONTACT)),
+    },
+    Spelled {
+        line: b"learn as A5-38-08",
+        wanted: Ok(Order::LearnAs(LAMP)),
+    },
+    Spelled {
+        line: b"learn as ff-Ff-fF",
+        wanted: Ok(Order::LearnAs(LAST)),
+    },
+    Spelled {
+        line: b"learn as 00-00-00",
+        wanted: Ok(Order::LearnAs(FIRST)),
+    },
+    Spelled {
+        line: b"learn off",
+        wanted: Ok(Order::LearnOff),
+    },
+    Spelled {
+        line: b"add 01800ABC D5-00-01",
+        wanted: Ok(Order::Add(DEVICE, CONTACT)),
+    },
+    Spelled {
+        line: b"add 01800abc d5-00-01",
+        wanted: Ok(Order::Add(DEVICE, CONTACT)),
+    },
+    Spelled {
+        line: b"add 01800aBc a5-38-08",
+        wanted: Ok(Order::Add(DEVICE, LAMP)),
+    },
+    Spelled {
+        line: b"add FFFFFFFE A5-38-08",
+        wanted: Ok(Order::Add(0xFFFF_FFFE, LAMP)),
+    },
+    Spelled {
+        line: b"remove 01800ABC",
+        wanted: Ok(Order::Remove(DEVICE)),
+    },
+    Spelled {
+        line: b"remove 00000000",
+        wanted: Ok(Order::Remove(0)),
+    },
+    Spelled {
+        line: b"remove fffffffe",
+        wanted: Ok(Order::Remove(0xFFFF_FFFE)),
+    },
+    Spelled {
+        line: b"list",
+        wanted: Ok(Order::List),
+    },
+    Spelled {
+        line: b"status",
+        wanted: Ok(Order::Status),
+    },
+    Spelled {
+        line: b"base",
+        wanted: Ok(Order::Base),
+    },
+    Spelled {
+        line: b"switch 01800ABC 0 on",
+        wanted: Ok(Order::Switch {
+            id: DEVICE,
+            channel: 0,
+            on: true,
+        }),
+    },
+    Spelled {
+        line: b"switch 01800abc 30 off",
+        wanted: Ok(Order::Switch {
+            id: DEVICE,
+            channel: 30,
+            on: false,
+        }),
+    },
+    Spelled {
+        line: b"switch 00000000 9 on",
+        wanted: Ok(Order::Switch {
+            id: 0,
+            channel: 9,
+            on: true,
+        }),
+    },
+    Spelled {
+        line: b"switch FFFFFFFE 10 on",
+        wanted: Ok(Order::Switch {
+            id: 0xFFFF_FFFE,
+            channel: 10,
+            on: true,
+        }),
+    },
+    Spelled {
+        line: b"dim 01800ABC 0 100",
+        wanted: Ok(Order::Dim {
+            id: DEVICE,
+            channel: 0,
+            value: 100,
+        }),
+    },
+    Spelled {
+        line: b"dim 01800ABC 30 0",
+        wanted: Ok(Order::Dim {
+            id: DEVICE,
+            channel: 30,
+            value: 0,
+        }),
+    },
+    Spelled {
+        line: b"dim 01800ABC 0 7",
+        wanted: Ok(Order::Dim {
+            id: DEVICE,
+            channel: 0,
+            value: 7,
+        }),
+    },
+    Spelled {
+        line: b"query 01800ABC 0",
+        wanted: Ok(Order::Query {
+            id: DEVICE,
+            channel: 0,
+        }),
+    },
+    Spelled {
+        line: b"query 01800ABC 30",
+        wanted: Ok(Order::Query {
+            id: DEVICE,
+            channel: 30,
+        }),
+    },
+    Spelled {
+        line: b"meter 01800ABC 0 energy",
+        wanted: Ok(Order::Meter {
+            id: DEVICE,
+            channel: 0,
+            quantity: Quantity::Energy,
+        }),
+    },
+    Spelled {
+        line: b"meter 01800ABC 30 power",
+        wanted: Ok(Order::Meter {
+            id: DEVICE,
+            channel: 30,
+            quantity: Quantity::Power,
+        }),
+    },
+    Spelled {
+        line: b"blind 01800ABC 0",
+        wanted: Ok(Order::Blind {
+            id: DEVICE,
+            value: 0,
+        }),
+    },
+    Spelled {
+        line: b"blind 01800ABC 100",
+        wanted: Ok(Order::Blind {
+            id: DEVICE,
+            value: 100,
+        }),
+    },
+    Spelled {
+        line: b"stop 01800ABC",
+        wanted: Ok(Order::Stop { id: DEVICE }),
+    },
+    Spelled {
+        line: b"central 0 on",
+        wanted: Ok(Order::Central {
+            offset: 0,
+            on: true,
+        }),
+    },
+    Spelled {
+        line: b"central 127 off",
+        wanted: Ok(Order::Central {
+            offset: 127,
+            on: false,
+        }),
+    },
+    Spelled {
+        line: b"level 0 100 0",
+        wanted: Ok(Order::Level {
+            offset: 0,
+            value: 100,
+            ramp: 0,
+        }),
+    },
+    Spelled {
+        line: b"level 127 0 255",
+        wanted: Ok(Order::Level {
+            offset: 127,
+            value: 0,
+            ramp: 255,
+        }),
+    },
+    Spelled {
+        line: b"teach 0",
+        wanted: Ok(Order::Teach { offset: 0 }),
+    },
+    Spelled {
+        line: b"teach 127",
+        wanted: Ok(Order::Teach { offset: 127 }),
+    },
+    // Bytes that are no text.
+    Spelled {
+        line: b"teach \xB2",
+        wanted: Err(OrderFault::Syntax),
+    },
+    Spelled {
+        line: b"teach 5\xFF",
+        wanted: Err(OrderFault::Syntax),
+    },
+    Spelled {
+        line: b"label 01800ABC a\x80b",
+        wanted: Err(OrderFault::Syntax),
+    },
+];
+
 #[test]
 fn orders(rt: HostRuntime) {
-    let lamp = Eep {
-        rorg: 0xA5,
-        func: 0x38,
-        typ: 0x08,
-    };
-    let first = Eep {
-        rorg: 0x00,
-        func: 0x00,
-        typ: 0x00,
-    };
-    let last = Eep {
-        rorg: 0xFF,
-        func: 0xFF,
-        typ: 0xFF,
-    };
-    let cases: [(&[u8], Order); 18] = [
-        (b"learn on", Order::LearnOn),
-        (b"learn on answer", Order::LearnOnAnswer),
-        (b"learn as D5-00-01", Order::LearnAs(CONTACT)),
-        (b"learn as d5-00-01", Order::LearnAs(CONTACT)),
-        (b"learn as A5-38-08", Order::LearnAs(lamp)),
-        (b"learn as ff-Ff-fF", Order::LearnAs(last)),
-        (b"learn as 00-00-00", Order::LearnAs(first)),
-        (b"learn off", Order::LearnOff),
-        (b"add 01800ABC D5-00-01", Order::Add(DEVICE, CONTACT)),
-        (b"add 01800abc d5-00-01", Order::Add(DEVICE, CONTACT)),
-        (b"add 01800aBc a5-38-08", Order::Add(DEVICE, lamp)),
-        (b"add FFFFFFFE A5-38-08", Order::Add(0xFFFF_FFFE, lamp)),
-        (b"remove 01800ABC", Order::Remove(DEVICE)),
-        (b"remove 00000000", Order::Remove(0)),
-        (b"remove fffffffe", Order::Remove(0xFFFF_FFFE)),
-        (b"list", Order::List),
-        (b"status", Order::Status),
-        (b"base", Order::Base),
-    ];
-    for (line, order) in cases {
-        assert_eq!(rt; parse(line), Ok(order));
+    for (row, case) in SPELLED.iter().enumerate() {
+        assert_eq!(rt; parse(case.line), case.wanted, "row {row}");
     }
     orders_are_spelled();
 }
 
+/// A line, and the device and the label that it gives it.
+struct Labelled {
+    line: &'static [u8],
+    id: u32,
+    text: &'static str,
+}
+
+const LABELLED: [Labelled; 8] = [
+    Labelled {
+        line: b"label 01800ABC",
+        id: DEVICE,
+        text: "",
+    },
+    Labelled {
+        line: b"label 01800ABC Door \"A\"",
+        id: DEVICE,
+        text: "Door \"A\"",
+    },
+    Labelled {
+        line: b"label 01800abc a  b",
+        id: DEVICE,
+        text: "a  b",
+    },
+    Labelled {
+        line: b"label 01800ABC ~",
+        id: DEVICE,
+        text: "~",
+    },
+    Labelled {
+        line: b"label 01800ABC 01800ABC",
+        id: DEVICE,
+        text: "01800ABC",
+    },
+    Labelled {
+        line: b"label 00000000 label on",
+        id: 0,
+        text: "label on",
+    },
+    Labelled {
+        line: b"label FFFFFFFE \\",
+        id: 0xFFFF_FFFE,
+        text: "\\",
+    },
+    Labelled {
+        line: b"label 01800ABC ABCDEFGHIJKLMNOPQRSTUVWXYZ012345",
+        id: DEVICE,
+        text: "ABCDEFGHIJKLMNOPQRSTUVWXYZ012345",
+    },
+];
+
 #[test]
 fn label_orders(rt: HostRuntime) {
-    let cases: [(&[u8], u32, &str); 8] = [
-        (b"label 01800ABC", DEVICE, ""),
-        (b"label 01800ABC Door \"A\"", DEVICE, "Door \"A\""),
-        (b"label 01800abc a  b", DEVICE, "a  b"),
-        (b"label 01800ABC ~", DEVICE, "~"),
-        (b"label 01800ABC 01800ABC", DEVICE, "01800ABC"),
-        (b"label 00000000 label on", 0, "label on"),
-        (b"label FFFFFFFE \\", 0xFFFF_FFFE, "\\"),
-        (
-            b"label 01800ABC ABCDEFGHIJKLMNOPQRSTUVWXYZ012345",
-            DEVICE,
-            "ABCDEFGHIJKLMNOPQRSTUVWXYZ012345",
-        ),
-    ];
-    for (line, id, text) in cases {
-        let order = Label::new(text).map(|label| Order::Label { id, label });
-        assert_eq!(rt; order.map(Ok), Some(parse(line)));
-    }
-}
-
-#[test]
-fn switch_orders(rt: HostRuntime) {
-    let cases: [(&[u8], u32, u32, bool); 4] = [
-        (b"switch 01800ABC 0 on", DEVICE, 0, true),
-        (b"switch 01800abc 30 off", DEVICE, 30, false),
-        (b"switch 00000000 9 on", 0, 9, true),
-        (b"switch FFFFFFFE 10 on", 0xFFFF_FFFE, 10, true),
-    ];
-    for (line, id, channel, on) in cases {
-        assert_eq!(rt; parse(line), Ok(Order::Switch { id, channel, on }));
-    }
-}
-
-#[test]
-fn dim_orders(rt: HostRuntime) {
-    let id = DEVICE;
-    let cases: [(&[u8], u32, u32); 3] = [
-        (b"dim 01800ABC 0 100", 0, 100),
-        (b"dim 01800ABC 30 0", 30, 0),
-        (b"dim 01800ABC 0 7", 0, 7),
-    ];
-    for (line, channel, value) in cases {
-        assert_eq!(rt; parse(line), Ok(Order::Dim { id, channel, value }));
-    }
-}
-
-#[test]
-fn query_orders(rt: HostRuntime) {
-    let id = DEVICE;
-    let cases: [(&[u8], u32); 2] = [(b"query 01800ABC 0", 0), (b"query 01800ABC 30", 30)];
-    for (line, channel) in cases {
-        assert_eq!(rt; parse(line), Ok(Order::Query { id, channel }));
-    }
-}
-
-#[test]
-fn meter_orders(rt: HostRuntime) {
-    let id = DEVICE;
-    let cases: [(&[u8], u32, Quantity); 2] = [
-        (b"meter 01800ABC 0 energy", 0, Quantity::Energy),
-        (b"meter 01800ABC 30 power", 30, Quantity::Power),
-    ];
-    for (line, channel, quantity) in cases {
-        assert_eq!(rt;
-            parse(line),
-            Ok(Order::Meter {
-                id,
-                channel,
-                quantity
-            })
-        );
-    }
-}
-
-#[test]
-fn orders_to_blinds(rt: HostRuntime) {
-    let id = DEVICE;
-    let blinds: [(&[u8], u32); 2] = [(b"blind 01800ABC 0", 0), (b"blind 01800ABC 100", 100)];
-    for (line, value) in blinds {
-        assert_eq!(rt; parse(line), Ok(Order::Blind { id, value }));
-    }
-    assert_eq!(rt; parse(b"stop 01800ABC"), Ok(Order::Stop { id }));
-}
-
-#[test]
-fn orders_to_all(rt: HostRuntime) {
-    let centrals: [(&[u8], u32, bool); 2] = [
-        (b"central 0 on", 0, true),
-        (b"central 127 off", 127, false),
-    ];
-    for (line, offset, on) in centrals {
-        assert_eq!(rt; parse(line), Ok(Order::Central { offset, on }));
-    }
-    let levels: [(&[u8], u32, u32, u32); 2] = [
-        (b"level 0 100 0", 0, 100, 0),
-        (b"level 127 0 255", 127, 0, 255),
-    ];
-    for (line, offset, value, ramp) in levels {
-        assert_eq!(rt;
-            parse(line),
-            Ok(Order::Level {
-                offset,
-                value,
-                ramp
-            })
-        );
-    }
-    let lines: [(&[u8], u32); 2] = [(b"teach 0", 0), (b"teach 127", 127)];
-    for (line, offset) in lines {
-        assert_eq!(rt; parse(line), Ok(Order::Teach { offset }));
+    for (row, case) in LABELLED.iter().enumerate() {
+        let id = case.id;
+        let order = Label::new(case.text).map(|label| Order::Label { id, label });
+        assert_eq!(rt; order.map(Ok), Some(parse(case.line)), "row {row}");
     }
 }
 
@@ -182,14 +345,6 @@ const OUT_OF_RANGE: &str = "\
     meter FFFFFFFF 0 power|meter 01800ABC 31 energy|blind FFFFFFFF 0|blind 01800ABC 101|\
     blind 01800ABC 127|stop FFFFFFFF|central 128 on|central 10000 off|level 128 0 0|level 0 101 0|\
     level 0 0 256|level 99999 99999 99999|teach 128|teach 1000|teach 99999";
-
-#[test]
-fn out_of_range(rt: HostRuntime) {
-    for line in OUT_OF_RANGE.split('|') {
-        assert_eq!(rt; parse(line.as_bytes()), Err(OrderFault::Range), "{line}");
-    }
-    lines_have_two_faults();
-}
 
 /// Lines of no word, and orders with one letter changed, or in upper case.
 const OTHER_LETTERS: &str = "\
@@ -226,26 +381,6 @@ const NO_LABELS: &str = "\
     label 01800ABC a\x1Fb|label 01800ABC a\x7Fb|label 01800ABC T\u{FC}r|label FFFFFFFF |\
     label FFFFFFFF  x|label FFFFFFFF a\tb|label 01800ABC ABCDEFGHIJKLMNOPQRSTUVWXYZ012345 ";
 
-// None of these lines is an order.
-fn are_no_orders(rt: &impl Abort, lines: &str) {
-    for line in lines.split('|') {
-        assert_eq!(rt; parse(line.as_bytes()), Err(OrderFault::Syntax), "{line}");
-    }
-}
-
-#[test]
-fn lines_that_are_no_order(rt: HostRuntime) {
-    for lines in [
-        OTHER_LETTERS,
-        OTHER_WORDS,
-        OTHER_SPACES,
-        OTHER_DIGITS,
-        NO_LABELS,
-    ] {
-        are_no_orders(&rt, lines);
-    }
-}
-
 /// Orders to devices with a word of another length or with another letter, or with words that are missing or too many.
 const OTHER_WORDS_TO_DEVICES: &str = "\
     bass|bases|base 0|swatch 01800ABC 0 on|Switch 01800ABC 0 on|switch 01800ABC 0 an|\
@@ -279,43 +414,118 @@ const SHAPE_BEFORE_RANGE: &str = "\
     dim FFFFFFFF 31 007|dim 01800ABC 0 0101|switch 01800ABC 31 onn|switch FFFFFFFF 0 on 1|\
     level 128 101 0256|teach 128 ";
 
-#[test]
-fn lines_that_are_no_order_to_devices(rt: HostRuntime) {
-    let tables = [
-        OTHER_WORDS_TO_DEVICES,
-        NO_NUMBERS,
-        OTHER_SPACES_TO_DEVICES,
-        SHAPE_BEFORE_RANGE,
-    ];
-    for lines in tables {
-        are_no_orders(&rt, lines);
-    }
+/// Lines, parted by `|`, that are no orders, and why.
+struct Refused {
+    lines: &'static str,
+    why: OrderFault,
 }
 
+const REFUSED: [Refused; 10] = [
+    Refused {
+        lines: OUT_OF_RANGE,
+        why: OrderFault::Range,
+    },
+    Refused {
+        lines: OTHER_LETTERS,
+        why: OrderFault::Syntax,
+    },
+    Refused {
+        lines: OTHER_WORDS,
+        why: OrderFault::Syntax,
+    },
+    Refused {
+        lines: OTHER_SPACES,
+        why: OrderFault::Syntax,
+    },
+    Refused {
+        lines: OTHER_DIGITS,
+        why: OrderFault::Syntax,
+    },
+    Refused {
+        lines: NO_LABELS,
+        why: OrderFault::Syntax,
+    },
+    Refused {
+        lines: OTHER_WORDS_TO_DEVICES,
+        why: OrderFault::Syntax,
+    },
+    Refused {
+        lines: NO_NUMBERS,
+        why: OrderFault::Syntax,
+    },
+    Refused {
+        lines: OTHER_SPACES_TO_DEVICES,
+        why: OrderFault::Syntax,
+    },
+    Refused {
+        lines: SHAPE_BEFORE_RANGE,
+        why: OrderFault::Syntax,
+    },
+];
+
 #[test]
-fn bytes_that_are_no_text(rt: HostRuntime) {
-    let lines: [&[u8]; 3] = [b"teach \xB2", b"teach 5\xFF", b"label 01800ABC a\x80b"];
-    for line in lines {
-        assert_eq!(rt; parse(line), Err(OrderFault::Syntax));
+fn lines_that_are_no_order(rt: HostRuntime) {
+    for case in &REFUSED {
+        for line in case.lines.split('|') {
+            assert_eq!(rt; parse(line.as_bytes()), Err(case.why), "{line}");
+        }
     }
+    lines_have_two_faults();
 }
+
+/// Eight digits or others, and the ID that they spell.
+struct Id {
+    digits: &'static [u8],
+    wanted: Option<u32>,
+}
+
+const IDS: [Id; 10] = [
+    Id {
+        digits: b"01800ABC",
+        wanted: Some(0x0180_0ABC),
+    },
+    Id {
+        digits: b"01800abc",
+        wanted: Some(0x0180_0ABC),
+    },
+    Id {
+        digits: b"00000000",
+        wanted: Some(0),
+    },
+    Id {
+        digits: b"FFFFFFFF",
+        wanted: Some(0xFFFF_FFFF),
+    },
+    Id {
+        digits: b"ff800080",
+        wanted: Some(0xFF80_0080),
+    },
+    Id {
+        digits: b"",
+        wanted: None,
+    },
+    Id {
+        digits: b"1800ABC",
+        wanted: None,
+    },
+    Id {
+        digits: b"001800ABC",
+        wanted: None,
+    },
+    Id {
+        digits: b"01800ABG",
+        wanted: None,
+    },
+    Id {
+        digits: b"0180 ABC",
+        wanted: None,
+    },
+];
 
 #[test]
 fn ids(rt: HostRuntime) {
-    let cases: [(&[u8], Option<u32>); 10] = [
-        (b"01800ABC", Some(0x0180_0ABC)),
-        (b"01800abc", Some(0x0180_0ABC)),
-        (b"00000000", Some(0)),
-        (b"FFFFFFFF", Some(0xFFFF_FFFF)),
-        (b"ff800080", Some(0xFF80_0080)),
-        (b"", None),
-        (b"1800ABC", None),
-        (b"001800ABC", None),
-        (b"01800ABG", None),
-        (b"0180 ABC", None),
-    ];
-    for (digits, id) in cases {
-        assert_eq!(rt; id_of(digits), id);
+    for (row, case) in IDS.iter().enumerate() {
+        assert_eq!(rt; id_of(case.digits), case.wanted, "row {row}");
     }
     ids_are_spelled();
 }

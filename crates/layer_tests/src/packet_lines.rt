@@ -2,20 +2,26 @@
 use arrayvec::ArrayVec;
 use erp1_telegrams::Eep;
 use json_lines::{LONGEST_PACKET_LINE, PacketLine, ToldPacket, ToldTelegram, Why, packet_line};
-use std::process::Abort;
+use std::test::Fail;
 use teach_in::Outcome;
 
-// The line of this packet is this text.
-fn is_told(rt: &impl Abort, packet: ToldPacket, why: Why, text: &str) {
-    let line = packet_line(&PacketLine { packet, why });
-    assert!(rt; line.as_slice() == text.as_bytes(), "{text}");
+/// A telegram, and its line.
+struct OfTelegram {
+    dbm: Option<u8>,
+    dest: Option<u32>,
+    eep: Option<Eep>,
+    id: u32,
+    maker: Option<u16>,
+    payload: &'static [u8],
+    rorg: u8,
+    status: u8,
+    why: Why,
+    line: &'static str,
 }
 
-#[test]
-fn a_known_contact(rt: HostRuntime) {
-    let mut payload = ArrayVec::new();
-    payload.push(0x09);
-    let telegram = ToldTelegram {
+const OF_TELEGRAMS: [OfTelegram; 4] = [
+    // A known contact.
+    OfTelegram {
         dbm: Some(45),
         dest: None,
         eep: Some(Eep {
@@ -25,67 +31,43 @@ fn a_known_contact(rt: HostRuntime) {
         }),
         id: 0x0180_0ABC,
         maker: None,
-        payload,
+        payload: &[0x09],
         rorg: 0xD5,
         status: 0x00,
-    };
-    is_told(
-        &rt,
-        ToldPacket::Telegram(telegram),
-        Why::Read,
-        "{\"dbm\":-45,\"dest\":null,\"eep\":\"D5-00-01\",\"id\":\"01800ABC\",\"maker\":null,\
-        \"payload\":\"09\",\"rorg\":\"D5\",\"status\":\"00\",\"type\":\"packet\",\"why\":\"read\"}\n",
-    );
-}
-
-#[test]
-fn an_unknown_switch(rt: HostRuntime) {
-    let mut payload = ArrayVec::new();
-    payload.push(0xF0);
-    let telegram = ToldTelegram {
+        why: Why::Read,
+        line: "{\"dbm\":-45,\"dest\":null,\"eep\":\"D5-00-01\",\"id\":\"01800ABC\",\"maker\":null,\
+            \"payload\":\"09\",\"rorg\":\"D5\",\"status\":\"00\",\"type\":\"packet\",\"why\":\"read\"}\n",
+    },
+    // An unknown switch.
+    OfTelegram {
         dbm: None,
         dest: Some(0xFF80_0001),
         eep: None,
         id: 0x0000_00FE,
         maker: Some(0),
-        payload,
+        payload: &[0xF0],
         rorg: 0xF6,
         status: 0x3A,
-    };
-    is_told(
-        &rt,
-        ToldPacket::Telegram(telegram),
-        Why::ForOthers,
-        "{\"dbm\":null,\"dest\":\"FF800001\",\"eep\":null,\"id\":\"000000FE\",\"maker\":0,\
-        \"payload\":\"F0\",\"rorg\":\"F6\",\"status\":\"3A\",\"type\":\"packet\",\"why\":\"for_others\"}\n",
-    );
-}
-
-#[test]
-fn the_least(rt: HostRuntime) {
-    let telegram = ToldTelegram {
+        why: Why::ForOthers,
+        line: "{\"dbm\":null,\"dest\":\"FF800001\",\"eep\":null,\"id\":\"000000FE\",\"maker\":0,\
+            \"payload\":\"F0\",\"rorg\":\"F6\",\"status\":\"3A\",\"type\":\"packet\",\"why\":\"for_others\"}\n",
+    },
+    // The least of all.
+    OfTelegram {
         dbm: Some(0),
         dest: Some(0),
         eep: None,
         id: 0,
         maker: None,
-        payload: ArrayVec::new(),
+        payload: &[],
         rorg: 0,
         status: 0,
-    };
-    is_told(
-        &rt,
-        ToldPacket::Telegram(telegram),
-        Why::Told(Outcome::Full),
-        "{\"dbm\":0,\"dest\":\"00000000\",\"eep\":null,\"id\":\"00000000\",\"maker\":null,\
-        \"payload\":\"\",\"rorg\":\"00\",\"status\":\"00\",\"type\":\"packet\",\"why\":\"full\"}\n",
-    );
-}
-
-// No line is longer: each number, the payload and the word have as many characters as they can have.
-#[test]
-fn the_longest(rt: HostRuntime) {
-    let telegram = ToldTelegram {
+        why: Why::Told(Outcome::Full),
+        line: "{\"dbm\":0,\"dest\":\"00000000\",\"eep\":null,\"id\":\"00000000\",\"maker\":null,\
+            \"payload\":\"\",\"rorg\":\"00\",\"status\":\"00\",\"type\":\"packet\",\"why\":\"full\"}\n",
+    },
+    // No line is longer: each number, the payload and the word have as many characters as they can have.
+    OfTelegram {
         dbm: Some(255),
         dest: Some(0xFFAB_CDEF),
         eep: Some(Eep {
@@ -95,117 +77,169 @@ fn the_longest(rt: HostRuntime) {
         }),
         id: 0x1234_5678,
         maker: Some(65535),
-        payload: ArrayVec::from([0, 1, 2, 3, 4, 5, 6, 7, 8, 9, 10, 11, 12, 255]),
+        payload: &[0, 1, 2, 3, 4, 5, 6, 7, 8, 9, 10, 11, 12, 255],
         rorg: 0xD2,
         status: 0x8F,
-    };
-    let text =
-        "{\"dbm\":-255,\"dest\":\"FFABCDEF\",\"eep\":\"D2-3F-7F\",\"id\":\"12345678\",\"maker\":65535,\
-        \"payload\":\"000102030405060708090A0B0CFF\",\"rorg\":\"D2\",\"status\":\"8F\",\"type\":\"packet\",\"why\":\"teach_in_reply\"}\n";
-    is_told(&rt, ToldPacket::Telegram(telegram), Why::TeachInReply, text);
-    assert_eq!(rt; text.len(), LONGEST_PACKET_LINE);
-    assert_eq!(rt; text.len(), 184);
+        why: Why::TeachInReply,
+        line: LONGEST,
+    },
+];
+
+const LONGEST: &str =
+    "{\"dbm\":-255,\"dest\":\"FFABCDEF\",\"eep\":\"D2-3F-7F\",\"id\":\"12345678\",\"maker\":65535,\
+    \"payload\":\"000102030405060708090A0B0CFF\",\"rorg\":\"D2\",\"status\":\"8F\",\"type\":\"packet\",\
+    \"why\":\"teach_in_reply\"}\n";
+
+#[test]
+fn telegrams(rt: HostRuntime) -> Result<(), Fail> {
+    for case in &OF_TELEGRAMS {
+        let mut payload = ArrayVec::new();
+        payload.try_extend_from_slice(case.payload)?;
+        let telegram = ToldTelegram {
+            dbm: case.dbm,
+            dest: case.dest,
+            eep: case.eep,
+            id: case.id,
+            maker: case.maker,
+            payload,
+            rorg: case.rorg,
+            status: case.status,
+        };
+        let packet = ToldPacket::Telegram(telegram);
+        let line = packet_line(&PacketLine {
+            packet,
+            why: case.why,
+        });
+        assert!(rt; line.as_slice() == case.line.as_bytes(), "{}", case.line);
+    }
+    assert_eq!(rt; (LONGEST.len(), LONGEST_PACKET_LINE), (184, 184));
+    Ok(())
 }
 
-// The line of a packet of 12 bytes of type 4 is this text.
-fn of_another(rt: &impl Abort, why: Why, text: &str) {
-    is_told(rt, ToldPacket::Other { kind: 4, size: 12 }, why, text);
+/// Another packet, and its line.
+struct OfAnother {
+    kind: u8,
+    size: u16,
+    why: Why,
+    line: &'static str,
 }
+
+const OF_OTHERS: [OfAnother; 17] = [
+    OfAnother {
+        kind: 4,
+        size: 12,
+        why: Why::OtherType,
+        line: "{\"kind\":4,\"size\":12,\"type\":\"packet\",\"why\":\"other_type\"}\n",
+    },
+    OfAnother {
+        kind: 255,
+        size: 65535,
+        why: Why::EmptyResponse,
+        line: "{\"kind\":255,\"size\":65535,\"type\":\"packet\",\"why\":\"empty_response\"}\n",
+    },
+    OfAnother {
+        kind: 0,
+        size: 0,
+        why: Why::Refused,
+        line: "{\"kind\":0,\"size\":0,\"type\":\"packet\",\"why\":\"refused\"}\n",
+    },
+    OfAnother {
+        kind: 4,
+        size: 12,
+        why: Why::Response,
+        line: "{\"kind\":4,\"size\":12,\"type\":\"packet\",\"why\":\"response\"}\n",
+    },
+    OfAnother {
+        kind: 4,
+        size: 12,
+        why: Why::NoTelegram,
+        line: "{\"kind\":4,\"size\":12,\"type\":\"packet\",\"why\":\"no_telegram\"}\n",
+    },
+    OfAnother {
+        kind: 4,
+        size: 12,
+        why: Why::FromBroadcast,
+        line: "{\"kind\":4,\"size\":12,\"type\":\"packet\",\"why\":\"from_broadcast\"}\n",
+    },
+    OfAnother {
+        kind: 4,
+        size: 12,
+        why: Why::WindowClosed,
+        line: "{\"kind\":4,\"size\":12,\"type\":\"packet\",\"why\":\"window_closed\"}\n",
+    },
+    OfAnother {
+        kind: 4,
+        size: 12,
+        why: Why::OtherMode,
+        line: "{\"kind\":4,\"size\":12,\"type\":\"packet\",\"why\":\"other_mode\"}\n",
+    },
+    OfAnother {
+        kind: 4,
+        size: 12,
+        why: Why::UnknownSender,
+        line: "{\"kind\":4,\"size\":12,\"type\":\"packet\",\"why\":\"unknown_sender\"}\n",
+    },
+    OfAnother {
+        kind: 4,
+        size: 12,
+        why: Why::WrongKind,
+        line: "{\"kind\":4,\"size\":12,\"type\":\"packet\",\"why\":\"wrong_kind\"}\n",
+    },
+    OfAnother {
+        kind: 4,
+        size: 12,
+        why: Why::WrongLength,
+        line: "{\"kind\":4,\"size\":12,\"type\":\"packet\",\"why\":\"wrong_length\"}\n",
+    },
+    OfAnother {
+        kind: 4,
+        size: 12,
+        why: Why::OtherMessage,
+        line: "{\"kind\":4,\"size\":12,\"type\":\"packet\",\"why\":\"other_message\"}\n",
+    },
+    OfAnother {
+        kind: 4,
+        size: 12,
+        why: Why::Told(Outcome::Accepted),
+        line: "{\"kind\":4,\"size\":12,\"type\":\"packet\",\"why\":\"accepted\"}\n",
+    },
+    OfAnother {
+        kind: 4,
+        size: 12,
+        why: Why::Told(Outcome::Deleted),
+        line: "{\"kind\":4,\"size\":12,\"type\":\"packet\",\"why\":\"deleted\"}\n",
+    },
+    OfAnother {
+        kind: 4,
+        size: 12,
+        why: Why::Told(Outcome::Unsupported),
+        line: "{\"kind\":4,\"size\":12,\"type\":\"packet\",\"why\":\"unsupported\"}\n",
+    },
+    OfAnother {
+        kind: 4,
+        size: 12,
+        why: Why::Told(Outcome::General),
+        line: "{\"kind\":4,\"size\":12,\"type\":\"packet\",\"why\":\"general\"}\n",
+    },
+    OfAnother {
+        kind: 4,
+        size: 12,
+        why: Why::Told(Outcome::NoProfile),
+        line: "{\"kind\":4,\"size\":12,\"type\":\"packet\",\"why\":\"no_profile\"}\n",
+    },
+];
 
 #[test]
 fn other_packets(rt: HostRuntime) {
-    of_another(
-        &rt,
-        Why::OtherType,
-        "{\"kind\":4,\"size\":12,\"type\":\"packet\",\"why\":\"other_type\"}\n",
-    );
-    is_told(
-        &rt,
-        ToldPacket::Other {
-            kind: 255,
-            size: 65535,
-        },
-        Why::EmptyResponse,
-        "{\"kind\":255,\"size\":65535,\"type\":\"packet\",\"why\":\"empty_response\"}\n",
-    );
-    is_told(
-        &rt,
-        ToldPacket::Other { kind: 0, size: 0 },
-        Why::Refused,
-        "{\"kind\":0,\"size\":0,\"type\":\"packet\",\"why\":\"refused\"}\n",
-    );
-}
-
-#[test]
-fn words(rt: HostRuntime) {
-    let cases = [
-        (
-            Why::Response,
-            "{\"kind\":4,\"size\":12,\"type\":\"packet\",\"why\":\"response\"}\n",
-        ),
-        (
-            Why::NoTelegram,
-            "{\"kind\":4,\"size\":12,\"type\":\"packet\",\"why\":\"no_telegram\"}\n",
-        ),
-        (
-            Why::FromBroadcast,
-            "{\"kind\":4,\"size\":12,\"type\":\"packet\",\"why\":\"from_broadcast\"}\n",
-        ),
-        (
-            Why::WindowClosed,
-            "{\"kind\":4,\"size\":12,\"type\":\"packet\",\"why\":\"window_closed\"}\n",
-        ),
-        (
-            Why::OtherMode,
-            "{\"kind\":4,\"size\":12,\"type\":\"packet\",\"why\":\"other_mode\"}\n",
-        ),
-        (
-            Why::UnknownSender,
-            "{\"kind\":4,\"size\":12,\"type\":\"packet\",\"why\":\"unknown_sender\"}\n",
-        ),
-        (
-            Why::WrongKind,
-            "{\"kind\":4,\"size\":12,\"type\":\"packet\",\"why\":\"wrong_kind\"}\n",
-        ),
-        (
-            Why::WrongLength,
-            "{\"kind\":4,\"size\":12,\"type\":\"packet\",\"why\":\"wrong_length\"}\n",
-        ),
-        (
-            Why::OtherMessage,
-            "{\"kind\":4,\"size\":12,\"type\":\"packet\",\"why\":\"other_message\"}\n",
-        ),
-    ];
-    for (why, text) in cases {
-        of_another(&rt, why, text);
-    }
-}
-
-#[test]
-fn outcomes(rt: HostRuntime) {
-    let cases = [
-        (
-            Outcome::Accepted,
-            "{\"kind\":4,\"size\":12,\"type\":\"packet\",\"why\":\"accepted\"}\n",
-        ),
-        (
-            Outcome::Deleted,
-            "{\"kind\":4,\"size\":12,\"type\":\"packet\",\"why\":\"deleted\"}\n",
-        ),
-        (
-            Outcome::Unsupported,
-            "{\"kind\":4,\"size\":12,\"type\":\"packet\",\"why\":\"unsupported\"}\n",
-        ),
-        (
-            Outcome::General,
-            "{\"kind\":4,\"size\":12,\"type\":\"packet\",\"why\":\"general\"}\n",
-        ),
-        (
-            Outcome::NoProfile,
-            "{\"kind\":4,\"size\":12,\"type\":\"packet\",\"why\":\"no_profile\"}\n",
-        ),
-    ];
-    for (outcome, text) in cases {
-        of_another(&rt, Why::Told(outcome), text);
+    for case in &OF_OTHERS {
+        let packet = ToldPacket::Other {
+            kind: case.kind,
+            size: case.size,
+        };
+        let line = packet_line(&PacketLine {
+            packet,
+            why: case.why,
+        });
+        assert!(rt; line.as_slice() == case.line.as_bytes(), "{}", case.line);
     }
 }

@@ -1,10 +1,7 @@
 //! The telegrams of orders: for whom they are, what they say, and the orders that have none.
-ghost use Rattle.std.specs.Prelude.{◌≡◌, true};
-ghost use Rattle.erp1_telegrams.specs.Address.{is_base};
-
 use actuator_commands::{Order, OrderFault, Quantity, id_of, packet_of, parse};
 use arrayvec::ArrayVec;
-use erp1_telegrams::{BROADCAST, Eep, Telegram, read, write};
+use erp1_telegrams::{BROADCAST, Eep, Telegram, is_base, read, write};
 use esp3_frames::read_packet;
 use learned_devices::{Device, Label};
 use std::alloc::Global;
@@ -21,17 +18,18 @@ const SWITCH: (u8, u8, u8) = (0xD2, 0x01, 0x12);
 
 const BLIND: (u8, u8, u8) = (0xD2, 0x05, 0x00);
 
+/// The RORG, the FUNC and the type of a device.
+type Profile = (u8, u8, u8);
+
 // The telegram of the order that a line spells, with a device that has this profile.
 fn telegram(
     line: &[u8],
-    profile: Option<(u8, u8, u8)>,
+    profile: Option<Profile>,
     base: u32,
-) -> Result<Result<Telegram, OrderFault>, Fail>
-    requires { is_base base ≡ true }
-{
+) -> Result<Result<Telegram, OrderFault>, Fail> {
     let order = parse(line)?;
-    if !order.sends() {
-        return Err(Fail::from("an order of no telegram"));
+    if !order.sends() || !is_base(base) {
+        return Err(Fail::from("an order of no telegram, or no base ID"));
     }
     let device = profile.map(|(rorg, func, typ)| Device {
         id: DEVICE,
@@ -60,22 +58,36 @@ const PACKETS_TO_ALL: &str = "\
     level 5 40 2 = 55000a0701eba50228020dff8000050003ffffffffff0087|\
     teach 5 = 55000a0701eba5e047ff80ff8000050003ffffffffff00ce";
 
-// These are the packets of the orders, and each is read back as the telegram that was sent.
-fn are_packets(
-    alloc: Global,
-    rt: &impl Abort,
-    profile: Option<(u8, u8, u8)>,
-    cases: &str,
-) -> Result<(), Fail> {
-    for case in cases.split('|') {
-        let (line, packet) = case.split_once(" = ").ok_or("no packet")?;
-        let mut out = ArrayVec::<u8, 64>::new();
-        let sent = telegram(line.as_bytes(), profile, BASE)??;
-        write(&sent, &mut out)?;
-        assert_eq!(rt; hex::encode(alloc, out.as_slice())?.as_str(), packet);
-        is_heard(rt, &sent, out.as_slice())?;
-    }
-    Ok(())
+/// Orders to a device of this profile, or to all, and their packets.
+struct Packed {
+    profile: Option<Profile>,
+    orders: &'static str,
+}
+
+const PACKED: [Packed; 3] = [
+    Packed {
+        profile: Some(SWITCH),
+        orders: PACKETS_TO_SWITCHES,
+    },
+    Packed {
+        profile: Some(BLIND),
+        orders: PACKETS_TO_BLINDS,
+    },
+    Packed {
+        profile: None,
+        orders: PACKETS_TO_ALL,
+    },
+];
+
+// All that a telegram tells but its strength.
+fn parts(telegram: &Telegram) -> (u8, &[u8], u32, u8, u32) {
+    (
+        telegram.rorg(),
+        telegram.payload(),
+        telegram.sender(),
+        telegram.status(),
+        telegram.dest(),
+    )
 }
 
 // The bytes are the packet of this telegram.
@@ -84,19 +96,25 @@ fn is_heard(rt: &impl Abort, sent: &Telegram, bytes: &[u8]) -> Result<(), Fail> 
         return Err(Fail::from("no packet"));
     };
     let heard = read(&whole)?;
-    assert_eq!(rt; heard.rorg(), sent.rorg());
-    assert_eq!(rt; heard.payload(), sent.payload());
-    assert_eq!(rt; heard.sender(), sent.sender());
-    assert_eq!(rt; heard.status(), sent.status());
-    assert_eq!(rt; heard.dest(), sent.dest());
+    assert_eq!(rt; parts(&heard), parts(sent));
     Ok(())
 }
 
+// These are the packets of the orders, and each is read back as the telegram that was sent.
 #[test]
 fn packets(rt: HostRuntime) -> Result<(), Fail> {
-    are_packets(rt.alloc(), &rt, Some(SWITCH), PACKETS_TO_SWITCHES)?;
-    are_packets(rt.alloc(), &rt, Some(BLIND), PACKETS_TO_BLINDS)?;
-    are_packets(rt.alloc(), &rt, None, PACKETS_TO_ALL)
+    for packed in &PACKED {
+        for case in packed.orders.split('|') {
+            let (line, packet) = case.split_once(" = ").ok_or("no packet")?;
+            let mut out = ArrayVec::<u8, 64>::new();
+            let sent = telegram(line.as_bytes(), packed.profile, BASE)??;
+            write(&sent, &mut out)?;
+            let found = hex::encode(rt.alloc(), out.as_slice())?;
+            assert_eq!(rt; found.as_str(), packet, "{line}");
+            is_heard(&rt, &sent, out.as_slice())?;
+        }
+    }
+    Ok(())
 }
 
 /// Orders to a device, and what the telegrams say.
@@ -113,34 +131,6 @@ const TO_BLINDS: &str = "\
     query 01800ABC 0 = 03|blind 01800ABC 0 = 007f0001|blind 01800ABC 1 = 017f0001|\
     blind 01800ABC 50 = 327f0001|blind 01800ABC 100 = 647f0001|stop 01800ABC = 02";
 
-// So the telegrams to a device of this profile say.
-fn are_payloads(
-    alloc: Global,
-    rt: &impl Abort,
-    profile: (u8, u8, u8),
-    cases: &str,
-) -> Result<(), Fail> {
-    for case in cases.split('|') {
-        let (line, payload) = case.split_once(" = ").ok_or("no payload")?;
-        let telegram = telegram(line.as_bytes(), Some(profile), LAST_BASE)??;
-        assert_eq!(rt; telegram.rorg(), 0xD2);
-        assert_eq!(rt; hex::encode(alloc, telegram.payload())?.as_str(), payload);
-        assert_eq!(rt; telegram.sender(), LAST_BASE);
-        assert_eq!(rt; telegram.status(), 0);
-        assert_eq!(rt; telegram.dest(), DEVICE);
-    }
-    Ok(())
-}
-
-#[test]
-fn payloads_for_devices(rt: HostRuntime) -> Result<(), Fail> {
-    are_payloads(rt.alloc(), &rt, SWITCH, TO_SWITCHES)?;
-    for typ in [0x00, 0xFF] {
-        are_payloads(rt.alloc(), &rt, (0xD2, 0x01, typ), TO_OTHER_SWITCHES)?;
-    }
-    are_payloads(rt.alloc(), &rt, BLIND, TO_BLINDS)
-}
-
 /// Orders to all, each with its sender and what its telegram says.
 const TO_ALL: &str = "\
     central 0 on = FF800000 01000009|central 127 off = FF80007F 01000008|\
@@ -149,40 +139,92 @@ const TO_ALL: &str = "\
     level 127 100 255 = FF80007F 0264ff0d|\
     teach 0 = FF800000 e047ff80|teach 126 = FF80007E e047ff80|teach 127 = FF80007F e047ff80";
 
-// So the telegrams to all say, whatever device is known.
-fn say_to_all(alloc: Global, rt: &impl Abort, profile: Option<(u8, u8, u8)>) -> Result<(), Fail> {
-    for case in TO_ALL.split('|') {
+/// The last sender of the last base ID.
+const TO_ALL_FROM_LAST: &str = "\
+    teach 126 = FFFFFFFE e047ff80|central 126 on = FFFFFFFE 01000009|level 126 0 0 = FFFFFFFE 0200000c";
+
+/// Orders to a device of this profile, or to all while such a device is known, and their telegrams. The sender is the
+/// base ID where a case tells none.
+struct Said {
+    profile: Option<Profile>,
+    base: u32,
+    orders: &'static str,
+    rorg: u8,
+    dest: u32,
+}
+
+const SAID: [Said; 7] = [
+    Said {
+        profile: Some(SWITCH),
+        base: LAST_BASE,
+        orders: TO_SWITCHES,
+        rorg: 0xD2,
+        dest: DEVICE,
+    },
+    Said {
+        profile: Some((0xD2, 0x01, 0x00)),
+        base: LAST_BASE,
+        orders: TO_OTHER_SWITCHES,
+        rorg: 0xD2,
+        dest: DEVICE,
+    },
+    Said {
+        profile: Some((0xD2, 0x01, 0xFF)),
+        base: LAST_BASE,
+        orders: TO_OTHER_SWITCHES,
+        rorg: 0xD2,
+        dest: DEVICE,
+    },
+    Said {
+        profile: Some(BLIND),
+        base: LAST_BASE,
+        orders: TO_BLINDS,
+        rorg: 0xD2,
+        dest: DEVICE,
+    },
+    Said {
+        profile: None,
+        base: BASE,
+        orders: TO_ALL,
+        rorg: 0xA5,
+        dest: BROADCAST,
+    },
+    Said {
+        profile: Some(SWITCH),
+        base: BASE,
+        orders: TO_ALL,
+        rorg: 0xA5,
+        dest: BROADCAST,
+    },
+    Said {
+        profile: None,
+        base: LAST_BASE,
+        orders: TO_ALL_FROM_LAST,
+        rorg: 0xA5,
+        dest: BROADCAST,
+    },
+];
+
+fn are_said(alloc: Global, rt: &impl Abort, said: &Said) -> Result<(), Fail> {
+    for case in said.orders.split('|') {
         let (line, wanted) = case.split_once(" = ").ok_or("no telegram")?;
-        let (sender, payload) = wanted.split_once(' ').ok_or("no payload")?;
-        let telegram = telegram(line.as_bytes(), profile, BASE)??;
-        assert_eq!(rt; telegram.rorg(), 0xA5);
-        assert_eq!(rt; hex::encode(alloc, telegram.payload())?.as_str(), payload);
-        assert_eq!(rt; Some(telegram.sender()), id_of(sender.as_bytes()));
-        assert_eq!(rt; telegram.status(), 0);
-        assert_eq!(rt; telegram.dest(), BROADCAST);
+        let (sender, payload) = match wanted.split_once(' ') {
+            Some((sender, payload)) => (id_of(sender.as_bytes()).ok_or("no ID")?, payload),
+            None => (said.base, wanted),
+        };
+        let telegram = telegram(line.as_bytes(), said.profile, said.base)??;
+        let found = hex::encode(alloc, telegram.payload())?;
+        assert_eq!(rt; found.as_str(), payload, "{line}");
+        let wanted = (said.rorg, telegram.payload(), sender, 0, said.dest);
+        assert_eq!(rt; parts(&telegram), wanted, "{line}");
     }
     Ok(())
 }
 
 #[test]
-fn payloads_for_all(rt: HostRuntime) -> Result<(), Fail> {
-    say_to_all(rt.alloc(), &rt, None)?;
-    say_to_all(rt.alloc(), &rt, Some(SWITCH))
-}
-
-// The last of the last base ID's offsets is the ID that no sender has.
-#[test]
-fn senders_out_of_range(rt: HostRuntime) -> Result<(), Fail> {
-    let last: [&[u8]; 3] = [b"teach 127", b"central 127 on", b"level 127 0 0"];
-    for line in last {
-        assert_eq!(rt;
-            telegram(line, None, LAST_BASE)?.err(),
-            Some(OrderFault::Range)
-        );
-    }
-    let before: [&[u8]; 3] = [b"teach 126", b"central 126 on", b"level 126 0 0"];
-    for line in before {
-        assert_eq!(rt; telegram(line, None, LAST_BASE)??.sender(), 0xFFFF_FFFE);
+fn payloads(rt: HostRuntime) -> Result<(), Fail> {
+    for said in &SAID {
+        are_said(rt.alloc(), &rt, said)?;
     }
     Ok(())
 }
@@ -192,65 +234,128 @@ const ORDERS_TO_SWITCHES: &str =
 
 const ORDERS_TO_BLINDS: &str = "blind 01800ABC 50|stop 01800ABC";
 
-/// Profiles of devices that have no orders.
-const OTHERS: [(u8, u8, u8); 6] = [
-    (0xD5, 0x00, 0x01),
-    (0xA5, 0x38, 0x08),
-    (0xA5, 0x01, 0x12),
-    (0xA5, 0x05, 0x00),
-    (0xD2, 0x02, 0x12),
-    (0xD2, 0x05, 0x01),
+/// Orders that have no telegram to a device of this profile, or to none, and why.
+struct Refused {
+    profile: Option<Profile>,
+    base: u32,
+    orders: &'static str,
+    why: OrderFault,
+}
+
+const REFUSED: [Refused; 17] = [
+    Refused {
+        profile: None,
+        base: BASE,
+        orders: ORDERS_TO_SWITCHES,
+        why: OrderFault::UnknownDevice,
+    },
+    Refused {
+        profile: None,
+        base: BASE,
+        orders: ORDERS_TO_BLINDS,
+        why: OrderFault::UnknownDevice,
+    },
+    Refused {
+        profile: Some(BLIND),
+        base: BASE,
+        orders: ORDERS_TO_SWITCHES,
+        why: OrderFault::WrongProfile,
+    },
+    Refused {
+        profile: Some(SWITCH),
+        base: BASE,
+        orders: ORDERS_TO_BLINDS,
+        why: OrderFault::WrongProfile,
+    },
+    // Profiles of devices that have no orders.
+    Refused {
+        profile: Some((0xD5, 0x00, 0x01)),
+        base: BASE,
+        orders: ORDERS_TO_SWITCHES,
+        why: OrderFault::WrongProfile,
+    },
+    Refused {
+        profile: Some((0xD5, 0x00, 0x01)),
+        base: BASE,
+        orders: ORDERS_TO_BLINDS,
+        why: OrderFault::WrongProfile,
+    },
+    Refused {
+        profile: Some((0xA5, 0x38, 0x08)),
+        base: BASE,
+        orders: ORDERS_TO_SWITCHES,
+        why: OrderFault::WrongProfile,
+    },
+    Refused {
+        profile: Some((0xA5, 0x38, 0x08)),
+        base: BASE,
+        orders: ORDERS_TO_BLINDS,
+        why: OrderFault::WrongProfile,
+    },
+    Refused {
+        profile: Some((0xA5, 0x01, 0x12)),
+        base: BASE,
+        orders: ORDERS_TO_SWITCHES,
+        why: OrderFault::WrongProfile,
+    },
+    Refused {
+        profile: Some((0xA5, 0x01, 0x12)),
+        base: BASE,
+        orders: ORDERS_TO_BLINDS,
+        why: OrderFault::WrongProfile,
+    },
+    Refused {
+        profile: Some((0xA5, 0x05, 0x00)),
+        base: BASE,
+        orders: ORDERS_TO_SWITCHES,
+        why: OrderFault::WrongProfile,
+    },
+    Refused {
+        profile: Some((0xA5, 0x05, 0x00)),
+        base: BASE,
+        orders: ORDERS_TO_BLINDS,
+        why: OrderFault::WrongProfile,
+    },
+    Refused {
+        profile: Some((0xD2, 0x02, 0x12)),
+        base: BASE,
+        orders: ORDERS_TO_SWITCHES,
+        why: OrderFault::WrongProfile,
+    },
+    Refused {
+        profile: Some((0xD2, 0x02, 0x12)),
+        base: BASE,
+        orders: ORDERS_TO_BLINDS,
+        why: OrderFault::WrongProfile,
+    },
+    Refused {
+        profile: Some((0xD2, 0x05, 0x01)),
+        base: BASE,
+        orders: ORDERS_TO_SWITCHES,
+        why: OrderFault::WrongProfile,
+    },
+    Refused {
+        profile: Some((0xD2, 0x05, 0x01)),
+        base: BASE,
+        orders: ORDERS_TO_BLINDS,
+        why: OrderFault::WrongProfile,
+    },
+    // The last of the last base ID's offsets is the ID that no sender has.
+    Refused {
+        profile: None,
+        base: LAST_BASE,
+        orders: "teach 127|central 127 on|level 127 0 0",
+        why: OrderFault::Range,
+    },
 ];
 
-// The orders have no telegram to a device of this profile, or to none, and this is why.
-fn are_refused(
-    rt: &impl Abort,
-    lines: &str,
-    profile: Option<(u8, u8, u8)>,
-    fault: OrderFault,
-) -> Result<(), Fail> {
-    for line in lines.split('|') {
-        let refused = telegram(line.as_bytes(), profile, BASE)?.err();
-        assert_eq!(rt; refused, Some(fault), "{line}");
-    }
-    Ok(())
-}
-
 #[test]
-fn devices_that_are_not_known(rt: HostRuntime) -> Result<(), Fail> {
-    for lines in [ORDERS_TO_SWITCHES, ORDERS_TO_BLINDS] {
-        are_refused(&rt, lines, None, OrderFault::UnknownDevice)?;
-    }
-    Ok(())
-}
-
-#[test]
-fn devices_that_have_no_such_order(rt: HostRuntime) -> Result<(), Fail> {
-    are_refused(
-        &rt,
-        ORDERS_TO_SWITCHES,
-        Some(BLIND),
-        OrderFault::WrongProfile,
-    )?;
-    are_refused(
-        &rt,
-        ORDERS_TO_BLINDS,
-        Some(SWITCH),
-        OrderFault::WrongProfile,
-    )?;
-    for profile in OTHERS {
-        are_refused(
-            &rt,
-            ORDERS_TO_SWITCHES,
-            Some(profile),
-            OrderFault::WrongProfile,
-        )?;
-        are_refused(
-            &rt,
-            ORDERS_TO_BLINDS,
-            Some(profile),
-            OrderFault::WrongProfile,
-        )?;
+fn orders_that_are_refused(rt: HostRuntime) -> Result<(), Fail> {
+    for (row, case) in REFUSED.iter().enumerate() {
+        for line in case.orders.split('|') {
+            let refused = telegram(line.as_bytes(), case.profile, case.base)?.err();
+            assert_eq!(rt; refused, Some(case.why), "row {row}: {line}");
+        }
     }
     Ok(())
 }
@@ -273,28 +378,20 @@ fn orders_of_no_telegram(rt: HostRuntime) -> Result<(), Fail> {
     Ok(())
 }
 
-/// Orders to devices, each with the device.
+/// Orders to devices, each with the device, and orders to no device.
 const RECIPIENTS: &str = "\
     switch 01800ABC 0 on = 01800ABC|dim 01800ABC 1 40 = 01800ABC|query 01800ABC 30 = 01800ABC|\
-    meter 01800ABC 2 power = 01800ABC|blind FFFFFFFE 50 = FFFFFFFE|stop 00000000 = 00000000";
+    meter 01800ABC 2 power = 01800ABC|blind FFFFFFFE 50 = FFFFFFFE|stop 00000000 = 00000000|\
+    central 5 on = none|remove 01800ABC = none|label 01800ABC x = none|base = none";
 
 #[test]
 fn recipients(rt: HostRuntime) -> Result<(), Fail> {
     for case in RECIPIENTS.split('|') {
         let (line, device) = case.split_once(" = ").ok_or("no device")?;
-        assert_eq!(rt;
-            parse(line.as_bytes())?.recipient(),
-            id_of(device.as_bytes()),
-            "{case}"
-        );
-    }
-    Ok(())
-}
-
-#[test]
-fn orders_to_no_device(rt: HostRuntime) -> Result<(), Fail> {
-    for line in "central 5 on|remove 01800ABC|label 01800ABC x|base".split('|') {
-        assert_eq!(rt; parse(line.as_bytes())?.recipient(), None, "{line}");
+        let recipient = parse(line.as_bytes())?.recipient();
+        let wanted = id_of(device.as_bytes());
+        assert!(rt; wanted.is_some() || device == "none", "{case}");
+        assert_eq!(rt; recipient, wanted, "{case}");
     }
     Ok(())
 }

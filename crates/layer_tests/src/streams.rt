@@ -1,5 +1,8 @@
 //! Streams whose packets are known: false headers, the greatest packet, and what stands before and behind.
+ghost use Rattle.std.specs.Prelude.{◌<◌};
+
 use esp3_resync::{Framer, PacketBuf};
+use std::alloc::Global;
 use std::test::Fail;
 
 const CONTACT: [u8; 21] = [
@@ -7,12 +10,131 @@ const CONTACT: [u8; 21] = [
     0xFF, 0xFF, 0x2D, 0x00, 0x1F,
 ];
 
-// How many packets the bytes make ready, one byte after another.
-fn feed(framer: &mut Framer, buffer: &mut PacketBuf, bytes: &[u8]) -> u32 {
+/// What stands in it, behind its header.
+const CONTENT: [u8; 14] = [
+    0xD5, 0x09, 0x01, 0x80, 0x0A, 0xBC, 0x00, 0x01, 0xFF, 0xFF, 0xFF, 0xFF, 0x2D, 0x00,
+];
+
+/// Bytes, so many bytes 00 behind them, and how many packets they make ready.
+struct Step {
+    bytes: &'static [u8],
+    zeros: usize,
+    ready: u32,
+}
+
+/// The last packet of a stream: its type, how long its data and its optional data are, and what they begin with. All
+/// behind that is 00.
+struct Last {
+    kind: u8,
+    data_len: usize,
+    opt_len: usize,
+    content: &'static [u8],
+}
+
+struct Stream {
+    steps: &'static [Step],
+    last: Last,
+}
+
+const CONTACT_LAST: Last = Last {
+    kind: 1,
+    data_len: 7,
+    opt_len: 7,
+    content: &CONTENT,
+};
+
+const GREATEST_LAST: Last = Last {
+    kind: 9,
+    data_len: 65_535,
+    opt_len: 255,
+    content: &[],
+};
+
+const STREAMS: [Stream; 3] = [
+    // A packet, byte by byte.
+    Stream {
+        steps: &[
+            Step {
+                bytes: &[
+                    0x55, 0x00, 0x07, 0x07, 0x01, 0x7A, 0xD5, 0x09, 0x01, 0x80, 0x0A, 0xBC, 0x00,
+                    0x01, 0xFF, 0xFF, 0xFF, 0xFF, 0x2D, 0x00,
+                ],
+                zeros: 0,
+                ready: 0,
+            },
+            Step {
+                bytes: &[0x1F],
+                zeros: 0,
+                ready: 1,
+            },
+        ],
+        last: CONTACT_LAST,
+    },
+    // A packet with the most data, and the greatest packet.
+    Stream {
+        steps: &[
+            Step {
+                bytes: &[0x55, 0xFF, 0xFF, 0x00, 0x09, 0xC5],
+                zeros: 65_535,
+                ready: 0,
+            },
+            Step {
+                bytes: &[0],
+                zeros: 0,
+                ready: 1,
+            },
+            Step {
+                bytes: &[0x55, 0xFF, 0xFF, 0xFF, 0x09, 0x12],
+                zeros: 65_790,
+                ready: 0,
+            },
+            Step {
+                bytes: &[0],
+                zeros: 0,
+                ready: 1,
+            },
+        ],
+        last: GREATEST_LAST,
+    },
+    // Three packets at one byte, behind a false header that announces as many bytes as they have.
+    Stream {
+        steps: &[
+            Step {
+                bytes: &[0x55, 0x00, 0x3F, 0x00, 0x01, 0xA1],
+                zeros: 0,
+                ready: 0,
+            },
+            Step {
+                bytes: &CONTACT,
+                zeros: 0,
+                ready: 0,
+            },
+            Step {
+                bytes: &CONTACT,
+                zeros: 0,
+                ready: 0,
+            },
+            Step {
+                bytes: &CONTACT,
+                zeros: 0,
+                ready: 0,
+            },
+            Step {
+                bytes: &[0],
+                zeros: 0,
+                ready: 3,
+            },
+        ],
+        last: CONTACT_LAST,
+    },
+];
+
+// How many packets the step makes ready, one byte after another.
+fn feed(framer: &mut Framer, buffer: &mut PacketBuf, step: &Step) -> u32 {
     let mut count: u32 = 0;
-    for b in bytes {
+    for number in 0..step.bytes.len().saturating_add(step.zeros) {
         if !framer.is_ready() {
-            framer.push(*b);
+            framer.push(step.bytes.get(number).copied().unwrap_or(0));
         }
         for _ in 0..9 {
             if framer.take(buffer) {
@@ -23,53 +145,38 @@ fn feed(framer: &mut Framer, buffer: &mut PacketBuf, bytes: &[u8]) -> u32 {
     count
 }
 
-#[test]
-fn a_packet_byte_by_byte(rt: HostRuntime) -> Result<(), Fail> {
-    let mut framer = Framer::new(rt.alloc())?;
-    let mut buffer = PacketBuf::new(rt.alloc())?;
-    assert!(rt; buffer.packet().is_none());
-    assert!(rt; !framer.take(&mut buffer));
-    assert_eq!(rt; feed(&mut framer, &mut buffer, &CONTACT[..20]), 0);
-    assert!(rt; buffer.packet().is_none());
-    assert_eq!(rt; feed(&mut framer, &mut buffer, &CONTACT[20..]), 1);
-    let packet = buffer.packet().ok_or("no packet")?;
-    assert_eq!(rt; packet.kind, 1);
-    assert_eq!(rt; packet.body, &CONTACT[6..13]);
-    assert_eq!(rt; packet.opt, &CONTACT[13..20]);
-    Ok(())
+fn is_held(buffer: &PacketBuf, last: &Last) -> bool {
+    let Some(packet) = buffer.packet() else {
+        return false;
+    };
+    for (number, byte) in packet.body.iter().chain(packet.opt).enumerate() {
+        if *byte != last.content.get(number).copied().unwrap_or(0) {
+            return false;
+        }
+    }
+    packet.kind == last.kind
+        && packet.body.len() == last.data_len
+        && packet.opt.len() == last.opt_len
 }
 
 #[test]
-fn greatest_packet(rt: HostRuntime) -> Result<(), Fail> {
-    let mut framer = Framer::new(rt.alloc())?;
-    let mut buffer = PacketBuf::new(rt.alloc())?;
-    let data = vec![in rt.alloc(); 0; 65_535]?;
-    let most_data = [0x55, 0xFF, 0xFF, 0x00, 0x09, 0xC5];
-    assert_eq!(rt; feed(&mut framer, &mut buffer, &most_data), 0);
-    assert_eq!(rt; feed(&mut framer, &mut buffer, &data), 0);
-    assert_eq!(rt; feed(&mut framer, &mut buffer, &[0]), 1);
-    let greatest = [0x55, 0xFF, 0xFF, 0xFF, 0x09, 0x12];
-    assert_eq!(rt; feed(&mut framer, &mut buffer, &greatest), 0);
-    assert_eq!(rt; feed(&mut framer, &mut buffer, &data), 0);
-    assert_eq!(rt; feed(&mut framer, &mut buffer, &[0; 255]), 0);
-    assert_eq!(rt; feed(&mut framer, &mut buffer, &[0]), 1);
-    let packet = buffer.packet().ok_or("no packet of 65,797 bytes")?;
-    assert_eq!(rt; packet.kind, 9);
-    assert_eq!(rt; packet.body, data.as_slice());
-    assert_eq!(rt; packet.opt, [0; 255].as_slice());
-    Ok(())
-}
-
-#[test]
-fn three_at_one_byte(rt: HostRuntime) -> Result<(), Fail> {
-    let mut framer = Framer::new(rt.alloc())?;
-    let mut buffer = PacketBuf::new(rt.alloc())?;
-    let false_header = [0x55, 0x00, 0x3F, 0x00, 0x01, 0xA1];
-    assert_eq!(rt; feed(&mut framer, &mut buffer, &false_header), 0);
-    assert_eq!(rt; feed(&mut framer, &mut buffer, &CONTACT), 0);
-    assert_eq!(rt; feed(&mut framer, &mut buffer, &CONTACT), 0);
-    assert_eq!(rt; feed(&mut framer, &mut buffer, &CONTACT), 0);
-    assert_eq!(rt; feed(&mut framer, &mut buffer, &[0]), 3);
+fn streams(rt: HostRuntime) -> Result<(), Fail> {
+    for (row, stream) in STREAMS.iter().enumerate() {
+        let mut framer = Framer::new(rt.alloc())?;
+        let mut buffer = PacketBuf::new(rt.alloc())?;
+        assert!(rt;
+            buffer.packet().is_none() && !framer.take(&mut buffer),
+            "row {row}"
+        );
+        let mut had_packet = false;
+        for step in stream.steps {
+            let ready = feed(&mut framer, &mut buffer, step);
+            had_packet |= ready > 0;
+            let found = (ready, buffer.packet().is_some());
+            assert_eq!(rt; found, (step.ready, had_packet), "row {row}");
+        }
+        assert!(rt; is_held(&buffer, &stream.last), "row {row}");
+    }
     Ok(())
 }
 
@@ -87,15 +194,19 @@ const TYPES_AND_DATA: [u8; 17] = [
     0x08,
 ];
 
-// Pushes the bytes in runs, and appends the type and the data of each packet.
+/// More runs and packets than a piece has.
+const MOST_TURNS: u32 = 1_000_000;
+
+// Pushes the bytes in runs, and appends the type and the data of each packet. Says how many there are.
 fn feed_runs(
     framer: &mut Framer,
     buffer: &mut PacketBuf,
     bytes: &[u8],
     found: &mut Vec<u8>,
-) -> Result<(), Fail> {
+) -> Result<u32, Fail> {
     let mut rest = bytes;
-    for _ in 0..=bytes.len() {
+    let mut packets: u32 = 0;
+    for _ in 0..=MOST_TURNS {
         if !framer.is_ready() {
             let count = framer.push_run(rest);
             rest = &rest[count..];
@@ -105,22 +216,45 @@ fn feed_runs(
             found.push(packet.kind)?;
             found.extend_from_slice(packet.body)?;
             found.extend_from_slice(packet.opt)?;
+            packets = packets.saturating_add(1);
+        } else if rest.is_empty() {
+            break;
         }
     }
-    Ok(())
+    Ok(packets)
+}
+
+/// The same by a new framer, to which the bytes come in pieces of this length.
+pub(crate) fn feed_pieces(
+    alloc: Global,
+    bytes: &[u8],
+    size: usize,
+    found: &mut Vec<u8>,
+) -> Result<u32, Fail>
+    requires { 0 < size }
+{
+    let mut framer = Framer::new(alloc)?;
+    let mut buffer = PacketBuf::new(alloc)?;
+    let mut packets: u32 = 0;
+    for piece in bytes.chunks(size) {
+        let more = feed_runs(&mut framer, &mut buffer, piece, found)?;
+        packets = packets.saturating_add(more);
+    }
+    Ok(packets)
 }
 
 // The pieces have every length, so some end within noise, a header, data or a check.
 #[test]
 fn packets_in_runs(rt: HostRuntime) -> Result<(), Fail> {
+    let mut found = Vec::new(rt.alloc());
     for size in 1..=TWO_PACKETS.len() {
-        let mut framer = Framer::new(rt.alloc())?;
-        let mut buffer = PacketBuf::new(rt.alloc())?;
-        let mut found = Vec::new(rt.alloc());
-        for piece in TWO_PACKETS.chunks(size) {
-            feed_runs(&mut framer, &mut buffer, piece, &mut found)?;
-        }
-        assert_eq!(rt; (size, found.as_slice()), (size, TYPES_AND_DATA.as_slice()));
+        found.clear();
+        let packets = feed_pieces(rt.alloc(), &TWO_PACKETS, size, &mut found)?;
+        assert_eq!(rt;
+            (packets, found.as_slice()),
+            (2, TYPES_AND_DATA.as_slice()),
+            "pieces of {size}"
+        );
     }
     Ok(())
 }
@@ -133,41 +267,65 @@ fn greatest_packets_in_runs(rt: HostRuntime) -> Result<(), Fail> {
     let mut found = Vec::new(rt.alloc());
     let zeros = vec![in rt.alloc(); 0; 65_791]?;
     for _ in 0..3_u32 {
-        feed_runs(&mut framer, &mut buffer, &CONTACT, &mut found)?;
         let greatest = [0x55, 0xFF, 0xFF, 0xFF, 0x09, 0x12];
-        feed_runs(&mut framer, &mut buffer, &greatest, &mut found)?;
-        feed_runs(&mut framer, &mut buffer, &zeros, &mut found)?;
-        let packet = buffer.packet().ok_or("no packet of 65,797 bytes")?;
-        assert_eq!(rt;
-            (packet.kind, packet.body.len(), packet.opt.len()),
-            (9, 65_535, 255)
+        for bytes in [CONTACT.as_slice(), &greatest, &zeros] {
+            let _packets = feed_runs(&mut framer, &mut buffer, bytes, &mut found)?;
+        }
+        assert!(rt;
+            is_held(&buffer, &GREATEST_LAST),
+            "no packet of 65,797 bytes"
         );
         assert_eq!(rt; found.len(), 65_806);
-        let (front, content) = found
-            .as_slice()
-            .split_first_chunk::<16>()
-            .ok_or("no 16 bytes")?;
-        assert!(rt; front.starts_with(&TYPES_AND_DATA[..15]));
+        let (front, content) = found.as_slice().split_at(16);
+        assert!(rt; front.starts_with(&TYPES_AND_DATA[..15]) && front[15] == 9);
         assert!(rt; content.iter().all(|byte| *byte == 0));
         found.clear();
     }
     Ok(())
 }
 
+/// A part of the two packets, and the type and the length of the packet that is lent of it, if any.
+struct Lent {
+    start: usize,
+    end: usize,
+    wanted: Option<(u8, usize)>,
+}
+
+const LENT: [Lent; 4] = [
+    Lent {
+        start: 8,
+        end: 39,
+        wanted: Some((1, 21)),
+    },
+    Lent {
+        start: 31,
+        end: 39,
+        wanted: Some((5, 8)),
+    },
+    Lent {
+        start: 0,
+        end: 39,
+        wanted: None,
+    },
+    Lent {
+        start: 8,
+        end: 28,
+        wanted: None,
+    },
+];
+
 // A packet is lent if it stands whole at the front of the bytes, and no byte is held.
 #[test]
 fn packets_lent(rt: HostRuntime) -> Result<(), Fail> {
     let mut framer = Framer::new(rt.alloc())?;
-    let (packet, len) = framer.lend(&TWO_PACKETS[8..]).ok_or("no packet")?;
-    assert_eq!(rt; (packet.kind, len), (1, 21));
-    assert_eq!(rt; packet.body, &CONTACT[6..13]);
-    assert_eq!(rt; packet.opt, &CONTACT[13..20]);
-    let (command, len) = framer.lend(&TWO_PACKETS[31..]).ok_or("no command")?;
-    assert_eq!(rt; (command.kind, len), (5, 8));
-    assert!(rt; framer.lend(&TWO_PACKETS).is_none());
-    assert!(rt; framer.lend(&TWO_PACKETS[8..28]).is_none());
+    for (row, case) in LENT.iter().enumerate() {
+        let part = TWO_PACKETS.get(case.start..case.end).ok_or("no such part")?;
+        let lent = framer.lend(part).map(|(packet, len)| (packet.kind, len));
+        assert_eq!(rt; lent, case.wanted, "row {row}");
+    }
+    let (packet, _len) = framer.lend(&CONTACT).ok_or("no packet")?;
+    assert_eq!(rt; (packet.body, packet.opt), CONTENT.split_at(7));
     framer.push(0x55);
-    assert!(rt; !framer.is_ready());
-    assert!(rt; framer.lend(&CONTACT).is_none());
+    assert!(rt; !framer.is_ready() && framer.lend(&CONTACT).is_none());
     Ok(())
 }

@@ -25,48 +25,114 @@ const ADDRESSED: [u8; 21] = [
     0x03, 0x04, 0x2D, 0x00, 0x0F,
 ];
 
+/// A packet of the contact, and for whom its telegram is, and with what strength it was heard.
+struct Heard {
+    packet: &'static [u8],
+    dest: u32,
+    dbm: Option<u8>,
+}
+
+const HEARD: [Heard; 3] = [
+    Heard {
+        packet: &CONTACT,
+        dest: BROADCAST,
+        dbm: Some(0x2D),
+    },
+    Heard {
+        packet: &WITHOUT_OPTIONAL_DATA,
+        dest: BROADCAST,
+        dbm: None,
+    },
+    Heard {
+        packet: &ADDRESSED,
+        dest: 0x0102_0304,
+        dbm: Some(0x2D),
+    },
+];
+
+// All that a telegram tells.
+fn parts(telegram: &Telegram) -> (u8, &[u8], u32, u8, u32, Option<u8>) {
+    (
+        telegram.rorg(),
+        telegram.payload(),
+        telegram.sender(),
+        telegram.status(),
+        telegram.dest(),
+        telegram.dbm(),
+    )
+}
+
 #[test]
 fn contact_telegrams(rt: HostRuntime) -> Result<(), Fail> {
-    let cases: [(&[u8], u32, Option<u8>); 3] = [
-        (&CONTACT, BROADCAST, Some(0x2D)),
-        (&WITHOUT_OPTIONAL_DATA, BROADCAST, None),
-        (&ADDRESSED, 0x0102_0304, Some(0x2D)),
-    ];
-    for (bytes, dest, dbm) in cases {
-        let packet = read_packet(bytes).ok_or("no packet")?;
+    for (row, case) in HEARD.iter().enumerate() {
+        let packet = read_packet(case.packet).ok_or("no packet")?;
         let telegram = read(&packet)?;
-        assert_eq!(rt; telegram.rorg(), 0xD5);
-        assert_eq!(rt; telegram.payload(), [0x09].as_slice());
-        assert_eq!(rt; telegram.sender(), 0x0180_0ABC);
-        assert_eq!(rt; telegram.status(), 0);
-        assert_eq!(rt; telegram.dest(), dest);
-        assert_eq!(rt; telegram.dbm(), dbm);
+        let payload = [0x09].as_slice();
+        let wanted = (0xD5, payload, 0x0180_0ABC, 0, case.dest, case.dbm);
+        assert_eq!(rt; parts(&telegram), wanted, "row {row}");
     }
     Ok(())
 }
 
+/// A packet without optional data that has no telegram, and why.
+struct Faulty {
+    kind: u8,
+    body: &'static [u8],
+    why: TelegramFault,
+}
+
+const FAULTY: [Faulty; 6] = [
+    Faulty {
+        kind: 2,
+        body: &[0x00],
+        why: TelegramFault::NotRadio,
+    },
+    Faulty {
+        kind: 1,
+        body: &[],
+        why: TelegramFault::BadLength,
+    },
+    Faulty {
+        kind: 1,
+        body: &[0x30],
+        why: TelegramFault::OtherKind,
+    },
+    Faulty {
+        kind: 1,
+        body: &[0xD5],
+        why: TelegramFault::BadLength,
+    },
+    Faulty {
+        kind: 1,
+        body: &[0xD5, 1, 2, 3, 4, 0],
+        why: TelegramFault::BadLength,
+    },
+    Faulty {
+        kind: 1,
+        body: &[0xD5, 9, 9, 1, 2, 3, 4, 0],
+        why: TelegramFault::BadLength,
+    },
+];
+
 #[test]
 fn faults(rt: HostRuntime) {
-    let cases: [(u8, &[u8], TelegramFault); 6] = [
-        (2, &[0x00], TelegramFault::NotRadio),
-        (1, &[], TelegramFault::BadLength),
-        (1, &[0x30], TelegramFault::OtherKind),
-        (1, &[0xD5], TelegramFault::BadLength),
-        (1, &[0xD5, 1, 2, 3, 4, 0], TelegramFault::BadLength),
-        (1, &[0xD5, 9, 9, 1, 2, 3, 4, 0], TelegramFault::BadLength),
-    ];
-    for (kind, body, fault) in cases {
+    for (row, case) in FAULTY.iter().enumerate() {
         let packet = PacketRef {
-            kind,
-            body,
+            kind: case.kind,
+            body: case.body,
             opt: &[],
         };
-        assert_eq!(rt; read(&packet).err(), Some(fault));
+        assert_eq!(rt; read(&packet).err(), Some(case.why), "row {row}");
     }
-    let other_kind = Telegram::new(0x30, &[], 1, 0, BROADCAST, None);
-    assert_eq!(rt; other_kind.err(), Some(TelegramFault::OtherKind));
-    let too_long = Telegram::new(0xD2, &[0; 15], 1, 0, BROADCAST, None);
-    assert_eq!(rt; too_long.err(), Some(TelegramFault::BadLength));
+    let other_kind = Telegram::new(0x30, &[], 1, 0, BROADCAST, None).err();
+    let too_long = Telegram::new(0xD2, &[0; 15], 1, 0, BROADCAST, None).err();
+    assert_eq!(rt;
+        (other_kind, too_long),
+        (
+            Some(TelegramFault::OtherKind),
+            Some(TelegramFault::BadLength)
+        )
+    );
 }
 
 // The data of a telegram with so many bytes 00 of payload, from 01800ABC.
@@ -96,21 +162,18 @@ fn lengths_of_payloads(rt: HostRuntime) {
             let payload = zeros.get(..len).unwrap_or(&[]);
             let made = Telegram::new(rorg, payload, 0x0180_0ABC, 0, BROADCAST, None);
             let body = data_of(rorg, len);
-            let packet = PacketRef {
+            let heard = read(&PacketRef {
                 kind: 1,
                 body: &body,
                 opt: &[],
-            };
-            if len < shortest || len > longest {
-                assert_eq!(rt; read(&packet).err(), Some(TelegramFault::BadLength));
-                assert_eq!(rt; made.err(), Some(TelegramFault::BadLength));
+            });
+            let wanted = if len < shortest || len > longest {
+                Err(TelegramFault::BadLength)
             } else {
-                assert_eq!(rt; made.map(|telegram| telegram.payload().len()), Ok(len));
-                assert_eq!(rt;
-                    read(&packet).map(|telegram| telegram.payload().len()),
-                    Ok(len)
-                );
-            }
+                Ok(len)
+            };
+            let lengths = [heard, made].map(|it| it.map(|telegram| telegram.payload().len()));
+            assert_eq!(rt; lengths, [wanted, wanted], "{rorg} {len}");
         }
     }
 }
@@ -132,8 +195,7 @@ fn lengths_of_optional_data(rt: HostRuntime) -> Result<(), Fail> {
             body: &body,
             opt: &optional[..len],
         })?;
-        assert_eq!(rt; telegram.dest(), dest);
-        assert_eq!(rt; telegram.dbm(), dbm);
+        assert_eq!(rt; (telegram.dest(), telegram.dbm()), (dest, dbm), "{len}");
     }
     Ok(())
 }
@@ -143,13 +205,17 @@ fn room_for_a_packet(rt: HostRuntime) -> Result<(), Fail> {
     let telegram = Telegram::new(0xD5, &[0x09], 0x0180_0ABC, 0, BROADCAST, Some(0x2D))?;
     let mut out = ArrayVec::<u8, 64>::new();
     out.try_extend_from_slice(&[7; 44])?;
-    assert_eq!(rt; write(&telegram, &mut out), Err(PacketFault::NoRoom));
-    assert_eq!(rt; out.as_slice(), [7; 44].as_slice());
+    let done = write(&telegram, &mut out);
+    assert_eq!(rt;
+        (done, out.as_slice()),
+        (Err(PacketFault::NoRoom), [7; 44].as_slice())
+    );
     out.truncate(43);
-    assert_eq!(rt; write(&telegram, &mut out), Ok(()));
-    let (before, packet) = out.split_at(43);
-    assert_eq!(rt; before, [7; 43].as_slice());
-    assert_eq!(rt; packet, CONTACT_SENT.as_slice());
+    let done = write(&telegram, &mut out);
+    assert_eq!(rt;
+        (done, out.split_at(43)),
+        (Ok(()), ([7; 43].as_slice(), CONTACT_SENT.as_slice()))
+    );
     Ok(())
 }
 
@@ -157,54 +223,188 @@ fn room_for_a_packet(rt: HostRuntime) -> Result<(), Fail> {
 fn longest_packet(rt: HostRuntime) -> Result<(), Fail> {
     let telegram = Telegram::new(0xD2, &[7; 14], 0x0180_0ABC, 0, BROADCAST, None)?;
     let mut out = ArrayVec::<u8, 64>::new();
-    assert_eq!(rt; write(&telegram, &mut out), Ok(()));
-    assert_eq!(rt; out.len(), 34);
+    let done = write(&telegram, &mut out);
+    assert_eq!(rt; (done, out.len()), (Ok(()), 34));
     Ok(())
 }
 
-#[test]
-fn base_ids(rt: HostRuntime) {
-    for base in [0xFF80_0000, 0xFF80_0080, 0xFFFF_FF80] {
-        assert!(rt; is_base(base));
-    }
-    for id in [
-        0,
-        0xFF7F_FF80,
-        0xFF80_0001,
-        0xFF80_0040,
-        0xFFFF_FF81,
-        0xFFFF_FFFF,
-    ] {
-        assert!(rt; !is_base(id));
-    }
+/// What is asked of IDs.
+enum Question {
+    IsBase { id: u32 },
+    IsOwn { base: u32, id: u32 },
+    /// Of a gateway with the first base ID.
+    IsPassedOver { sender: u32, dest: u32 },
 }
 
-#[test]
-fn own_ids(rt: HostRuntime) {
-    for base in [0xFF80_0000, 0xFFFF_FF80] {
-        assert!(rt; is_own(base, base) && is_own(base, base + 127));
-        assert!(rt; !is_own(base, base - 1));
-    }
-    assert!(rt; !is_own(0xFF80_0000, 0xFF80_0080));
+struct Asked {
+    question: Question,
+    wanted: bool,
 }
 
-// A telegram is looked at that is for all or for an ID of the gateway's own, whoever sent it but the broadcast ID.
+const ASKED: [Asked; 25] = [
+    Asked {
+        question: Question::IsBase { id: 0xFF80_0000 },
+        wanted: true,
+    },
+    Asked {
+        question: Question::IsBase { id: 0xFF80_0080 },
+        wanted: true,
+    },
+    Asked {
+        question: Question::IsBase { id: 0xFFFF_FF80 },
+        wanted: true,
+    },
+    Asked {
+        question: Question::IsBase { id: 0 },
+        wanted: false,
+    },
+    Asked {
+        question: Question::IsBase { id: 0xFF7F_FF80 },
+        wanted: false,
+    },
+    Asked {
+        question: Question::IsBase { id: 0xFF80_0001 },
+        wanted: false,
+    },
+    Asked {
+        question: Question::IsBase { id: 0xFF80_0040 },
+        wanted: false,
+    },
+    Asked {
+        question: Question::IsBase { id: 0xFFFF_FF81 },
+        wanted: false,
+    },
+    Asked {
+        question: Question::IsBase { id: 0xFFFF_FFFF },
+        wanted: false,
+    },
+    Asked {
+        question: Question::IsOwn {
+            base: 0xFF80_0000,
+            id: 0xFF80_0000,
+        },
+        wanted: true,
+    },
+    Asked {
+        question: Question::IsOwn {
+            base: 0xFF80_0000,
+            id: 0xFF80_007F,
+        },
+        wanted: true,
+    },
+    Asked {
+        question: Question::IsOwn {
+            base: 0xFF80_0000,
+            id: 0xFF7F_FFFF,
+        },
+        wanted: false,
+    },
+    Asked {
+        question: Question::IsOwn {
+            base: 0xFFFF_FF80,
+            id: 0xFFFF_FF80,
+        },
+        wanted: true,
+    },
+    Asked {
+        question: Question::IsOwn {
+            base: 0xFFFF_FF80,
+            id: 0xFFFF_FFFF,
+        },
+        wanted: true,
+    },
+    Asked {
+        question: Question::IsOwn {
+            base: 0xFFFF_FF80,
+            id: 0xFFFF_FF7F,
+        },
+        wanted: false,
+    },
+    Asked {
+        question: Question::IsOwn {
+            base: 0xFF80_0000,
+            id: 0xFF80_0080,
+        },
+        wanted: false,
+    },
+    // A telegram is looked at that is for all or for an ID of the gateway's own, whoever sent it but the broadcast ID.
+    Asked {
+        question: Question::IsPassedOver {
+            sender: 0x0180_0ABC,
+            dest: BROADCAST,
+        },
+        wanted: false,
+    },
+    Asked {
+        question: Question::IsPassedOver {
+            sender: 0x0180_0ABC,
+            dest: 0xFF80_0000,
+        },
+        wanted: false,
+    },
+    Asked {
+        question: Question::IsPassedOver {
+            sender: 0x0180_0ABC,
+            dest: 0xFF80_007F,
+        },
+        wanted: false,
+    },
+    Asked {
+        question: Question::IsPassedOver {
+            sender: 0xFFFF_FFFE,
+            dest: BROADCAST,
+        },
+        wanted: false,
+    },
+    Asked {
+        question: Question::IsPassedOver {
+            sender: 0x0180_0ABC,
+            dest: 0xFF80_0080,
+        },
+        wanted: true,
+    },
+    Asked {
+        question: Question::IsPassedOver {
+            sender: 0x0180_0ABC,
+            dest: 0xFF7F_FFFF,
+        },
+        wanted: true,
+    },
+    Asked {
+        question: Question::IsPassedOver {
+            sender: 0x0180_0ABC,
+            dest: 0x0102_0304,
+        },
+        wanted: true,
+    },
+    Asked {
+        question: Question::IsPassedOver {
+            sender: BROADCAST,
+            dest: BROADCAST,
+        },
+        wanted: true,
+    },
+    Asked {
+        question: Question::IsPassedOver {
+            sender: BROADCAST,
+            dest: 0xFF80_0000,
+        },
+        wanted: true,
+    },
+];
+
 #[test]
-fn telegrams_passed_over(rt: HostRuntime) -> Result<(), Fail> {
-    let cases = [
-        (0x0180_0ABC, BROADCAST, false),
-        (0x0180_0ABC, 0xFF80_0000, false),
-        (0x0180_0ABC, 0xFF80_007F, false),
-        (0xFFFF_FFFE, BROADCAST, false),
-        (0x0180_0ABC, 0xFF80_0080, true),
-        (0x0180_0ABC, 0xFF7F_FFFF, true),
-        (0x0180_0ABC, 0x0102_0304, true),
-        (BROADCAST, BROADCAST, true),
-        (BROADCAST, 0xFF80_0000, true),
-    ];
-    for (sender, dest, passed_over) in cases {
-        let telegram = Telegram::new(0xD5, &[0x09], sender, 0, dest, None)?;
-        assert_eq!(rt; is_passed_over(0xFF80_0000, &telegram), passed_over);
+fn questions(rt: HostRuntime) -> Result<(), Fail> {
+    for (row, case) in ASKED.iter().enumerate() {
+        let found = match case.question {
+            Question::IsBase { id } => is_base(id),
+            Question::IsOwn { base, id } => is_own(base, id),
+            Question::IsPassedOver { sender, dest } => {
+                let telegram = Telegram::new(0xD5, &[0x09], sender, 0, dest, None)?;
+                is_passed_over(0xFF80_0000, &telegram)
+            }
+        };
+        assert_eq!(rt; found, case.wanted, "row {row}");
     }
     Ok(())
 }

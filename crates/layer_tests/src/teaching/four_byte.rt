@@ -1,7 +1,8 @@
 //! What a 4BS query tells, and the reply to it.
-use super::given::{BASE, SENDER, eep, kind};
+use super::given::{BASE, SENDER, kind, parts, refused};
+use erp1_telegrams::Eep;
 use std::test::Fail;
-use teach_in::{FourByteQuery, Outcome, Teach, Verdict, four_byte_reply};
+use teach_in::{FourByteQuery, Outcome, Teach, four_byte_reply};
 
 // The query in a 4BS telegram with these first three bytes.
 fn query(db3: u8, db2: u8, db1: u8) -> Result<FourByteQuery, Fail> {
@@ -11,46 +12,150 @@ fn query(db3: u8, db2: u8, db1: u8) -> Result<FourByteQuery, Fail> {
     }
 }
 
-// Each field at both of its ends, and each end of each field by its one bit.
+/// The first three bytes of a query, and what it tells.
+struct Fields {
+    bytes: [u8; 3],
+    eep: Eep,
+    maker: u16,
+}
+
+/// Each field at both of its ends, and each end of each field by its one bit.
+const QUERIES: [Fields; 10] = [
+    Fields {
+        bytes: [0x08, 0x28, 0x46],
+        eep: Eep {
+            rorg: 0xA5,
+            func: 0x02,
+            typ: 0x05,
+        },
+        maker: 70,
+    },
+    Fields {
+        bytes: [0x50, 0x08, 0x46],
+        eep: Eep {
+            rorg: 0xA5,
+            func: 0x14,
+            typ: 0x01,
+        },
+        maker: 70,
+    },
+    Fields {
+        bytes: [0x00, 0x00, 0x00],
+        eep: Eep {
+            rorg: 0xA5,
+            func: 0x00,
+            typ: 0x00,
+        },
+        maker: 0,
+    },
+    Fields {
+        bytes: [0xFF, 0xFF, 0xFF],
+        eep: Eep {
+            rorg: 0xA5,
+            func: 0x3F,
+            typ: 0x7F,
+        },
+        maker: 2047,
+    },
+    Fields {
+        bytes: [0x80, 0x00, 0x00],
+        eep: Eep {
+            rorg: 0xA5,
+            func: 0x20,
+            typ: 0x00,
+        },
+        maker: 0,
+    },
+    Fields {
+        bytes: [0x04, 0x00, 0x00],
+        eep: Eep {
+            rorg: 0xA5,
+            func: 0x01,
+            typ: 0x00,
+        },
+        maker: 0,
+    },
+    Fields {
+        bytes: [0x02, 0x00, 0x00],
+        eep: Eep {
+            rorg: 0xA5,
+            func: 0x00,
+            typ: 0x40,
+        },
+        maker: 0,
+    },
+    Fields {
+        bytes: [0x00, 0x08, 0x00],
+        eep: Eep {
+            rorg: 0xA5,
+            func: 0x00,
+            typ: 0x01,
+        },
+        maker: 0,
+    },
+    Fields {
+        bytes: [0x00, 0x04, 0x00],
+        eep: Eep {
+            rorg: 0xA5,
+            func: 0x00,
+            typ: 0x00,
+        },
+        maker: 1024,
+    },
+    Fields {
+        bytes: [0x00, 0x00, 0x01],
+        eep: Eep {
+            rorg: 0xA5,
+            func: 0x00,
+            typ: 0x00,
+        },
+        maker: 1,
+    },
+];
+
 #[test]
 fn queries(rt: HostRuntime) -> Result<(), Fail> {
-    let cases = [
-        ([0x08, 0x28, 0x46], eep(0xA5, 0x02, 0x05), 70),
-        ([0x50, 0x08, 0x46], eep(0xA5, 0x14, 0x01), 70),
-        ([0x00, 0x00, 0x00], eep(0xA5, 0x00, 0x00), 0),
-        ([0xFF, 0xFF, 0xFF], eep(0xA5, 0x3F, 0x7F), 2047),
-        ([0x80, 0x00, 0x00], eep(0xA5, 0x20, 0x00), 0),
-        ([0x04, 0x00, 0x00], eep(0xA5, 0x01, 0x00), 0),
-        ([0x02, 0x00, 0x00], eep(0xA5, 0x00, 0x40), 0),
-        ([0x00, 0x08, 0x00], eep(0xA5, 0x00, 0x01), 0),
-        ([0x00, 0x04, 0x00], eep(0xA5, 0x00, 0x00), 1024),
-        ([0x00, 0x00, 0x01], eep(0xA5, 0x00, 0x00), 1),
-    ];
-    for ([db3, db2, db1], profile, maker) in cases {
+    for (row, case) in QUERIES.iter().enumerate() {
+        let [db3, db2, db1] = case.bytes;
         let query = query(db3, db2, db1)?;
-        assert_eq!(rt; query.id(), SENDER);
-        assert_eq!(rt; query.eep(), profile);
-        assert_eq!(rt; query.maker(), maker);
+        let found = (query.id(), query.eep(), query.maker());
+        assert_eq!(rt; found, (SENDER, case.eep, case.maker), "row {row}");
     }
     Ok(())
 }
 
-// An unsupported profile, and a full registry. The reply of `Accepted` needs a receipt, and so a database.
+/// The first three bytes of a query, why it is refused, the base ID, and the payload of the reply.
+struct Reply {
+    query: [u8; 3],
+    why: Outcome,
+    base: u32,
+    payload: [u8; 4],
+}
+
+/// An unsupported profile, and a full registry. The reply of `Accepted` needs a receipt, and so a database.
+const REPLIES: [Reply; 2] = [
+    Reply {
+        query: [0x50, 0x08, 0x46],
+        why: Outcome::Unsupported,
+        base: BASE,
+        payload: [0x50, 0x08, 0x46, 0x90],
+    },
+    Reply {
+        query: [0xFF, 0xFF, 0xFF],
+        why: Outcome::Full,
+        base: 0xFFFF_FF80,
+        payload: [0xFF, 0xFF, 0xFF, 0xD0],
+    },
+];
+
 #[test]
 fn replies(rt: HostRuntime) -> Result<(), Fail> {
-    let asked = query(0x50, 0x08, 0x46)?;
-    let verdict = Verdict::refused(asked.id(), Outcome::Unsupported);
-    let reply = four_byte_reply(&asked, &verdict, BASE);
-    assert_eq!(rt; reply.rorg(), 0xA5);
-    assert_eq!(rt; reply.payload(), [0x50, 0x08, 0x46, 0x90].as_slice());
-    assert_eq!(rt; reply.sender(), BASE);
-    assert_eq!(rt; reply.dest(), SENDER);
-    assert_eq!(rt; reply.status(), 0);
-    assert_eq!(rt; reply.dbm(), None);
-    let asked = query(0xFF, 0xFF, 0xFF)?;
-    let verdict = Verdict::refused(asked.id(), Outcome::Full);
-    let reply = four_byte_reply(&asked, &verdict, 0xFFFF_FF80);
-    assert_eq!(rt; reply.payload(), [0xFF, 0xFF, 0xFF, 0xD0].as_slice());
-    assert_eq!(rt; reply.sender(), 0xFFFF_FF80);
+    for (row, case) in REPLIES.iter().enumerate() {
+        let [db3, db2, db1] = case.query;
+        let asked = query(db3, db2, db1)?;
+        let reply = four_byte_reply(&asked, &refused(asked.id(), case.why)?, case.base);
+        let wanted = (0xA5, case.payload.as_slice(), case.base, SENDER, 0, None);
+        assert_eq!(rt; parts(&reply), wanted, "row {row}");
+    }
     Ok(())
 }

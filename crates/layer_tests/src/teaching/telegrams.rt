@@ -1,42 +1,143 @@
 //! What telegrams are at teach-in.
-use super::given::{BASE, SENDER, kind};
+use super::given::{BASE, SENDER, kind, refused};
+use arrayvec::ArrayVec;
 use std::process::Abort;
 use std::test::Fail;
-use teach_in::{Outcome, Teach, Verdict, ute_reply};
+use teach_in::{Outcome, Teach, ute_reply};
 
-#[test]
-fn contacts(rt: HostRuntime) -> Result<(), Fail> {
-    for byte in [0x00, 0x01, 0x10, 0xF7] {
-        assert_eq!(rt; kind(0xD5, &[byte])?, Teach::Contact);
-    }
-    for byte in [0x08, 0x09, 0x18, 0xFF] {
-        assert_eq!(rt; kind(0xD5, &[byte])?, Teach::Plain);
-    }
-    Ok(())
+/// A kind of telegram, the bytes before and behind the one that decides, what that may be, and what the telegrams are
+/// then. None: a 4BS query.
+struct Kind {
+    rorg: u8,
+    before: &'static [u8],
+    bytes: &'static [u8],
+    behind: &'static [u8],
+    wanted: Option<Teach>,
 }
 
-// The first three bytes say nothing of it, whatever they are.
+const KINDS: [Kind; 15] = [
+    Kind {
+        rorg: 0xD5,
+        before: &[],
+        bytes: &[0x00, 0x01, 0x10, 0xF7],
+        behind: &[],
+        wanted: Some(Teach::Contact),
+    },
+    Kind {
+        rorg: 0xD5,
+        before: &[],
+        bytes: &[0x08, 0x09, 0x18, 0xFF],
+        behind: &[],
+        wanted: Some(Teach::Plain),
+    },
+    // Data of RPS and VLD.
+    Kind {
+        rorg: 0xF6,
+        before: &[],
+        bytes: &[0x00, 0x08, 0x80, 0xF7],
+        behind: &[],
+        wanted: Some(Teach::Plain),
+    },
+    Kind {
+        rorg: 0xD2,
+        before: &[],
+        bytes: &[0x00, 0x08, 0x80, 0xF7],
+        behind: &[],
+        wanted: Some(Teach::Plain),
+    },
+    Kind {
+        rorg: 0xD2,
+        before: &[],
+        bytes: &[0x00, 0x08, 0x80, 0xF7],
+        behind: &[0, 0, 0],
+        wanted: Some(Teach::Plain),
+    },
+    Kind {
+        rorg: 0xD2,
+        before: &[],
+        bytes: &[0x00, 0x08, 0x80, 0xF7],
+        behind: &[0, 0, 0, 0, 0, 0],
+        wanted: Some(Teach::Plain),
+    },
+    // 4BS: the first three bytes say nothing of it, whatever they are.
+    Kind {
+        rorg: 0xA5,
+        before: &[0; 3],
+        bytes: &[0x00, 0x77],
+        behind: &[],
+        wanted: Some(Teach::Bare),
+    },
+    Kind {
+        rorg: 0xA5,
+        before: &[0; 3],
+        bytes: &[0x90, 0xF0, 0xF7],
+        behind: &[],
+        wanted: Some(Teach::Answer),
+    },
+    Kind {
+        rorg: 0xA5,
+        before: &[0; 3],
+        bytes: &[0x08, 0x0F, 0x88, 0xFF],
+        behind: &[],
+        wanted: Some(Teach::Plain),
+    },
+    Kind {
+        rorg: 0xA5,
+        before: &[0xFF; 3],
+        bytes: &[0x00, 0x77],
+        behind: &[],
+        wanted: Some(Teach::Bare),
+    },
+    Kind {
+        rorg: 0xA5,
+        before: &[0xFF; 3],
+        bytes: &[0x90, 0xF0, 0xF7],
+        behind: &[],
+        wanted: Some(Teach::Answer),
+    },
+    Kind {
+        rorg: 0xA5,
+        before: &[0xFF; 3],
+        bytes: &[0x08, 0x0F, 0x88, 0xFF],
+        behind: &[],
+        wanted: Some(Teach::Plain),
+    },
+    Kind {
+        rorg: 0xA5,
+        before: &[0; 3],
+        bytes: &[0x80, 0x87, 0xA0, 0xC0, 0xE7],
+        behind: &[],
+        wanted: None,
+    },
+    Kind {
+        rorg: 0xA5,
+        before: &[0x08; 3],
+        bytes: &[0x80, 0x87, 0xA0, 0xC0, 0xE7],
+        behind: &[],
+        wanted: None,
+    },
+    Kind {
+        rorg: 0xA5,
+        before: &[0xFF; 3],
+        bytes: &[0x80, 0x87, 0xA0, 0xC0, 0xE7],
+        behind: &[],
+        wanted: None,
+    },
+];
+
 #[test]
-fn four_bytes(rt: HostRuntime) -> Result<(), Fail> {
-    let cases = [
-        (0x00, Teach::Bare),
-        (0x77, Teach::Bare),
-        (0x90, Teach::Answer),
-        (0xF0, Teach::Answer),
-        (0xF7, Teach::Answer),
-        (0x08, Teach::Plain),
-        (0x0F, Teach::Plain),
-        (0x88, Teach::Plain),
-        (0xFF, Teach::Plain),
-    ];
-    for (last, teach) in cases {
-        assert_eq!(rt; kind(0xA5, &[0, 0, 0, last])?, teach);
-        assert_eq!(rt; kind(0xA5, &[0xFF, 0xFF, 0xFF, last])?, teach);
-    }
-    for last in [0x80, 0x87, 0xA0, 0xC0, 0xE7] {
-        for first in [0x00, 0x08, 0xFF] {
-            let kind = kind(0xA5, &[first, first, first, last])?;
-            assert!(rt; matches!(kind, Teach::FourByte(_)));
+fn kinds(rt: HostRuntime) -> Result<(), Fail> {
+    for (row, case) in KINDS.iter().enumerate() {
+        for byte in case.bytes {
+            let mut payload = ArrayVec::<u8, 14>::new();
+            payload.try_extend_from_slice(case.before)?;
+            payload.try_push(*byte)?;
+            payload.try_extend_from_slice(case.behind)?;
+            let found = match kind(case.rorg, &payload)? {
+                Teach::FourByte(_) => None,
+                other => Some(other),
+            };
+            assert_eq!(rt; found, case.wanted, "row {row} at {byte}");
         }
     }
     Ok(())
@@ -49,9 +150,9 @@ fn is_query(rt: &impl Abort, found: Teach, payload: [u8; 7]) -> Result<(), Fail>
         return Err(Fail::from("no query"));
     };
     let [db6, db5, db4, db3, db2, db1, db0] = payload;
-    assert_eq!(rt; query.id(), SENDER);
-    assert_eq!(rt; query.wants_reply(), db6 & 0x40 == 0, "at {db6}");
-    let verdict = Verdict::refused(query.id(), Outcome::Unsupported);
+    let told = (query.id(), query.wants_reply());
+    assert_eq!(rt; told, (SENDER, db6 & 0x40 == 0), "at {db6}");
+    let verdict = refused(query.id(), Outcome::Unsupported)?;
     let wanted = [db6 & 0x80 | 0x31, db5, db4, db3, db2, db1, db0];
     assert_eq!(rt;
         ute_reply(&query, &verdict, BASE).payload(),
@@ -84,17 +185,6 @@ fn universal_teach_in(rt: HostRuntime) -> Result<(), Fail> {
                 }
             }
         }
-    }
-    Ok(())
-}
-
-#[test]
-fn data(rt: HostRuntime) -> Result<(), Fail> {
-    for byte in [0x00, 0x08, 0x80, 0xF7] {
-        assert_eq!(rt; kind(0xF6, &[byte])?, Teach::Plain);
-        assert_eq!(rt; kind(0xD2, &[byte])?, Teach::Plain);
-        assert_eq!(rt; kind(0xD2, &[byte, 0, 0, 0])?, Teach::Plain);
-        assert_eq!(rt; kind(0xD2, &[byte, 0, 0, 0, 0, 0, 0])?, Teach::Plain);
     }
     Ok(())
 }

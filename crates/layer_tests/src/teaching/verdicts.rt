@@ -1,79 +1,230 @@
 //! What is planned about a sender, but for universal teach-in.
-use super::given::{add, eep, planned};
+use super::given::{Wanted, is_wanted, planned};
+use erp1_telegrams::Eep;
+use std::process::Abort;
 use std::test::Fail;
-use teach_in::{Mode, Outcome, Plan};
+use teach_in::{Mode, Outcome};
 
-// By what a telegram tells, the answering mode is as the other; a known sender is learned anew.
+/// A telegram, and what is planned by what it tells.
+struct ByTelegram {
+    rorg: u8,
+    payload: &'static [u8],
+    wanted: Wanted,
+}
+
+const BY_TELEGRAM: [ByTelegram; 10] = [
+    ByTelegram {
+        rorg: 0xD5,
+        payload: &[0x00],
+        wanted: Wanted::Add {
+            rorg: 0xD5,
+            func: 0x00,
+            typ: 0x01,
+            maker: None,
+        },
+    },
+    ByTelegram {
+        rorg: 0xD5,
+        payload: &[0x08],
+        wanted: Wanted::Silent,
+    },
+    ByTelegram {
+        rorg: 0xA5,
+        payload: &[0, 0, 0, 0],
+        wanted: Wanted::Refuse(Outcome::NoProfile),
+    },
+    ByTelegram {
+        rorg: 0xA5,
+        payload: &[0x08, 0x28, 0x46, 0x80],
+        wanted: Wanted::Add {
+            rorg: 0xA5,
+            func: 0x02,
+            typ: 0x05,
+            maker: Some(70),
+        },
+    },
+    ByTelegram {
+        rorg: 0xA5,
+        payload: &[0x08, 0x2F, 0xFF, 0x80],
+        wanted: Wanted::Add {
+            rorg: 0xA5,
+            func: 0x02,
+            typ: 0x05,
+            maker: Some(2047),
+        },
+    },
+    ByTelegram {
+        rorg: 0xA5,
+        payload: &[0x50, 0x08, 0x46, 0x80],
+        wanted: Wanted::Refuse(Outcome::Unsupported),
+    },
+    ByTelegram {
+        rorg: 0xA5,
+        payload: &[0x08, 0x28, 0x46, 0xF0],
+        wanted: Wanted::Silent,
+    },
+    ByTelegram {
+        rorg: 0xA5,
+        payload: &[0, 0, 0, 0x08],
+        wanted: Wanted::Silent,
+    },
+    ByTelegram {
+        rorg: 0xF6,
+        payload: &[0x50],
+        wanted: Wanted::Silent,
+    },
+    ByTelegram {
+        rorg: 0xD2,
+        payload: &[0x04, 0x60, 0xE4],
+        wanted: Wanted::Silent,
+    },
+];
+
+fn is_planned(
+    rt: &impl Abort,
+    telegram: (u8, &[u8]),
+    mode: Mode,
+    known: bool,
+    wanted: Wanted,
+) -> Result<(), Fail> {
+    let (rorg, payload) = telegram;
+    let plan = planned(rorg, payload, mode, known)?;
+    assert!(rt; is_wanted(&plan, wanted), "{payload:?} {mode:?}: {plan:?}");
+    Ok(())
+}
+
+// The answering mode is as the other; a known sender is learned anew.
 #[test]
 fn plans_by_the_telegram(rt: HostRuntime) -> Result<(), Fail> {
-    for mode in [Mode::Learn, Mode::LearnAnswer] {
-        for known in [false, true] {
-            let planned = |rorg: u8, payload: &[u8]| planned(rorg, payload, mode, known);
-            assert_eq!(rt; planned(0xD5, &[0x00])?, add(eep(0xD5, 0x00, 0x01), None));
-            assert_eq!(rt; planned(0xD5, &[0x08])?, Plan::Silent);
-            assert_eq!(rt;
-                planned(0xA5, &[0, 0, 0, 0])?,
-                Plan::Refuse(Outcome::NoProfile)
-            );
-            assert_eq!(rt;
-                planned(0xA5, &[0x08, 0x28, 0x46, 0x80])?,
-                add(eep(0xA5, 0x02, 0x05), Some(70))
-            );
-            assert_eq!(rt;
-                planned(0xA5, &[0x08, 0x2F, 0xFF, 0x80])?,
-                add(eep(0xA5, 0x02, 0x05), Some(2047))
-            );
-            assert_eq!(rt;
-                planned(0xA5, &[0x50, 0x08, 0x46, 0x80])?,
-                Plan::Refuse(Outcome::Unsupported)
-            );
-            assert_eq!(rt; planned(0xA5, &[0x08, 0x28, 0x46, 0xF0])?, Plan::Silent);
-            assert_eq!(rt; planned(0xA5, &[0, 0, 0, 0x08])?, Plan::Silent);
-            assert_eq!(rt; planned(0xF6, &[0x50])?, Plan::Silent);
-            assert_eq!(rt; planned(0xD2, &[0x04, 0x60, 0xE4])?, Plan::Silent);
+    for case in &BY_TELEGRAM {
+        for mode in [Mode::Learn, Mode::LearnAnswer] {
+            for known in [false, true] {
+                is_planned(&rt, (case.rorg, case.payload), mode, known, case.wanted)?;
+            }
         }
     }
     Ok(())
 }
 
+/// A telegram, whether it teaches a sender in, and the maker that it tells.
+struct ByDesk {
+    rorg: u8,
+    payload: &'static [u8],
+    teaches: bool,
+    maker: Option<u16>,
+}
+
+const BY_DESK: [ByDesk; 10] = [
+    ByDesk {
+        rorg: 0xD5,
+        payload: &[0x00],
+        teaches: true,
+        maker: None,
+    },
+    ByDesk {
+        rorg: 0xD5,
+        payload: &[0x08],
+        teaches: false,
+        maker: None,
+    },
+    ByDesk {
+        rorg: 0xA5,
+        payload: &[0, 0, 0, 0],
+        teaches: true,
+        maker: None,
+    },
+    ByDesk {
+        rorg: 0xA5,
+        payload: &[0x08, 0x28, 0x46, 0x80],
+        teaches: true,
+        maker: Some(70),
+    },
+    ByDesk {
+        rorg: 0xA5,
+        payload: &[0x50, 0x08, 0x46, 0x80],
+        teaches: true,
+        maker: Some(70),
+    },
+    ByDesk {
+        rorg: 0xA5,
+        payload: &[0x08, 0x28, 0x46, 0xF0],
+        teaches: false,
+        maker: None,
+    },
+    ByDesk {
+        rorg: 0xA5,
+        payload: &[0, 0, 0, 0x08],
+        teaches: false,
+        maker: None,
+    },
+    ByDesk {
+        rorg: 0xF6,
+        payload: &[0x10],
+        teaches: true,
+        maker: None,
+    },
+    ByDesk {
+        rorg: 0xF6,
+        payload: &[0xEF],
+        teaches: false,
+        maker: None,
+    },
+    ByDesk {
+        rorg: 0xD2,
+        payload: &[0x00],
+        teaches: true,
+        maker: None,
+    },
+];
+
+const PROFILES: [Eep; 4] = [
+    Eep {
+        rorg: 0xF6,
+        func: 0x02,
+        typ: 0x01,
+    },
+    Eep {
+        rorg: 0xD5,
+        func: 0x00,
+        typ: 0x01,
+    },
+    Eep {
+        rorg: 0xA5,
+        func: 0x02,
+        typ: 0x05,
+    },
+    Eep {
+        rorg: 0xD2,
+        func: 0x01,
+        typ: 0x12,
+    },
+];
+
 // By the profile that the desk gives: a sender is learned by telegrams of that profile's RORG alone, with the maker
 // that a query tells, and by data only while it is not known.
 #[test]
 fn plans_by_the_desk(rt: HostRuntime) -> Result<(), Fail> {
-    let cases: [(u8, &[u8], bool, Option<u16>); 10] = [
-        (0xD5, &[0x00], true, None),
-        (0xD5, &[0x08], false, None),
-        (0xA5, &[0, 0, 0, 0], true, None),
-        (0xA5, &[0x08, 0x28, 0x46, 0x80], true, Some(70)),
-        (0xA5, &[0x50, 0x08, 0x46, 0x80], true, Some(70)),
-        (0xA5, &[0x08, 0x28, 0x46, 0xF0], false, None),
-        (0xA5, &[0, 0, 0, 0x08], false, None),
-        (0xF6, &[0x10], true, None),
-        (0xF6, &[0xEF], false, None),
-        (0xD2, &[0x00], true, None),
-    ];
-    let profiles = [
-        eep(0xF6, 0x02, 0x01),
-        eep(0xD5, 0x00, 0x01),
-        eep(0xA5, 0x02, 0x05),
-        eep(0xD2, 0x01, 0x12),
-    ];
-    for (rorg, payload, teaches, maker) in cases {
-        for profile in profiles {
-            let fits = teaches && profile.rorg == rorg;
-            let wanted = if fits {
-                add(profile, maker)
+    for case in &BY_DESK {
+        let telegram = (case.rorg, case.payload);
+        for eep in PROFILES {
+            let wanted = if case.teaches && eep.rorg == case.rorg {
+                Wanted::Add {
+                    rorg: eep.rorg,
+                    func: eep.func,
+                    typ: eep.typ,
+                    maker: case.maker,
+                }
             } else {
-                Plan::Silent
+                Wanted::Silent
             };
-            let mode = Mode::LearnAs(profile);
-            assert_eq!(rt; planned(rorg, payload, mode, false)?, wanted);
-            let is_data = rorg == 0xF6 || rorg == 0xD2;
-            let wanted = if is_data { Plan::Silent } else { wanted };
-            assert_eq!(rt; planned(rorg, payload, mode, true)?, wanted);
+            let mode = Mode::LearnAs(eep);
+            is_planned(&rt, telegram, mode, false, wanted)?;
+            let is_data = case.rorg == 0xF6 || case.rorg == 0xD2;
+            let wanted = if is_data { Wanted::Silent } else { wanted };
+            is_planned(&rt, telegram, mode, true, wanted)?;
         }
-        assert_eq!(rt; planned(rorg, payload, Mode::Closed, false)?, Plan::Silent);
-        assert_eq!(rt; planned(rorg, payload, Mode::Closed, true)?, Plan::Silent);
+        is_planned(&rt, telegram, Mode::Closed, false, Wanted::Silent)?;
+        is_planned(&rt, telegram, Mode::Closed, true, Wanted::Silent)?;
     }
     Ok(())
 }

@@ -1,0 +1,169 @@
+//! What telegrams are read as, which are refused, and which profiles are supported, by the three crates of profiles.
+//! The tables of each stand in a file of its own.
+use crate::{four_byte_profiles, switch_profiles, variable_length_profiles};
+use erp1_telegrams::{BROADCAST, Eep, Telegram};
+use profiles_rps::{Reading, Readings, Unreadable, What};
+use std::process::Abort;
+use std::test::Fail;
+
+/// What a reading is expected to say: a value has a numerator, a denominator and a unit.
+#[derive(Clone, Copy)]
+pub enum Wanted {
+    Value(i64, i64, &'static str),
+    Word(&'static str),
+    Raw(u32),
+    OutOfRange(u32),
+}
+
+/// A telegram of the profile's kind, and its readings, in their order.
+pub struct Read {
+    pub eep: Eep,
+    pub payload: &'static [u8],
+    pub status: u8,
+    pub readings: &'static [(&'static str, Wanted)],
+}
+
+/// A telegram that is not read, and why.
+pub struct Refusal {
+    pub eep: Eep,
+    pub rorg: u8,
+    pub payload: &'static [u8],
+    pub status: u8,
+    pub why: Unreadable,
+}
+
+/// The types of a FUNC that are supported.
+pub struct Types {
+    pub rorg: u8,
+    pub func: u8,
+    pub types: &'static [u8],
+}
+
+/// A crate of profiles.
+#[derive(Clone, Copy)]
+enum Crate {
+    Rps,
+    FourByte,
+    Vld,
+}
+
+impl Crate {
+    fn read(
+        self,
+        eep: Eep,
+        telegram: &Telegram,
+        readings: &mut Readings,
+    ) -> Result<(), Unreadable> {
+        match self {
+            Crate::Rps => profiles_rps::read(eep, telegram, readings),
+            Crate::FourByte => profiles_4bs::read(eep, telegram, readings),
+            Crate::Vld => profiles_vld::read(eep, telegram, readings),
+        }
+    }
+}
+
+fn telegram(rorg: u8, payload: &[u8], status: u8) -> Result<Telegram, Fail> {
+    Ok(Telegram::new(rorg, payload, 0x0180_0ABC, status, BROADCAST, None)?)
+}
+
+/// Whether this is said.
+pub(crate) fn is_said(what: What, wanted: Wanted) -> bool {
+    match (what, wanted) {
+        (What::Value(value, unit), Wanted::Value(num, den, wanted)) => {
+            value.num() == num && value.den() == den && unit == wanted
+        }
+        (What::Word(word), Wanted::Word(wanted)) => word == wanted,
+        (What::Raw(raw), Wanted::Raw(wanted)) => raw == wanted,
+        (What::OutOfRange(raw), Wanted::OutOfRange(wanted)) => raw == wanted,
+        _ => false,
+    }
+}
+
+// Whether these are the readings, in this order.
+fn are_said(readings: &[Reading], wanted: &[(&'static str, Wanted)]) -> bool {
+    for (reading, (name, wanted)) in readings.iter().zip(wanted) {
+        if reading.name != *name || !is_said(reading.what, *wanted) {
+            return false;
+        }
+    }
+    readings.len() == wanted.len()
+}
+
+fn are_read(rt: &impl Abort, by: Crate, rows: &[Read]) -> Result<(), Fail> {
+    for (row, case) in rows.iter().enumerate() {
+        let mut readings = Readings::new();
+        let telegram = telegram(case.eep.rorg, case.payload, case.status)?;
+        assert_eq!(rt;
+            by.read(case.eep, &telegram, &mut readings),
+            Ok(()),
+            "row {row}"
+        );
+        let found = readings.as_slice();
+        assert!(rt; are_said(found, case.readings), "row {row}: {found:?}");
+    }
+    Ok(())
+}
+
+#[test]
+fn worked_readings(rt: HostRuntime) -> Result<(), Fail> {
+    are_read(&rt, Crate::Rps, &switch_profiles::READ)?;
+    are_read(&rt, Crate::FourByte, &four_byte_profiles::READ)?;
+    are_read(&rt, Crate::Vld, &variable_length_profiles::READ)
+}
+
+// A refusal leaves the readings that were there before.
+fn are_refused(rt: &impl Abort, by: Crate, before: Reading, rows: &[Refusal]) -> Result<(), Fail> {
+    let mut readings = Readings::new();
+    readings.push(before);
+    for (row, case) in rows.iter().enumerate() {
+        let telegram = telegram(case.rorg, case.payload, case.status)?;
+        let why = by.read(case.eep, &telegram, &mut readings);
+        assert_eq!(rt;
+            (why, readings.as_slice()),
+            (Err(case.why), [before].as_slice()),
+            "row {row}"
+        );
+    }
+    Ok(())
+}
+
+#[test]
+fn refusals(rt: HostRuntime) -> Result<(), Fail> {
+    let (switches, four_bytes) = (&switch_profiles::REFUSED, &four_byte_profiles::REFUSED);
+    are_refused(&rt, Crate::Rps, switch_profiles::BEFORE, switches)?;
+    are_refused(&rt, Crate::FourByte, four_byte_profiles::BEFORE, four_bytes)?;
+    let before = variable_length_profiles::BEFORE;
+    are_refused(&rt, Crate::Vld, before, &variable_length_profiles::REFUSED)
+}
+
+fn is_listed(eep: Eep, table: &[Types]) -> bool {
+    for row in table {
+        if row.rorg == eep.rorg && row.func == eep.func {
+            return row.types.contains(&eep.typ);
+        }
+    }
+    false
+}
+
+// Each profile is supported by the crate whose table has it, and by no other.
+#[test]
+fn supported_profiles(rt: HostRuntime) {
+    for rorg in [0xF6, 0xD5, 0xA5, 0xD2, 0xD4] {
+        for func in 0..=0xFFu8 {
+            for typ in 0..=0xFFu8 {
+                let eep = Eep { rorg, func, typ };
+                let found = (
+                    profiles_rps::supports(eep),
+                    profiles_4bs::supports(eep),
+                    profiles_vld::supports(eep),
+                );
+                let wanted = (
+                    is_listed(eep, &switch_profiles::SUPPORTED),
+                    is_listed(eep, &four_byte_profiles::SUPPORTED),
+                    is_listed(eep, &variable_length_profiles::SUPPORTED),
+                );
+                assert_eq!(rt; found, wanted, "{rorg} {func} {typ}");
+            }
+        }
+    }
+}
