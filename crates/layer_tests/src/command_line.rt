@@ -29,7 +29,7 @@ fn told(rt: &HostRuntime, line: &str) -> Result<String, Fail> {
     }
 }
 
-/// A line, and what it says.
+/// A command line, and its options.
 struct Taken {
     line: &'static str,
     wanted: Options<'static>,
@@ -229,7 +229,7 @@ fn bad_bases(rt: HostRuntime) -> Result<(), Fail> {
     Ok(())
 }
 
-/// A beginning of lines, several ends of it, parted by `|`, and how `clap` refuses the lines.
+/// Command lines with the same start, their different ends, separated by `|`, and the kind of clap's error.
 struct Refusal {
     line: &'static str,
     ends: &'static str,
@@ -368,7 +368,7 @@ fn options_of_live(rt: HostRuntime) -> Result<(), Fail> {
     Ok(())
 }
 
-/// A line, and what is told where it is refused.
+/// A command line that is refused, and the text that is printed.
 struct Text {
     line: &'static str,
     text: &'static str,
@@ -425,7 +425,7 @@ fn texts_told(rt: HostRuntime) -> Result<(), Fail> {
     Ok(())
 }
 
-/// Options, and what is planned by them.
+/// Options, and the plan that they give.
 struct Planned {
     options: Options<'static>,
     plan: Plan<'static>,
@@ -487,7 +487,7 @@ const PLANNED: [Planned; 2] = [
 
 #[test]
 fn plans(rt: HostRuntime) {
-    for case in &PLANNED {
-        assert_eq!(rt; case.options.plan(), case.plan);
+    for (row, case) in PLANNED.iter().enumerate() {
+        assert_eq!(rt; case.options.plan(), case.plan, "row {row}");
     }
 }

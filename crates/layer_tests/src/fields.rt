@@ -41,7 +41,7 @@ fn fields_written(rt: HostRuntime) {
         (&last, &[0x00, 0x01]),
         (&five, &[0xF1, 0x23, 0x45, 0x67, 0x8F]),
     ];
-    for (found, wanted) in cases {
-        assert_eq!(rt; found, wanted);
+    for (row, (found, wanted)) in cases.into_iter().enumerate() {
+        assert_eq!(rt; found, wanted, "row {row}");
     }
 }

@@ -177,7 +177,7 @@ fn quotients(rt: HostRuntime) {
         (over(0, 1000), (0, 1)),
         (over(7, 1), (7, 1)),
     ] {
-        assert_eq!(rt; parts(found), wanted);
+        assert_eq!(rt; parts(found), wanted, "{wanted:?}");
     }
     assert_eq!(rt; Fraction::default(), over(0, 1));
 }

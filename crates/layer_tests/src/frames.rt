@@ -12,13 +12,13 @@ const CONTACT: [u8; 21] = [
     0xFF, 0xFF, 0x2D, 0x00, 0x1F,
 ];
 
-/// Of what a check byte is asked.
+/// What a check byte is computed from.
 enum Of {
-    /// Some bytes.
+    /// These bytes.
     Bytes(&'static [u8]),
-    /// Bytes whose check byte is known, and one more.
+    /// A message with this check byte, and one more byte.
     Next { before: u8, byte: u8 },
-    /// So many bytes behind others: the check byte of the others, and that of all.
+    /// The last `len` bytes of a message, given the check bytes of the part before them and of the whole message.
     Between { before: u8, all: u8, len: usize },
 }
 
@@ -173,13 +173,13 @@ fn check_bytes(rt: HostRuntime) {
     }
 }
 
-/// The first six bytes of a packet, and what they say.
+/// The first six bytes of a packet, and the result of reading them.
 struct HeaderCase {
     bytes: [u8; 6],
     wanted: Result<Header, HeaderFault>,
 }
 
-/// The last three have two faults each, and the first of the two is told.
+/// The last three have two faults each, and the first of the two is reported.
 const HEADERS: [HeaderCase; 10] = [
     HeaderCase {
         bytes: [0x55, 0x00, 0x07, 0x07, 0x01, 0x7A],
@@ -260,7 +260,7 @@ fn a_packet_written(rt: HostRuntime) {
     );
 }
 
-/// Bytes: whether they are the packet above, and whether it stands at their front.
+/// Bytes, whether they are the packet above, and whether they begin with it.
 struct Part {
     bytes: &'static [u8],
     is_packet: bool,
@@ -351,8 +351,8 @@ fn parts_of_a_packet(rt: HostRuntime) {
     }
 }
 
-/// A header with so many bytes 00 behind it: all but the last are data and optional data, and the last is their check
-/// byte, since the check byte of such data is 00. Then the lengths of the two in the packet, if it is one.
+/// A header followed by `count` bytes 00: data, optional data and their check byte, which is 00 for such data. `wanted`
+/// has the type and the two lengths of the packet, if it is one.
 struct Zeros {
     header: [u8; 6],
     count: usize,
@@ -377,7 +377,7 @@ const ZEROS: [Zeros; 3] = [
     },
 ];
 
-// The header, and the zeros behind it.
+// The header, followed by the zeros.
 fn text_of(alloc: Global, case: &Zeros) -> Result<Vec<u8>, AllocError> {
     let mut text = Vec::new(alloc);
     text.extend_from_slice(&case.header)?;
@@ -400,7 +400,7 @@ fn long_packets_of_zeros(rt: HostRuntime) -> Result<(), Fail> {
     Ok(())
 }
 
-/// A packet of so many bytes 00, how it is written into memory for 262 bytes, and how many bytes are there then.
+/// A packet of bytes 00, the result of writing it into a buffer of 262 bytes, and the length of the buffer after that.
 struct Written {
     data_len: usize,
     opt_len: usize,
@@ -408,7 +408,7 @@ struct Written {
     len: usize,
 }
 
-/// What is not too long has no room here, and is looked at first for its length.
+/// The length is checked before the room: what is not too long does not fit here.
 const WRITTEN: [Written; 4] = [
     Written {
         data_len: 65_536,

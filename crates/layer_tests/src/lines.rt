@@ -133,7 +133,8 @@ const OF_READINGS: [OfReadings; 10] = [
             ("TI", Given::Raw(4_294_967_295)),
             ("HUM", Given::OutOfRange(251)),
         ],
-        text: "{\"dbm\":-45,\"eep\":\"D2-01-12\",\"id\":\"01800ABC\",\"readings\":[{\"name\":\"CO\",\"word\":\"closed\"},\
+        text: "{\"dbm\":-45,\"eep\":\"D2-01-12\",\"id\":\"01800ABC\",\"readings\":[\
+            {\"name\":\"CO\",\"word\":\"closed\"},\
             {\"den\":200,\"name\":\"MR\",\"num\":3355443,\"unit\":\"kWh\"},{\"name\":\"TI\",\"raw\":4294967295},\
             {\"name\":\"HUM\",\"out_of_range\":251}],\"type\":\"reading\"}\n",
     },
@@ -214,7 +215,7 @@ const SOME: Counts = Counts {
     teach: 5,
 };
 
-/// Each of the others, raised as often as it was.
+/// `SOME` after each count was raised as often as `OF_COUNTS` says.
 const RAISED: Counts = Counts {
     ignored: 2,
     readings: 4,
@@ -239,7 +240,7 @@ const OF_COUNTS: [(Count, usize); 5] = [
     (Count::Teach, 5),
 ];
 
-// A count at its greatest stays as it is.
+// A count at its greatest value stays there.
 #[test]
 fn counts(rt: HostRuntime) {
     let mut counts = SOME;

@@ -31,7 +31,7 @@ const LAST: Eep = Eep {
     typ: 0xFF,
 };
 
-/// A line, and the order that it spells, or why it is none.
+/// A line, and the order that it spells, or the reason why it is none.
 struct Spelled {
     line: &'static [u8],
     wanted: Result<Order, OrderFault>,
@@ -275,7 +275,7 @@ fn orders(rt: HostRuntime) {
     orders_are_spelled();
 }
 
-/// A line, and the device and the label that it gives it.
+/// A line, the ID of the device, and its new label.
 struct Labelled {
     line: &'static [u8],
     id: u32,
@@ -414,7 +414,7 @@ const SHAPE_BEFORE_RANGE: &str = "\
     dim FFFFFFFF 31 007|dim 01800ABC 0 0101|switch 01800ABC 31 onn|switch FFFFFFFF 0 on 1|\
     level 128 101 0256|teach 128 ";
 
-/// Lines, parted by `|`, that are no orders, and why.
+/// Lines, separated by `|`, that are no orders, and the reason.
 struct Refused {
     lines: &'static str,
     why: OrderFault,
@@ -473,7 +473,7 @@ fn lines_that_are_no_order(rt: HostRuntime) {
     lines_have_two_faults();
 }
 
-/// Eight digits or others, and the ID that they spell.
+/// A text, and the ID that it spells, if any.
 struct Id {
     digits: &'static [u8],
     wanted: Option<u32>,

@@ -79,7 +79,7 @@ const PACKED: [Packed; 3] = [
     },
 ];
 
-// All that a telegram tells but its strength.
+// All fields of a telegram but the signal strength.
 fn parts(telegram: &Telegram) -> (u8, &[u8], u32, u8, u32) {
     (
         telegram.rorg(),
@@ -143,8 +143,8 @@ const TO_ALL: &str = "\
 const TO_ALL_FROM_LAST: &str = "\
     teach 126 = FFFFFFFE e047ff80|central 126 on = FFFFFFFE 01000009|level 126 0 0 = FFFFFFFE 0200000c";
 
-/// Orders to a device of this profile, or to all while such a device is known, and their telegrams. The sender is the
-/// base ID where a case tells none.
+/// Orders to a device of this profile, or to all while such a device is known, and their telegrams. If a case has no
+/// sender, the sender is the base ID.
 struct Said {
     profile: Option<Profile>,
     base: u32,
@@ -234,7 +234,7 @@ const ORDERS_TO_SWITCHES: &str =
 
 const ORDERS_TO_BLINDS: &str = "blind 01800ABC 50|stop 01800ABC";
 
-/// Orders that have no telegram to a device of this profile, or to none, and why.
+/// Orders that give no telegram to a device of this profile, or with no device, and the reason.
 struct Refused {
     profile: Option<Profile>,
     base: u32,

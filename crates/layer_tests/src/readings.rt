@@ -1,5 +1,5 @@
-//! What telegrams are read as, which are refused, and which profiles are supported, by the three crates of profiles.
-//! The tables of each stand in a file of its own.
+//! The readings of telegrams, refusals, and the supported profiles of the three crates of profiles. The tables of each
+//! crate are in a file of its own.
 use crate::{four_byte_profiles, switch_profiles, variable_length_profiles};
 use erp1_telegrams::{BROADCAST, Eep, Telegram};
 use profiles_rps::{Reading, Readings, Unreadable, What};
@@ -23,7 +23,7 @@ pub struct Read {
     pub readings: &'static [(&'static str, Wanted)],
 }
 
-/// A telegram that is not read, and why.
+/// A telegram that is not read, and the reason.
 pub struct Refusal {
     pub eep: Eep,
     pub rorg: u8,
@@ -66,7 +66,7 @@ fn telegram(rorg: u8, payload: &[u8], status: u8) -> Result<Telegram, Fail> {
     Ok(Telegram::new(rorg, payload, 0x0180_0ABC, status, BROADCAST, None)?)
 }
 
-/// Whether this is said.
+/// Whether a reading says what is wanted.
 pub(crate) fn is_said(what: What, wanted: Wanted) -> bool {
     match (what, wanted) {
         (What::Value(value, unit), Wanted::Value(num, den, wanted)) => {
@@ -96,10 +96,12 @@ fn are_read(rt: &impl Abort, by: Crate, rows: &[Read]) -> Result<(), Fail> {
         assert_eq!(rt;
             by.read(case.eep, &telegram, &mut readings),
             Ok(()),
-            "row {row}"
+            "row {row}, {:?}",
+            case.eep
         );
         let found = readings.as_slice();
-        assert!(rt; are_said(found, case.readings), "row {row}: {found:?}");
+        let is_well = are_said(found, case.readings);
+        assert!(rt; is_well, "row {row}, {:?}: {found:?}", case.eep);
     }
     Ok(())
 }
@@ -121,7 +123,8 @@ fn are_refused(rt: &impl Abort, by: Crate, before: Reading, rows: &[Refusal]) ->
         assert_eq!(rt;
             (why, readings.as_slice()),
             (Err(case.why), [before].as_slice()),
-            "row {row}"
+            "row {row}, {:?}",
+            case.eep
         );
     }
     Ok(())

@@ -10,20 +10,20 @@ const CONTACT: [u8; 21] = [
     0xFF, 0xFF, 0x2D, 0x00, 0x1F,
 ];
 
-/// What stands in it, behind its header.
+/// Its data and its optional data.
 const CONTENT: [u8; 14] = [
     0xD5, 0x09, 0x01, 0x80, 0x0A, 0xBC, 0x00, 0x01, 0xFF, 0xFF, 0xFF, 0xFF, 0x2D, 0x00,
 ];
 
-/// Bytes, so many bytes 00 behind them, and how many packets they make ready.
+/// Bytes, followed by `zeros` bytes 00, and the number of packets that they complete.
 struct Step {
     bytes: &'static [u8],
     zeros: usize,
     ready: u32,
 }
 
-/// The last packet of a stream: its type, how long its data and its optional data are, and what they begin with. All
-/// behind that is 00.
+/// The last packet of a stream: its type, the lengths of its data and its optional data, and the bytes with which they
+/// begin. All bytes after these are 00.
 struct Last {
     kind: u8,
     data_len: usize,
@@ -96,7 +96,7 @@ const STREAMS: [Stream; 3] = [
         ],
         last: GREATEST_LAST,
     },
-    // Three packets at one byte, behind a false header that announces as many bytes as they have.
+    // Three packets at one byte, after a false header that announces as many bytes as they have.
     Stream {
         steps: &[
             Step {
@@ -129,7 +129,7 @@ const STREAMS: [Stream; 3] = [
     },
 ];
 
-// How many packets the step makes ready, one byte after another.
+// Pushes the bytes of a step one by one, and counts the packets that they complete.
 fn feed(framer: &mut Framer, buffer: &mut PacketBuf, step: &Step) -> u32 {
     let mut count: u32 = 0;
     for number in 0..step.bytes.len().saturating_add(step.zeros) {
@@ -197,7 +197,7 @@ const TYPES_AND_DATA: [u8; 17] = [
 /// More runs and packets than a piece has.
 const MOST_TURNS: u32 = 1_000_000;
 
-// Pushes the bytes in runs, and appends the type and the data of each packet. Says how many there are.
+// Pushes the bytes in runs, appends the type and the data of each packet, and returns the number of packets.
 fn feed_runs(
     framer: &mut Framer,
     buffer: &mut PacketBuf,
@@ -224,7 +224,7 @@ fn feed_runs(
     Ok(packets)
 }
 
-/// The same by a new framer, to which the bytes come in pieces of this length.
+/// The same with a new framer, which gets the bytes in pieces of this length.
 pub(crate) fn feed_pieces(
     alloc: Global,
     bytes: &[u8],
@@ -284,7 +284,7 @@ fn greatest_packets_in_runs(rt: HostRuntime) -> Result<(), Fail> {
     Ok(())
 }
 
-/// A part of the two packets, and the type and the length of the packet that is lent of it, if any.
+/// A part of the two packets, and the type and the length of the packet that `lend` returns for it, if any.
 struct Lent {
     start: usize,
     end: usize,

@@ -57,14 +57,16 @@ const REFUSED: [Refused; 8] = [
         maker: None,
         id: 0x0000_0001,
         outcome: Outcome::NoProfile,
-        text: "{\"eep\":\"D2-01-12\",\"id\":\"00000001\",\"maker\":null,\"result\":\"no_profile\",\"type\":\"teach\"}\n",
+        text: "{\"eep\":\"D2-01-12\",\"id\":\"00000001\",\"maker\":null,\"result\":\"no_profile\",\
+            \"type\":\"teach\"}\n",
     },
     Refused {
         eep: Some(ACTUATOR),
         maker: Some(2047),
         id: 0xFFFF_FFFE,
         outcome: Outcome::NoProfile,
-        text: "{\"eep\":\"D2-01-12\",\"id\":\"FFFFFFFE\",\"maker\":2047,\"result\":\"no_profile\",\"type\":\"teach\"}\n",
+        text: "{\"eep\":\"D2-01-12\",\"id\":\"FFFFFFFE\",\"maker\":2047,\"result\":\"no_profile\",\
+            \"type\":\"teach\"}\n",
     },
     Refused {
         eep: None,

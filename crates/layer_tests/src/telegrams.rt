@@ -25,7 +25,7 @@ const ADDRESSED: [u8; 21] = [
     0x03, 0x04, 0x2D, 0x00, 0x0F,
 ];
 
-/// A packet of the contact, and for whom its telegram is, and with what strength it was heard.
+/// A packet of the contact, the destination of its telegram, and its signal strength.
 struct Heard {
     packet: &'static [u8],
     dest: u32,
@@ -50,7 +50,7 @@ const HEARD: [Heard; 3] = [
     },
 ];
 
-// All that a telegram tells.
+// All fields of a telegram.
 fn parts(telegram: &Telegram) -> (u8, &[u8], u32, u8, u32, Option<u8>) {
     (
         telegram.rorg(),
@@ -74,7 +74,7 @@ fn contact_telegrams(rt: HostRuntime) -> Result<(), Fail> {
     Ok(())
 }
 
-/// A packet without optional data that has no telegram, and why.
+/// A packet without optional data that is no telegram, and the reason.
 struct Faulty {
     kind: u8,
     body: &'static [u8],
@@ -228,11 +228,11 @@ fn longest_packet(rt: HostRuntime) -> Result<(), Fail> {
     Ok(())
 }
 
-/// What is asked of IDs.
+/// A question about an ID or a telegram.
 enum Question {
     IsBase { id: u32 },
     IsOwn { base: u32, id: u32 },
-    /// Of a gateway with the first base ID.
+    /// For a gateway with the base ID FF800000.
     IsPassedOver { sender: u32, dest: u32 },
 }
 

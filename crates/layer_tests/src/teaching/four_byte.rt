@@ -12,7 +12,7 @@ fn query(db3: u8, db2: u8, db1: u8) -> Result<FourByteQuery, Fail> {
     }
 }
 
-/// The first three bytes of a query, and what it tells.
+/// The first three bytes of a query, and its fields.
 struct Fields {
     bytes: [u8; 3],
     eep: Eep,
@@ -124,7 +124,7 @@ fn queries(rt: HostRuntime) -> Result<(), Fail> {
     Ok(())
 }
 
-/// The first three bytes of a query, why it is refused, the base ID, and the payload of the reply.
+/// The first three bytes of a query, the reason for its refusal, the base ID, and the payload of the reply.
 struct Reply {
     query: [u8; 3],
     why: Outcome,

@@ -22,7 +22,7 @@ pub(crate) fn planned(rorg: u8, payload: &[u8], mode: Mode, known: bool) -> Resu
     Ok(plan(&from(rorg, payload)?, mode, known))
 }
 
-/// All that a telegram tells, its sender before the device that it is for.
+/// All fields of a telegram, the destination after the sender.
 pub(crate) fn parts(telegram: &Telegram) -> (u8, &[u8], u32, u32, u8, Option<u8>) {
     (
         telegram.rorg(),

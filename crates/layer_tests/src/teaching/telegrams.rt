@@ -5,8 +5,8 @@ use std::process::Abort;
 use std::test::Fail;
 use teach_in::{Outcome, Teach, ute_reply};
 
-/// A kind of telegram, the bytes before and behind the one that decides, what that may be, and what the telegrams are
-/// then. None: a 4BS query.
+/// Telegrams that differ in one byte: their RORG, the bytes before and after that byte, its values, and the
+/// classification. None: a 4BS query.
 struct Kind {
     rorg: u8,
     before: &'static [u8],

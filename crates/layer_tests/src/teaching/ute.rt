@@ -13,7 +13,7 @@ fn query(payload: [u8; 7]) -> Result<UteQuery, Fail> {
     }
 }
 
-/// DB4 to DB0 of a query, and what it tells.
+/// DB4 to DB0 of a query, and its fields.
 struct Fields {
     bytes: [u8; 5],
     eep: Eep,
@@ -222,7 +222,7 @@ const QUERIES: [Fields; 22] = [
     },
 ];
 
-// DB6 and DB5 tell none of the fields.
+// DB6 and DB5 have no part in the fields.
 #[test]
 fn queries(rt: HostRuntime) -> Result<(), Fail> {
     for (row, case) in QUERIES.iter().enumerate() {
@@ -256,7 +256,7 @@ fn wants_replies(rt: HostRuntime) -> Result<(), Fail> {
     Ok(())
 }
 
-/// DB6 of queries, their other bytes, and what is planned.
+/// Values of DB6, the other bytes of the query, and the plan.
 struct Planned {
     firsts: &'static [u8],
     rest: [u8; 6],
@@ -399,7 +399,7 @@ fn plans_nothing_else(rt: HostRuntime) -> Result<(), Fail> {
     Ok(())
 }
 
-/// DB6 of queries, their other bytes, why they are refused, the base ID, and the first byte of the reply.
+/// Values of DB6, the other bytes of the query, the reason for its refusal, the base ID, and DB6 of the reply.
 struct Reply {
     firsts: &'static [u8],
     rest: [u8; 6],

@@ -5,7 +5,7 @@ use std::process::Abort;
 use std::test::Fail;
 use teach_in::{Mode, Outcome};
 
-/// A telegram, and what is planned by what it tells.
+/// A telegram, and the plan while the learn window is open.
 struct ByTelegram {
     rorg: u8,
     payload: &'static [u8],
