@@ -1,11 +1,28 @@
-"""The record of refusals: which mutants were refused, by a digest of all that a check of them reads."""
+"""The record of refusals: which mutants were refused, by a digest of all that decides about each."""
 import hashlib
 import os
+from typing import NamedTuple
+
+from mutation.sources import functions_of
 
 FOLDER = "tests/refusals"
 COUNTS = "tests/mutant-counts"
 # What a check reads of a crate.
 PARTS = ("src", "specs", "proofs", "c")
+# The proof files of one function, in a folder of its own. The proofs of other functions do not read them.
+OF_ONE_FUNCTION = ("Answers.antt", "Invariants.antt", "Proof.antt")
+# In place of a function's name, if the proof of another function or statement fails.
+ELSEWHERE = "-"
+
+
+class Digests(NamedTuple):
+    """What decides about a mutant, if its own function is refused and if something else is."""
+
+    own: str
+    whole: str
+
+    def of(self, function):
+        return self.whole if function == ELSEWHERE else self.own
 
 
 def sum_of(*texts):
@@ -24,37 +41,87 @@ def content(path):
         return it.read()
 
 
-def read_by(crate, root, kit):
-    """A sum of what a check of the crate reads: the kit's name, HANDLES, its files and those of all crates below."""
-    texts = [kit.encode(), content(f"{root}/HANDLES")]
-    for it in sorted([crate, *crate.below()], key=lambda it: it.name):
-        texts.append(repr((it.name, sorted(dep.name for dep in it.deps), sorted(it.of_kit))).encode())
-        for path in (file for part in PARTS for file in files_below(f"{it.folder}/{part}")):
-            texts += [os.path.relpath(path, it.folder).encode(), content(path)]
-    return sum_of(*texts)
+def files_of(crate):
+    """The files that a check reads of the crate, as pairs of a path in its folder and the content."""
+    files = [file for part in PARTS for file in files_below(f"{crate.folder}/{part}")]
+    return [(os.path.relpath(it, crate.folder), content(it)) for it in files]
 
 
-def digest(given, mutant):
-    return sum_of(given.encode(), mutant.text.encode())[:16]
+def without_bodies(path, text):
+    """What the proofs of other functions read of a source: no bodies and no comments. A macro is read with all it has."""
+    if not path.endswith(".rt") or b"macro_rules!" in text:
+        return text
+    functions, rest = functions_of(path, text.decode())
+    return "\n".join([*rest, *(it.head for it in functions)]).encode()
 
 
-def recorded(root, crate):
-    """The lines of the crate's record, by digest and name of the mutant."""
+def sum_of_files(files):
+    return sum_of(*(part for path, text in files for part in (path.encode(), text))).encode()
+
+
+class Reads:
+    """What the checks of a crate's mutants read. `kit` is the name of the kit."""
+
+    def __init__(self, crate, root, kit):
+        crates = sorted([crate, *crate.below()], key=lambda it: it.name)
+        uses = [repr((it.name, sorted(dep.name for dep in it.deps), sorted(it.of_kit))).encode() for it in crates]
+        self.files = files_of(crate)
+        shared = [sum_of_files(shared_of(self.files if it is crate else files_of(it))) for it in crates]
+        self.shared = sum_of(kit.encode(), content(f"{root}/HANDLES"), *uses, *shared).encode()
+        self.whole = sum_of_files(self.files)
+        # (functions that call each other have one proof, which reads all their bodies)
+        self.has_cycles = any(b"#[cycle(" in text for _, text in self.files)
+
+    def proofs_of(self, function):
+        """The proof files of this function, and those whose folder does not say whose they are."""
+        return [
+            (path, text)
+            for path, text in self.files
+            if is_of_one_function(path) and any(it == function.name or it[0] == "+" for it in path.split("/")[1:-1])
+        ]
+
+    def digests(self, mutant):
+        whole = sum_of(self.shared, self.whole, mutant.text.encode())[:16]
+        if self.has_cycles or not mutant.function:
+            return Digests(whole, whole)
+        own = "\n".join([*mutant.function.key[1:2], *mutant.function.lines]).encode()
+        proofs = sum_of_files(self.proofs_of(mutant.function))
+        return Digests(sum_of(self.shared, own, proofs, mutant.text.encode())[:16], whole)
+
+
+def is_of_one_function(path):
+    return path.startswith("proofs/") and os.path.basename(path) in OF_ONE_FUNCTION
+
+
+def shared_of(files):
+    """What the proofs of other functions, in this crate and above it, read of these files."""
+    return [(path, without_bodies(path, text)) for path, text in files if not is_of_one_function(path)]
+
+
+def recorded(root, crate, digests):
+    """The lines of the crate's record that hold for the files as they are, by mutant. `digests` has those of each."""
     path = f"{root}/{FOLDER}/{crate}"
     lines = content(path).decode().splitlines() if os.path.exists(path) else []
-    return {tuple(it.split(" ")[:2]): it for it in lines}
+    return {name: line for line in lines for name in [held_by(line, digests)] if name}
+
+
+def held_by(line, digests):
+    """The mutant of this line of a record, or "" if the line does not hold for it."""
+    sum, name, function = (line.split(" ") + ["", ""])[:3]
+    return name if function and name in digests and sum == digests[name].of(function) else ""
 
 
 def write_record(root, crate, digests, results):
     """Writes the mutants that this run refused, each with its function, and those of earlier runs that it did not try.
 
-    `digests` has each mutant of the crate, by name; `results` those that were tried."""
-    known, lines = recorded(root, crate), []
-    for name, sum in sorted(digests.items()):
+    `digests` has those of each mutant of the crate, by name; `results` has the mutants that were tried."""
+    known, lines = recorded(root, crate, digests), []
+    for name, found in sorted(digests.items()):
         if name not in results:
-            lines += [known[sum, name]] if (sum, name) in known else []
+            lines += [known[name]] if name in known else []
         elif results[name].outcome.is_refusal:
-            lines.append(f"{sum} {name} {results[name].text if results[name].is_own else '-'}")
+            function = results[name].text if results[name].is_own else ELSEWHERE
+            lines.append(f"{found.of(function)} {name} {function}")
     os.makedirs(f"{root}/{FOLDER}", exist_ok=True)
     with open(f"{root}/{FOLDER}/{crate}", "w", encoding="utf-8") as it:
         it.write("".join(f"{line}\n" for line in lines))

@@ -52,8 +52,8 @@ class Run:
         self.tried, self.faults = {}, []
 
     def digests_of(self, crate):
-        given = record.read_by(crate, self.root, read(f"{checker.KIT}/KIT-ID"))
-        return {it.name: record.digest(given, it) for it in self.mutants[crate.name]}
+        reads = record.Reads(crate, self.root, read(f"{checker.KIT}/KIT-ID"))
+        return {it.name: reads.digests(it) for it in self.mutants[crate.name]}
 
     def lanes(self, function, items):
         return list(self.pool.map(function, items))
@@ -62,8 +62,8 @@ class Run:
         """The mutants that are not recorded, and a sample of those that are, by crate."""
         old = {}
         for name, found in self.mutants.items():
-            known = record.recorded(self.root, name)
-            old[name] = [it for it in found if not it.fault and (self.digests[name][it.name], it.name) in known]
+            known = record.recorded(self.root, name, self.digests[name])
+            old[name] = [it for it in found if not it.fault and it.name in known]
         crate, sample = record.sample_of(old, SAMPLE, commits(self.root))
         return {
             name: [it for it in found if it not in old[name] or name == crate and it in sample]

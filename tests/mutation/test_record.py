@@ -6,6 +6,7 @@ import unittest
 from fakes import InFolder
 from mutation import record
 from mutation.mutants import Mutant
+from mutation.sources import functions_of
 from mutation.tries import Result
 from mutation.verdicts import Outcome
 
@@ -15,52 +16,150 @@ def crate(folder, name, *deps, of_kit=("std",)):
     return types.SimpleNamespace(name=name, folder=folder, deps=list(deps), of_kit=of_kit, below=lambda: below)
 
 
-class Digests(InFolder):
+LIB = """\
+const STEP: u64 = 1;
+
+// Adds one.
+pub fn once(a: u64) -> u64
+    ensures { result ≡ a + 1 }
+{
+    a + STEP
+}
+
+pub fn other(a: u64) -> u64 {
+    a
+}
+"""
+OTHER_BODY = LIB.replace("    a\n", "    a + 0\n")
+
+
+class OfDigests(InFolder):
     def setUp(self):
         super().setUp()
         self.root = os.path.dirname(self.folder)
         self.write("../HANDLES", "Handles allowed: none.\n")
-        self.write("../low/src/lib.rt", "fn low() {\n}\n")
+        self.write("../low/src/lib.rt", LIB)
+        self.write("src/lib.rt", LIB)
         self.low = crate(f"{self.root}/low", "low")
         self.tiny = crate(self.folder, "tiny", self.low)
 
-    def digest(self, text="old: a\nnew: b\n", kit="kit 1", of=None):
-        return record.digest(record.read_by(of or self.tiny, self.root, kit), Mutant("a.edit", text, (), None, ""))
+    def digests(self, text="old: a\nnew: b\n", kit="kit 1", of=None, function="once"):
+        """The digests of a mutant of this function, or of one that changes more if there is none."""
+        with open(f"{self.folder}/src/lib.rt", encoding="utf-8") as it:
+            found = {it.name: it for it in functions_of("src/lib.rt", it.read())[0]}
+        reads = record.Reads(of or self.tiny, self.root, kit)
+        return reads.digests(Mutant("a.edit", text, (), found.get(function), ""))
 
-    def test_the_same_for_the_same(self):
-        before = self.digest()
-        self.write("mutants/b.edit", "old: c\n")
-        self.write("out/kept", "1")
-        self.write("../high/src/lib.rt", "fn high() {\n}\n")
-        self.assertEqual(self.digest(), before)
-        self.assertRegex(before, "^[0-9a-f]{16}$")
+    def same_and_others(self, *changes):
+        """After which of these changes of files, each alone, the digests stay the same."""
+        before, same = self.digests(), []
+        for path, text in changes:
+            old = self.read(path)
+            self.write(path, text)
+            now = self.digests()
+            same.append(tuple(one == other for one, other in zip(before, now)))
+            self.write(path, old) if old is not None else os.remove(f"{self.folder}/{path}")
+        self.assertEqual(self.digests(), before)
+        return same
 
-    def test_another_for_each_change(self):
-        seen = [self.digest(), self.digest(text="old: a\nnew: c\n"), self.digest(kit="kit 2")]
-        seen.append(self.digest(of=crate(self.folder, "tiny")))
-        seen.append(self.digest(of=crate(self.folder, "tiny", self.low, of_kit=("std", "hex"))))
-        seen.append(self.digest(of=crate(self.folder, "little", self.low)))
-        for path, text in (
-            ("src/lib.rt", "fn f() {\n}\n"),
+    def read(self, path):
+        if not os.path.exists(f"{self.folder}/{path}"):
+            return None
+        with open(f"{self.folder}/{path}", encoding="utf-8") as it:
+            return it.read()
+
+
+class Digests(OfDigests):
+    def test_their_form(self):
+        for it in self.digests():
+            self.assertRegex(it, "^[0-9a-f]{16}$")
+        self.assertNotEqual(*self.digests())
+
+    def test_what_no_check_reads(self):
+        changes = ("mutants/b.edit", "old: c\n"), ("out/kept", "1"), ("../high/src/lib.rt", LIB)
+        self.assertEqual(self.same_and_others(*changes), [(True, True)] * 3)
+
+    def test_what_only_the_proofs_of_other_functions_read(self):
+        changes = (
+            ("src/lib.rt", OTHER_BODY),
+            ("proofs/other/Answers.antt", "a"),
+            ("proofs/other/Invariants.antt", "a"),
+            ("proofs/fn/other/loops/Proof.antt", "a"),
+            ("src/lib.rt", LIB.replace("Adds one", "Adds 1")),
+        )
+        self.assertEqual(self.same_and_others(*changes), [(True, False)] * 5)
+
+    def test_bodies_and_proofs_of_functions_below(self):
+        changes = (
+            ("../low/src/lib.rt", OTHER_BODY),
+            ("../low/src/lib.rt", LIB.replace("a + STEP", "STEP + a")),
+            ("../low/proofs/once/Answers.antt", "a"),
+        )
+        self.assertEqual(self.same_and_others(*changes), [(True, True)] * 3)
+
+    def test_what_all_proofs_read(self):
+        changes = (
+            ("src/lib.rt", LIB.replace("STEP: u64 = 1", "STEP: u64 = 2")),
+            ("src/lib.rt", LIB.replace("pub fn other(a: u64)", "pub fn other(b: u64)")),
+            ("src/lib.rt", f"{LIB}\nstruct New {{}}\n"),
             ("src/new.rt", ""),
             ("specs/Lib.antt", "a"),
-            ("proofs/f/Proof.antt", "a"),
+            ("specs/once/Answers.antt", "a"),
+            ("proofs/Lemmas.antt", "a"),
             ("c/a.c", "a"),
-            ("../low/src/lib.rt", "fn lower() {\n}\n"),
-            ("../low/proofs/f/Proof.antt", "a"),
+            ("../low/src/lib.rt", LIB.replace("result ≡ a + 1", "result ≡ a + 2")),
+            ("../low/src/lib.rt", LIB.replace("STEP: u64 = 1", "STEP: u64 = 2")),
+            ("../low/src/lib.rt", LIB.replace("fn once", "fn lower")),
+            ("../low/specs/Lib.antt", "a"),
+            ("../low/proofs/Lemmas.antt", "a"),
+            ("../low/c/a.c", "a"),
             ("../HANDLES", "Handles allowed: Threads.\n"),
-        ):
-            self.write(path, text)
-            seen.append(self.digest())
-        self.assertEqual(len({*seen}), len(seen))
+        )
+        self.assertEqual(self.same_and_others(*changes), [(False, False)] * len(changes))
+
+    def test_what_the_proof_of_its_own_function_reads(self):
+        changes = (
+            ("src/lib.rt", LIB.replace("a + STEP", "STEP + a")),
+            ("src/lib.rt", LIB.replace("result ≡ a + 1", "result ≡ a + 2")),
+            ("proofs/once/Answers.antt", "a"),
+            ("proofs/once/Invariants.antt", "a"),
+            ("proofs/once/Proof.antt", "a"),
+            ("proofs/fn/once/loops/Answers.antt", "a"),
+            ("proofs/+both/Invariants.antt", "a"),
+        )
+        self.assertEqual(self.same_and_others(*changes), [(False, False)] * len(changes))
+
+    def test_the_bodies_of_a_macro(self):
+        self.write("../low/src/macros.rt", f"macro_rules! many {{}}\n{LIB}")
+        changes = [("../low/src/macros.rt", f"macro_rules! many {{}}\n{OTHER_BODY}")]
+        self.assertEqual(self.same_and_others(*changes), [(False, False)])
+
+    def test_functions_that_call_each_other_have_one_proof(self):
+        self.write("src/both.rt", "#[cycle(both)]\npub fn one() {\n}\n")
+        self.assertEqual(self.same_and_others(("src/lib.rt", OTHER_BODY)), [(False, False)])
+
+    def test_another_kit_graph_or_mutant(self):
+        seen = [self.digests(), self.digests(text="old: a\nnew: c\n"), self.digests(kit="kit 2")]
+        seen.append(self.digests(of=crate(self.folder, "tiny")))
+        seen.append(self.digests(of=crate(self.folder, "tiny", self.low, of_kit=("std", "hex"))))
+        seen.append(self.digests(of=crate(self.folder, "little", self.low)))
+        self.assertEqual(len({it.own for it in seen}), len(seen))
+        self.assertEqual(len({it.whole for it in seen}), len(seen))
+
+    def test_a_mutant_of_more_than_a_body_depends_on_all(self):
+        before = self.digests(function=None)
+        self.assertEqual(before.own, before.whole)
+        self.write("src/lib.rt", OTHER_BODY)
+        self.assertNotEqual(self.digests(function=None).own, before.own)
 
     def test_bytes_do_not_move_between_files(self):
-        self.write("src/a.rt", "ab")
-        self.write("src/b.rt", "c")
-        before = self.digest()
-        self.write("src/a.rt", "a")
-        self.write("src/b.rt", "bc")
-        self.assertNotEqual(self.digest(), before)
+        self.write("specs/a.antt", "ab")
+        self.write("specs/b.antt", "c")
+        before = self.digests()
+        self.write("specs/a.antt", "a")
+        self.write("specs/b.antt", "bc")
+        self.assertNotEqual(self.digests().own, before.own)
+        self.assertNotEqual(self.digests().whole, before.whole)
 
     def test_a_sum_of_several_texts_depends_on_where_each_ends(self):
         self.assertNotEqual(record.sum_of(b"ab", b"c"), record.sum_of(b"a", b"bc"))
@@ -68,6 +167,9 @@ class Digests(InFolder):
 
 
 class Records(InFolder):
+    def digests(self, **sums):
+        return {name: record.Digests(sum, sum.upper()) for name, sum in sums.items()}
+
     def write_record(self, digests, **results):
         found = {name: Result(*it) for name, it in results.items()}
         record.write_record(self.folder, "tiny", digests, found)
@@ -75,25 +177,31 @@ class Records(InFolder):
             return it.read()
 
     def test_refusals_with_their_function(self):
-        digests = {"b": "2222", "a": "1111", "c": "3333"}
+        digests = self.digests(b="bbbb", a="aaaa", c="cccc")
         own, alone = (Outcome.OWN, "batch", "tiny::once"), (Outcome.ALONE, "alone", "tiny::once, tiny::twice")
         limit = (Outcome.LIMIT, "alone", "no")
         text = self.write_record(digests, b=own, a=alone, c=limit)
-        self.assertEqual(text, "1111 a -\n2222 b tiny::once\n3333 c -\n")
-        self.assertEqual({*record.recorded(self.folder, "tiny")}, {("1111", "a"), ("2222", "b"), ("3333", "c")})
+        self.assertEqual(text, "AAAA a -\nbbbb b tiny::once\nCCCC c -\n")
+        self.assertEqual({*record.recorded(self.folder, "tiny", digests)}, {*"abc"})
 
     def test_no_other_outcome_is_recorded(self):
         for it in (Outcome.MISSED, Outcome.UNUSABLE, Outcome.LOST, Outcome.UNKNOWN):
-            self.assertEqual(self.write_record({"a": "1111"}, a=(it, "alone", "")), "")
+            self.assertEqual(self.write_record(self.digests(a="aaaa"), a=(it, "alone", "")), "")
 
     def test_earlier_refusals_stay_while_their_digest_does(self):
         own = (Outcome.OWN, "batch", "tiny::once")
-        self.write_record({"a": "1111", "b": "2222", "c": "3333"}, a=own, b=own, c=own)
-        text = self.write_record({"a": "1111", "b": "9999", "c": "3333"}, c=(Outcome.MISSED, "alone", ""))
-        self.assertEqual(text, "1111 a tiny::once\n")
+        self.write_record(self.digests(a="aaaa", b="bbbb", c="cccc"), a=own, b=own, c=own)
+        text = self.write_record(self.digests(a="aaaa", b="dddd", c="cccc"), c=(Outcome.MISSED, "alone", ""))
+        self.assertEqual(text, "aaaa a tiny::once\n")
+
+    def test_lines_that_hold(self):
+        digests = self.digests(a="aaaa", b="bbbb", c="cccc", d="dddd", e="eeee", f="ffff")
+        lines = ["aaaa a f", "BBBB b -", "CCCC c f", "dddd d -", "eeee e", "ffff f ", "gggg g f", "aaaa b f", ""]
+        self.write("tests/refusals/tiny", "".join(f"{it}\n" for it in lines))
+        self.assertEqual(record.recorded(self.folder, "tiny", digests), {"a": "aaaa a f", "b": "BBBB b -"})
 
     def test_no_record(self):
-        self.assertEqual(record.recorded(self.folder, "none"), {})
+        self.assertEqual(record.recorded(self.folder, "none", {}), {})
 
 
 class Samples(unittest.TestCase):

@@ -57,6 +57,9 @@ class Runs(InFolder):
     def run_with(self, made=Fake):
         return Run(self.root, [self.crate], 2, made)
 
+    def recorded(self, run):
+        return record.recorded(self.root, "tiny", run.digests["tiny"])
+
     def tried(self, run, chosen):
         printed = io.StringIO()
         with contextlib.redirect_stdout(printed):
@@ -103,13 +106,12 @@ class Runs(InFolder):
         run = self.run_with()
         self.tried(run, run.mutants)
         run.write_records()
-        before = {*record.recorded(self.root, "tiny")}
+        self.assertEqual({*self.recorded(run)}, {"one.edit", "two.edit"})
         os.remove(f"{self.folder}/mutants/two.edit")
         run = self.run_with()
         self.tried(run, {"tiny": []})
         run.write_records()
-        self.assertEqual({name for _, name in before}, {"one.edit", "two.edit"})
-        self.assertEqual({name for _, name in record.recorded(self.root, "tiny")}, {"one.edit"})
+        self.assertEqual({*self.recorded(run)}, {"one.edit"})
 
     def test_a_crate_whose_libraries_are_not_built(self):
         self.add("one", "    a + STEP", "    WRONG")
@@ -123,7 +125,7 @@ class Runs(InFolder):
         self.tried(run, run.mutants)
         self.assertEqual(run.faults, ["tiny: a check changed what the others began with"])
         run.write_records()
-        self.assertEqual(record.recorded(self.root, "tiny"), {})
+        self.assertEqual(self.recorded(run), {})
 
     def test_files_that_change_during_the_run(self):
         self.add("one", "    a + STEP", "    WRONG")
@@ -132,7 +134,7 @@ class Runs(InFolder):
         self.tried(run, run.mutants)
         run.write_records()
         self.assertEqual(run.faults, ["tiny: a file that the checks read was changed during the run"])
-        self.assertEqual(record.recorded(self.root, "tiny"), {})
+        self.assertEqual(self.recorded(run), {})
 
     def test_a_mutant_without_a_result(self):
         self.add("one", "    a + STEP", "    WRONG")
@@ -153,7 +155,7 @@ class Runs(InFolder):
     def test_a_recorded_mutant_that_cannot_be_applied_is_tried(self):
         self.add("one", "    a + STAP", "    WRONG")
         run = self.run_with()
-        self.write("../tests/refusals/tiny", f"{run.digests['tiny']['one.edit']} one.edit tiny::once\n")
+        self.write("../tests/refusals/tiny", f"{run.digests['tiny']['one.edit'].own} one.edit tiny::once\n")
         with mock.patch("mutation.record.sample_of", lambda *_: ("", [])):
             self.tried(run, run.new_and_sample())
         self.assertEqual([is_refused for is_refused, _ in run.lines()], [False])
