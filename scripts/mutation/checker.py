@@ -80,13 +80,15 @@ class Checker:
         self.files = listing(self.seed)
         return found
 
-    def check(self, texts):
-        """Checks the crate with these texts of files, by path, in place of its own."""
+    def check(self, texts, only=()):
+        """Checks the crate with these texts of files, by path, in place of its own.
+
+        `only` has names of functions: then these are checked, with those that they call, and no others."""
         with tempfile.TemporaryDirectory(prefix="kept-", dir=self.room.name) as kept:
             shutil.copytree(self.seed, kept, symlinks=True, copy_function=linked, dirs_exist_ok=True)
-            return self.run(texts, kept)
+            return self.run(texts, kept, [f"--only={it.partition('::')[2]}" for it in only])
 
-    def run(self, texts, kept):
+    def run(self, texts, kept, flags=()):
         # (tests/minutes recognizes the checks by this prefix)
         with tempfile.TemporaryDirectory(prefix="mutants-", dir=self.room.name) as copy:
             for part in rtlib.PARTS:
@@ -95,7 +97,8 @@ class Checker:
             for path, text in texts.items():
                 with open(f"{copy}/{path}", "w", encoding="utf-8") as it:
                     it.write(text)
-            words = [rtlib.RATTLE, "check", *self.crate.words(["--jobs", "1"], keeps=False), "--incremental", kept]
+            words = [rtlib.RATTLE, "check", *self.crate.words(["--jobs", "1", *flags], keeps=False)]
+            words += ["--incremental", kept]
             how = {"stdin": subprocess.DEVNULL, "stdout": subprocess.PIPE, "stderr": subprocess.STDOUT}
             with subprocess.Popen(words, cwd=copy, **how) as ran:
                 printed = ran.stdout.read().decode(errors="replace")

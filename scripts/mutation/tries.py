@@ -61,7 +61,7 @@ class Tries:
         """Tries these in one check. Returns those without a result, each with whether its function was proved."""
         if len(mutants) == 1:
             return [(mutants[0], True)]
-        check = self.checker.check(together(self.checker.folder, mutants))
+        check = self.checker.check(together(self.checker.folder, mutants), [self.names_of(it)[0] for it in mutants])
         own = {name for it in mutants for name in self.names_of(it)}
         if not check.functions or not check.is_whole or check.unreadable or not own.issuperset(check.refused):
             # one does not compile, cannot be read, or makes the own proof of another function fail, or the check had
@@ -78,6 +78,9 @@ class Tries:
         return opened
 
     def try_alone(self, mutant):
-        check = self.checker.check(together(self.checker.folder, [mutant]))
-        outcome, text = check.outcome(self.names_of(mutant))
+        """Tries it by itself. If only its own function is checked and is not refused, the whole crate is."""
+        texts, names = together(self.checker.folder, [mutant]), self.names_of(mutant)
+        outcome, text = self.checker.check(texts, names[:1]).outcome(names)
+        if names and outcome is not Outcome.OWN:
+            outcome, text = self.checker.check(texts).outcome(names)
         return mutant, Result(outcome, "alone", text)

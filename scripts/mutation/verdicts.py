@@ -27,6 +27,10 @@ class Outcome(enum.Enum):
         return self in (Outcome.OWN, Outcome.ALONE, Outcome.LIMIT)
 
 
+# How the last line of a check begins that came to a verdict on all functions, or on some, and refused one.
+REFUSALS = ("logic=not-proved", "only=")
+
+
 class Check:
     """One check: its exit status, its output, and the paths of the files that were edited for it."""
 
@@ -42,10 +46,10 @@ class Check:
 
     @property
     def is_whole(self):
-        """Whether the check came to a verdict on the crate. Otherwise its lines do not decide about a mutant."""
+        """Whether the check came to a verdict. Otherwise its lines do not decide about a mutant."""
         if self.status == 0:
             return not self.refused
-        return self.status == 1 and self.last.startswith("logic=not-proved") and not STALE.search(self.printed)
+        return self.status == 1 and self.last.startswith(REFUSALS) and not STALE.search(self.printed)
 
     def is_proved(self, names):
         return all(self.functions.get(it) == "proved" for it in names)
@@ -74,7 +78,7 @@ class Check:
             return Outcome.UNKNOWN, "the kept work of a library could not be used"
         if self.status == 1 and self.unreadable:
             return Outcome.UNUSABLE, self.unreadable
-        if self.status == 1 and self.last.startswith("logic=not-proved"):
+        if self.status == 1 and self.last.startswith(REFUSALS):
             own = [it for it in names if it in self.refused]
             return (Outcome.OWN, own[0]) if own else (Outcome.ALONE, ", ".join(self.refused[:3]) or self.first_error)
         if self.status == 0:

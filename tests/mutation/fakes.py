@@ -50,19 +50,20 @@ def edit(path, *pairs):
 class FakeChecker:
     """A prover that refuses each function whose body has the word WRONG, and all if STEP has it.
 
-    WORSE makes the own proof of `other` fail, GIBBERISH is no program, HIDDEN is not reported, and DEEP runs out of
+    WORSE makes the own proof of `other` fail and WORST that of `once`, GIBBERISH is no program, HIDDEN is not reported, and DEEP runs out of
     steps.
     """
 
     def __init__(self, folder, sources):
-        self.folder, self.sources, self.labels, self.status = folder, sources, [], 0
+        self.folder, self.sources, self.labels, self.only = folder, sources, [], []
 
     def begin(self):
         return self.check({})
 
-    def check(self, texts):
+    def check(self, texts, only=()):
         texts = {**self.sources, **texts}
         self.labels.append(sum("WRONG" in it for it in texts.values()))
+        self.only.append([*only])
         whole = "\n".join(texts.values())
         if "GIBBERISH" in whole:
             return Check(1, "src/lib.rt:1:1: error[syntax]: what is this\n")
@@ -75,15 +76,20 @@ class FakeChecker:
                 del said[name]
             elif "WRONG" in function.body or "STEP: u64 = WRONG" in whole:
                 said[name] = "not proved"
-        if "WORSE" in whole:
-            said["tiny::other"] = "not proved"
+        for word, name in (("WORSE", "tiny::other"), ("WORST", "tiny::once")):
+            if word in whole:
+                said[name] = "not proved"
         for name, callees in CALLS.items():
             refused = [it for it in callees if said.get(it, "proved") != "proved"]
             if refused and said.get(name) == "proved":
                 said[name] = f"no proof: it calls {refused[0]}, which is not proved"
+        if only:
+            reached = {*only, *(callee for name in only for callee in CALLS.get(name, []))}
+            said = {name: text for name, text in said.items() if name in reached}
         proved = all(it == "proved" for it in said.values())
         lines = [f"fn {name}: {text}" for name, text in said.items()]
-        return Check(0 if proved else 1, "\n".join([*lines, "logic=proved" if proved else "logic=not-proved"]) + "\n")
+        last = f"only={len(only)} proved=?" if only else "logic=proved" if proved else "logic=not-proved"
+        return Check(0 if proved else 1, "\n".join([*lines, last]) + "\n")
 
 
 class InFolder(unittest.TestCase):

@@ -42,6 +42,11 @@ class Checks(InFolder):
         first = self.checker.begin().printed.splitlines()[0]
         self.assertEqual(first, f"words: check words --jobs 1 keeps=False --incremental {self.checker.seed}")
 
+    def test_the_words_for_some_functions(self):
+        self.checker.begin()
+        first = self.checker.check({}, ["tiny::once", "tiny::pairs::Pair::sum"]).printed.splitlines()[0]
+        self.assertIn(" --jobs 1 --only=once --only=pairs::Pair::sum keeps=False ", first)
+
     def test_the_texts_stand_in_place_of_the_files(self):
         self.checker.begin()
         check = self.checker.check({"src/pairs.rt": "another text\n"})

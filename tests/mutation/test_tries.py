@@ -29,8 +29,20 @@ class Crate(InFolder):
         self.add("pair", (SUM, "WRONG"), path="src/pairs.rt")
         self.assertEqual(self.results(), {"one": (Outcome.OWN, "batch"), "pair": (Outcome.OWN, "batch")})
         self.assertEqual(self.tries.results["pair.edit"].text, "tiny::pairs::Pair::sum")
-        # (one check of the unchanged crate, and one of both)
+        # (one check of the unchanged crate, and one of both, in which no other function is checked)
         self.assertEqual(self.checker.labels, [0, 2])
+        self.assertEqual(self.checker.only, [[], ["tiny::once", "tiny::pairs::Pair::sum"]])
+
+    def test_a_mutant_alone_is_checked_with_its_own_function_first(self):
+        self.add("one", (ONCE, "    WRONG"))
+        self.add("const", ("STEP: u64 = 1", "STEP: u64 = WRONG"))
+        self.assertEqual(self.results(), {"one": (Outcome.OWN, "alone"), "const": (Outcome.ALONE, "alone")})
+        self.assertEqual(self.checker.only, [[], [], ["tiny::once"]])
+
+    def test_if_its_own_function_is_not_refused_the_whole_crate_decides(self):
+        self.add("worse", (SUM, "WORSE"), path="src/pairs.rt")
+        self.assertEqual(self.results(), {"worse": (Outcome.ALONE, "alone")})
+        self.assertEqual(self.checker.only, [[], ["tiny::pairs::Pair::sum"], []])
 
     def test_a_mutant_that_is_proved_is_not_refused(self):
         self.add("one", (ONCE, "    WRONG"))
@@ -64,8 +76,14 @@ class Crate(InFolder):
     def test_one_that_makes_another_function_fail(self):
         self.add("one", (ONCE, "    WRONG"))
         self.add("worse", (SUM, "WORSE"), path="src/pairs.rt")
-        self.assertEqual(self.results(), {"one": (Outcome.OWN, "alone"), "worse": (Outcome.ALONE, "alone")})
+        self.assertEqual(self.results(), {"one": (Outcome.OWN, "batch"), "worse": (Outcome.ALONE, "alone")})
         self.assertEqual(self.tries.results["worse.edit"].text, "tiny::other")
+
+    def test_one_that_makes_a_function_fail_that_another_one_calls(self):
+        self.add("two", (TWICE, "    WRONG"))
+        self.add("worst", (SUM, "WORST"), path="src/pairs.rt")
+        self.assertEqual(self.results(), {"two": (Outcome.OWN, "alone"), "worst": (Outcome.ALONE, "alone")})
+        self.assertEqual(self.tries.results["worst.edit"].text, "tiny::once")
 
     def test_what_changes_more_than_one_body_is_tried_alone(self):
         self.add("const", ("STEP: u64 = 1", "STEP: u64 = WRONG"))
@@ -80,8 +98,8 @@ class Crate(InFolder):
 
     def test_a_batch_whose_check_ends_early_decides_nothing(self):
         # (the lines that a killed check printed say `not proved` of a mutant that is proved alone)
-        def killed_in_batches(texts, check=self.checker.check):
-            found = check(texts)
+        def killed_in_batches(texts, only=(), check=self.checker.check):
+            found = check(texts, only)
             lines = found.printed.replace("Pair::sum: proved", "Pair::sum: not proved")
             return Check(-9, lines) if "WRONG" in "".join(texts.values()) and len(texts) > 1 else found
 
@@ -92,9 +110,9 @@ class Crate(InFolder):
 
     def test_a_mutant_with_a_proof_is_tried_alone(self):
         # (the body is refused with the proof as it is, and proved with the mutant's)
-        def proved_with_it(texts, check=self.checker.check):
+        def proved_with_it(texts, only=(), check=self.checker.check):
             is_new = "new" in texts.get("proofs/sum/Proof.antt", "")
-            return check({path: text.replace("WRONG", "") if is_new else text for path, text in texts.items()})
+            return check({path: text.replace("WRONG", "") if is_new else text for path, text in texts.items()}, only)
 
         self.checker.check = proved_with_it
         self.write("proofs/sum/Proof.antt", "old\n")

@@ -24,7 +24,8 @@ class Checks(unittest.TestCase):
 
     def test_a_check_that_is_whole_has_a_verdict(self):
         proved = "fn tiny::once: proved\nlogic=proved functions=1\n"
-        for status, printed in ((1, REFUSED), (0, proved)):
+        only, refused = "fn tiny::once: proved\nonly=1 proved=1\n", "fn tiny::once: not proved\nonly=1 proved=0\n"
+        for status, printed in ((1, REFUSED), (0, proved), (0, only), (1, refused)):
             self.assertTrue(Check(status, printed).is_whole)
         for status, printed in (
             (-9, REFUSED),
@@ -34,6 +35,9 @@ class Checks(unittest.TestCase):
             (1, "error: module M is another. Run the lower steps again\n" + REFUSED),
             (1, proved),
             (1, ""),
+            (0, refused),
+            (2, only),
+            (1, refused.removesuffix("only=1 proved=0\n")),
         ):
             self.assertFalse(Check(status, printed).is_whole, (status, printed))
 
