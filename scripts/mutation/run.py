@@ -84,7 +84,7 @@ class Run:
         sources = {os.path.relpath(it, crate.folder): read(it) for it in paths}
         tries, fault = Tries(crate.name, sources, checks, self.lanes), ""
         try:
-            fault = tries.begin()
+            fault = self.pool.submit(tries.begin).result()
             if not fault:
                 tries.try_all(mutants)
                 fault = "" if checks.is_sound() else f"{crate.name}: a check changed what the others began with"

@@ -2,6 +2,8 @@
 import contextlib
 import io
 import os
+import threading
+import time
 import types
 import unittest
 from unittest import mock
@@ -34,6 +36,21 @@ class NotBuilt(Fake):
 
 class Unsound(Fake):
     sound = False
+
+
+class Counted(Fake):
+    """Counts how many checks run at the same time."""
+
+    lock, now, peak = threading.Lock(), 0, 0
+
+    def check(self, texts, only=()):
+        with Counted.lock:
+            Counted.now += 1
+            Counted.peak = max(Counted.peak, Counted.now)
+        time.sleep(0.01)
+        with Counted.lock:
+            Counted.now -= 1
+        return super().check(texts, only)
 
 
 class Runs(InFolder):
@@ -112,6 +129,14 @@ class Runs(InFolder):
         self.tried(run, {"tiny": []})
         run.write_records()
         self.assertEqual({*self.recorded(run)}, {"one.edit"})
+
+    def test_no_more_checks_at_a_time_than_lanes(self):
+        self.add("one", "    a + STEP", "    WRONG")
+        self.add("const", "STEP: u64 = 1", "STEP: u64 = WRONG")
+        crates = [types.SimpleNamespace(**{**vars(self.crate), "name": f"tiny{at}"}) for at in range(5)]
+        run = Run(self.root, crates, 2, Counted)
+        self.tried(run, run.mutants)
+        self.assertEqual(Counted.peak, 2)
 
     def test_a_crate_whose_libraries_are_not_built(self):
         self.add("one", "    a + STEP", "    WRONG")
