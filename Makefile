@@ -6,6 +6,8 @@
 #   make mutants     try all mutants of crates/NAME/mutants, and record which are refused
 #   make build       verify and build the program
 #   make package     create the Debian package of the built program, in $(PACKAGES)
+#   make package-arm64   create the package for 64-bit ARM there, from what `make build` verified: this
+#                    downloads Debian's cross-compiling packages, and takes a few minutes
 #   make install     install the built program and its files under $(DESTDIR)$(PREFIX); packaging/files
 #                    lists them
 #   make install-system   install the units and their system files there, and their settings in
@@ -18,9 +20,10 @@
 PREFIX ?= /usr/local
 PACKAGES ?= .
 PROGRAM = crates/enogate/out/enogate
+ARM64 = target/arm64
 SOURCES = crates.txt $(shell find crates -name out -prune -o -name '*.rt' -print -o -name '*.antt' -print)
 
-.PHONY: demo build test mutants package install install-system uninstall clean
+.PHONY: demo build test mutants package package-arm64 install install-system uninstall clean
 
 demo:
 	@scripts/demo $$($(MAKE) -s --no-print-directory --question $(PROGRAM) && echo $(PROGRAM))
@@ -39,9 +42,18 @@ mutants: $(PROGRAM)
 	tests/minutes scripts/mutants --record
 
 # These never build: root may run them, and a package always contains the verified program.
-package install: INSTALLS = yes
+package package-arm64 install: INSTALLS = yes
 package: $(PROGRAM)
 	@packaging/debian/build "$(PACKAGES)"
+
+package-arm64: $(ARM64)/enogate
+	@packaging/debian/build "$(PACKAGES)" $(ARM64)/enogate $(ARM64)/toolchain/bin
+
+$(ARM64)/enogate: $(PROGRAM) $(addprefix packaging/arm64/,build cc rattle_c.c) $(ARM64)/toolchain
+	@packaging/arm64/build $(ARM64)/toolchain $@
+
+$(ARM64)/toolchain: $(addprefix packaging/arm64/,toolchain packages)
+	@packaging/arm64/toolchain $@
 
 install: $(PROGRAM)
 	packaging/place put program "$(DESTDIR)" "$(PREFIX)"
