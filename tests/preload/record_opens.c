@@ -17,7 +17,7 @@ static void record(const char *path, int flags)
     int length = snprintf(text, sizeof text, "%s %s%s%s%s%s\n", path, accesses[flags & O_ACCMODE],
                           flags & O_CREAT ? " create" : "", flags & O_EXCL ? " new" : "",
                           flags & O_TRUNC ? " truncate" : "", flags & O_APPEND ? " append" : "");
-    int file = syscall(SYS_open, records, O_CREAT | O_APPEND | O_WRONLY, 0600);
+    int file = syscall(SYS_openat, AT_FDCWD, records, O_CREAT | O_APPEND | O_WRONLY, 0600);
     if (write(file, text, length) == length)
         close(file);
 }
@@ -29,7 +29,7 @@ int open(const char *path, int flags, ...)
     mode_t mode = va_arg(more, mode_t);
     va_end(more);
     record(path, flags);
-    return syscall(SYS_open, path, flags, mode);
+    return syscall(SYS_openat, AT_FDCWD, path, flags, mode);
 }
 
 int open64(const char *, int, ...) __attribute__((alias("open")));

@@ -35,7 +35,7 @@ static int refused(const char *kind, int error)
         return 0;
     char *mark = getenv("REFUSE_MARK");
     if (mark)
-        syscall(SYS_close, syscall(SYS_open, mark, O_CREAT | O_WRONLY, 0600));
+        syscall(SYS_close, syscall(SYS_openat, AT_FDCWD, mark, O_CREAT | O_WRONLY, 0600));
     errno = error;
     return 1;
 }

@@ -9,7 +9,7 @@ import sys
 ROOT = pathlib.Path(__file__).resolve().parent.parent.parent
 sys.path.insert(0, str(ROOT / "scripts" / "rows"))
 
-PROGRAM = ROOT / "crates/enogate/out/enogate"
+PROGRAM = pathlib.Path(os.environ.get("TESTED_PROGRAM", ROOT / "crates/enogate/out/enogate"))
 REFUSE_CALL = "refuse_call.c"
 TEST = pathlib.Path(sys.argv[0]).name
 failed = []

@@ -1,0 +1,89 @@
+#!/usr/bin/env python3
+"""Runs the random scripts of bench/same on two builds of the program, which have to write the same bytes: with and
+without `--explain`, in memory and over a file. Then it runs each script in four parts over one file, a start for each
+part. Whichever build a part has, all write the same, and leave the same bytes in the file.
+
+    scripts.py ONE OTHER COUNT
+"""
+import concurrent.futures
+import importlib.machinery
+import importlib.util
+import os
+import pathlib
+import subprocess
+import sys
+import tempfile
+
+ROOT = pathlib.Path(__file__).resolve().parent.parent.parent
+PARTS = 4
+
+
+def same():
+    """The module bench/same."""
+    sys.path.insert(0, str(ROOT / "bench"))
+    loader = importlib.machinery.SourceFileLoader("same", str(ROOT / "bench" / "same"))
+    module = importlib.util.module_from_spec(importlib.util.spec_from_loader("same", loader))
+    loader.exec_module(module)
+    return module
+
+
+def run(program, base, script, options):
+    """What it writes, and how it ends."""
+    done = subprocess.run([program, "replay", "--base", base, *options], input=script, capture_output=True)
+    return done.stdout, done.stderr, done.returncode
+
+
+def files_in(folder):
+    return {file.name: file.read_bytes() for file in sorted(folder.iterdir())}
+
+
+def at_once(program, base, script):
+    """What one start makes of a script: with each of the options, and in the files."""
+    with tempfile.TemporaryDirectory() as folder:
+        folder = pathlib.Path(folder)
+        runs = []
+        for options in ([], ["--explain"], ["--db", folder / "plain.db"], ["--explain", "--db", folder / "explained.db"]):
+            runs.append(run(program, base, script, options))
+        return runs, files_in(folder)
+
+
+def parts_of(script):
+    lines = script.splitlines(keepends=True)
+    size = len(lines) // PARTS + 1
+    return [b"".join(lines[place : place + size]) for place in range(0, len(lines), size)]
+
+
+def in_parts(programs, base, script):
+    """What starts of these programs, each in its turn, make of the parts of a script."""
+    with tempfile.TemporaryDirectory() as folder:
+        folder = pathlib.Path(folder)
+        runs = []
+        for place, part in enumerate(parts_of(script)):
+            runs.append(run(programs[place % len(programs)], base, part, ["--db", folder / "parts.db"]))
+            runs.append(files_in(folder))
+        return runs
+
+
+def compared(one, other, base, script):
+    """Whether all is the same, and how many lines the first run has."""
+    first = at_once(one, base, script)
+    turns = [in_parts(programs, base, script) for programs in ([one], [other], [one, other], [other, one])]
+    is_same = first == at_once(other, base, script) and all(runs == turns[0] for runs in turns)
+    ended = all(status == 0 for _, _, status in first[0])
+    return is_same and ended, first[0][0][0].count(b"\n")
+
+
+def main():
+    one, other, count = *sys.argv[1:3], int(sys.argv[3])
+    module = same()
+    scripts = [module.numbered(number) for number in range(count)]
+    with concurrent.futures.ThreadPoolExecutor(os.cpu_count()) as pool:
+        results = list(pool.map(lambda it: compared(one, other, *it), scripts))
+    differ = [number for number, (is_same, _) in enumerate(results) if not is_same]
+    lines = sum(lines for _, lines in results)
+    print(f"{count} scripts of {lines:,} lines", f"differ: {differ}" if differ else "are the same")
+    sys.exit(1 if differ else 0)
+
+
+if __name__ == "__main__":
+    main()

@@ -1,0 +1,21 @@
+/* Starts the program for 64-bit ARM by the emulator. Like this one, it is linked statically: so the library that a test
+ * preloads is for the emulated program alone. */
+#include <stdlib.h>
+#include <unistd.h>
+
+int main(int argc, char **argv)
+{
+    char **words = calloc((size_t)argc + 6, sizeof *words), **next = words;
+    if (!words || argc == 0)
+        return 127;
+    *next++ = EMULATOR;
+    *next++ = "-L";
+    *next++ = TOOLCHAIN;
+    *next++ = "-0";
+    *next++ = argv[0];
+    *next++ = PROGRAM;
+    for (int i = 1; i < argc; i++)
+        *next++ = argv[i];
+    execv(EMULATOR, words);
+    return 127;
+}
