@@ -1,0 +1,68 @@
+"""Runs a command as root with mounts, users and processes of its own, in which the kernel starts programs for 64-bit ARM
+by this emulator, which has to be a static program. The machine's own emulators stay as they are. At the end of the
+command all its processes end.
+
+    namespace.py EMULATOR COMMAND..
+"""
+import ctypes
+import os
+import signal
+import sys
+
+LIBC = ctypes.CDLL(None, use_errno=True)
+NEW_MOUNTS, NEW_USERS, NEW_PROCESSES = 0x00020000, 0x10000000, 0x20000000  # CLONE_NEWNS, _NEWUSER, _NEWPID
+REC_PRIVATE = 0x4000 | 0x40000  # MS_REC | MS_PRIVATE
+PR_SET_PDEATHSIG = 1
+EMULATORS = "/proc/sys/fs/binfmt_misc"
+# What such a program begins with, and the bits of it that count: ELF of 64 bits, a program or a library, AArch64.
+MAGIC = r"\x7fELF\x02\x01\x01\x00\x00\x00\x00\x00\x00\x00\x00\x00\x02\x00\xb7\x00"
+MASK = r"\xff\xff\xff\xff\xff\xff\xff\x00\xff\xff\xff\xff\xff\xff\xff\xff\xfe\xff\xff\xff"
+
+
+def checked(result):
+    if result != 0:
+        sys.exit(f"no namespace with an emulator: {os.strerror(ctypes.get_errno())}")
+
+
+def mount(kind, target, flags=0):
+    checked(LIBC.mount(kind, target.encode(), kind, flags, None))
+
+
+def maps_users(process):
+    """Users and groups have the same numbers inside as outside."""
+    for kind in ("uid", "gid"):
+        with open(f"/proc/{process}/{kind}_map", "w") as users:
+            users.write("0 0 65536\n")
+
+
+def run(command):
+    """Runs it as the first process: if that ends, the others do. Returns its status."""
+    process = os.fork()
+    if process == 0:
+        mount(b"proc", "/proc")
+        mount(b"binfmt_misc", EMULATORS)
+        with open(f"{EMULATORS}/register", "w") as register:
+            register.write(f":arm64:M::{MAGIC}:{MASK}:{os.path.realpath(sys.argv[1])}:PF")
+        os.execvp(command[0], command)
+    return os.waitstatus_to_exitcode(os.waitpid(process, 0)[1])
+
+
+def main():
+    waits, tells = os.pipe(), os.pipe()
+    process = os.fork()
+    if process == 0:
+        LIBC.prctl(PR_SET_PDEATHSIG, signal.SIGKILL)
+        checked(LIBC.unshare(NEW_USERS | NEW_MOUNTS | NEW_PROCESSES))
+        os.write(tells[1], b".")
+        os.read(waits[0], 1)
+        mount(None, "/", REC_PRIVATE)
+        sys.exit(run(sys.argv[2:]))
+    os.close(tells[1])
+    if os.read(tells[0], 1):
+        maps_users(process)
+    os.write(waits[1], b".")
+    sys.exit(os.waitstatus_to_exitcode(os.waitpid(process, 0)[1]))
+
+
+if __name__ == "__main__":
+    main()
