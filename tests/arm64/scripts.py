@@ -34,7 +34,9 @@ def run(program, base, script, options):
 
 
 def files_in(folder):
-    return {file.name: file.read_bytes() for file in sorted(folder.iterdir())}
+    """The bytes of each database, and of other files the number of bytes: a write-ahead log has a random salt."""
+    files = {file.name: file.read_bytes() for file in sorted(folder.iterdir())}
+    return {name: found if name.endswith(".db") else len(found) for name, found in files.items()}
 
 
 def at_once(program, base, script):
