@@ -28,6 +28,10 @@ def mount(kind, target, flags=0):
     checked(LIBC.mount(kind, target.encode(), kind, flags, None))
 
 
+def ends_with_its_parent():
+    LIBC.prctl(PR_SET_PDEATHSIG, signal.SIGKILL)
+
+
 def maps_users(process):
     """Users and groups have the same numbers inside as outside."""
     for kind in ("uid", "gid"):
@@ -39,6 +43,7 @@ def run(command):
     """Runs it as the first process: if that ends, the others do. Returns its status."""
     process = os.fork()
     if process == 0:
+        ends_with_its_parent()
         mount(b"proc", "/proc")
         mount(b"binfmt_misc", EMULATORS)
         with open(f"{EMULATORS}/register", "w") as register:
@@ -51,7 +56,7 @@ def main():
     waits, tells = os.pipe(), os.pipe()
     process = os.fork()
     if process == 0:
-        LIBC.prctl(PR_SET_PDEATHSIG, signal.SIGKILL)
+        ends_with_its_parent()
         checked(LIBC.unshare(NEW_USERS | NEW_MOUNTS | NEW_PROCESSES))
         os.write(tells[1], b".")
         os.read(waits[0], 1)
