@@ -6,8 +6,8 @@
 #   make mutants     try all mutants of crates/NAME/mutants, and record which are refused
 #   make build       verify and build the program
 #   make package     create the Debian package of the built program, in $(PACKAGES)
-#   make package-arm64   create the package for 64-bit ARM there, from what `make build` verified: this
-#                    downloads Debian's cross-compiling packages, and takes a few minutes
+#   make package-arm64   create the package for 64-bit ARM there, from what `make build` verified; this
+#                    downloads Debian's cross-compilation packages, and takes a few minutes
 #   make install     install the built program and its files under $(DESTDIR)$(PREFIX); packaging/files
 #                    lists them
 #   make install-system   install the units and their system files there, and their settings in
@@ -41,7 +41,7 @@ test:
 mutants: $(PROGRAM)
 	tests/minutes scripts/mutants --record
 
-# These never build: root may run them, and a package always contains the verified program.
+# These never build $(PROGRAM): root may run them, and a package always contains the verified program.
 package package-arm64 install: INSTALLS = yes
 package: $(PROGRAM)
 	@packaging/debian/build "$(PACKAGES)"

@@ -1,8 +1,8 @@
 /* The C functions that the program calls and that the kit provides only for x86-64, in libos_c.a and liblibc_c.a. They
  * are trusted: nothing proves them. tests/arm64/shim compares them with the kit's.
  *
- * The comment on a function names the file of the kit that declares it. There a slice is passed as a pointer and a
- * length, and a parameter of the type core::rt::Memory is not passed at all. */
+ * The comment on a function names the file of the kit that declares it. A slice in that declaration is passed as a
+ * pointer and a length, and a parameter of the type core::rt::Memory is not passed at all. */
 #define _GNU_SOURCE
 #include <errno.h>
 #include <fcntl.h>
@@ -19,7 +19,7 @@ _Static_assert(sizeof(size_t) == 8 && sizeof(off_t) == 8 && sizeof(int) == 4 && 
 _Static_assert(_Alignof(max_align_t) >= 16, "libc/src/heap.rt allows alignments up to 16");
 _Static_assert(F_RDLCK == 0 && F_WRLCK == 1 && F_UNLCK == 2, "os/src/lib.rt passes these kinds of locks");
 
-/* libc/src/types.rt, Tried: p is never null, and points to a byte that nobody owns if ok is false. */
+/* libc/src/types.rt, Tried: p is never null. If ok is false, it points to a byte that nobody owns. */
 struct tried {
     bool ok;
     void *p;
@@ -31,8 +31,8 @@ static struct tried tried(void *block) {
     return it;
 }
 
-/* libc/src/heap.rt. C may have no block of 0 bytes, so it is asked for one byte. Its blocks have every alignment that
- * can be asked for. */
+/* libc/src/heap.rt. malloc may return NULL for 0 bytes, so one byte is requested. Its blocks have every alignment that
+ * can be requested. */
 struct tried rattle_alloc(size_t n, size_t alignment) {
     (void)alignment;
     return tried(malloc(n != 0 ? n : 1));
@@ -66,8 +66,8 @@ static void keep(int argc, char **argv, char **environment) {
 
 __attribute__((section(".init_array"), used)) static void (*const keeps)(int, char **, char **) = keep;
 
-/* os/src/c.rt: copies argument i to the start of buf and returns its length, -1 if there is no such argument, or -2 if
- * it does not fit. Then its first bytes fill buf. */
+/* os/src/c.rt: copies argument i to the start of buf and returns its length, or -1 if there is no such argument. If it
+ * does not fit, its first bytes fill buf, and the result is -2. */
 ssize_t rattle_arg(size_t i, unsigned char *buf, size_t size) {
     if (i >= count) return -1;
     size_t length = strlen(arguments[i]);

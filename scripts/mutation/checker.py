@@ -83,7 +83,7 @@ class Checker:
     def check(self, texts, only=()):
         """Checks the crate with these texts of files, by path, in place of its own.
 
-        `only` has names of functions: then these are checked, with those that they call, and no others."""
+        If `only` has names of functions, only these and those that they call are checked."""
         with tempfile.TemporaryDirectory(prefix="kept-", dir=self.room.name) as kept:
             shutil.copytree(self.seed, kept, symlinks=True, copy_function=linked, dirs_exist_ok=True)
             return self.run(texts, kept, [f"--only={it.partition('::')[2]}" for it in only])

@@ -1,4 +1,4 @@
-"""The record of refusals: which mutants were refused, by a digest of all that decides about each."""
+"""The record of refusals: which mutants were refused, with a digest of everything that each result depends on."""
 import hashlib
 import os
 from typing import NamedTuple
@@ -9,14 +9,14 @@ FOLDER = "tests/refusals"
 COUNTS = "tests/mutant-counts"
 # What a check reads of a crate.
 PARTS = ("src", "specs", "proofs", "c")
-# The proof files of one function, in a folder of its own. The proofs of other functions do not read them.
+# The proof files of one function, in a folder of its own. The proofs of other functions do not read these files.
 OF_ONE_FUNCTION = ("Answers.antt", "Invariants.antt", "Proof.antt")
-# In place of a function's name, if the proof of another function or statement fails.
+# Replaces the function's name if the proof of another function or statement fails.
 ELSEWHERE = "-"
 
 
 class Digests(NamedTuple):
-    """What decides about a mutant, if its own function is refused and if something else is."""
+    """Digests of what a mutant's refusal depends on: `own` if its own function is refused, otherwise `whole`."""
 
     own: str
     whole: str
@@ -48,7 +48,7 @@ def files_of(crate):
 
 
 def without_bodies(path, text):
-    """What the proofs of other functions read of a source: no bodies and no comments. A macro is read with all it has."""
+    """What the proofs of other functions read of a source: no bodies or comments. A file with macros is kept whole."""
     if not path.endswith(".rt") or b"macro_rules!" in text:
         return text
     functions, rest = functions_of(path, text.decode())
@@ -60,7 +60,7 @@ def sum_of_files(files):
 
 
 class Reads:
-    """What the checks of a crate's mutants read. `kit` is the name of the kit."""
+    """What the checks of a crate's mutants read. `kit` is the kit's name."""
 
     def __init__(self, crate, root, kit):
         crates = sorted([crate, *crate.below()], key=lambda it: it.name)
@@ -73,7 +73,7 @@ class Reads:
         self.has_cycles = any(b"#[cycle(" in text for _, text in self.files)
 
     def proofs_of(self, function):
-        """The proof files of this function, and those whose folder does not say whose they are."""
+        """The proof files of this function, and those whose folder does not name one function."""
         return [
             (path, text)
             for path, text in self.files
@@ -99,20 +99,20 @@ def shared_of(files):
 
 
 def recorded(root, crate, digests):
-    """The lines of the crate's record that hold for the files as they are, by mutant. `digests` has those of each."""
+    """The lines of the crate's record that are valid for the present files, by mutant. `digests` has those of each."""
     path = f"{root}/{FOLDER}/{crate}"
     lines = content(path).decode().splitlines() if os.path.exists(path) else []
     return {name: line for line in lines for name in [held_by(line, digests)] if name}
 
 
 def held_by(line, digests):
-    """The mutant of this line of a record, or "" if the line does not hold for it."""
+    """The mutant of this line of a record, or "" if the line is not valid."""
     sum, name, function = (line.split(" ") + ["", ""])[:3]
     return name if function and name in digests and sum == digests[name].of(function) else ""
 
 
 def write_record(root, crate, digests, results):
-    """Writes the mutants that this run refused, each with its function, and those of earlier runs that it did not try.
+    """Writes the mutants that this run refused, each with its function, and the earlier lines of those it did not try.
 
     `digests` has those of each mutant of the crate, by name; `results` has the mutants that were tried."""
     known, lines = recorded(root, crate, digests), []

@@ -78,7 +78,7 @@ class Tries:
         return opened
 
     def try_alone(self, mutant):
-        """Tries it by itself. If only its own function is checked and is not refused, the whole crate is."""
+        """Tries it by itself: its own function first, and the whole crate if this function is not refused."""
         texts, names = together(self.checker.folder, [mutant]), self.names_of(mutant)
         outcome, text = self.checker.check(texts, names[:1]).outcome(names)
         if names and outcome is not Outcome.OWN:

@@ -27,7 +27,7 @@ class Outcome(enum.Enum):
         return self in (Outcome.OWN, Outcome.ALONE, Outcome.LIMIT)
 
 
-# How the last line of a check begins that came to a verdict on all functions, or on some, and refused one.
+# How the last line of the output begins if a check of all functions, or of some, refused one.
 REFUSALS = ("logic=not-proved", "only=")
 
 

@@ -1,5 +1,5 @@
-"""Writes a C file with an assertion for each constant, each structure and each field of one that these sources of the
-kit declare. It compiles if the C library of the compiler has them, with the same values and layouts.
+"""Writes a C file with an assertion for each constant, structure and field of a structure that these sources of the kit
+declare. It compiles if the C library of the compiler has them, with the same values and layouts.
 
     constants.py FILE..
 """
@@ -9,7 +9,7 @@ import sys
 
 HEADERS = """errno fcntl limits netdb netinet/in netinet/tcp poll sched stddef sys/epoll sys/eventfd sys/file sys/resource
 sys/socket sys/stat sys/wait time unistd""".split()
-# Sizes, which are alignments too. That of a structure comes with its declaration.
+# Sizes, which are also the alignments. Those of structures are computed from their declarations.
 SIZES = {"i8": 1, "u8": 1, "i16": 2, "u16": 2, "i32": 4, "u32": 4, "i64": 8, "u64": 8, "usize": 8}
 
 
@@ -26,7 +26,7 @@ def constants(text):
 
 
 def structures(text):
-    """Those of the C library. `Tried` is the kit's own."""
+    """The structures of the C library. `Tried` is skipped: it is the kit's own."""
     known = {kind: (size, size) for kind, size in SIZES.items()}
     for name, body in re.findall(r"^pub struct (\w+) \{\n(.*?)^\}", text, re.M | re.S):
         if name == "Tried":
@@ -38,7 +38,7 @@ def structures(text):
             size, alignment = known[element]
             at = -(-end // alignment) * alignment
             end, largest = at + size * int(count), max(largest, alignment)
-            # such a name fills a gap, which C may call otherwise
+            # a field with such a name fills a gap, which may have another name in C
             if not field.startswith("__"):
                 yield f"offsetof({c}, {field}) == {at} && sizeof((({c} *)0)->{field}) == {end - at}"
         known[name] = -(-end // largest) * largest, largest

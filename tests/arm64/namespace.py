@@ -1,6 +1,6 @@
-"""Runs a command as root with mounts, users and processes of its own, in which the kernel starts programs for 64-bit ARM
-by this emulator, which has to be a static program. The machine's own emulators stay as they are. At the end of the
-command all its processes end.
+"""Runs a command as root in new namespaces for mounts, users and processes, in which the kernel starts programs for
+64-bit ARM with this emulator, which has to be a static program. The machine's own emulators do not change. When the
+command ends, all its processes end.
 
     namespace.py EMULATOR COMMAND..
 """
@@ -14,7 +14,8 @@ NEW_MOUNTS, NEW_USERS, NEW_PROCESSES = 0x00020000, 0x10000000, 0x20000000  # CLO
 REC_PRIVATE = 0x4000 | 0x40000  # MS_REC | MS_PRIVATE
 PR_SET_PDEATHSIG = 1
 EMULATORS = "/proc/sys/fs/binfmt_misc"
-# What such a program begins with, and the bits of it that count: ELF of 64 bits, a program or a library, AArch64.
+# The first bytes of such a program, and which of their bits are compared: ELF of 64 bits, a program or a library,
+# AArch64.
 MAGIC = r"\x7fELF\x02\x01\x01\x00\x00\x00\x00\x00\x00\x00\x00\x00\x02\x00\xb7\x00"
 MASK = r"\xff\xff\xff\xff\xff\xff\xff\x00\xff\xff\xff\xff\xff\xff\xff\xff\xfe\xff\xff\xff"
 
@@ -33,14 +34,14 @@ def ends_with_its_parent():
 
 
 def maps_users(process):
-    """Users and groups have the same numbers inside as outside."""
+    """Gives users and groups the same numbers inside as outside."""
     for kind in ("uid", "gid"):
         with open(f"/proc/{process}/{kind}_map", "w") as users:
             users.write("0 0 65536\n")
 
 
 def run(command):
-    """Runs it as the first process: if that ends, the others do. Returns its status."""
+    """Runs it as the first process: when that ends, the others end. Returns its status."""
     process = os.fork()
     if process == 0:
         ends_with_its_parent()

@@ -1,7 +1,7 @@
 #!/usr/bin/env python3
 """Runs the random scripts of bench/same on two builds of the program, which have to write the same bytes: with and
-without `--explain`, in memory and over a file. Then it runs each script in four parts over one file, a start for each
-part. Whichever build a part has, all write the same, and leave the same bytes in the file.
+without `--explain`, in memory and on a file. Then it runs each script in four parts on one file, with a start for each
+part. The output and the bytes in the file have to be the same, whichever build runs which part.
 
     scripts.py ONE OTHER COUNT
 """
@@ -28,19 +28,19 @@ def same():
 
 
 def run(program, base, script, options):
-    """What it writes, and how it ends."""
+    """What the program writes, and its exit status."""
     done = subprocess.run([program, "replay", "--base", base, *options], input=script, capture_output=True)
     return done.stdout, done.stderr, done.returncode
 
 
 def files_in(folder):
-    """The bytes of each database, and of other files the number of bytes: a write-ahead log has a random salt."""
+    """The bytes of each database, and the size of each other file: a write-ahead log has a random salt."""
     files = {file.name: file.read_bytes() for file in sorted(folder.iterdir())}
     return {name: found if name.endswith(".db") else len(found) for name, found in files.items()}
 
 
 def at_once(program, base, script):
-    """What one start makes of a script: with each of the options, and in the files."""
+    """The results of one run of a script with each of the options, and the files that these leave."""
     with tempfile.TemporaryDirectory() as folder:
         folder = pathlib.Path(folder)
         runs = []
@@ -56,7 +56,7 @@ def parts_of(script):
 
 
 def in_parts(programs, base, script):
-    """What starts of these programs, each in its turn, make of the parts of a script."""
+    """The results of the parts of a script, which these programs run in turn, and the files after each part."""
     with tempfile.TemporaryDirectory() as folder:
         folder = pathlib.Path(folder)
         runs = []
@@ -67,7 +67,7 @@ def in_parts(programs, base, script):
 
 
 def compared(one, other, base, script):
-    """Whether all is the same, and how many lines the first run has."""
+    """Whether all results are the same, and how many lines the first run wrote."""
     first = at_once(one, base, script)
     turns = [in_parts(programs, base, script) for programs in ([one], [other], [one, other], [other, one])]
     is_same = first == at_once(other, base, script) and all(runs == turns[0] for runs in turns)

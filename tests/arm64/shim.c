@@ -1,7 +1,7 @@
 /* Calls the functions of packaging/arm64/rattle_c.c in every way that the kit's declarations allow, and prints what they
- * do. The kit's own functions print the same lines. Run it as
+ * do. With the kit's own functions it prints the same lines. Run it as
  *
- *     PROGRAM one '' three ..    in a folder in which files may be made
+ *     PROGRAM one '' three ..    in a folder in which files may be created
  *
  * It ends with status 1 if a line ends in WRONG. */
 #define _GNU_SOURCE
@@ -34,8 +34,8 @@ static void holds(const char *what, bool is) {
     wrong |= !is;
 }
 
-/* The heap below the functions: glibc's, but as strict as C allows. It has no block of 0 bytes, and no memory at all
- * while it is full. It counts its blocks, and keeps how many bytes it was last asked for. */
+/* The heap that the functions use: glibc's, but as strict as C allows. It has no block of 0 bytes, and no memory at all
+ * while it is full. It counts its blocks, and records how many bytes were last requested. */
 extern void *__libc_malloc(size_t n);
 extern void *__libc_realloc(void *p, size_t n);
 extern void __libc_free(void *p);
@@ -64,7 +64,7 @@ void *realloc(void *p, size_t n) {
 enum { BLOCKS = 3000 };
 static unsigned char *block[BLOCKS];
 
-/* has: the first n bytes of the block are those that were written into block i. */
+/* has: the first n bytes of the block are those that writes() puts into block i. */
 static bool has(const unsigned char *p, size_t n, size_t i) {
     for (size_t at = 0; at < n; at++)
         if (p[at] != (i + at) % 251) return false;
@@ -75,7 +75,7 @@ static void writes(unsigned char *p, size_t n, size_t i) {
     for (size_t at = 0; at < n; at++) p[at] = (unsigned char)((i + at) % 251);
 }
 
-/* is_block: this is a block, and the heap was asked for exactly so many bytes, or for some if it has none. */
+/* is_block: this is a block, and exactly n bytes of the heap were requested for it, or some if n is 0. */
 static bool is_block(struct tried it, size_t n) {
     return it.ok && it.p != NULL && (uintptr_t)it.p % 16 == 0 && (n != 0 ? asked == n : asked != 0);
 }
@@ -121,7 +121,7 @@ static void blocks_of_no_bytes(void) {
     holds("both are freed", blocks == before);
 }
 
-/* is_none: there is no memory. p points to a byte that can be read, and that is no block's. */
+/* is_none: there is no memory. p points to a byte that can be read and belongs to no block. */
 static bool is_none(struct tried it, const void *other) {
     return !it.ok && it.p != NULL && it.p != other && (*(volatile unsigned char *)it.p, true);
 }
@@ -144,7 +144,7 @@ static void no_memory(void) {
     holds("and is freed", blocks == before);
 }
 
-/* argument: what comes of argument i in a buffer of this size, whose last byte is at most the 22nd of 24. */
+/* argument: prints the result for argument i in a buffer of this size, whose last byte is at most the 22nd of 24. */
 static void argument(size_t i, size_t size) {
     unsigned char bytes[24];
     memset(bytes, '.', sizeof bytes);
@@ -179,10 +179,10 @@ static void errors(void) {
         printf(" %d\n", rattle_errno());
     }
     close(-1);
-    holds("a failed call is told", errno == EBADF && rattle_errno() == EBADF);
+    holds("a failed call is reported", errno == EBADF && rattle_errno() == EBADF);
 }
 
-/* lock: what comes of a lock. POSIX allows two errors where another one is in the way. */
+/* lock: prints the result of a lock. POSIX allows two errors if another lock is in the way. */
 static void lock(const char *what, int fd, int16_t kind, int64_t start, int64_t len) {
     errno = 0;
     int32_t result = rattle_lock_range(fd, kind, start, len);

@@ -1,5 +1,5 @@
-/* Starts the program for 64-bit ARM by the emulator. Like this one, it is linked statically: so the library that a test
- * preloads is for the emulated program alone. */
+/* Starts the program for 64-bit ARM with the emulator. The emulator and this program are linked statically, so only the
+ * emulated program loads a library that a test preloads. */
 #include <stdlib.h>
 #include <unistd.h>
 

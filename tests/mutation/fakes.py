@@ -50,8 +50,8 @@ def edit(path, *pairs):
 class FakeChecker:
     """A prover that refuses each function whose body has the word WRONG, and all if STEP has it.
 
-    WORSE makes the own proof of `other` fail and WORST that of `once`, GIBBERISH is no program, HIDDEN is not reported, and DEEP runs out of
-    steps.
+    WORSE makes the own proof of `other` fail, and WORST that of `once`. GIBBERISH is no program, HIDDEN is not
+    reported, and DEEP runs out of steps.
     """
 
     def __init__(self, folder, sources):

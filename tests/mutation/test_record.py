@@ -44,14 +44,14 @@ class OfDigests(InFolder):
         self.tiny = crate(self.folder, "tiny", self.low)
 
     def digests(self, text="old: a\nnew: b\n", kit="kit 1", of=None, function="once"):
-        """The digests of a mutant of this function, or of one that changes more if there is none."""
+        """The digests of a mutant of this function, or of one that changes more than a body if it is None."""
         with open(f"{self.folder}/src/lib.rt", encoding="utf-8") as it:
             found = {it.name: it for it in functions_of("src/lib.rt", it.read())[0]}
         reads = record.Reads(of or self.tiny, self.root, kit)
         return reads.digests(Mutant("a.edit", text, (), found.get(function), ""))
 
     def same_and_others(self, *changes):
-        """After which of these changes of files, each alone, the digests stay the same."""
+        """For each of these changes of a file, made by itself, whether each digest stays the same."""
         before, same = self.digests(), []
         for path, text in changes:
             old = self.read(path)

@@ -10,7 +10,7 @@ ROOT = pathlib.Path(__file__).resolve().parent.parent.parent
 sys.path.insert(0, str(ROOT / "scripts" / "rows"))
 
 PROGRAM = pathlib.Path(os.environ.get("TESTED_PROGRAM", ROOT / "crates/enogate/out/enogate"))
-# A limit of the process would be one of the emulator, if the program is not this machine's.
+# If the program is emulated, a limit of the process would limit the emulator.
 CAN_BE_LIMITED = "TESTED_PROGRAM" not in os.environ
 REFUSE_CALL = "refuse_call.c"
 TEST = pathlib.Path(sys.argv[0]).name
