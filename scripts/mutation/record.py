@@ -80,17 +80,24 @@ class Reads:
             if is_of_one_function(path) and any(it == function.name or it[0] == "+" for it in path.split("/")[1:-1])
         ]
 
+    def own_of(self, function):
+        """The function, and which it is if others of its head and type stand before it in its file."""
+        functions = functions_of(function.path, dict(self.files).get(function.path, b"").decode())[0]
+        alike = [it for it in functions if (it.type, it.head) == (function.type, function.head)]
+        before = sum(it.line < function.line for it in alike)
+        return "\n".join([*[str(before)] * (before > 0), function.type, *function.lines])
+
     def digests(self, mutant):
         whole = sum_of(self.shared, self.whole, mutant.text.encode())[:16]
         if self.has_cycles or not mutant.function:
             return Digests(whole, whole)
-        own = "\n".join([*mutant.function.key[1:2], *mutant.function.lines]).encode()
+        own = self.own_of(mutant.function).encode()
         proofs = sum_of_files(self.proofs_of(mutant.function))
         return Digests(sum_of(self.shared, own, proofs, mutant.text.encode())[:16], whole)
 
 
 def is_of_one_function(path):
-    return path.startswith("proofs/") and os.path.basename(path) in OF_ONE_FUNCTION
+    return path.startswith("proofs/") and path.count("/") > 1 and os.path.basename(path) in OF_ONE_FUNCTION
 
 
 def shared_of(files):
