@@ -194,7 +194,11 @@ class Digests(OfDigests):
         self.assertNotEqual(self.digests().whole, before.whole)
 
     def test_a_body_that_another_function_of_its_name_has(self):
-        for one, two in (("impl One for Pair", "impl Two for Pair"), ("impl Pair<u8>", "impl Pair<u16>")):
+        for one, two in (
+            ("impl One for Pair", "impl Two for Pair"),
+            ("impl Pair<u8>", "impl Pair<u16>"),
+            ("impl One for Pair", "impl One for Three"),
+        ):
             found = []
             for bodies in (("a", "b"), ("b", "a")):
                 methods = (f"    fn once(&self) {{\n        {it}\n    }}\n" for it in bodies)
@@ -211,6 +215,12 @@ class Digests(OfDigests):
             self.write("src/text.rt", text)
             changes = ("src/text.rt", text.replace("one", "1")), ("src/text.rt", text.replace("Two", "2"))
             self.assertEqual(self.same_and_others(*changes), [(False, False), (True, False)])
+
+    def test_after_a_function_no_text_goes_on(self):
+        # (the backslash of a raw text is none)
+        text = 'const A: &str = r"\\";\nfn most() {\n}\n// Two.\n'
+        self.write("src/text.rt", text)
+        self.assertEqual(self.same_and_others(("src/text.rt", text.replace("Two", "2"))), [(True, False)])
 
     def test_bytes_do_not_move_between_files(self):
         self.write("specs/a.antt", "ab")
