@@ -30,6 +30,9 @@ pub fn once(a: u64) -> u64
 pub fn other(a: u64) -> u64 {
     a
 }
+
+pub fn law()
+    ensures { StepIs 1 };
 """
 OTHER_BODY = LIB.replace("    a\n", "    a + 0\n")
 
@@ -86,10 +89,14 @@ class Digests(OfDigests):
             ("proofs/other/Answers.antt", "a"),
             ("proofs/other/Invariants.antt", "a"),
             ("proofs/fn/other/loops/Proof.antt", "a"),
-            ("proofs/once_more/Answers.antt", "a"),
+            ("proofs/law/Answers.antt", "a"),
             ("src/lib.rt", LIB.replace("Adds one", "Adds 1")),
         )
         self.assertEqual(self.same_and_others(*changes), [(True, False)] * len(changes))
+
+    def test_proofs_of_a_function_whose_name_begins_alike(self):
+        self.write("src/more.rt", "fn once_more() {\n}\n")
+        self.assertEqual(self.same_and_others(("proofs/once_more/Answers.antt", "a")), [(True, False)])
 
     def test_bodies_of_others_in_a_folder_of_its_name(self):
         self.write("src/once/more.rt", LIB)
@@ -116,6 +123,8 @@ class Digests(OfDigests):
             ("proofs/ForCallers.antt", "a"),
             ("proofs/MoreProof.antt", "a"),
             ("proofs/Proof.antt", "a"),
+            ("proofs/lists/Answers.antt", "a"),
+            ("proofs/Pair/TheLaw/Proof.antt", "a"),
             ("proofs/other/Lemmas.antt", "a"),
             ("c/a.c", "a"),
             ("../low/src/lib.rt", LIB.replace("result ≡ a + 1", "result ≡ a + 2")),
