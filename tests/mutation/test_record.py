@@ -107,8 +107,13 @@ class Digests(OfDigests):
             ("../low/src/lib.rt", OTHER_BODY),
             ("../low/src/lib.rt", LIB.replace("a + STEP", "STEP + a")),
             ("../low/proofs/once/Answers.antt", "a"),
+            ("../low/proofs/+once/Invariants.antt", "a"),
         )
-        self.assertEqual(self.same_and_others(*changes), [(True, True)] * 3)
+        self.assertEqual(self.same_and_others(*changes), [(True, True)] * len(changes))
+
+    def test_only_a_source_has_the_names_of_functions(self):
+        self.write("specs/Lists.antt", "-- as fn lists\n")
+        self.assertEqual(self.same_and_others(("proofs/lists/Answers.antt", "a")), [(False, False)])
 
     def test_what_all_proofs_read(self):
         changes = (
@@ -126,6 +131,8 @@ class Digests(OfDigests):
             ("proofs/lists/Answers.antt", "a"),
             ("proofs/Pair/TheLaw/Proof.antt", "a"),
             ("proofs/other/Lemmas.antt", "a"),
+            ("proofs/other/Lib.antt", "a"),
+            ("proofs/other/ForCallers.antt", "a"),
             ("c/a.c", "a"),
             ("../low/src/lib.rt", LIB.replace("result ≡ a + 1", "result ≡ a + 2")),
             ("../low/src/lib.rt", LIB.replace("STEP: u64 = 1", "STEP: u64 = 2")),
