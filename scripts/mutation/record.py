@@ -1,6 +1,7 @@
 """The record of refusals: which mutants were refused, with a digest of everything that each result depends on."""
 import hashlib
 import os
+import re
 from typing import NamedTuple
 
 from mutation.sources import functions_of
@@ -9,8 +10,9 @@ FOLDER = "tests/refusals"
 COUNTS = "tests/mutant-counts"
 # What a check reads of a crate.
 PARTS = ("src", "specs", "proofs", "c")
-# The proof files of one function, in a folder of its own. The proofs of other functions do not read these files.
+# The proof files of one function, in a folder of its name. The proofs of other functions do not read these files.
 OF_ONE_FUNCTION = ("Answers.antt", "Invariants.antt", "Proof.antt")
+FUNCTION = re.compile(rb"\bfn (\w+)")
 # Replaces the function's name if the proof of another function or statement fails.
 ELSEWHERE = "-"
 
@@ -74,28 +76,35 @@ class Reads:
 
     def proofs_of(self, function):
         """The proof files of this function, and those whose folder does not name one function."""
-        return [
-            (path, text)
-            for path, text in self.files
-            if is_of_one_function(path) and any(it == function.name or it[0] == "+" for it in path.split("/")[1:-1])
-        ]
+        names = {function.name}
+        return [(path, text) for path, text in self.files if is_of_one_function(path, names)]
+
+    def own_of(self, function):
+        """The function, and which it is if others of its head and type stand before it in its file."""
+        functions = functions_of(function.path, dict(self.files).get(function.path, b"").decode())[0]
+        alike = [it for it in functions if (it.type, it.head) == (function.type, function.head)]
+        before = sum(it.line < function.line for it in alike)
+        return "\n".join([*[str(before)] * (before > 0), function.type, *function.lines])
 
     def digests(self, mutant):
         whole = sum_of(self.shared, self.whole, mutant.text.encode())[:16]
         if self.has_cycles or not mutant.function:
             return Digests(whole, whole)
-        own = "\n".join([*mutant.function.key[1:2], *mutant.function.lines]).encode()
+        own = self.own_of(mutant.function).encode()
         proofs = sum_of_files(self.proofs_of(mutant.function))
         return Digests(sum_of(self.shared, own, proofs, mutant.text.encode())[:16], whole)
 
 
-def is_of_one_function(path):
-    return path.startswith("proofs/") and os.path.basename(path) in OF_ONE_FUNCTION
+def is_of_one_function(path, names):
+    """Whether it is a proof file of a function with one of these names, or in a folder that does not say of which."""
+    part, *folders, name = path.split("/")
+    return part == "proofs" and name in OF_ONE_FUNCTION and any(it in names or it[0] == "+" for it in folders)
 
 
 def shared_of(files):
     """What the proofs of other functions, in this crate and above it, read of these files."""
-    return [(path, without_bodies(path, text)) for path, text in files if not is_of_one_function(path)]
+    names = {it.decode() for path, text in files if path.startswith("src/") for it in FUNCTION.findall(text)}
+    return [(path, without_bodies(path, text)) for path, text in files if not is_of_one_function(path, names)]
 
 
 def recorded(root, crate, digests):

@@ -3,6 +3,8 @@ import re
 from typing import NamedTuple
 
 HEAD = re.compile(r"^ *(?:pub(?:\([^)]*\))? )?(?:const )?(?:unsafe )?fn (\w+)")
+# A quotation mark that neither begins nor ends a text.
+NO_QUOTES = re.compile(r"\\.|'\"'")
 BLOCK = re.compile(r"^(?:pub(?:\([^)]*\))? )?(?:unsafe )?(impl|trait)\b(.*)")
 
 
@@ -66,7 +68,7 @@ def owner_of(line):
 
 def functions_of(path, text):
     """The functions of a file that have bodies, and its other lines without comments, with one for each function."""
-    lines, at, found, rest, owner = text.split("\n"), 0, [], [], ("", ())
+    lines, at, found, rest, owner, is_text = text.split("\n"), 0, [], [], ("", ()), False
     while at < len(lines):
         if BLOCK.match(lines[at]):
             owner = owner_of(lines[at])
@@ -77,8 +79,10 @@ def functions_of(path, text):
         if ends:
             head, body = "\n".join(lines[at : ends[0] + 1]), "\n".join(lines[ends[0] + 1 : ends[1] + 1])
             found.append(Function(path, *owner, name[1], head, body, at))
-            rest, at = [*rest, f"fn {name[1]}"], ends[1]
-        elif lines[at].strip() and not lines[at].lstrip().startswith("//"):
+            rest, at, is_text = [*rest, f"fn {name[1]}"], ends[1], False
+        elif lines[at].strip() and (is_text or not lines[at].lstrip().startswith("//")):
+            # (a line of a text that goes on from the line before is no comment)
+            is_text ^= NO_QUOTES.sub("", lines[at]).count('"') % 2 == 1
             rest.append(lines[at])
         at += 1
     return found, rest

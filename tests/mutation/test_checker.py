@@ -92,7 +92,7 @@ class Checks(InFolder):
         self.assertGreater(self.checker.seconds, 0)
 
     def test_a_file_with_a_proof_is_linked_and_others_are_copied(self):
-        for name, is_one in (("a.oantt", True), ("index", False)):
+        for name, is_one in (("a.oantt", True), ("a.antt", False), ("index", False)):
             made = checker.linked(self.write(f"kept/{name}", ""), f"{self.folder}/{name}")
             self.assertEqual(os.path.samefile(f"{self.folder}/kept/{name}", made or f"{self.folder}/{name}"), is_one)
 

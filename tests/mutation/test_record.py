@@ -2,6 +2,7 @@
 import os
 import types
 import unittest
+from unittest import mock
 
 from fakes import InFolder
 from mutation import record
@@ -29,6 +30,9 @@ pub fn once(a: u64) -> u64
 pub fn other(a: u64) -> u64 {
     a
 }
+
+pub fn law()
+    ensures { StepIs 1 };
 """
 OTHER_BODY = LIB.replace("    a\n", "    a + 0\n")
 
@@ -85,17 +89,31 @@ class Digests(OfDigests):
             ("proofs/other/Answers.antt", "a"),
             ("proofs/other/Invariants.antt", "a"),
             ("proofs/fn/other/loops/Proof.antt", "a"),
+            ("proofs/law/Answers.antt", "a"),
             ("src/lib.rt", LIB.replace("Adds one", "Adds 1")),
         )
-        self.assertEqual(self.same_and_others(*changes), [(True, False)] * 5)
+        self.assertEqual(self.same_and_others(*changes), [(True, False)] * len(changes))
+
+    def test_proofs_of_a_function_whose_name_begins_alike(self):
+        self.write("src/more.rt", "fn once_more() {\n}\n")
+        self.assertEqual(self.same_and_others(("proofs/once_more/Answers.antt", "a")), [(True, False)])
+
+    def test_bodies_of_others_in_a_folder_of_its_name(self):
+        self.write("src/once/more.rt", LIB)
+        self.assertEqual(self.same_and_others(("src/once/more.rt", OTHER_BODY)), [(True, False)])
 
     def test_bodies_and_proofs_of_functions_below(self):
         changes = (
             ("../low/src/lib.rt", OTHER_BODY),
             ("../low/src/lib.rt", LIB.replace("a + STEP", "STEP + a")),
             ("../low/proofs/once/Answers.antt", "a"),
+            ("../low/proofs/+once/Invariants.antt", "a"),
         )
-        self.assertEqual(self.same_and_others(*changes), [(True, True)] * 3)
+        self.assertEqual(self.same_and_others(*changes), [(True, True)] * len(changes))
+
+    def test_only_a_source_has_the_names_of_functions(self):
+        self.write("specs/Lists.antt", "-- as fn lists\n")
+        self.assertEqual(self.same_and_others(("proofs/lists/Answers.antt", "a")), [(False, False)])
 
     def test_what_all_proofs_read(self):
         changes = (
@@ -104,14 +122,24 @@ class Digests(OfDigests):
             ("src/lib.rt", f"{LIB}\nstruct New {{}}\n"),
             ("src/new.rt", ""),
             ("specs/Lib.antt", "a"),
-            ("specs/once/Answers.antt", "a"),
+            ("specs/other/Answers.antt", "a"),
             ("proofs/Lemmas.antt", "a"),
+            ("proofs/Lib.antt", "a"),
+            ("proofs/ForCallers.antt", "a"),
+            ("proofs/MoreProof.antt", "a"),
+            ("proofs/Proof.antt", "a"),
+            ("proofs/lists/Answers.antt", "a"),
+            ("proofs/Pair/TheLaw/Proof.antt", "a"),
+            ("proofs/other/Lemmas.antt", "a"),
+            ("proofs/other/Lib.antt", "a"),
+            ("proofs/other/ForCallers.antt", "a"),
             ("c/a.c", "a"),
             ("../low/src/lib.rt", LIB.replace("result ≡ a + 1", "result ≡ a + 2")),
             ("../low/src/lib.rt", LIB.replace("STEP: u64 = 1", "STEP: u64 = 2")),
             ("../low/src/lib.rt", LIB.replace("fn once", "fn lower")),
             ("../low/specs/Lib.antt", "a"),
             ("../low/proofs/Lemmas.antt", "a"),
+            ("../low/proofs/ForCallers.antt", "a"),
             ("../low/c/a.c", "a"),
             ("../HANDLES", "Handles allowed: Threads.\n"),
         )
@@ -134,8 +162,13 @@ class Digests(OfDigests):
         changes = [("../low/src/macros.rt", f"macro_rules! many {{}}\n{OTHER_BODY}")]
         self.assertEqual(self.same_and_others(*changes), [(False, False)])
 
+    def test_what_looks_like_a_body_in_another_file_than_a_source(self):
+        for path in ("specs/Lib.antt", "proofs/Lemmas.antt", "../low/specs/Lib.antt", "c/a.c"):
+            self.write(path, LIB)
+            self.assertEqual(self.same_and_others((path, OTHER_BODY)), [(False, False)], path)
+
     def test_functions_that_call_each_other_have_one_proof(self):
-        self.write("src/both.rt", "#[cycle(both)]\npub fn one() {\n}\n")
+        self.write("src/both.rt", "#[cycle(around)]\npub fn one() {\n}\n")
         self.assertEqual(self.same_and_others(("src/lib.rt", OTHER_BODY)), [(False, False)])
 
     def test_another_kit_graph_or_mutant(self):
@@ -143,6 +176,12 @@ class Digests(OfDigests):
         seen.append(self.digests(of=crate(self.folder, "tiny")))
         seen.append(self.digests(of=crate(self.folder, "tiny", self.low, of_kit=("std", "hex"))))
         seen.append(self.digests(of=crate(self.folder, "little", self.low)))
+        seen.append(self.digests(of=crate(self.folder, "tinier", self.low)))
+        middle = crate(f"{self.root}/middle", "middle", self.low)
+        for deps in ([middle], [self.low, middle]):
+            of = crate(self.folder, "tiny", *deps)
+            of.below = lambda: [self.low, middle]
+            seen.append(self.digests(of=of))
         self.assertEqual(len({it.own for it in seen}), len(seen))
         self.assertEqual(len({it.whole for it in seen}), len(seen))
 
@@ -151,6 +190,53 @@ class Digests(OfDigests):
         self.assertEqual(before.own, before.whole)
         self.write("src/lib.rt", OTHER_BODY)
         self.assertNotEqual(self.digests(function=None).own, before.own)
+
+    def test_the_order_of_crates_does_not_matter(self):
+        lowest, found = crate(f"{self.root}/lowest", "lowest"), set()
+        for below, of_kit in (([self.low, lowest], ("std", "hex")), ([lowest, self.low], ("hex", "std"))):
+            found.add(self.digests(of=crate(self.folder, "tiny", *below, of_kit=of_kit)))
+        self.assertEqual(len(found), 1)
+
+    def test_the_order_of_files_does_not_matter(self):
+        for found in ([("b", [], ["d", "c"]), ("a", [], ["e"])], [("a", [], ["e"]), ("b", [], ["c", "d"])]):
+            with mock.patch("os.walk", lambda _, found=found: found):
+                self.assertEqual(record.files_below(""), ["a/e", "b/c", "b/d"])
+
+    def test_the_name_of_a_file(self):
+        self.write("specs/a.antt", "a")
+        before = self.digests()
+        os.rename(f"{self.folder}/specs/a.antt", f"{self.folder}/specs/b.antt")
+        self.assertNotEqual(self.digests().own, before.own)
+        self.assertNotEqual(self.digests().whole, before.whole)
+
+    def test_a_body_that_another_function_of_its_name_has(self):
+        for one, two in (
+            ("impl One for Pair", "impl Two for Pair"),
+            ("impl Pair<u8>", "impl Pair<u16>"),
+            ("impl One for Pair", "impl One for Three"),
+        ):
+            found = []
+            for bodies in (("a", "b"), ("b", "a")):
+                methods = (f"    fn once(&self) {{\n        {it}\n    }}\n" for it in bodies)
+                text = "".join(f"{head} {{\n{it}}}\n" for head, it in zip((one, two), methods))
+                self.write("src/lib.rt", text)
+                changed = functions_of("src/lib.rt", text)[0][bodies.index("a")]
+                reads = record.Reads(self.tiny, self.root, "kit 1")
+                found.append(reads.digests(Mutant("a.edit", "old: a\n", (), changed, "")).own)
+            self.assertNotEqual(*found)
+
+    def test_a_line_of_a_text_that_looks_like_a_comment(self):
+        for start in ('"a', """(b'"', "a""", '("\\"", "a'):
+            text = f'const A: T = {start}\n// one\nb;"\n// Two.\n'
+            self.write("src/text.rt", text)
+            changes = ("src/text.rt", text.replace("one", "1")), ("src/text.rt", text.replace("Two", "2"))
+            self.assertEqual(self.same_and_others(*changes), [(False, False), (True, False)])
+
+    def test_after_a_function_no_text_goes_on(self):
+        # (the backslash of a raw text is none)
+        text = 'const A: &str = r"\\";\nfn most() {\n}\n// Two.\n'
+        self.write("src/text.rt", text)
+        self.assertEqual(self.same_and_others(("src/text.rt", text.replace("Two", "2"))), [(True, False)])
 
     def test_bytes_do_not_move_between_files(self):
         self.write("specs/a.antt", "ab")

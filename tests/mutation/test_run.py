@@ -11,6 +11,7 @@ from unittest import mock
 from fakes import SOURCES, FakeChecker, InFolder, edit
 from mutation import checker, record
 from mutation.run import SAMPLE, Run, miscounted
+from mutation.verdicts import Check
 
 
 class Fake(FakeChecker):
@@ -32,6 +33,11 @@ class Fake(FakeChecker):
 class NotBuilt(Fake):
     def begin(self):
         raise checker.NotBuilt("the libraries below tiny are not built")
+
+
+class Unproved(Fake):
+    def begin(self):
+        return Check(1, "fn tiny::once: not proved\nlogic=not-proved\n")
 
 
 class Unsound(Fake):
@@ -134,15 +140,57 @@ class Runs(InFolder):
         self.add("one", "    a + STEP", "    WRONG")
         self.add("const", "STEP: u64 = 1", "STEP: u64 = WRONG")
         crates = [types.SimpleNamespace(**{**vars(self.crate), "name": f"tiny{at}"}) for at in range(5)]
-        run = Run(self.root, crates, 2, Counted)
+        for lanes in (2, 3):
+            Counted.peak = 0
+            run = Run(self.root, crates, lanes, Counted)
+            self.tried(run, run.mutants)
+            self.assertEqual(Counted.peak, lanes)
+
+    def two_crates(self):
+        needs = {"tiny1": lambda: 1, "tiny2": lambda: 2}
+        return [types.SimpleNamespace(**{**vars(self.crate), "name": name, "need": it}) for name, it in needs.items()]
+
+    def test_the_crate_that_costs_more_begins_first(self):
+        self.add("one", "    a + STEP", "    WRONG")
+        run = Run(self.root, self.two_crates(), 2, Fake)
+        self.assertRegex(self.tried(run, run.mutants), "^tiny2: .*\ntiny1: ")
+
+    def test_a_sample_is_of_its_crate_if_another_has_the_same_mutant(self):
+        self.add("one", "    a + STEP", "    WRONG")
+        run = Run(self.root, self.two_crates(), 2, Fake)
+        for name, found in run.digests.items():
+            self.write(f"../tests/refusals/{name}", f"{found['one.edit'].own} one.edit {name}::once\n")
+        with mock.patch("mutation.record.sample_of", lambda names, *_: ("tiny1", names["tiny1"])):
+            chosen = run.new_and_sample()
+        self.assertEqual({name: len(it) for name, it in chosen.items()}, {"tiny1": 1, "tiny2": 0})
+
+    def test_a_crate_without_mutants_has_no_record(self):
+        run = self.run_with()
         self.tried(run, run.mutants)
-        self.assertEqual(Counted.peak, 2)
+        run.write_records()
+        self.assertFalse(os.path.exists(f"{self.root}/tests/refusals"))
+
+    def test_another_kit_has_other_digests(self):
+        self.add("one", "    a + STEP", "    WRONG")
+        found = []
+        for name in ("1", "2"):
+            self.write("../kit/KIT-ID", name)
+            with mock.patch.object(checker, "KIT", f"{self.root}/kit"):
+                found.append(self.run_with().digests["tiny"]["one.edit"])
+        self.assertNotEqual(*(it.own for it in found))
 
     def test_a_crate_whose_libraries_are_not_built(self):
         self.add("one", "    a + STEP", "    WRONG")
         run = self.run_with(NotBuilt)
         self.assertIn("tiny: no result", self.tried(run, run.mutants))
         self.assertEqual((run.faults, run.untried), (["the libraries below tiny are not built"], 1))
+
+    def test_a_crate_that_is_not_proved_as_it_is(self):
+        self.add("one", "    a + STEP", "    WRONG")
+        run = self.run_with(Unproved)
+        self.tried(run, run.mutants)
+        self.assertEqual((len(run.faults), run.untried), (1, 1))
+        self.assertIn("tiny is not proved as it is", run.faults[0])
 
     def test_checks_that_change_what_they_began_with(self):
         self.add("one", "    a + STEP", "    WRONG")
@@ -160,6 +208,13 @@ class Runs(InFolder):
         run.write_records()
         self.assertEqual(run.faults, ["tiny: a file that the checks read was changed during the run"])
         self.assertEqual(self.recorded(run), {})
+
+    def test_a_file_that_is_lost_during_the_run(self):
+        self.add("pair", "self.first", "WRONG", "src/pairs.rt")
+        run = self.run_with()
+        with mock.patch("mutation.tries.Tries.try_all", lambda *_: os.remove(f"{self.folder}/src/pairs.rt")):
+            self.tried(run, run.mutants)
+        self.assertEqual(run.faults, ["tiny: a file that the checks read was changed during the run"])
 
     def test_a_mutant_without_a_result(self):
         self.add("one", "    a + STEP", "    WRONG")

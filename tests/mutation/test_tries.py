@@ -44,6 +44,11 @@ class Crate(InFolder):
         self.assertEqual(self.results(), {"worse": (Outcome.ALONE, "alone")})
         self.assertEqual(self.checker.only, [[], ["tiny::pairs::Pair::sum"], []])
 
+    def test_if_only_a_function_that_it_calls_is_refused_the_whole_crate_decides(self):
+        self.add("worst", (TWICE, "    WORST"))
+        self.assertEqual(self.results(), {"worst": (Outcome.ALONE, "alone")})
+        self.assertEqual(self.checker.only, [[], ["tiny::twice"], []])
+
     def test_a_mutant_that_is_proved_is_not_refused(self):
         self.add("one", (ONCE, "    WRONG"))
         self.add("same", (SUM, "self.second"), path="src/pairs.rt")
@@ -63,6 +68,45 @@ class Crate(InFolder):
         self.tries.graph.reaches = {key: set() for key in self.tries.graph.reaches}
         self.assertEqual(self.results()["open"], (Outcome.MISSED, "alone"))
 
+    def test_a_second_batch_decides_without_what_was_in_the_way(self):
+        def unknown_beside_another(texts, only=(), check=self.checker.check):
+            word = "" if "WRONG" in "".join(texts.values()) else "WRONG"
+            return check({path: text.replace("MAYBE", word) for path, text in texts.items()}, only)
+
+        self.checker.check = unknown_beside_another
+        self.add("one", (ONCE, "    WRONG"))
+        self.add("two", (TWICE, "    MAYBE"))
+        self.add("three", (THRICE, "    MAYBE"))
+        self.tries.graph.reaches = {key: set() for key in self.tries.graph.reaches}
+        self.assertEqual(self.results(), {name: (Outcome.OWN, "batch") for name in ("one", "two", "three")})
+
+    def with_closure(self, name):
+        """Has the prover refuse the closure of each function that has the word CLOSURE."""
+
+        def checked(texts, only=(), check=self.checker.check):
+            found, line = check(texts, only), f"fn {name}: not proved\n"
+            is_refused = "CLOSURE" in "".join(texts.values())
+            return Check(1, line + found.printed.replace("logic=proved", "logic=not-proved")) if is_refused else found
+
+        self.checker.check = checked
+        key = next(it for it in self.tries.graph.reported if it[3] == "once")
+        self.tries.graph.reported[key].append(name)
+
+    def test_a_closure_in_a_batch(self):
+        self.with_closure("tiny::fn::once::closure0")
+        self.add("one", (ONCE, "    CLOSURE"))
+        self.add("pair", (SUM, "WRONG"), path="src/pairs.rt")
+        self.assertEqual(self.results(), {"one": (Outcome.OWN, "batch"), "pair": (Outcome.OWN, "batch")})
+        self.assertEqual(self.tries.results["one.edit"].text, "tiny::fn::once::closure0")
+        self.assertEqual(self.checker.only, [[], ["tiny::once", "tiny::pairs::Pair::sum"]])
+
+    def test_a_closure_alone(self):
+        self.with_closure("tiny::fn::once::closure0")
+        self.add("one", (ONCE, "    CLOSURE"))
+        self.assertEqual(self.results(), {"one": (Outcome.OWN, "alone")})
+        self.assertEqual(self.tries.results["one.edit"].text, "tiny::fn::once::closure0")
+        self.assertEqual(self.checker.only, [[], ["tiny::once"]])
+
     def test_of_mutants_of_one_function_each_is_tried(self):
         self.add("one", (ONCE, "    WRONG"))
         self.add("other", (ONCE, "    a"))
@@ -72,6 +116,28 @@ class Crate(InFolder):
         self.add("one", (ONCE, "    WRONG"))
         self.add("bad", (SUM, "GIBBERISH"), path="src/pairs.rt")
         self.assertEqual(self.results(), {"one": (Outcome.OWN, "alone"), "bad": (Outcome.UNUSABLE, "alone")})
+
+    def test_one_that_cannot_be_read_does_not_decide_for_itself_or_others(self):
+        def unreadable(texts, only=(), check=self.checker.check):
+            line = "src/pairs.rt:3:9: error: `tiny::pairs::Pair::sum`: `b` is not in scope\n"
+            found, is_read = check(texts, only), "WRONG b" not in "".join(texts.values())
+            return found if is_read else Check(found.status, line + found.printed)
+
+        self.checker.check = unreadable
+        self.add("one", (ONCE, "    WRONG"))
+        self.add("bad", (SUM, "WRONG b"), path="src/pairs.rt")
+        self.assertEqual(self.results(), {"one": (Outcome.OWN, "alone"), "bad": (Outcome.UNUSABLE, "alone")})
+
+    def test_a_batch_whose_check_names_no_function_is_halved_at_once(self):
+        def silent_in_batches(texts, only=(), check=self.checker.check):
+            found = check(texts, only)
+            return Check(0, "logic=proved\n") if len(only) > 1 else found
+
+        self.checker.check = silent_in_batches
+        self.add("one", (ONCE, "    WRONG"))
+        self.add("pair", (SUM, "WRONG"), path="src/pairs.rt")
+        self.assertEqual(self.results(), {"one": (Outcome.OWN, "alone"), "pair": (Outcome.OWN, "alone")})
+        self.assertEqual([len(it) for it in self.checker.only], [0, 2, 1, 1])
 
     def test_one_that_makes_another_function_fail(self):
         self.add("one", (ONCE, "    WRONG"))
@@ -124,6 +190,7 @@ class Crate(InFolder):
     def test_a_limit_of_the_prover(self):
         self.add("deep", (ONCE, "    DEEP"))
         self.assertEqual(self.results(), {"deep": (Outcome.LIMIT, "alone")})
+        self.assertEqual(self.checker.only, [[], ["tiny::once"], []])
 
     def test_what_cannot_be_applied_is_not_checked(self):
         self.add("misspelt", ("a + STAP", "a"))
@@ -140,6 +207,10 @@ class Crate(InFolder):
     def test_a_crate_that_is_not_proved_has_no_results(self):
         wrong = {**SOURCES, "src/lib.rt": SOURCES["src/lib.rt"].replace(ONCE, "    WRONG")}
         self.assertIn("not proved as it is", Tries("tiny", wrong, FakeChecker(self.folder, wrong)).begin())
+
+    def test_a_crate_without_functions_has_no_results(self):
+        self.checker.begin = lambda: Check(0, "logic=proved\n")
+        self.assertIn("not proved as it is", self.tries.begin())
 
     def test_every_mutant_has_a_result(self):
         for at, text in enumerate((ONCE, TWICE, THRICE)):
