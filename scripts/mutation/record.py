@@ -75,12 +75,12 @@ class Reads:
         self.has_cycles = any(b"#[cycle(" in text for _, text in self.files)
 
     def proofs_of(self, function):
-        """The proof files of this function, and those whose folder does not name one function."""
+        """The proof files of this function, and those of cycles of calls."""
         names = {function.name}
         return [(path, text) for path, text in self.files if is_of_one_function(path, names)]
 
     def own_of(self, function):
-        """The function, and which it is if others of its head and type stand before it in its file."""
+        """The text of the function, with its place among those of its file that have the same head and type."""
         functions = functions_of(function.path, dict(self.files).get(function.path, b"").decode())[0]
         alike = [it for it in functions if (it.type, it.head) == (function.type, function.head)]
         before = sum(it.line < function.line for it in alike)
@@ -96,7 +96,7 @@ class Reads:
 
 
 def is_of_one_function(path, names):
-    """Whether it is a proof file of a function with one of these names, or in a folder that does not say of which."""
+    """Whether it is a proof file of a function with one of these names, or of a cycle of calls."""
     part, *folders, name = path.split("/")
     return part == "proofs" and name in OF_ONE_FUNCTION and any(it in names or it[0] == "+" for it in folders)
 

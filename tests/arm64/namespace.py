@@ -54,19 +54,19 @@ def run(command):
 
 
 def main():
-    waits, tells = os.pipe(), os.pipe()
+    mapped, unshared = os.pipe(), os.pipe()
     process = os.fork()
     if process == 0:
         ends_with_its_parent()
         checked(LIBC.unshare(NEW_USERS | NEW_MOUNTS | NEW_PROCESSES))
-        os.write(tells[1], b".")
-        os.read(waits[0], 1)
+        os.write(unshared[1], b".")
+        os.read(mapped[0], 1)
         mount(None, "/", REC_PRIVATE)
         sys.exit(run(sys.argv[2:]))
-    os.close(tells[1])
-    if os.read(tells[0], 1):
+    os.close(unshared[1])
+    if os.read(unshared[0], 1):
         maps_users(process)
-    os.write(waits[1], b".")
+    os.write(mapped[1], b".")
     sys.exit(os.waitstatus_to_exitcode(os.waitpid(process, 0)[1]))
 
 
