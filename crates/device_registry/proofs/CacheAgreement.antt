@@ -6,11 +6,13 @@ use Rattle.std.specs.Ordering.{eq_by_cmp}
 use Rattle.std.specs.FinMap.{get, get-insert, get-remove}
 use Rattle.std.proofs.lemmas.Cmp.{nat_cmp_total}
 use Rattle.std.proofs.lemmas.Bool.Decides.{nat_tests}
+use Rattle.lru.specs.LruCache.{LruCache, lru_cache}
 use Rattle.lru.proofs.Splits.{Contains-nil}
 use Rattle.sqlite.specs.State.{State, HasCleanDisk}
 use Rattle.learned_devices.specs.declared.Device.{Device}
-use Rattle.device_registry.specs.Devices.{Devices, Learned, Change, changed, after, entered, device, device_of}
-use Rattle.device_registry.specs.Holding.{HasDevices, Keeps, Commits}
+use Rattle.learned_devices.specs.Devices.{Devices, Learned, Change, changed, after, entered, device, device_of}
+use Rattle.learned_devices.specs.Kept.{Keeps, Commits}
+use Rattle.device_registry.specs.Holding.{HasDevices, kept}
 use Rattle.device_registry.specs.Ready.{IsReady}
 use Rattle.device_registry.specs.Cached.{EntryAgrees, CacheAgrees}
 use Rattle.device_registry.proofs.DevicesHeld.{registers_once}
@@ -22,6 +24,10 @@ Entry = ℕ × Option Device
 pub none_recalled : (s : State) (entries : List Entry) → entries ≡ [] → CacheAgrees s entries
 none_recalled s entries none entry has clean = absurd (Contains-nil entry (subst (λ es. Contains es entry) none has))
 
+pub cleared_recalled : (s : State) (cap : ℕ) (cache : LruCache ℕ (Option Device)) → cache ≡ lru_cache [] cap
+    → CacheAgrees s cache.entries
+cleared_recalled s cap cache is = none_recalled s cache.entries (ap (λ (c : LruCache ℕ (Option Device)). c.entries) is)
+
 pub fewer_recalled : (s : State) (old new : List Entry) → CacheAgrees s old
     → ((e : Entry) → Contains new e → Contains old e) → CacheAgrees s new
 fewer_recalled s old new recalls kept entry has clean = recalls entry (kept entry has) clean
@@ -32,7 +38,7 @@ pub recalled : (s : State) (id : ℕ) (known : Option Device) → HasCleanDisk s
 recalled s id known clean right devices has = right.is ∙ ap (λ (m : Devices). device_of m id)
     (registers_once s.now right.devices devices right.shows.registers (has clean right.shows.is_open))
 
-pub unmoved : (s : State) (devices : Devices) → HasDevices s devices → Keeps s s devices
+pub unmoved : (s : State) (devices : Devices) → HasDevices s devices → Keeps (kept s) (kept s) devices
 unmoved s devices has = record { now = has; stop = λ left may. may }
 
 held : {s : State} (ready : IsReady s) → HasDevices s ready.devices
@@ -57,7 +63,7 @@ still old new clean ready keeps entry right = record {
 pub found_recalled : (old new : State) (id : ℕ) (known : Option Device) (before after : List Entry)
     → (HasCleanDisk new → HasCleanDisk old) → (HasCleanDisk new → IsReady old × IsReady new)
     → (HasCleanDisk new → (devices : Devices) → HasDevices old devices
-    → (known ≡ device_of devices id) × Keeps old new devices)
+    → (known ≡ device_of devices id) × Keeps (kept old) (kept new) devices)
     → CacheAgrees old before → ((e : Entry) → Contains after e → Contains before e ⊎ (e ≡ (id, known)))
     → CacheAgrees new after
 found_recalled old new id known before after early sure found recalls kept entry has clean =
@@ -79,7 +85,7 @@ found_recalled old new id known before after early sure found recalls kept entry
 
 pub listed_recalled : (old new : State) (entries : List Entry) → (HasCleanDisk new → HasCleanDisk old)
     → (HasCleanDisk new → IsReady old × IsReady new)
-    → (HasCleanDisk new → (devices : Devices) → HasDevices old devices → Keeps old new devices)
+    → (HasCleanDisk new → (devices : Devices) → HasDevices old devices → Keeps (kept old) (kept new) devices)
     → CacheAgrees old entries → CacheAgrees new entries
 listed_recalled old new entries early sure keeps recalls entry has clean =
     still old new clean (sure clean).1 (λ devices had. (keeps clean devices had).now) entry
@@ -109,7 +115,7 @@ known_after devices change = after (get devices change.sender) change.deed
 -- a change is committed, and its sender is remembered
 pub changed_recalled : (old new : State) (change : Change) (known : Option Device) (before between after : List Entry)
     → (HasCleanDisk new → HasCleanDisk old) → (HasCleanDisk new → IsReady old × IsReady new)
-    → (HasCleanDisk new → (devices : Devices) → HasDevices old devices → Commits new change devices)
+    → (HasCleanDisk new → (devices : Devices) → HasDevices old devices → Commits (kept new) change devices)
     → (HasCleanDisk old → (devices : Devices) → HasDevices old devices
     → known ≡ option_map (device change.sender) (known_after devices change))
     → CacheAgrees old before → ((e : Entry) → Contains between e → Contains before e × (e.0 ≢ change.sender))
@@ -141,7 +147,7 @@ changed_recalled old new change known before between after early sure commits is
 -- nothing is learned, and what is remembered of the others stays
 pub full_recalled : (old new : State) (before after : List Entry) → (HasCleanDisk new → HasCleanDisk old)
     → (HasCleanDisk new → IsReady old × IsReady new)
-    → (HasCleanDisk new → (devices : Devices) → HasDevices old devices → Keeps old new devices) → CacheAgrees old before
+    → (HasCleanDisk new → (devices : Devices) → HasDevices old devices → Keeps (kept old) (kept new) devices) → CacheAgrees old before
     → ((e : Entry) → Contains after e → Contains before e) → CacheAgrees new after
 full_recalled old new before after early sure keeps recalls fewer =
     listed_recalled old new after early sure keeps (fewer_recalled old before after recalls fewer)

@@ -29,7 +29,7 @@ use Rattle.sqlite.proofs.Callers.{IsPlain, reads_as, one_permutation}
 use Rattle.device_registry.specs.Table.{count_others_text}
 use Rattle.sqlite.specs.Listing.{understood}
 use Rattle.device_registry.specs.Ready.{IsReady, Shows, Stays}
-use Rattle.device_registry.specs.Devices.{Devices, is_full}
+use Rattle.learned_devices.specs.Devices.{Devices, is_full}
 use Rattle.device_registry.specs.Stored.{Registers}
 use Rattle.device_registry.specs.Table.Rows.{IsDevice}
 use Rattle.device_registry.proofs.StatementTexts.{is_other, others_query, program_of}

@@ -14,7 +14,7 @@ use Rattle.sqlite_sql.specs.declared.ops.CompareOp.TheVariants.{Le, Ge}
 use Rattle.learned_devices.specs.Labels.{is_label}
 use Rattle.device_registry.specs.declared.table.Version.TheVariants.{Second}
 use Rattle.device_registry.specs.Table.{device_table, last_sender, last_profile, last_maker}
-use Rattle.device_registry.specs.Devices.{Learned}
+use Rattle.learned_devices.specs.Devices.{Learned}
 use Rattle.device_registry.specs.Table.Rows.{IsDevice, stored, eep_number, maker_number}
 use Rattle.device_registry.proofs.TestSteps.{both}
 

@@ -23,7 +23,7 @@ use Rattle.sqlite_catalog.proofs.ReadLemmas.{lists_once}
 use Rattle.device_registry.specs.declared.table.Version.{Version}
 use Rattle.device_registry.specs.declared.table.Version.TheVariants.{Second}
 use Rattle.device_registry.specs.Table.{device_name, device_text, device_table, meta_name, meta_text, meta_table}
-use Rattle.device_registry.specs.Devices.{Devices, Learned, is_full, most_devices}
+use Rattle.learned_devices.specs.Devices.{Devices, Learned, is_full, most_devices}
 use Rattle.device_registry.specs.Stored.{IsRegistry, RegistersAs, HoldsAs, Registers, Holds, Stands}
 use Rattle.device_registry.specs.Stored.{AreListed, IsListedAs}
 use Rattle.device_registry.specs.Table.Rows.{RowidsDiffer, IsDevice, IsVersion, devices_in, rows_of, stored}

@@ -15,7 +15,7 @@ use Rattle.sqlite.specs.State.{State, Shown}
 use Rattle.sqlite.specs.Command.TheVariants.{Select}
 use Rattle.sqlite.proofs.Callers.{IsPlain, reads_as, one_permutation}
 use Rattle.device_registry.specs.Table.{find_text}
-use Rattle.device_registry.specs.Devices.{Devices, Learned, device, device_of}
+use Rattle.learned_devices.specs.Devices.{Devices, Learned, device, device_of}
 use Rattle.device_registry.specs.Stored.{Registers}
 use Rattle.device_registry.specs.Table.Rows.{devices_in, entry_of, natural, AreFound}
 use Rattle.sqlite.specs.Listing.{understood}

@@ -6,6 +6,7 @@ pub mod CountOthersMeaning
 pub mod CreateTablesMeaning
 pub mod DeviceChecks
 pub mod DevicesHeld
+pub mod DevicesInRange
 pub mod DistinctRows
 pub mod FindAnswer
 pub mod FindMeaning

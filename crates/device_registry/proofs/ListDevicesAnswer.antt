@@ -18,7 +18,7 @@ use Rattle.sqlite.proofs.Callers.{IsPlain, reads_as}
 use Rattle.device_registry.specs.declared.table.Version.{Version}
 use Rattle.device_registry.specs.declared.table.Version.TheVariants.{First, Second}
 use Rattle.device_registry.specs.Table.{find_all_text}
-use Rattle.device_registry.specs.Devices.{Devices, device, all_of}
+use Rattle.learned_devices.specs.Devices.{Devices, device, all_of}
 use Rattle.device_registry.specs.Stored.{Registers}
 use Rattle.device_registry.specs.Table.Rows.{RowidsDiffer, IsDevice, entry_of, listed, with_label, rows_of}
 use Rattle.sqlite.specs.Listing.{understood}

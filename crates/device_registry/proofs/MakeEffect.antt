@@ -27,7 +27,7 @@ use Rattle.device_registry.specs.Table.{device_name, meta_table, device_table}
 use Rattle.device_registry.specs.Stored.{HasTables, AreListed, Registers, Holds}
 use Rattle.device_registry.specs.Table.Rows.{RowidsDiffer, IsDevice, devices_in}
 use Rattle.device_registry.specs.Ready.{Shows, KeepsOthers}
-use Rattle.device_registry.specs.Devices.{Devices, most_devices}
+use Rattle.learned_devices.specs.Devices.{Devices, most_devices}
 use Rattle.device_registry.specs.Stored.{IsClear}
 use Rattle.device_registry.specs.Opening.{Remains}
 use Rattle.device_registry.specs.Places.{is_clear}

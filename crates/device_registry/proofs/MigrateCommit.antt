@@ -9,7 +9,7 @@ use Rattle.sqlite.specs.Steps.{FailsToCommit}
 use Rattle.sqlite.specs.Held.{Held, state}
 use Rattle.sqlite_trees.specs.declared.store.Store.{Ghosts}
 use Rattle.device_registry.specs.declared.table.Version.TheVariants.{First, Second}
-use Rattle.device_registry.specs.Devices.{Devices}
+use Rattle.learned_devices.specs.Devices.{Devices}
 use Rattle.device_registry.specs.Table.{meta_name, device_name, device_text, copy_text, drop_text, renew_text}
 use Rattle.device_registry.specs.Table.Rows.{devices_in, rows_of}
 use Rattle.device_registry.specs.Stored.{KeepsTree, IsRegistry, AreListed, RegistersAs, Registers, Holds}

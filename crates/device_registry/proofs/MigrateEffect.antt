@@ -21,7 +21,7 @@ use Rattle.sqlite.specs.Listing.{understood}
 use Rattle.sqlite.specs.State.{State, ExecutesInside, mode_of}
 use Rattle.sqlite.proofs.Callers.{runs_as, statement_of}
 use Rattle.device_registry.specs.declared.table.Version.TheVariants.{First, Second}
-use Rattle.device_registry.specs.Devices.{most_devices}
+use Rattle.learned_devices.specs.Devices.{most_devices}
 use Rattle.device_registry.specs.Table.{device_text, copy_text, drop_text, renew_text, device_name, meta_name}
 use Rattle.device_registry.specs.Table.{device_table, meta_table}
 use Rattle.device_registry.specs.Table.Rows.{IsDevice, RowidsDiffer, devices_in, rows_of}

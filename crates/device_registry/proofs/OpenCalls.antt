@@ -14,10 +14,10 @@ use Rattle.sqlite_trees.specs.Tree.{Trees}
 use Rattle.std.specs.FinMap.{empty}
 use Rattle.device_registry.specs.declared.fault.OpenFault.{OpenFault}
 use Rattle.device_registry.specs.declared.fault.OpenFault.TheVariants.{NotARegistry, Refused}
-use Rattle.device_registry.specs.declared.fault.StoreFault.{StoreFault}
+use Rattle.learned_devices.specs.declared.fault.StoreFault.{StoreFault}
 use Rattle.device_registry.specs.declared.table.Version.{Version}
 use Rattle.device_registry.specs.declared.table.Version.TheVariants.{First, Second}
-use Rattle.device_registry.specs.Devices.{Devices}
+use Rattle.learned_devices.specs.Devices.{Devices}
 use Rattle.device_registry.specs.Table.{meta_name, device_name}
 use Rattle.device_registry.specs.Stored.{HasTables, IsWhole, IsRegistry, AreListed, RegistersAs, HoldsAs, Holds}
 use Rattle.device_registry.specs.Stored.{IsHeld, IsFree}

@@ -20,7 +20,7 @@ use Rattle.device_registry.specs.declared.fault.OpenFault.{OpenFault}
 use Rattle.device_registry.specs.declared.table.Version.TheVariants.{Second}
 use Rattle.device_registry.specs.Table.{renew_text}
 use Rattle.device_registry.specs.Stored.{HasTables, IsHeld}
-use Rattle.device_registry.specs.Devices.{Devices}
+use Rattle.learned_devices.specs.Devices.{Devices}
 use Rattle.device_registry.specs.Holding.{IsRenewed}
 use Rattle.device_registry.specs.Ready.{Shows, IsReady}
 use Rattle.device_registry.specs.Opening.{IsAtRest}

@@ -29,7 +29,7 @@ use Rattle.sqlite.proofs.Callers.{one_step}
 use Rattle.learned_devices.specs.Labels.{is_label}
 use Rattle.device_registry.specs.declared.table.Version.TheVariants.{Second}
 use Rattle.device_registry.specs.Table.{device_table}
-use Rattle.device_registry.specs.Devices.{Learned}
+use Rattle.learned_devices.specs.Devices.{Learned}
 use Rattle.device_registry.specs.Table.Rows.{IsDevice, put_params, stored, maker_number, eep_number}
 use Rattle.device_registry.proofs.StatementTexts.{put_terms}
 use Rattle.device_registry.proofs.SenderTests.{equal_ids}

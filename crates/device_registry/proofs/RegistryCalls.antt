@@ -12,16 +12,16 @@ use Rattle.sqlite.specs.Effect.{Database}
 use Rattle.sqlite.specs.State.{State, HasCleanDisk}
 use Rattle.erp1_telegrams.specs.declared.eep.Eep.{Eep}
 use Rattle.learned_devices.specs.declared.Device.{Device}
-use Rattle.device_registry.specs.declared.fault.LearnFault.TheVariants.{Full, Refused}
-use Rattle.device_registry.specs.declared.fault.StoreFault.{StoreFault}
-use Rattle.device_registry.specs.declared.receipt.Receipt.{Receipt}
-use Rattle.device_registry.specs.declared.fault.LearnFault.{LearnFault}
-use Rattle.device_registry.specs.Devices.{Devices, Learned, Learn, Relabel, Change}
-use Rattle.device_registry.specs.Devices.{entered, changed, after, learned, forgotten}
-use Rattle.device_registry.specs.Devices.{relabelled, kept_label, known_of, device, device_of, all_of, is_full}
-use Rattle.device_registry.specs.Holding.{HasDevices, HoldsSome, AreRegistries, Keeps, Commits, Pends}
-use Rattle.device_registry.specs.Holding.{RefusesToLearn, LooksUp, Learns, Forgets, Relabels, ListsAll, HandsOn}
-use Rattle.device_registry.specs.Holding.{IsRenewed, WritesRow}
+use Rattle.learned_devices.specs.declared.fault.LearnFault.TheVariants.{Full, Refused}
+use Rattle.learned_devices.specs.declared.fault.StoreFault.{StoreFault}
+use Rattle.learned_devices.specs.declared.fault.LearnFault.{LearnFault}
+use Rattle.learned_devices.specs.Devices.{Devices, Learned, Learn, Relabel, Change}
+use Rattle.learned_devices.specs.Devices.{entered, changed, after, learned, forgotten}
+use Rattle.learned_devices.specs.Devices.{relabelled, kept_label, known_of, device, device_of, all_of, is_full}
+use Rattle.learned_devices.specs.Kept.{Keeps, Commits, Pends}
+use Rattle.learned_devices.specs.StoreCalls.{RefusesToLearn, LooksUp, Updates, Learns, Relabels, ListsAll}
+use Rattle.device_registry.specs.Holding.{HasDevices, HoldsSome, AreRegistries, HandsOn, IsRenewed, WritesRow, kept}
+use Rattle.device_registry.specs.TableCalls.{Adds}
 use Rattle.device_registry.specs.Ready.{Shows, IsReady, StaysReady, GoesOn, Stays, Turns}
 use Rattle.device_registry.specs.Table.Rows.{listed}
 use Rattle.device_registry.proofs.DevicesHeld.{held_once, registers_once, room_for_known}
@@ -45,7 +45,7 @@ shows_them s devices clean ready has =
 -- ---- nothing was written
 
 module _ (old new : State) (stays : Stays old new) (well : IsWell old) where
-  pub keeps : HasCleanDisk new → (devices : Devices) → HasDevices old devices → Keeps old new devices
+  pub keeps : HasCleanDisk new → (devices : Devices) → HasDevices old devices → Keeps (kept old) (kept new) devices
   keeps clean devices has = record {
     now = λ _ is_open. let on = stays.goes_on clean is_open in let early = stays.clean clean in
         (on.1 devices (shows_them old devices early (well.1 early on.0) has)).registers;
@@ -74,8 +74,8 @@ module _ (old new : State) (stays : Stays old new) (well : IsWell old) where
         ready_on old new on is_open (well.1 (stays.clean clean) (on is_open).0),
   )
 
-pub kept_pends : (old new : State) (change : Change) (devices : Devices) → Keeps old new devices
-    → Pends old new change devices
+pub kept_pends : (old new : State) (change : Change) (devices : Devices) → Keeps (kept old) (kept new) devices
+    → Pends (kept old) (kept new) change devices
 kept_pends old new change devices keeps = record { now = keeps.now; stop = λ left may. inl (keeps.stop left may) }
 
 -- the call was asked of a ready registry, which is ready
@@ -111,12 +111,12 @@ module _ {T E : Type 0} (old mid new : State) (change : Change) (result : Result
   )
 
   pub pends : GoesOn mid new → HasCleanDisk new → (devices : Devices) → HasDevices old devices
-      → Pends old new change devices
+      → Pends (kept old) (kept new) change devices
   pends goes_on clean devices has =
       let middle = turns.clean clean in
-      let kept = keeps old mid stays well middle devices has in
+      let same = keeps old mid stays well middle devices has in
       let shows = λ (is_open : IsTrue mid.is_open). shows_them mid devices middle
-      ((keeps_well old mid stays well).1 middle is_open) kept.now in
+      ((keeps_well old mid stays well).1 middle is_open) same.now in
       record {
         now = λ _ is_open. let on = goes_on is_open in (on.1 devices (shows on.0)).registers;
         stop = λ left (trees, may, holds). elim (turns.stop clean trees may) [
@@ -151,7 +151,7 @@ module _ {T E : Type 0} (old mid new : State) (change : Change) (result : Result
   pub commits : ((devices : Devices) → Shows mid devices → Shows new (changed devices change)) → HasCleanDisk new
       → IsReady mid
       → ((trees : Trees) → IsTrue new.is_open → new.may_leave trees → trees ≡ new.committed.trees) → (devices : Devices)
-      → HasDevices old devices → Commits new change devices
+      → HasDevices old devices → Commits (kept new) change devices
   commits made clean was last devices has =
       let shows = made_shows made clean was devices has in
       record {
@@ -182,90 +182,94 @@ told_all (Err e) rows shown devices read same told = tt
 
 -- ---- what the calls promise
 
+-- for a full registry and for another
+by_room : {K P : Type 0} (full : Bool) → K → P → MatchBool full K P
+by_room true keeps pends = keeps
+by_room false keeps pends = pends
+
 module _ (old new : State) (stays : Stays old new) (well : IsWell old) where
-  pub looks_up : (id : ℕ) (r : Result (Option Device) StoreFault)
+  pub looks_up : {E : Type 0} (id : ℕ) (r : Result (Option Device) E)
       → (HasCleanDisk new → (devices : Devices) → HasDevices old devices
-      → IfOk r (λ found. found ≡ device_of devices id)) → LooksUp old new id r
+      → IfOk r (λ found. found ≡ device_of devices id)) → LooksUp (kept old) (kept new) id r
   looks_up id r told = record {
     clean = stays.clean;
     registries = (keeps_well old new stays well).0;
-    devices = λ clean devices has. on_both (λ found. found ≡ device_of devices id) (Keeps old new devices) r
+    devices = λ clean devices has. on_both (λ found. found ≡ device_of devices id) (Keeps (kept old) (kept new) devices) r
         (told clean devices has) (keeps old new stays well clean devices has);
   }
 
-  pub lists_all : (r : Result (Vec Device Global) StoreFault)
+  pub lists_all : {E : Type 0} (r : Result (Vec Device Global) E)
       → (HasCleanDisk new → (devices : Devices) → HasDevices old devices → IfOk r (λ all. all.items ≡ all_of devices))
-      → ListsAll old new r
+      → ListsAll (kept old) (kept new) r
   lists_all r told = record {
     clean = stays.clean;
     registries = (keeps_well old new stays well).0;
-    devices = λ clean devices has. on_both (λ all. all.items ≡ all_of devices) (Keeps old new devices) r
+    devices = λ clean devices has. on_both (λ all. all.items ≡ all_of devices) (Keeps (kept old) (kept new) devices) r
         (told clean devices has) (keeps old new stays well clean devices has);
   }
 
   -- the store did not answer before the write
-  pub learns_not : (it : Device) (fault : StoreFault) → Learns old new it (Err (Refused fault))
-  learns_not it fault = record {
+  pub adds_not : {E : Type 0} (it : Device) (r : Result Bool E) → IsErr r → Adds (kept old) (kept new) it r
+  adds_not it (Ok room) is = absurd (cc)
+  adds_not it (Err error) is = record {
     clean = stays.clean;
     registries = (keeps_well old new stays well).0;
-    receipt = tt;
-    devices = λ clean devices has. kept_pends old new (learned it) devices (keeps old new stays well clean devices has);
+    devices = λ clean devices has.
+        let same = keeps old new stays well clean devices has in
+        by_room (is_full devices it.id) same (kept_pends old new (learned it) devices same);
   }
 
-  pub is_full_then : (it : Device) → (HasCleanDisk new → (devices : Devices) → HasDevices old devices
-      → IsTrue (is_full devices it.id)) → Learns old new it (Err Full)
+  pub updates_not : {A E : Type 0} (change : Change) (r : Result A E) → IsErr r
+      → Updates (kept old) (kept new) change r
+  updates_not change (Ok done) is = absurd (cc)
+  updates_not change (Err error) is = record {
+    clean = stays.clean;
+    registries = (keeps_well old new stays well).0;
+    devices = λ clean devices has. kept_pends old new change devices (keeps old new stays well clean devices has);
+  }
+
+  pub is_full_then : {E : Type 0} (it : Device) → (HasCleanDisk new → (devices : Devices) → HasDevices old devices
+      → IsTrue (is_full devices it.id)) → Adds {E = E} (kept old) (kept new) it (Ok false)
   is_full_then it full = record {
     clean = stays.clean;
     registries = (keeps_well old new stays well).0;
-    receipt = tt;
     devices = λ clean devices has. (full clean devices has, keeps old new stays well clean devices has);
   }
 
-  pub forgets_not : (id : ℕ) (r : Result Receipt StoreFault) → IsErr r → Forgets old new id r
-  forgets_not id (Ok receipt) is = absurd (cc)
-  forgets_not id (Err fault) is = record {
-    clean = stays.clean;
-    registries = (keeps_well old new stays well).0;
-    receipt = tt;
-    devices =
-        λ clean devices has. kept_pends old new (forgotten id) devices (keeps old new stays well clean devices has);
-    written = λ clean devices has none. tt;
-  }
-
-module _ {T E : Type 0} (old mid new : State) (result : Result T E) (stays : Stays old mid) (well : IsWell old) where
+module _ {T F : Type 0} (old mid new : State) (result : Result T F) (stays : Stays old mid) (well : IsWell old) where
   -- or at the write
-  pub learn_refused : (it : Device) (fault : StoreFault) → Turns mid new (learned it) result
-      → (HasCleanDisk new → GoesOn mid new) → Learns old new it (Err (Refused fault))
-  learn_refused it fault turns goes_on = record {
+  pub add_refused : {E : Type 0} (it : Device) (r : Result Bool E) → IsErr r → Turns mid new (learned it) result
+      → (HasCleanDisk new → GoesOn mid new)
+      → (HasCleanDisk mid → (devices : Devices) → HasDevices old devices → is_full devices it.id ≡ false)
+      → Adds (kept old) (kept new) it r
+  add_refused it (Ok room) is turns goes_on unless = absurd (cc)
+  add_refused it (Err error) is turns goes_on unless = record {
     clean = λ clean. stays.clean (turns.clean clean);
     registries = (refused_well old mid new (learned it) result stays well turns goes_on).0;
-    receipt = tt;
-    devices = λ clean. pends old mid new (learned it) result stays well turns (goes_on clean) clean;
+    devices = λ clean devices has.
+        rw (unless (turns.clean clean) devices has) (pends old mid new (learned it) result stays well turns
+        (goes_on clean) clean devices has);
   }
 
-  pub forget_refused : (id : ℕ) (r : Result Receipt StoreFault) → IsErr r → Turns mid new (forgotten id) result
-      → (HasCleanDisk new → GoesOn mid new) → Forgets old new id r
-  forget_refused id (Ok receipt) is turns goes_on = absurd (cc)
-  forget_refused id (Err fault) is turns goes_on = record {
+  pub update_refused : {A E : Type 0} (change : Change) (r : Result A E) → IsErr r → Turns mid new change result
+      → (HasCleanDisk new → GoesOn mid new) → Updates (kept old) (kept new) change r
+  update_refused change (Ok done) is turns goes_on = absurd (cc)
+  update_refused change (Err error) is turns goes_on = record {
     clean = λ clean. stays.clean (turns.clean clean);
-    registries = (refused_well old mid new (forgotten id) result stays well turns goes_on).0;
-    receipt = tt;
-    devices = λ clean. pends old mid new (forgotten id) result stays well turns (goes_on clean) clean;
-    written = λ clean devices has none. tt;
+    registries = (refused_well old mid new change result stays well turns goes_on).0;
+    devices = λ clean. pends old mid new change result stays well turns (goes_on clean) clean;
   }
 
--- or the change is made
-module _ {T E : Type 0} (old mid new : State) (result : Result T E) (stays : Stays old mid) (well : IsWell old) where
-  pub learn_made : (it : Device) → Turns mid new (learned it) result
+  -- or the change is made
+  pub add_made : {E : Type 0} (it : Device) → Turns mid new (learned it) result
       → (HasCleanDisk new → (devices : Devices) → Shows mid devices → Shows new (changed devices (learned it)))
       → (HasCleanDisk mid → IsReady mid)
       → ((trees : Trees) → IsTrue new.is_open → new.may_leave trees → trees ≡ new.committed.trees)
       → (HasCleanDisk mid → (devices : Devices) → HasDevices old devices → is_full devices it.id ≡ false)
-      → Learns old new it (Ok (record { id = it.id; is_learned = true }))
-  learn_made it turns made was last room = record {
+      → Adds {E = E} (kept old) (kept new) it (Ok true)
+  add_made it turns made was last room = record {
     clean = λ clean. stays.clean (turns.clean clean);
     registries = (made_well old mid new (learned it) result stays well turns made was).0;
-    receipt = (refl, refl);
     devices =
         λ clean devices has. (
           room (turns.clean clean) devices has,
@@ -274,19 +278,16 @@ module _ {T E : Type 0} (old mid new : State) (result : Result T E) (stays : Sta
         );
   }
 
-  pub forget_made : (id : ℕ) → Turns mid new (forgotten id) result
-      → (HasCleanDisk new → (devices : Devices) → Shows mid devices → Shows new (changed devices (forgotten id)))
+  pub update_made : {A E : Type 0} (done : A) (change : Change) → Turns mid new change result
+      → (HasCleanDisk new → (devices : Devices) → Shows mid devices → Shows new (changed devices change))
       → (HasCleanDisk mid → IsReady mid)
       → ((trees : Trees) → IsTrue new.is_open → new.may_leave trees → trees ≡ new.committed.trees)
-      → (HasCleanDisk new → (devices : Devices) → HasDevices old devices → get devices id ≡ None → IsRenewed old new)
-      → Forgets old new id (Ok (record { id = id; is_learned = false }))
-  forget_made id turns made was last written = record {
+      → Updates {A = A} {E = E} (kept old) (kept new) change (Ok done)
+  update_made done change turns made was last = record {
     clean = λ clean. stays.clean (turns.clean clean);
-    registries = (made_well old mid new (forgotten id) result stays well turns made was).0;
-    receipt = (refl, refl);
-    devices = λ clean devices has. commits old mid new (forgotten id) result stays well turns (made clean) clean
+    registries = (made_well old mid new change result stays well turns made was).0;
+    devices = λ clean devices has. commits old mid new change result stays well turns (made clean) clean
         (was (turns.clean clean)) last devices has;
-    written = written;
   }
 
 -- ---- what is put in place of what was known
@@ -331,45 +332,6 @@ stays_itself s = record {
   goes_on = λ clean is_open. (is_open, λ devices shows. shows);
 }
 
-module _ {T E : Type 0} (old new : State) (result : Result T E) (well : IsWell old) (id : ℕ) (label : List ℕ)
-    (turns : Turns old new (relabelled id label) result) where
-  pub relabel_refused : (r : Result Bool StoreFault) → IsErr r → (HasCleanDisk new → GoesOn old new)
-      → Relabels old new id label r
-  relabel_refused (Ok done) is goes_on = absurd (cc)
-  relabel_refused (Err fault) is goes_on = record {
-    clean = turns.clean;
-    registries = (refused_well old old new (relabelled id label) result (stays_itself old) well turns goes_on).0;
-    devices = λ clean.
-        pends old old new (relabelled id label) result (stays_itself old) well turns (goes_on clean) clean;
-  }
-
-  pub relabel_made : (it : Learned)
-      → (HasCleanDisk new → (devices : Devices) → Shows old devices → Shows new (changed devices (relabelled id label)))
-      → (HasCleanDisk old → IsReady old)
-      → ((trees : Trees) → IsTrue new.is_open → new.may_leave trees → trees ≡ new.committed.trees)
-      → (HasCleanDisk old → (devices : Devices) → HasDevices old devices
-      → after (get devices id) (Relabel label) ≡ Some it)
-      → Relabels old new id label (Ok true)
-  relabel_made it made was last known = record {
-    clean = turns.clean;
-    registries = (made_well old old new (relabelled id label) result (stays_itself old) well turns made was).0;
-    devices = λ clean devices has. (
-      is_known (get devices id) label it (known (turns.clean clean) devices has),
-      commits old old new (relabelled id label) result (stays_itself old) well turns (made clean) clean
-          (was (turns.clean clean)) last devices has,
-    );
-  }
-
--- a label of a known sender is committed
-pub committed_label : (old new : State) (id : ℕ) (label : List ℕ) (it : Learned) (done : Bool)
-    (devices : Devices) → after (get devices id) (Relabel label) ≡ Some it
-    → (done ≡ is_some (get devices id))
-    × MatchBool done (Commits new (relabelled id label) devices) (Keeps old new devices)
-    → Commits new (relabelled id label) devices
-committed_label old new id label it done devices known told =
-    subst (λ b. MatchBool b (Commits new (relabelled id label) devices) (Keeps old new devices))
-    (told.0 ∙ sym (is_known (get devices id) label it known)) told.1
-
 -- ---- a look-up first
 
 -- it has the profile and the maker that it had
@@ -385,12 +347,12 @@ pub known_as : (id : ℕ) (known : Option Learned) (was : Device) → Some was �
 known_as id None was e = absurd (let none = e in cc)
 known_as id (Some it) was e = let same : was ≡ device id it = cc in ap (λ d. Some (known_of d)) (sym same)
 
-keeps_then : (a b c : State) (devices : Devices) → Keeps a b devices → Keeps b c devices → Keeps a c devices
+keeps_then : (a b c : State) (devices : Devices) → Keeps (kept a) (kept b) devices → Keeps (kept b) (kept c) devices → Keeps (kept a) (kept c) devices
 keeps_then a b c devices first second =
     record { now = second.now; stop = λ left may. first.stop left (second.stop left may) }
 
-pends_then : (a b c : State) (change : Change) (devices : Devices) → Keeps a b devices → Pends b c change devices
-    → Pends a c change devices
+pends_then : (a b c : State) (change : Change) (devices : Devices) → Keeps (kept a) (kept b) devices → Pends (kept b) (kept c) change devices
+    → Pends (kept a) (kept c) change devices
 pends_then a b c change devices first second = record {
   now = second.now;
   stop =
@@ -399,17 +361,18 @@ pends_then a b c change devices first second = record {
 
 module _ (old mid : State) (id : ℕ) where
   -- which was not answered
-  pub learns_unlooked : (it : Device) (fault : StoreFault) → LooksUp old mid id (Err fault)
-      → Learns old mid it (Err (Refused fault))
+  pub learns_unlooked : {A : Type 0} (it : Device) (fault : StoreFault) → LooksUp (kept old) (kept mid) id (Err fault)
+      → Learns {A = A} (kept old) (kept mid) it (Err (Refused fault))
   learns_unlooked it fault looks = record {
     clean = looks.clean;
     registries = looks.registries;
-    receipt = tt;
-    devices = λ clean devices has. kept_pends old mid (learned it) devices (looks.devices clean devices has);
+    devices = λ clean devices has.
+        let same = looks.devices clean devices has in
+        by_room (is_full devices it.id) same (kept_pends old mid (learned it) devices same);
   }
 
-  pub relabels_unlooked : (label : List ℕ) (fault : StoreFault) → LooksUp old mid id (Err fault)
-      → Relabels old mid id label (Err fault)
+  pub relabels_unlooked : (label : List ℕ) (fault : StoreFault) → LooksUp (kept old) (kept mid) id (Err fault)
+      → Relabels (kept old) (kept mid) id label (Err fault)
   relabels_unlooked label fault looks = record {
     clean = looks.clean;
     registries = looks.registries;
@@ -421,7 +384,8 @@ module _ (old mid : State) (id : ℕ) where
   unknown (Some it) e = absurd (let none = e in cc)
 
   -- nothing is known of the sender
-  pub relabels_unknown : (label : List ℕ) → LooksUp old mid id (Ok None) → Relabels old mid id label (Ok false)
+  pub relabels_unknown : (label : List ℕ) → LooksUp {E = StoreFault} (kept old) (kept mid) id (Ok None)
+      → Relabels {E = StoreFault} (kept old) (kept mid) id label (Ok false)
   relabels_unknown label looks = record {
     clean = looks.clean;
     registries = looks.registries;
@@ -435,19 +399,25 @@ module _ (old mid : State) (id : ℕ) where
   label_in_device id None = refl
   label_in_device id (Some it) = refl
 
-  module _ (known : Option Device) (looks : LooksUp old mid id (Ok known)) (new : State) where
-    kept : HasCleanDisk mid → (devices : Devices) → HasDevices old devices → Keeps old mid devices
-    kept clean devices has = (looks.devices clean devices has).1
+  module _ (known : Option Device) (looks : LooksUp {E = StoreFault} (kept old) (kept mid) id (Ok known)) (new : State) where
+    kept_here : HasCleanDisk mid → (devices : Devices) → HasDevices old devices → Keeps (kept old) (kept mid) devices
+    kept_here clean devices has = (looks.devices clean devices has).1
 
-    learned_after : (it : Device) (r : Result Receipt LearnFault) (devices : Devices) → Keeps old mid devices
-        → MatchResult r (λ _. (is_full devices it.id ≡ false) × Commits new (learned it) devices)
-        (RefusesToLearn mid new it devices)
-        → MatchResult r (λ _. (is_full devices it.id ≡ false) × Commits new (learned it) devices)
-        (RefusesToLearn old new it devices)
-    learned_after it (Ok receipt) devices keeps done = done
+    learned_after : {A : Type 0} (it : Device) (r : Result A LearnFault) (devices : Devices)
+        → Keeps (kept old) (kept mid) devices
+        → MatchResult r (λ _. (is_full devices it.id ≡ false) × Commits (kept new) (learned it) devices)
+        (RefusesToLearn (kept mid) (kept new) it devices)
+        → MatchResult r (λ _. (is_full devices it.id ≡ false) × Commits (kept new) (learned it) devices)
+        (RefusesToLearn (kept old) (kept new) it devices)
+    learned_after it (Ok done) devices keeps then = then
     learned_after it (Err Full) devices keeps (full, then) = (full, keeps_then old mid new devices keeps then)
-    learned_after it (Err (Refused fault)) devices keeps then =
-        pends_then old mid new (learned it) devices keeps then
+    learned_after it (Err (Refused fault)) devices keeps then = by_full (is_full devices it.id) then
+      where
+        by_full : (full : Bool) → MatchBool full (Keeps (kept mid) (kept new) devices)
+            (Pends (kept mid) (kept new) (learned it) devices) → MatchBool full (Keeps (kept old) (kept new) devices)
+            (Pends (kept old) (kept new) (learned it) devices)
+        by_full true then = keeps_then old mid new devices keeps then
+        by_full false then = pends_then old mid new (learned it) devices keeps then
 
     -- what was told of the sender is so of whatever the registry holds now
     module _ (ready : HasCleanDisk mid → IsReady old × IsReady mid) where
@@ -488,64 +458,63 @@ module _ (old mid : State) (id : ℕ) where
         → (HasCleanDisk mid → (devices : Devices) → HasDevices mid devices → OnOk r
         (WritesRow state last change devices))
         → HasCleanDisk mid → (devices : Devices) → HasDevices old devices → OnOk r (WritesRow state last change devices)
-    written_after state last change r written clean devices has = written clean devices (kept clean devices has).now
+    written_after state last change r written clean devices has = written clean devices (kept_here clean devices has).now
 
-    pub learns_after : (it : Device) (r : Result Receipt LearnFault) → Learns mid new it r → Learns old new it r
+    pub learns_after : {A : Type 0} (it : Device) (r : Result A LearnFault) → Learns (kept mid) (kept new) it r → Learns (kept old) (kept new) it r
     learns_after it r learns = record {
       clean = λ clean. looks.clean (learns.clean clean);
       registries = learns.registries;
-      receipt = learns.receipt;
       devices = λ clean devices has.
-          let keeps = kept (learns.clean clean) devices has in
+          let keeps = kept_here (learns.clean clean) devices has in
           learned_after it r devices keeps (learns.devices clean devices keeps.now);
     }
 
-    relabelled_after : (label : List ℕ) (r : Result Bool StoreFault) (devices : Devices) → Keeps old mid devices
-        → MatchResult r (λ known. (known ≡ is_some (get devices id))
-        × MatchBool known (Commits new (relabelled id label) devices) (Keeps mid new devices))
-        (λ _. Pends mid new (relabelled id label) devices)
-        → MatchResult r (λ known. (known ≡ is_some (get devices id))
-        × MatchBool known (Commits new (relabelled id label) devices) (Keeps old new devices))
-        (λ _. Pends old new (relabelled id label) devices)
-    relabelled_after label (Ok true) devices keeps done = done
-    relabelled_after label (Ok false) devices keeps (is, then) = (is, keeps_then old mid new devices keeps then)
-    relabelled_after label (Err fault) devices keeps then =
-        pends_then old mid new (relabelled id label) devices keeps then
-
-    pub relabels_after : (label : List ℕ) (r : Result Bool StoreFault) → Relabels mid new id label r
-        → Relabels old new id label r
-    relabels_after label r relabels = record {
-      clean = λ clean. looks.clean (relabels.clean clean);
-      registries = relabels.registries;
+    -- the write of a label failed, or it is committed
+    pub relabels_failed : {A E F : Type 0} (label : List ℕ) (error : E) (fault : F)
+        → Updates {A = A} (kept mid) (kept new) (relabelled id label) (Err error)
+        → Relabels (kept old) (kept new) id label (Err fault)
+    relabels_failed label error fault updates = record {
+      clean = λ clean. looks.clean (updates.clean clean);
+      registries = updates.registries;
       devices = λ clean devices has.
-          let keeps = kept (relabels.clean clean) devices has in
-          relabelled_after label r devices keeps (relabels.devices clean devices keeps.now);
+          let keeps = kept_here (updates.clean clean) devices has in
+          pends_then old mid new (relabelled id label) devices keeps (updates.devices clean devices keeps.now);
     }
 
-pub if_written : (W : Type 0) (r : Result Bool StoreFault) → OnOk r W → IfOk r (λ known. IsTrue known → W)
-if_written W (Ok known) written = λ _. written
-if_written W (Err fault) written = tt
+    pub relabels_known : {A E F : Type 0} (label : List ℕ) (done : A) (it : Learned)
+        → (HasCleanDisk mid → (devices : Devices) → HasDevices mid devices
+        → after (get devices id) (Relabel label) ≡ Some it)
+        → Updates {A = A} {E = E} (kept mid) (kept new) (relabelled id label) (Ok done)
+        → Relabels {E = F} (kept old) (kept new) id label (Ok true)
+    relabels_known label done it known updates = record {
+      clean = λ clean. looks.clean (updates.clean clean);
+      registries = updates.registries;
+      devices = λ clean devices has.
+          let now = (kept_here (updates.clean clean) devices has).now in (
+            is_known (get devices id) label it (known (updates.clean clean) devices now),
+            updates.devices clean devices now,
+          );
+    }
 
 -- the label of a device says nothing of how it is learned
-pub learns_alike : (old new : State) (it other : Device) (r : Result Receipt LearnFault) → other.id ≡ it.id
-    → other.eep ≡ it.eep → other.maker ≡ it.maker → Learns old new other r → Learns old new it r
+pub learns_alike : {A : Type 0} (old new : State) (it other : Device) (r : Result A LearnFault) → other.id ≡ it.id
+    → other.eep ≡ it.eep → other.maker ≡ it.maker → Learns (kept old) (kept new) other r → Learns (kept old) (kept new) it r
 learns_alike old new it other r id eep maker learns =
     let same : other ≡ record { id = it.id; eep = it.eep; maker = it.maker; label = other.label } =
     λ i. record { id = id i; eep = eep i; maker = maker i; label = other.label } in
-    let as_it = subst (λ d. Learns old new d r) same learns in
+    let as_it = subst (λ d. Learns (kept old) (kept new) d r) same learns in
     record {
       clean = as_it.clean;
       registries = as_it.registries;
-      receipt = as_it.receipt;
       devices = λ clean devices has. unlabelled r devices (as_it.devices clean devices has);
     }
   where
-    unlabelled : (r : Result Receipt LearnFault) (devices : Devices)
-        → MatchResult r (λ _. (is_full devices it.id ≡ false) × Commits new (learned it) devices)
-        (RefusesToLearn old new (record { id = it.id; eep = it.eep; maker = it.maker; label = other.label }) devices)
-        → MatchResult r (λ _. (is_full devices it.id ≡ false) × Commits new (learned it) devices)
-        (RefusesToLearn old new it devices)
-    unlabelled (Ok receipt) devices done = done
+    unlabelled : {A : Type 0} (r : Result A LearnFault) (devices : Devices)
+        → MatchResult r (λ _. (is_full devices it.id ≡ false) × Commits (kept new) (learned it) devices)
+        (RefusesToLearn (kept old) (kept new) (record { id = it.id; eep = it.eep; maker = it.maker; label = other.label }) devices)
+        → MatchResult r (λ _. (is_full devices it.id ≡ false) × Commits (kept new) (learned it) devices)
+        (RefusesToLearn (kept old) (kept new) it devices)
+    unlabelled (Ok receipt) devices then = then
     unlabelled (Err Full) devices done = done
     unlabelled (Err (Refused fault)) devices done = done
 

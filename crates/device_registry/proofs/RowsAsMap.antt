@@ -16,7 +16,7 @@ use Rattle.sqlite_value.proofs.OrderLemmas.{value_cmp-Int}
 use Rattle.sqlite_trees.specs.Tree.{put_row, without_rowid, has_rowid, rowid}
 use Rattle.sqlite_rules.specs.Edit.{without_all}
 use Rattle.erp1_telegrams.specs.declared.eep.Eep.{Eep}
-use Rattle.device_registry.specs.Devices.{Learned}
+use Rattle.learned_devices.specs.Devices.{Learned}
 use Rattle.device_registry.specs.Table.Rows.{IsDevice, natural, entry_of, devices_in, stored}
 use Rattle.device_registry.specs.Table.Rows.{maker_number, maker_in, eep_number, eep_of}
 

@@ -20,7 +20,7 @@ use Rattle.device_registry.specs.Table.{number_of, find_all_text, read_version_t
 use Rattle.device_registry.specs.Table.{last_sender, last_profile, last_maker}
 use Rattle.device_registry.specs.Stored.{HasTables, IsWhole}
 use Rattle.device_registry.specs.Table.Rows.{RowidsDiffer, IsDevice, rows_of}
-use Rattle.device_registry.specs.Devices.{most_devices}
+use Rattle.learned_devices.specs.Devices.{most_devices}
 use Rattle.device_registry.specs.Table.Rows.{ShowsVersion, natural, is_number, is_maker, is_label_text}
 use Rattle.device_registry.specs.Table.Rows.{shows_device, devices_rise}
 use Rattle.device_registry.proofs.DistinctRows.{ranked, ranked_all, ranked_rises, apart_turned}

@@ -22,7 +22,7 @@ use Rattle.sqlite.specs.Program.{overlay}
 use Rattle.std.specs.Option.{unwrap_or}
 use Rattle.sqlite_sql.specs.Ops.{binary, is_true, from_truth}
 use Rattle.sqlite_sql.specs.Term.{Env, holds}
-use Rattle.device_registry.specs.Devices.{Learned}
+use Rattle.learned_devices.specs.Devices.{Learned}
 use Rattle.device_registry.specs.Table.Rows.{RowidsDiffer, IsDevice, entry_of, devices_in}
 use Rattle.device_registry.proofs.StatementTexts.{is_sender}
 use Rattle.device_registry.proofs.RowsAsMap.{seen, key_is, ids_apart, tied_same}

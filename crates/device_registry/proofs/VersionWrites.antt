@@ -17,7 +17,7 @@ use Rattle.sqlite_trees.specs.Tree.{Trees}
 use Rattle.sqlite_rules.specs.Edit.{edit_of, taken_by, edited, with_rowid}
 use Rattle.sqlite.proofs.Callers.{one_step, runs_as, statement_of}
 use Rattle.sqlite.proofs.StateLemmas.{survives_weaker}
-use Rattle.device_registry.specs.Devices.{Devices}
+use Rattle.learned_devices.specs.Devices.{Devices}
 use Rattle.device_registry.specs.Table.{renew_text, meta_table}
 use Rattle.device_registry.specs.Stored.{Registers, Holds}
 use Rattle.device_registry.specs.Ready.{Shows, IsReady, KeepsRows}

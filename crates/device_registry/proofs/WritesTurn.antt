@@ -16,7 +16,7 @@ use Rattle.sqlite.proofs.Callers.{runs_as}
 use Rattle.learned_devices.specs.Labels.{is_label}
 use Rattle.device_registry.specs.declared.table.Version.TheVariants.{Second}
 use Rattle.device_registry.specs.Table.{put_text, forget_text, renew_text}
-use Rattle.device_registry.specs.Devices.{Devices, Learned, Change, changed, forgotten, is_full}
+use Rattle.learned_devices.specs.Devices.{Devices, Learned, Change, changed, forgotten, is_full}
 use Rattle.device_registry.specs.Stored.{IsRegistry, Registers, Holds}
 use Rattle.device_registry.specs.Ready.{Shows, IsReady, Turns, GoesOn}
 use Rattle.device_registry.proofs.StatementTexts.{put_terms, program_of, forget_query, renew_query}

@@ -2,7 +2,7 @@
 use Rattle.std.specs.Prelude.{◌≡◌, ℕ, List, Option, Contains}
 use Rattle.sqlite.specs.State.{State, HasCleanDisk}
 use Rattle.learned_devices.specs.declared.Device.{Device}
-use Rattle.device_registry.specs.Devices.{Devices, device_of}
+use Rattle.learned_devices.specs.Devices.{Devices, device_of}
 use Rattle.device_registry.specs.Ready.{Shows}
 
 -- the registry is open, and the entry is what it says of the sender

@@ -1,22 +1,16 @@
--- Why the store does not answer.
-use Rattle.std.specs.Prelude.{◌≡◌, Bool, true, false}
+-- What the errors of SQLite are reported as.
+use Rattle.std.specs.Prelude.{◌≡◌, false}
 use Rattle.sqlite.specs.declared.error.Error.{Error}
 use Rattle.sqlite.specs.declared.error.Error.TheVariants.{SqliteFailure}
 use Rattle.sqlite.specs.declared.error.ErrorCode.TheVariants.{OutOfMemory}
-use Rattle.device_registry.specs.declared.fault.StoreFault.{StoreFault}
+use Rattle.learned_devices.specs.declared.fault.StoreFault.{StoreFault}
+use Rattle.learned_devices.specs.Faults.{no_answer, no_memory}
 
--- the store had no memory
-abbrev pub is_no_memory : Error → Bool
-is_no_memory (SqliteFailure OutOfMemory) = true
-is_no_memory _ = false
-
--- what the store's answer is told as
+-- SQLite had no memory, or does not answer
 abbrev pub fault_of : Error → StoreFault
-fault_of error = record { is_memory = is_no_memory error }
+fault_of (SqliteFailure OutOfMemory) = no_memory
+fault_of _ = no_answer
 
-abbrev pub no_memory : StoreFault
-no_memory = record { is_memory = true }
-
--- where this is so, it was refused for want of memory: if it was not, this is not so
-abbrev pub IsMemoryWhere : Type 0 → StoreFault → Type 0
-IsMemoryWhere Whole fault = fault.is_memory ≡ false → ¬ Whole
+-- where this is so, the error is that there was no memory: if it is not, this is not so
+abbrev pub IsMemoryWhere : Type 0 → Error → Type 0
+IsMemoryWhere Whole error = (fault_of error).is_memory ≡ false → ¬ Whole

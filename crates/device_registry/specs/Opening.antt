@@ -15,7 +15,7 @@ use Rattle.sqlite_trees.specs.Tree.{Trees}
 use Rattle.device_registry.specs.declared.fault.OpenFault.{OpenFault}
 use Rattle.device_registry.specs.declared.fault.OpenFault.TheVariants.{NotARegistry}
 use Rattle.device_registry.specs.declared.table.Version.{Version}
-use Rattle.device_registry.specs.Devices.{Devices, most_devices}
+use Rattle.learned_devices.specs.Devices.{Devices, most_devices}
 use Rattle.device_registry.specs.Stored.{IsRegistry, Holds, IsHeld}
 use Rattle.device_registry.specs.Ready.{Shows}
 use Rattle.device_registry.specs.Holding.{AreRegistries, HasDevices, IsCommitted, MayFind, Finds, Opens}

@@ -8,7 +8,7 @@ use Rattle.sqlite_trees.specs.Tree.{Trees}
 use Rattle.sqlite_schema.specs.Names.{same_name}
 use Rattle.device_registry.specs.declared.table.Version.{Version}
 use Rattle.device_registry.specs.Table.{meta_name, device_name}
-use Rattle.device_registry.specs.Devices.{Devices, Change, changed}
+use Rattle.learned_devices.specs.Devices.{Devices, Change, changed}
 use Rattle.device_registry.specs.Stored.{Registers, Holds}
 
 -- the registry is open between two transactions, with these devices

@@ -17,7 +17,7 @@ use Rattle.sqlite_trees.specs.Tree.{Trees}
 use Rattle.sqlite_typing.specs.Types.{table_classes, row_classes}
 use Rattle.device_registry.specs.declared.table.Version.{Version}
 use Rattle.device_registry.specs.declared.table.Version.TheVariants.{First, Second}
-use Rattle.device_registry.specs.Devices.{Devices, most_devices}
+use Rattle.learned_devices.specs.Devices.{Devices, most_devices}
 use Rattle.device_registry.specs.Table.{meta_name, device_name, meta_text, device_text, meta_table, device_table}
 use Rattle.device_registry.specs.Table.Rows.{IsDevice, IsVersion, RowidsDiffer, devices_in, rows_of}
 

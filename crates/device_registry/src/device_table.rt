@@ -1,18 +1,18 @@
 //! The devices in the store, with nothing beside it.
-ghost use Rattle.std.specs.Prelude.{◌≡◌, OnOk, Err, Some};
+ghost use Rattle.std.specs.Prelude.{◌≡◌, OnOk, IfOk, IsTrue, Some, None};
 ghost use Rattle.std.specs.FinMap.{get};
 ghost use Rattle.sqlite.specs.State.{HasCleanDisk};
-ghost use Rattle.device_registry.specs.Devices.{Devices, Learn, Relabel, after, known_of, learned, relabelled};
-ghost use Rattle.device_registry.specs.Holding.{HasDevices, LooksUp, Learns, Forgets, Relabels, ListsAll, HandsOn};
-ghost use Rattle.device_registry.specs.Holding.{WritesRow};
+ghost use Rattle.learned_devices.specs.Devices.{Devices, Learn, Relabel, after, known_of, learned, relabelled};
+ghost use Rattle.learned_devices.specs.StoreCalls.{LooksUp, Updates, Forgets, ListsAll};
+ghost use Rattle.device_registry.specs.Holding.{HasDevices, HandsOn, IsRenewed, WritesRow, kept};
+ghost use Rattle.device_registry.specs.TableCalls.{Adds};
 ghost use Rattle.device_registry.specs.Ready.{IsReady, AreReady};
 
-use crate::fault::{LearnFault, StoreFault};
-use crate::receipt::Receipt;
 use crate::sql_connection::SqlConnection;
 use crate::store_calls::{forget_or_renew, has_no_room, list, look_up, put};
 use crate::table::rows::{all_listed, found};
 use learned_devices::Device;
+use sqlite::Error;
 use std::alloc::Global;
 use std::marker::Model;
 
@@ -41,8 +41,8 @@ impl<C: SqlConnection> Model for DeviceTable<C> {
 
 impl<C: SqlConnection> DeviceTable<C> {
     /// The device of a sender, if it is learned.
-    pub fn find(&mut self, id: u32) -> Result<Option<Device>, StoreFault>
-        ensures looks_up { LooksUp (C.state self.old) (C.state self.new) id result }
+    pub fn find(&mut self, id: u32) -> Result<Option<Device>, Error>
+        ensures looks_up { LooksUp (kept (C.state self.old)) (kept (C.state self.new)) id result }
         ensures ready { HasCleanDisk (C.state self.new) → OnOk result (AreReady (C.state self.old)
             (C.state self.new)) }
     {
@@ -50,32 +50,32 @@ impl<C: SqlConnection> DeviceTable<C> {
         found(&rows)
     }
 
-    /// Learns a device, in place of what was known of its sender. Its label is the one that the sender keeps.
-    pub fn learn(&mut self, device: Device) -> Result<Receipt, LearnFault>
+    /// Learns a device, in place of what was known of its sender, and returns whether there is room for it. Its label is
+    /// the one that the sender keeps.
+    pub fn learn(&mut self, device: Device) -> Result<bool, Error>
         requires { HasCleanDisk (C.state self.old) → (devices : Devices) → HasDevices (C.state self.old) devices →
             after (get devices device.id) (Learn device.eep device.maker) ≡ Some (known_of device) }
-        ensures learns { Learns (C.state self.old) (C.state self.new) device result }
+        ensures adds { Adds (kept (C.state self.old)) (kept (C.state self.new)) device result }
         ensures written { HasCleanDisk (C.state self.new) → (devices : Devices) →
-            HasDevices (C.state self.old) devices → OnOk result (WritesRow C.state self.new (learned device) devices) }
+            HasDevices (C.state self.old) devices → IfOk result (λ room. IsTrue room →
+            WritesRow C.state self.new (learned device) devices) }
         ensures ready { HasCleanDisk (C.state self.new) → OnOk result (AreReady (C.state self.old)
             (C.state self.new)) }
-        ensures ready_if_full { HasCleanDisk (C.state self.new) → result ≡ Err LearnFault.Full →
-            AreReady (C.state self.old) (C.state self.new) }
     {
-        let id = device.id;
-        if has_no_room(&mut self.conn, id)? {
-            return Err(LearnFault::Full);
+        if has_no_room(&mut self.conn, device.id)? {
+            return Ok(false);
         }
-        let changed = put(&mut self.conn, device)?;
-        Ok(Receipt::learned(changed, id))
+        put(&mut self.conn, device)?;
+        Ok(true)
     }
 
     /// Gives a sender, of which all but the label is known to be this, its label.
-    pub fn relabel(&mut self, device: Device) -> Result<bool, StoreFault>
+    pub fn relabel(&mut self, device: Device) -> Result<(), Error>
         requires ready { HasCleanDisk (C.state self.old) → IsReady (C.state self.old) }
         requires known { HasCleanDisk (C.state self.old) → (devices : Devices) → HasDevices (C.state self.old) devices →
             after (get devices device.id) (Relabel device.label) ≡ Some (known_of device) }
-        ensures relabels { Relabels (C.state self.old) (C.state self.new) device.id device.label result }
+        ensures updates { Updates (kept (C.state self.old)) (kept (C.state self.new))
+            (relabelled device.id device.label) result }
         ensures written { HasCleanDisk (C.state self.new) → (devices : Devices) →
             HasDevices (C.state self.old) devices → OnOk result (WritesRow C.state self.new
             (relabelled device.id device.label) devices) }
@@ -83,23 +83,26 @@ impl<C: SqlConnection> DeviceTable<C> {
             (C.state self.new)) }
     {
         put(&mut self.conn, device)?;
-        Ok(true)
+        Ok(())
     }
 
     /// Forgets a sender. It commits also where nothing is known of it.
-    pub fn forget(&mut self, id: u32) -> Result<Receipt, StoreFault>
-        ensures forgets { Forgets (C.state self.old) (C.state self.new) id result }
+    pub fn forget(&mut self, id: u32) -> Result<(), Error>
+        ensures forgets { Forgets (kept (C.state self.old)) (kept (C.state self.new)) id result }
+        ensures written { HasCleanDisk (C.state self.new) → (devices : Devices) →
+            HasDevices (C.state self.old) devices → OnOk result (get devices id ≡ None →
+            IsRenewed (C.state self.old) (C.state self.new)) }
         ensures ready { HasCleanDisk (C.state self.new) → OnOk result (AreReady (C.state self.old)
             (C.state self.new)) }
     {
         let rows = look_up(&mut self.conn, id)?;
-        let changed = forget_or_renew(&mut self.conn, id, &rows)?;
-        Ok(Receipt::forgotten(changed, id))
+        forget_or_renew(&mut self.conn, id, &rows)?;
+        Ok(())
     }
 
     /// All devices, by rising ID.
-    pub fn all(&mut self) -> Result<Vec<Device>, StoreFault>
-        ensures lists { ListsAll (C.state self.old) (C.state self.new) result }
+    pub fn all(&mut self) -> Result<Vec<Device>, Error>
+        ensures lists { ListsAll (kept (C.state self.old)) (kept (C.state self.new)) result }
         ensures ready { HasCleanDisk (C.state self.new) → OnOk result (AreReady (C.state self.old)
             (C.state self.new)) }
     {

@@ -3,6 +3,7 @@ ghost use Rattle.device_registry.specs.Holding.{HoldsSome};
 ghost use Rattle.device_registry.specs.Opening.{ClosedFilesAreFound, FewAreHeld, FoundAgain, HandedOn};
 ghost use Rattle.device_registry.specs.Opening.{CrashedFilesAreFound};
 ghost use Rattle.device_registry.specs.Opening.{RegistriesAreRecognized, OnlyOthersAreRefused, RefusedOpensKeep};
+ghost use Rattle.device_registry.specs.Ranges.{RegistriesAreInRange};
 
 use crate::registry::RegistryOver;
 use crate::sql_connection::SqlConnection;
@@ -16,6 +17,12 @@ pub fn few_are_held()
 /// What a stop left, of a registry or of a database that has neither of its tables yet, is what the next open finds.
 pub fn found_again()
     ensures { FoundAgain }
+{}
+
+/// The devices that a registry holds while its connection is open are in range, and so are those that a crash may leave
+/// and those that an open or a start finds.
+pub fn registries_are_in_range<C: SqlConnection>()
+    ensures { RegistriesAreInRange C.state }
 {}
 
 /// Behind a refused `prepare`, which is what an open does, the next open finds what it could have found before, or what

@@ -6,6 +6,7 @@
 #![tactic(auto)]
 
 mod cache;
+mod device_store;
 mod device_table;
 mod fault;
 pub mod laws;
@@ -15,7 +16,6 @@ mod making;
 mod migrating;
 mod opening;
 mod places;
-mod receipt;
 mod registry;
 mod sql_connection;
 mod store_calls;
@@ -25,10 +25,11 @@ mod taking;
 mod tests;
 mod transaction;
 
-pub use fault::{LearnFault, OpenFault, StoreFault};
-pub use learned_devices::{Device, LONGEST_LABEL, Label};
+pub use fault::OpenFault;
+pub use learned_devices::{
+    Device, DeviceStore, LONGEST_LABEL, Label, LearnFault, Receipt, StoreFault,
+};
 pub use limits::MOST_DEVICES;
 pub use opening::prepare;
-pub use receipt::Receipt;
 pub use registry::{Registry, RegistryOver};
 pub use sql_connection::SqlConnection;

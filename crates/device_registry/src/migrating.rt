@@ -4,7 +4,7 @@ ghost use Rattle.sqlite.specs.State.{HasCleanDisk, Survives};
 ghost use Rattle.sqlite.specs.Effect.{IsDatabase};
 ghost use Rattle.sqlite.specs.Held.{state};
 ghost use Rattle.device_registry.specs.declared.table.Version.TheVariants.{First};
-ghost use Rattle.device_registry.specs.Devices.{Devices};
+ghost use Rattle.learned_devices.specs.Devices.{Devices};
 ghost use Rattle.device_registry.specs.Stored.{IsRegistry, RegistersAs, Holds};
 ghost use Rattle.device_registry.specs.Ready.{Shows, KeepsOthers};
 ghost use Rattle.device_registry.specs.Opening.{Remains};

@@ -2,7 +2,7 @@
 ghost use Rattle.std.specs.Prelude.{◌≡◌, ◌≤◌, false, IsTrue, IfOk, IfErr, OnOk, OnErr, Err};
 ghost use Rattle.sqlite.specs.State.{HasCleanDisk, Survives, IsUnchanged};
 ghost use Rattle.sqlite_trees.specs.Tree.{Trees};
-ghost use Rattle.device_registry.specs.Devices.{Devices};
+ghost use Rattle.learned_devices.specs.Devices.{Devices};
 ghost use Rattle.device_registry.specs.Holding.{AreRegistries, IsRenewed, Opens};
 ghost use Rattle.device_registry.specs.Stored.{IsHeld};
 ghost use Rattle.device_registry.specs.Ready.{IsReady, KeepsOthers, KeepsRows};

@@ -1,20 +1,19 @@
 //! The registry.
-ghost use Rattle.std.specs.Prelude.{◌≡◌, [], true, Some, option_map, IfOk, IsTrue, OnOk};
+ghost use Rattle.std.specs.Prelude.{◌≡◌, [], true, false, Some, None, option_map, IfOk, IsTrue, OnOk};
 ghost use Rattle.std.specs.FinMap.{get};
 ghost use Rattle.sqlite.specs.State.{HasCleanDisk};
 ghost use Rattle.learned_devices.specs.Labels.{is_label};
-ghost use Rattle.device_registry.specs.Devices.{Devices, Learn, Relabel, after, kept_label, known_of};
-ghost use Rattle.device_registry.specs.Devices.{learned, relabelled};
-ghost use Rattle.device_registry.specs.Holding.{HasDevices, LooksUp, Learns, Forgets, Relabels, ListsAll, HandsOn};
-ghost use Rattle.device_registry.specs.Holding.{WritesRow};
+ghost use Rattle.learned_devices.specs.Devices.{Devices, Learn, Relabel, after, kept_label, known_of};
+ghost use Rattle.learned_devices.specs.Devices.{learned, relabelled};
+ghost use Rattle.learned_devices.specs.StoreCalls.{LooksUp, Updates, Learns, Forgets, Relabels, ListsAll};
+ghost use Rattle.device_registry.specs.Holding.{HasDevices, HandsOn, IsRenewed, WritesRow, kept};
 ghost use Rattle.device_registry.specs.Ready.{IsReady, AreReady};
 
 use crate::cache::{Cache, cached, copied, forget_entry, remember};
 use crate::device_table::DeviceTable;
-use crate::fault::{LearnFault, StoreFault};
-use crate::receipt::Receipt;
+use crate::fault::store_fault;
 use crate::sql_connection::SqlConnection;
-use learned_devices::{Device, Label};
+use learned_devices::{Device, DeviceStore, Label, LearnFault, Receipt, StoreFault};
 use sqlite::Connection;
 use std::marker::Model;
 
@@ -89,7 +88,7 @@ fn with_label(id: u32, known: Device, text: &str) -> Device
 impl<C: SqlConnection> RegistryOver<C> {
     // The device of a sender, if it is learned. An answer says besides that the connection is open.
     fn known(&mut self, id: u32) -> Result<Option<Device>, StoreFault>
-        ensures looks_up { LooksUp (C.state self.old) (C.state self.new) id result }
+        ensures looks_up { LooksUp (kept (C.state self.old)) (kept (C.state self.new)) id result }
         ensures ready { HasCleanDisk (C.state self.new) → OnOk result (AreReady (C.state self.old)
             (C.state self.new)) }
     {
@@ -102,25 +101,25 @@ impl<C: SqlConnection> RegistryOver<C> {
                 remember(&mut self.cache, id, copy);
                 Ok(known)
             }
-            Err(fault) => {
+            Err(error) => {
                 self.cache.clear();
-                Err(fault)
+                Err(store_fault(error))
             }
         }
     }
 
     /// The device of a sender, if it is learned.
     pub fn find(&mut self, id: u32) -> Result<Option<Device>, StoreFault>
-        ensures { LooksUp (C.state self.old) (C.state self.new) id result }
+        ensures { LooksUp (kept (C.state self.old)) (kept (C.state self.new)) id result }
     {
         self.known(id)
     }
 
     // Learns a device with the label that its sender keeps.
-    fn learn_kept(&mut self, device: Device) -> Result<Receipt, LearnFault>
+    fn learn_kept(&mut self, device: Device) -> Result<(), LearnFault>
         requires { HasCleanDisk (C.state self.old) → (devices : Devices) → HasDevices (C.state self.old) devices →
             after (get devices device.id) (Learn device.eep device.maker) ≡ Some (known_of device) }
-        ensures learns { Learns (C.state self.old) (C.state self.new) device result }
+        ensures learns { Learns (kept (C.state self.old)) (kept (C.state self.new)) device result }
         ensures written { HasCleanDisk (C.state self.new) → (devices : Devices) →
             HasDevices (C.state self.old) devices → OnOk result (WritesRow C.state self.new (learned device) devices) }
     {
@@ -128,24 +127,22 @@ impl<C: SqlConnection> RegistryOver<C> {
         let copy = device.copied();
         forget_entry(&mut self.cache, id);
         match self.table.learn(device) {
-            Ok(receipt) => {
+            Ok(true) => {
                 remember(&mut self.cache, id, Some(copy));
-                Ok(receipt)
+                Ok(())
             }
-            Err(LearnFault::Full) => Err(LearnFault::Full),
-            Err(fault) => {
+            Ok(false) => Err(LearnFault::Full),
+            Err(error) => {
                 self.cache.clear();
-                Err(fault)
+                Err(LearnFault::Refused(store_fault(error)))
             }
         }
     }
 
-    /// Learns a device, in place of what was known of its sender. A known sender keeps its label; another gets the
-    /// empty one, which the device has here. `Full` says that 1,000 others are learned. A device that is already
-    /// stored is written again.
-    pub fn learn(&mut self, device: Device) -> Result<Receipt, LearnFault>
+    // Stores a device. A known sender keeps its label; another gets the empty one, which the device has here.
+    pub(crate) fn put_device(&mut self, device: Device) -> Result<(), LearnFault>
         requires { device.label ≡ [] }
-        ensures learns { Learns (C.state self.old) (C.state self.new) device result }
+        ensures learns { Learns (kept (C.state self.old)) (kept (C.state self.new)) device result }
         ensures written { HasCleanDisk (C.state self.new) → (devices : Devices) →
             HasDevices (C.state self.old) devices → OnOk result (WritesRow C.state self.new (learned device) devices) }
     {
@@ -153,12 +150,26 @@ impl<C: SqlConnection> RegistryOver<C> {
         self.learn_kept(keeping_label(device, known))
     }
 
-    // Gives a known sender its label: this is what is known of it from then on.
-    fn relabel_known(&mut self, device: Device) -> Result<bool, StoreFault>
+    /// Learns a device, in place of what was known of its sender. A known sender keeps its label; another gets the
+    /// empty one, which the device has here. `Full` says that 1,000 others are learned. A device that is already
+    /// stored is written again.
+    pub fn learn(&mut self, device: Device) -> Result<Receipt, LearnFault>
+        requires { device.label ≡ [] }
+        ensures learns { Learns (kept (C.state self.old)) (kept (C.state self.new)) device result }
+        ensures receipt { IfOk result (λ receipt. (receipt.id ≡ device.id) × IsTrue receipt.is_learned) }
+        ensures written { HasCleanDisk (C.state self.new) → (devices : Devices) →
+            HasDevices (C.state self.old) devices → OnOk result (WritesRow C.state self.new (learned device) devices) }
+    {
+        DeviceStore::learn(self, device)
+    }
+
+    // Stores a device of a known sender, which has another label.
+    fn relabel_known(&mut self, device: Device) -> Result<(), StoreFault>
         requires ready { HasCleanDisk (C.state self.old) → IsReady (C.state self.old) }
         requires known { HasCleanDisk (C.state self.old) → (devices : Devices) → HasDevices (C.state self.old) devices
             → after (get devices device.id) (Relabel device.label) ≡ Some (known_of device) }
-        ensures relabels { Relabels (C.state self.old) (C.state self.new) device.id device.label result }
+        ensures updates { Updates (kept (C.state self.old)) (kept (C.state self.new))
+            (relabelled device.id device.label) result }
         ensures written { HasCleanDisk (C.state self.new) → (devices : Devices) →
             HasDevices (C.state self.old) devices → OnOk result (WritesRow C.state self.new
             (relabelled device.id device.label) devices) }
@@ -167,13 +178,13 @@ impl<C: SqlConnection> RegistryOver<C> {
         let labelled = device.copied();
         forget_entry(&mut self.cache, id);
         match self.table.relabel(device) {
-            Ok(done) => {
+            Ok(()) => {
                 remember(&mut self.cache, id, Some(labelled));
-                Ok(done)
+                Ok(())
             }
-            Err(fault) => {
+            Err(error) => {
                 self.cache.clear();
-                Err(fault)
+                Err(store_fault(error))
             }
         }
     }
@@ -182,43 +193,60 @@ impl<C: SqlConnection> RegistryOver<C> {
     /// again.
     pub fn relabel(&mut self, id: u32, text: &str) -> Result<bool, StoreFault>
         requires { is_label text.now ≡ true }
-        ensures relabels { Relabels (C.state self.old) (C.state self.new) id text.now result }
+        ensures relabels { Relabels (kept (C.state self.old)) (kept (C.state self.new)) id text.now result }
         ensures written { HasCleanDisk (C.state self.new) → (devices : Devices) →
             HasDevices (C.state self.old) devices → IfOk result (λ known. IsTrue known → WritesRow C.state self.new
             (relabelled id text.now) devices) }
     {
         match self.known(id)? {
-            Some(known) => self.relabel_known(with_label(id, known, text)),
+            Some(known) => {
+                self.relabel_known(with_label(id, known, text))?;
+                Ok(true)
+            }
             None => Ok(false),
         }
     }
 
-    /// Forgets a sender. It commits also where nothing is known of it.
-    pub fn forget(&mut self, id: u32) -> Result<Receipt, StoreFault>
-        ensures { Forgets (C.state self.old) (C.state self.new) id result }
+    // Deletes the device of a sender. It commits also where nothing is known of the sender.
+    pub(crate) fn delete_device(&mut self, id: u32) -> Result<(), StoreFault>
+        ensures forgets { Forgets (kept (C.state self.old)) (kept (C.state self.new)) id result }
+        ensures written { HasCleanDisk (C.state self.new) → (devices : Devices) →
+            HasDevices (C.state self.old) devices → OnOk result (get devices id ≡ None →
+            IsRenewed (C.state self.old) (C.state self.new)) }
     {
         forget_entry(&mut self.cache, id);
         match self.table.forget(id) {
-            Ok(receipt) => {
+            Ok(()) => {
                 remember(&mut self.cache, id, None);
-                Ok(receipt)
+                Ok(())
             }
-            Err(fault) => {
+            Err(error) => {
                 self.cache.clear();
-                Err(fault)
+                Err(store_fault(error))
             }
         }
     }
 
+    /// Forgets a sender. It commits also where nothing is known of it: the version row is then written as it is.
+    pub fn forget(&mut self, id: u32) -> Result<Receipt, StoreFault>
+        ensures forgets { Forgets (kept (C.state self.old)) (kept (C.state self.new)) id result }
+        ensures receipt { IfOk result (λ receipt. (receipt.id ≡ id) × (receipt.is_learned ≡ false)) }
+        ensures written { HasCleanDisk (C.state self.new) → (devices : Devices) →
+            HasDevices (C.state self.old) devices → OnOk result (get devices id ≡ None →
+            IsRenewed (C.state self.old) (C.state self.new)) }
+    {
+        DeviceStore::forget(self, id)
+    }
+
     /// All devices, by rising ID.
     pub fn all(&mut self) -> Result<Vec<Device>, StoreFault>
-        ensures { ListsAll (C.state self.old) (C.state self.new) result }
+        ensures { ListsAll (kept (C.state self.old)) (kept (C.state self.new)) result }
     {
         match self.table.all() {
             Ok(all) => Ok(all),
-            Err(fault) => {
+            Err(error) => {
                 self.cache.clear();
-                Err(fault)
+                Err(store_fault(error))
             }
         }
     }

@@ -7,7 +7,7 @@ ghost use Rattle.sqlite.specs.State.{State, HasCleanDisk, Survives, IsUnchanged,
 ghost use Rattle.sqlite.specs.State.{Executes, CommitsBy, Shown, FailsToQuery, CommitsShowing};
 ghost use Rattle.sqlite_trees.specs.Tree.{Trees};
 ghost use Rattle.device_registry.specs.declared.table.Version.TheVariants.{First};
-ghost use Rattle.device_registry.specs.Devices.{Devices};
+ghost use Rattle.learned_devices.specs.Devices.{Devices};
 ghost use Rattle.device_registry.specs.Stored.{IsRegistry, RegistersAs, Holds};
 ghost use Rattle.device_registry.specs.Ready.{Shows, KeepsOthers};
 ghost use Rattle.device_registry.specs.Opening.{Remains};

@@ -5,15 +5,14 @@ ghost use Rattle.std.specs.FinMap.{insert};
 ghost use Rattle.sqlite.specs.declared.types.Value.TheVariants.{Int, Text};
 ghost use Rattle.sqlite.specs.State.{HasCleanDisk, IsUnchanged, Survives, Executes, CommitsBy};
 ghost use Rattle.sqlite.specs.State.{Shown, FailsToQuery, CommitsShowing};
-ghost use Rattle.device_registry.specs.Devices.{Devices, Change, changed, forgotten, known_of, is_full, all_of};
-ghost use Rattle.device_registry.specs.Devices.{device_of};
+ghost use Rattle.learned_devices.specs.Devices.{Devices, Change, changed, forgotten, known_of, is_full, all_of};
+ghost use Rattle.learned_devices.specs.Devices.{device_of};
 ghost use Rattle.device_registry.specs.Table.{put_text, forget_text, renew_text};
 ghost use Rattle.device_registry.specs.Stored.{Holds};
 ghost use Rattle.device_registry.specs.Opening.{Remains};
 ghost use Rattle.device_registry.specs.Ready.{Shows, IsReady, StaysReady, Stays, Turns, KeepsRows};
 ghost use Rattle.device_registry.specs.Table.Rows.{AreFound, listed, put_params};
 
-use crate::fault::StoreFault;
 use crate::limits::MOST_DEVICES;
 use crate::sql_connection::SqlConnection;
 use crate::table::rows::{number, number_of, number_of_maker};
@@ -65,7 +64,7 @@ pub(crate) fn look_up<C: SqlConnection>(conn: &mut C, id: u32) -> Result<Vec<Row
 }
 
 /// Whether there is no room for a sender.
-pub(crate) fn has_no_room<C: SqlConnection>(conn: &mut C, id: u32) -> Result<bool, StoreFault>
+pub(crate) fn has_no_room<C: SqlConnection>(conn: &mut C, id: u32) -> Result<bool, Error>
     requires { StaysReady (C.state conn.old) }
     ensures stays { Stays (C.state conn.old) (C.state conn.new) }
     ensures full { HasCleanDisk (C.state conn.new) → IfOk result (λ full. IsReady (C.state conn.new) ×

@@ -1,13 +1,13 @@
 -- How answers are put out one after another.
 use Rattle.std.proofs.Common.{List, [], ◌∷◌, ◌++◌, append_assoc}
-use Rattle.sqlite.specs.State.{State as Stored}
+use Rattle.learned_devices.specs.Kept.{Kept}
 use Rattle.gateway_core.specs.Step.{Item, Answer}
 use Rattle.gateway_core.specs.Handling.{HandlerValue, Handles}
 use Rattle.gateway_core.proofs.ForCallers.{handles-nothing, handles-append}
 use Rattle.engines.specs.Outlets.{Way}
 use Rattle.engines.specs.Played.{Answers, AnswersPart}
 
-module _ {S : Type 0} (stored : S → Stored) {O : Type 0} (way : Way O) where
+module _ {S : Type 0} (stored : S → Kept) {O : Type 0} (way : Way O) where
   pub answers_nothing : (state : HandlerValue S) (o : O) → Answers stored state state [] (way.puts o o)
   answers_nothing state o = record { answers = []; handled = handles-nothing stored state; out = way.nothing o }
 

@@ -2,7 +2,7 @@
 use Rattle.std.proofs.Common.{◌≡◌, ℕ, ◌^◌, ◌<◌, List, [], ◌∷◌, ◌++◌, length, refl, ap, sym, subst, ◌∙◌}
 use Rattle.std.proofs.Common.{append_assoc, append-nil, arith, length-append, map, Some}
 use Rattle.std.proofs.lemmas.List.{map-append, length-map}
-use Rattle.sqlite.specs.State.{State as Stored}
+use Rattle.learned_devices.specs.Kept.{Kept}
 use Rattle.esp3_frames.specs.Packet.{Packet}
 use Rattle.esp3_frames.specs.Frames.{packets_in, rest_of}
 use Rattle.esp3_frames.specs.Framing.{MayBecomePacket}
@@ -40,7 +40,7 @@ items_of-piece rest bytes live =
     append-nil (map Received _) ∙ ap (λ (ps : List Packet). map Received ps)
     (brought-rest rest bytes ∙ ap (λ r. packets_in (r ++ bytes)) (sym (frames_of-may_become rest live).1))
 
-module _ {S : Type 0} (stored : S → Stored) {O : Type 0} (way : Way O) where
+module _ {S : Type 0} (stored : S → Kept) {O : Type 0} (way : Way O) where
   -- ---- the packets that wait
 
   pub drains_nothing : (old : Value S) (o : O) (count : ℕ) → count < 2 ^ 64
@@ -81,7 +81,7 @@ module _ {S : Type 0} (stored : S → Stored) {O : Type 0} (way : Way O) where
         (part_one stored way mid.handler new.handler (Received packet) answer mids now handled part));
   }
 
-module _ {O S : Type 0} (stored : S → Stored) (way : Way O) where
+module _ {O S : Type 0} (stored : S → Kept) (way : Way O) where
   -- ---- a piece
 
   -- bytes, and the packets that they make ready

@@ -7,9 +7,8 @@ use Rattle.std.specs.Io.KnownBytes.{Appends, Consumes, IsAtEnd}
 use Rattle.std.proofs.lemmas.List.{map-append}
 use Rattle.std.proofs.lemmas.List.Folds.{concat-append}
 use Rattle.std.proofs.lemmas.List.Concat.{flat_map-append}
-use Rattle.sqlite.specs.State.{State as Stored, HasCleanDisk}
-use Rattle.device_registry.specs.Devices.{Devices}
-use Rattle.device_registry.specs.Holding.{MayFind}
+use Rattle.learned_devices.specs.Kept.{Kept}
+use Rattle.learned_devices.specs.Devices.{Devices}
 use Rattle.gateway_core.specs.Step.{Item, Answer, Received, Ordered}
 use Rattle.gateway_core.specs.Stops.{Safe, nothing_left, left_by}
 use Rattle.gateway_core.specs.Lives.{Life, begun}
@@ -131,7 +130,7 @@ begun_brings s (Line line) (Line other) later is =
 begun_brings s (Piece bytes) (Line other) later never = absurd never
 begun_brings s (Line line) (Piece some) later never = absurd never
 
-module _ {S : Type 0} (state : S → Stored) where
+module _ {S : Type 0} (state : S → Kept) where
   -- of the items of some events a prefix was handled, where an answer to one of them broke off
   broken_brings : {breaks : List Answer → Answer → Type 0} (old new : Value S) (events : List Event) (event : Event)
       (later : List Event) → (b : Breaks state old new events event breaks)
@@ -154,7 +153,7 @@ module _ {S : Type 0} (state : S → Stored) where
   -- ---- a new gateway
 
   module _ (base : ℕ) (found : Devices) (old : Value S) (new : HandlerValue S) (began : IsNew state base found old)
-      (clean : HasCleanDisk (state new.registry)) where
+      (clean : (state new.registry).honest) where
     begins_at : IsAt state old.handler (begun base found)
     begins_at = (
       ap (λ (v : Value S). v.handler.base) began.value,
@@ -188,7 +187,7 @@ module _ {S : Type 0} (state : S → Stored) where
                 left = left;
               } in
               let safe : Safe (λ d. d ≡ found) (left_by nothing_left (begun base found) items went.fates) left =
-              safe-weaker (MayFind (state old.handler.registry)) (λ d. d ≡ found) began.left _ left
+              safe-weaker (state old.handler.registry).may_recover (λ d. d ≡ found) began.left _ left
               (went.stop left may) in
               elim (left_is_prefix life (record { run = went.run; safe = safe })) [
                 | inl is ↦ is
@@ -222,7 +221,7 @@ module _ {S : Type 0} (state : S → Stored) where
   -- an answer to one of the items of these events broke off
   broken_off : {breaks : List Answer → Answer → Type 0} (base : ℕ) (found : Devices) (old new : Value S)
       (events : List Event) (event : Event) (later all : List Event) → IsNew state base found old
-      → HasCleanDisk (state new.handler.registry) → all ≡ events ++ event ∷ later
+      → (state new.handler.registry).honest → all ≡ events ++ event ∷ later
       → (b : Breaks state old new events event breaks) (out : List Answer → Type 0)
       → out (b.answered.answers ++ b.answered.last ∷ [])
       → BrokenOff state base found (items_of [] all) out new.handler
@@ -285,7 +284,7 @@ module _ {S : Type 0} (state : S → Stored) where
     event_broken : (events : List Event) (event : Event)
         → Breaks state old.0 new.0 events event (WritesPart explains (sink.held old.2) (sink.held new.2))
         → (base : ℕ) (found : Devices) (input held : List ℕ) (later : List Event) → IsNew state base found old.0
-        → sink.held old.2 ≡ Some held → HasCleanDisk (state new.0.handler.registry)
+        → sink.held old.2 ≡ Some held → (state new.0.handler.registry).honest
         → script input ≡ events ++ event ∷ later
         → ReplaySpecified state source sink explains (Err Write) base found input held new
     event_broken events event b base found input held later began held_is clean whole =
@@ -414,7 +413,7 @@ module _ {S : Type 0} (state : S → Stored) where
     until_fault : (fault : RunFault) (count : ℕ) (read : List Turn) (piece : Option (List ℕ)) (radio lines : List ℕ)
         → Took read piece → Appends (serial_out.held old.3) (serial_out.held new.3) radio
         → Appends (desk_out.held old.4) (desk_out.held new.4) lines
-        → ((base : ℕ) (found : Devices) → IsNew state base found old.0 → HasCleanDisk (state new.0.handler.registry)
+        → ((base : ℕ) (found : Devices) → IsNew state base found old.0 → (state new.0.handler.registry).honest
         → BrokenOff state base found (items_of [] (events_with read piece)) (Out radio lines) new.0.handler)
         → ServesAsSpecified state serial_in desk_in serial_out desk_out explains (Err fault) old new count
     until_fault fault count read piece radio lines took radio_out lines_out broken base found serial desk sent printed

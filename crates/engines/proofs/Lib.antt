@@ -15,6 +15,4 @@ pub mod ReadLemmas
 pub mod TurnLemmas
 pub mod WiresLemmas
 pub mod ScriptReplayLemmas
-pub mod StartLemmas
 pub mod HeadlineLemmas
-pub mod LifeLemmas

@@ -10,7 +10,7 @@ use Rattle.std.proofs.lemmas.Result.{MatchResult-weaker}
 use Rattle.std.proofs.lemmas.List.Concat.{flat_map-append}
 use Rattle.std.proofs.lemmas.List.Elements.{All-append, All-nil}
 use Rattle.std.proofs.lemmas.List.{map-append, nil_from_length, length-take}
-use Rattle.sqlite.specs.State.{State as Stored}
+use Rattle.learned_devices.specs.Kept.{Kept}
 use Rattle.engines.specs.declared.engine.Engine.{Engine}
 use Rattle.engines.specs.declared.line_loop.Lines.{Lines}
 use Rattle.engines.specs.declared.line_loop.Player.{Player}
@@ -61,7 +61,7 @@ whole_behind a b first second rest last whole more =
     ∙ sym (append_assoc (flat_map with_end first) (flat_map with_end second) last)
     ∙ ap (λ s. s ++ last) (sym (flat_map-append with_end first second))
 
-module _ {O S : Type 0} (stored : S → Stored) (way : Way O) (lines : Lines) where
+module _ {O S : Type 0} (stored : S → Kept) (way : Way O) (lines : Lines) where
   -- the player at first
   abbrev pub first_player : {old new : Player O S} {bytes : List ℕ} → TakesBytes stored way lines old new bytes
       → Player O S
@@ -149,7 +149,7 @@ module _ {O S : Type 0} (stored : S → Stored) (way : Way O) (lines : Lines) wh
     broken = broken;
   }
 
-module _ {O S : Type 0} (stored : S → Stored) (way : Way O) where
+module _ {O S : Type 0} (stored : S → Kept) (way : Way O) where
   -- the line of a script that its end ends, in place of the script
   pub last_line : {A E : Type 0} (r : Result A E) (old new : Engine O S) (tail kept : List ℕ) → Keeps tail kept
       → (length kept ≡ 0 → ⊥) → TakesOrBreaks stored way r old new (event_of kept)

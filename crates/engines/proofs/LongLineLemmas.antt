@@ -1,5 +1,5 @@
 -- All lines that are too long are treated alike.
-use Rattle.sqlite.specs.State.{State as Stored}
+use Rattle.learned_devices.specs.Kept.{Kept}
 use Rattle.gateway_core.specs.Step.{longest_line}
 use Rattle.std.proofs.Common.{◌≡◌, ℕ, ◌+◌, ◌-◌, ◌<◌, ◌≤◌, List, [], ◌∷◌, ◌++◌, length, take, drop, refl}
 use Rattle.std.proofs.Common.{ap, sym, subst, ◌∙◌, arith, true, false, inl, inr, map}
@@ -60,7 +60,7 @@ length-strip line =
       | false ↦ omega arith
     ]
 
-module _ {S : Type 0} (stored : S → Stored) where
+module _ {S : Type 0} (stored : S → Kept) where
   -- a break at one order, in its parts
   record OneBroken (old new : Value S) (line : List ℕ) (breaks : List Answer → Answer → Type 0) : Type 0 where
     pub none : map Received new.ready ≡ []
@@ -105,7 +105,7 @@ module _ {S : Type 0} (stored : S → Stored) where
         };
       }
 
-module _ {O S : Type 0} (stored : S → Stored) (way : Way O) {A E : Type 0} (r : Result A E) (old new : Engine O S) where
+module _ {O S : Type 0} (stored : S → Kept) (way : Way O) {A E : Type 0} (r : Result A E) (old new : Engine O S) where
   takes_long : (short long : List ℕ) → longest_line < length short → longest_line < length long
       → Takes stored way old new (Line short ∷ []) → Takes stored way old new (Line long ∷ [])
   takes_long short long a b takes =

@@ -2,7 +2,7 @@
 use Rattle.std.proofs.Common.{◌≡◌, ◌<◌, ◌^◌, List, [], ◌∷◌}
 use Rattle.std.proofs.Common.{◌++◌, ap, sym, ◌∙◌, append_assoc, append-nil, map}
 use Rattle.std.proofs.Common.{arith, length, length-append}
-use Rattle.sqlite.specs.State.{State as Stored}
+use Rattle.learned_devices.specs.Kept.{Kept}
 use Rattle.esp3_frames.specs.Frames.{rest_of}
 use Rattle.esp3_frames.proofs.ForCallers.{frames_of-may_become}
 use Rattle.gateway_core.specs.Step.{Item, Received}
@@ -14,7 +14,7 @@ use Rattle.engines.specs.Played.{IsIdle}
 use Rattle.engines.specs.EngineSteps.{EngineBreaks, EnginePlays, Takes}
 use Rattle.engines.proofs.AnswerLemmas.{answers_nothing, answers-append, answers-part}
 
-module _ {O S : Type 0} (stored : S → Stored) (way : Way O) where
+module _ {O S : Type 0} (stored : S → Kept) (way : Way O) where
   pub plays_nothing : (old : Engine O S) → IsIdle old.gateway.now → EnginePlays stored way old old []
   plays_nothing old idle =
       let gateway = old.gateway.now in

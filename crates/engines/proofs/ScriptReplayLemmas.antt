@@ -2,7 +2,7 @@
 use Rattle.std.proofs.Common.{◌≡◌, ℕ, List, [], ◌∷◌, ◌++◌, ap, sym, ◌∙◌, append_assoc, append-nil}
 use Rattle.std.specs.List.{flat_map}
 use Rattle.std.specs.Str.Lines.{strip_carriage_return}
-use Rattle.sqlite.specs.State.{State as Stored}
+use Rattle.learned_devices.specs.Kept.{Kept}
 use Rattle.gateway_core.specs.Calls.{Value}
 use Rattle.gateway_core.specs.Events.{Event}
 use Rattle.byte_streams.specs.declared.sink.Sink as sinks
@@ -20,7 +20,7 @@ use Rattle.engines.specs.Written.{WritesAll, WritesPart, way_of_text}
 use Rattle.engines.proofs.LineLemmas.{ended_of_lines, script-ended, script-first}
 use Rattle.engines.proofs.PlayLemmas.{plays-break, takes-append}
 
-module _ {W S : Type 0} (stored : S → Stored) (sink : sinks.Ghosts W) where
+module _ {W S : Type 0} (stored : S → Kept) (sink : sinks.Ghosts W) where
   abbrev way : Way (ReplayText W)
   way = way_of_text sink
 

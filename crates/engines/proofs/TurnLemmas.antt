@@ -10,7 +10,7 @@ use Rattle.std.proofs.lemmas.List.{map-append}
 use Rattle.std.proofs.lemmas.List.Concat.{flat_map-append}
 use Rattle.std.proofs.lemmas.List.Elements.{All-append, All-nil}
 use Rattle.std.proofs.lemmas.List.Splits.{slice_split_none, slice_split_at, length-slice_split}
-use Rattle.sqlite.specs.State.{State as Stored}
+use Rattle.learned_devices.specs.Kept.{Kept}
 use Rattle.gateway_core.specs.Events.{Event, Piece, Line}
 use Rattle.engines.specs.Script.{IsOneLine, with_end}
 use Rattle.engines.specs.declared.line_loop.Lines.TheVariants.{OfDesk}
@@ -129,7 +129,7 @@ pieces-more read turn = map-append (λ (turn : Turn). turn.piece) read (turn ∷
 pub desks-more : (read : List Turn) (turn : Turn) → desks (read ++ turn ∷ []) ≡ desks read ++ turn.desk ∷ []
 desks-more read turn = map-append (λ (turn : Turn). turn.desk) read (turn ∷ [])
 
-module _ {O S : Type 0} (stored : S → Stored) (way : Way O) where
+module _ {O S : Type 0} (stored : S → Kept) (way : Way O) where
   -- the turns were taken, and of the desk's line that is not ended the first bytes are kept
   pub record TakesTurns (old new : Player O S) (read : List Turn) : Type 0 where
     pub ended : List (List ℕ)
@@ -154,7 +154,7 @@ module _ {O S : Type 0} (stored : S → Stored) (way : Way O) where
     taken = takes_none stored way old.engine idle fits;
   }
 
-module _ {O S : Type 0} (stored : S → Stored) (way : Way O) (entry old : Player O S) (read : List Turn)
+module _ {O S : Type 0} (stored : S → Kept) (way : Way O) (entry old : Player O S) (read : List Turn)
     (piece : List ℕ) (p : TakesTurns stored way entry old read) where
   abbrev begun : List Event
   begun = events_of_turns read ++ Piece piece ∷ []

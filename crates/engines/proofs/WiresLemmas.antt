@@ -1,6 +1,6 @@
 -- What an engine put out into two sinks, also where the loans of the gateway and of the sinks have ended.
 use Rattle.std.proofs.Common.{◌≡◌, List, inl, inr}
-use Rattle.sqlite.specs.State.{State as Stored}
+use Rattle.learned_devices.specs.Kept.{Kept}
 use Rattle.gateway_core.specs.Step.{Answer}
 use Rattle.gateway_core.specs.Calls.{Value}
 use Rattle.gateway_core.specs.Events.{Event}
@@ -17,7 +17,7 @@ use Rattle.engines.specs.Turns.{Turn}
 use Rattle.engines.specs.Wires.{way_of_wires, wires}
 use Rattle.engines.proofs.CallCountLemmas.{not_well}
 
-module _ {R D S : Type 0} (stored : S → Stored) (serials : sinks.Ghosts R) (desks : sinks.Ghosts D)
+module _ {R D S : Type 0} (stored : S → Kept) (serials : sinks.Ghosts R) (desks : sinks.Ghosts D)
     (entry now : Engine (Wires R D) S) (gateway : Value S) (serial : R) (desk : D) (e : gateway ≡ now.gateway.now)
     (f : serial ≡ now.outlet.serial.now) (h : desk ≡ now.outlet.desk.now) where
   abbrev way : Way (Wires R D)

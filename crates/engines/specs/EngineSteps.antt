@@ -1,6 +1,6 @@
 -- What an engine does with packets that wait, and with events.
 use Rattle.std.specs.Prelude.{◌≡◌, ◌<◌, ℕ, List, [], ◌∷◌, ◌++◌, length, map, Result, MatchResult}
-use Rattle.sqlite.specs.State.{State as Stored}
+use Rattle.learned_devices.specs.Kept.{Kept}
 use Rattle.esp3_frames.specs.Packet.{Packet}
 use Rattle.json_lines.specs.Counts.{count_with}
 use Rattle.gateway_core.specs.Step.{Received, Answer}
@@ -10,7 +10,7 @@ use Rattle.engines.specs.declared.engine.Engine.{Engine}
 use Rattle.engines.specs.Outlets.{Way}
 use Rattle.engines.specs.Played.{Answers, AnswersPart, Plays, PlaysPartAtEnd, Breaks}
 
-module _ {S : Type 0} (stored : S → Stored) where
+module _ {S : Type 0} (stored : S → Kept) where
   -- the packets that waited first were handled, and no others
   pub record Drains (old new : Value S) (puts : List Answer → Type 0) (count total : ℕ) : Type 0 where
     pub packets : List Packet
@@ -27,7 +27,7 @@ module _ {S : Type 0} (stored : S → Stored) where
     pub rest : new.rest ≡ old.rest
     pub answered : AnswersPart stored old.handler new.handler (map Received packets) breaks
 
-module _ {O S : Type 0} (stored : S → Stored) (way : Way O) where
+module _ {O S : Type 0} (stored : S → Kept) (way : Way O) where
   -- the events were played, and their answers put out
   abbrev pub EnginePlays : Engine O S → Engine O S → List Event → Type 0
   EnginePlays old new events = Plays stored old.gateway.now new.gateway.now events (way.puts old.outlet new.outlet)

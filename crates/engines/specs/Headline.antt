@@ -2,9 +2,8 @@
 -- it. The contracts of the two functions say it, for every answer; that of `start` says how a gateway begins.
 use Rattle.std.specs.Prelude.{◌≡◌, ℕ, Bool, List, [], ◌++◌, length, Some, Result, MatchResult}
 use Rattle.std.specs.List.{concat, flat_map}
-use Rattle.sqlite.specs.State.{State as Stored, HasCleanDisk}
-use Rattle.device_registry.specs.Devices.{Devices}
-use Rattle.device_registry.specs.Holding.{AreRegistries, HasDevices, MayFind}
+use Rattle.learned_devices.specs.Kept.{Kept}
+use Rattle.learned_devices.specs.Devices.{Devices}
 use Rattle.gateway_core.specs.Step.{Item, Answer, State}
 use Rattle.gateway_core.specs.Run.{Fate, Run}
 use Rattle.gateway_core.specs.Lives.{begun}
@@ -40,16 +39,15 @@ radio_of answers = flat_map (λ answer. radio_bytes answer.radio) answers
 abbrev pub lines_of : Bool → List Answer → List ℕ
 lines_of explains answers = flat_map (desk_text explains) answers
 
--- `S` is what a gateway keeps its devices in, and `stored` its state in the words of the store: for a registry over a
--- connection that of the connection.
-module _ {S : Type 0} (stored : S → Stored) where
+-- `S` is the store of a gateway's devices, and `stored` what it keeps.
+module _ {S : Type 0} (stored : S → Kept) where
   -- A new gateway over a registry of these devices. It learns from nobody, has counted nothing, and no byte has come. A
   -- crash leaves these devices and nothing else.
   pub record IsNew (base : ℕ) (found : Devices) (gateway : Value S) : Type 0 where
     pub value : gateway ≡ new_value base gateway.handler.registry
-    pub known : HasDevices (stored gateway.handler.registry) found
-    pub registries : AreRegistries (stored gateway.handler.registry).may_leave
-    pub left : (left : Devices) → MayFind (stored gateway.handler.registry) left → left ≡ found
+    pub known : (stored gateway.handler.registry).holds found
+    pub registries : (stored gateway.handler.registry).sound
+    pub left : (left : Devices) → (stored gateway.handler.registry).may_recover left → left ≡ found
 
   -- From the devices found, the items were handled in turn. Each took the step of the definitions, or it was refused.
   -- Only an item that needs memory or the store can be refused; then only the count of refused items changed. The
@@ -64,8 +62,8 @@ module _ {S : Type 0} (stored : S → Stored) where
     pub run : Run (begun base found) items fates answers last
     pub are_out : out answers
     pub known : IsAt stored new last
-    pub registries : AreRegistries (stored new.registry).may_leave
-    pub left : (left : Devices) → MayFind (stored new.registry) left → AfterPrefix (begun base found) items fates left
+    pub registries : (stored new.registry).sound
+    pub left : (left : Devices) → (stored new.registry).may_recover left → AfterPrefix (begun base found) items fates left
 
   -- so it was with some prefix of the items, and no other item was handled
   pub record BrokenOff (base : ℕ) (found : Devices) (items : List Item) (out : List Answer → Type 0)
@@ -95,7 +93,7 @@ module _ {S : Type 0} (stored : S → Stored) where
       → Value S × R × W → Value S × R × W → Type 0
   ReplaysAsSpecified source sink explains result old new =
       (base : ℕ) (found : Devices) (input held : List ℕ) → IsNew base found old.0 → source.left old.1 ≡ Some input
-      → sink.held old.2 ≡ Some held → HasCleanDisk (stored new.0.handler.registry)
+      → sink.held old.2 ≡ Some held → (stored new.0.handler.registry).honest
       → ReplaySpecified source sink explains result base found input held new
 
   -- `live`, of a new gateway, two readers that have these bytes left, and two writers that hold these. At `Ok` all
@@ -132,6 +130,6 @@ module _ {S : Type 0} (stored : S → Stored) where
       (base : ℕ) (found : Devices) (serial desk sent printed : List ℕ) → IsNew base found old.0
       → serial_in.left old.1 ≡ Some serial → desk_in.left old.2 ≡ Some desk
       → serial_out.held old.3 ≡ Some sent → desk_out.held old.4 ≡ Some printed
-      → HasCleanDisk (stored new.0.handler.registry)
+      → (stored new.0.handler.registry).honest
       → LiveSpecified serial_in desk_in serial_out desk_out explains result count base found serial desk sent printed
       old new

@@ -14,8 +14,4 @@ pub mod Lines
 pub mod LineLoop
 pub mod Turns
 pub mod LiveGateway
-pub mod Faults
-pub mod Endings
-pub mod Started
-pub mod Lived
 pub mod Headline

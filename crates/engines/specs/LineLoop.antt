@@ -2,7 +2,7 @@
 use Rattle.std.specs.Prelude.{◌≡◌, ℕ, List, ◌∷◌, ◌++◌, All}
 use Rattle.std.specs.List.{flat_map}
 use Rattle.std.specs.Str.Lines.{strip_carriage_return}
-use Rattle.sqlite.specs.State.{State as Stored}
+use Rattle.learned_devices.specs.Kept.{Kept}
 use Rattle.engines.specs.declared.line_loop.Lines.{Lines}
 use Rattle.engines.specs.declared.line_loop.Player.{Player}
 use Rattle.engines.specs.Lines.{Keeps, event_by, events_by}
@@ -11,7 +11,7 @@ use Rattle.engines.specs.EngineSteps.{EngineBreaks, Takes}
 use Rattle.engines.specs.Script.{IsOneLine, with_end}
 
 -- Below, `bytes` are those of the line that was not ended at first, and those that came behind them.
-module _ {O S : Type 0} (stored : S → Stored) (way : Way O) (lines : Lines) where
+module _ {O S : Type 0} (stored : S → Kept) (way : Way O) (lines : Lines) where
   -- the lines that LF ends in the bytes were taken, and of the line behind these the first bytes are kept
   pub record TakesBytes (old new : Player O S) (bytes : List ℕ) : Type 0 where
     pub ended : List (List ℕ)

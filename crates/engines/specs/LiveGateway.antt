@@ -1,7 +1,7 @@
 -- What a live gateway reads, handles and writes.
 use Rattle.std.specs.Prelude.{◌≡◌, ◌↔◌, ◌+◌, ◌-◌, ◌^◌, min, ℕ, Bool, List, [], ◌∷◌, ◌++◌, length}
 use Rattle.std.specs.Prelude.{Option, None, Some, Result, IsOk}
-use Rattle.sqlite.specs.State.{State as Stored}
+use Rattle.learned_devices.specs.Kept.{Kept}
 use Rattle.gateway_core.specs.Step.{Answer}
 use Rattle.gateway_core.specs.Calls.{Value}
 use Rattle.gateway_core.specs.Events.{Event, Piece, items_of}
@@ -66,7 +66,7 @@ pub record HasRoomForTurns {S : Type 0} (now : LiveValue S) (turns : ℕ) : Type
   pub serial_out : HasRoom now.sinks.0.counts 0
   pub desk_out : HasRoom now.sinks.1.counts 0
 
-module _ {S : Type 0} (stored : S → Stored) where
+module _ {S : Type 0} (stored : S → Kept) where
   -- an answer to an order of the last turn did not get out
   pub record BreaksAtOrder (old new : Value S) (turns : List Turn) (breaks : List Answer → Answer → Type 0)
       : Type 0 where
@@ -86,7 +86,7 @@ module _ {S : Type 0} (stored : S → Stored) where
 
 -- Below, `at` says what is known of the live gateway before the call and behind it, and `explains` whether each packet
 -- is explained.
-module _ {S T : Type 0} (stored : S → Stored) (at : T → LiveValue S) (explains : Bool) where
+module _ {S T : Type 0} (stored : S → Kept) (at : T → LiveValue S) (explains : Bool) where
   -- so many turns were read, the items of their events, and nothing else, were handled and counted, and what their
   -- answers send and tell was written
   pub record Serves (old new : T) (turns : ℕ) (summary : Summary) : Type 0 where

@@ -1,6 +1,6 @@
 -- What an engine handles and puts out, whatever its outlet is.
 use Rattle.std.specs.Prelude.{◌≡◌, ◌<◌, List, [], ◌∷◌, ◌++◌, length, map, ℕ}
-use Rattle.sqlite.specs.State.{State as Stored}
+use Rattle.learned_devices.specs.Kept.{Kept}
 use Rattle.esp3_frames.specs.Framing.{MayBecomePacket}
 use Rattle.esp3_frames.specs.Frames.{rest_of}
 use Rattle.gateway_core.specs.Step.{Item, Received, Answer}
@@ -21,7 +21,7 @@ IsBegun (Line line) (Line other) = other ≡ line
 IsBegun event other = ⊥
 
 -- Below `puts` says of answers that just they were put out, and `breaks` that they were, but not all of one more.
-module _ {S : Type 0} (stored : S → Stored) where
+module _ {S : Type 0} (stored : S → Kept) where
   -- the items were handled, and their answers put out
   pub record Answers (old new : HandlerValue S) (items : List Item) (puts : List Answer → Type 0) : Type 0 where
     pub answers : List Answer

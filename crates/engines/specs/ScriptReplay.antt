@@ -1,7 +1,7 @@
 -- What a replay reads, handles and writes.
 use Rattle.std.specs.Prelude.{◌≡◌, ◌↔◌, ◌⊎◌, ◌+◌, ◌-◌, ◌^◌, min, ℕ, Bool, List, length, Result, Err}
 use Rattle.std.specs.Io.KnownBytes.{Consumes, IsAtEnd}
-use Rattle.sqlite.specs.State.{State as Stored}
+use Rattle.learned_devices.specs.Kept.{Kept}
 use Rattle.gateway_core.specs.Calls.{Value}
 use Rattle.gateway_core.specs.Events.{items_of}
 use Rattle.byte_streams.specs.Counts.{HasRoom, OneEmpty, WentWell}
@@ -27,7 +27,7 @@ replay_at source sink now =
 
 -- Below, `at` says what is known of the replay before the call and behind it, and `explains` whether each packet is
 -- explained.
-module _ {S T : Type 0} (stored : S → Stored) (at : T → ReplayValue S) (explains : Bool) where
+module _ {S T : Type 0} (stored : S → Kept) (at : T → ReplayValue S) (explains : Bool) where
   -- the source was read to its end, the items of the script, and nothing else, were handled and counted, and the text
   -- of their answers was written
   pub record Replays (old new : T) (summary : Summary) : Type 0 where

@@ -34,7 +34,7 @@ impl<O: Outlet, S: DeviceStore> Engine<'_, O, S> {
         requires { IsIdle self.old.gateway.now }
         ensures gateway { self.new.gateway.ghost_name ≡ self.old.gateway.ghost_name }
         ensures loans { O.loans self.new.outlet ≡ O.loans self.old.outlet }
-        ensures taken { TakesOrBreaks S.stored O.way result self.old self.new (PieceEvent piece.now) }
+        ensures taken { TakesOrBreaks S.kept O.way result self.old self.new (PieceEvent piece.now) }
     {
         // The proof needs that the count is a `u64`.
         let _start = self.items;
@@ -54,8 +54,8 @@ impl<O: Outlet, S: DeviceStore> Engine<'_, O, S> {
         ensures loans { O.loans self.new.outlet ≡ O.loans self.old.outlet }
         ensures within { IfOk result (λ count. (0 < count) × (count ≤ length bytes.now)) }
         ensures taken { MatchResult result
-            (λ count. Takes S.stored O.way self.old self.new (PieceEvent (take count bytes.now) ∷ []))
-            (λ _. EngineBreaks S.stored O.way self.old self.new [] (PieceEvent bytes.now)) }
+            (λ count. Takes S.kept O.way self.old self.new (PieceEvent (take count bytes.now) ∷ []))
+            (λ _. EngineBreaks S.kept O.way self.old self.new [] (PieceEvent bytes.now)) }
     {
         // The proof needs that the count is a `u64`.
         let _start = self.items;
@@ -75,9 +75,9 @@ impl<O: Outlet, S: DeviceStore> Engine<'_, O, S> {
         ensures gateway { self.new.gateway.ghost_name ≡ self.old.gateway.ghost_name }
         ensures loans { O.loans self.new.outlet ≡ O.loans self.old.outlet }
         ensures ready { OnOk result (self.new.gateway.now.ready ≡ []) }
-        ensures drained { OnOk result (Drains S.stored self.old.gateway.now self.new.gateway.now
+        ensures drained { OnOk result (Drains S.kept self.old.gateway.now self.new.gateway.now
             (O.way.puts self.old.outlet self.new.outlet) self.old.items self.new.items) }
-        ensures broken { OnErr result (DrainsPart S.stored self.old.gateway.now self.new.gateway.now
+        ensures broken { OnErr result (DrainsPart S.kept self.old.gateway.now self.new.gateway.now
             (O.way.breaks self.old.outlet self.new.outlet)) }
     {
         // The proof needs that the count is a `u64`.
@@ -93,7 +93,7 @@ impl<O: Outlet, S: DeviceStore> Engine<'_, O, S> {
         requires { IsIdle self.old.gateway.now }
         ensures gateway { self.new.gateway.ghost_name ≡ self.old.gateway.ghost_name }
         ensures loans { O.loans self.new.outlet ≡ O.loans self.old.outlet }
-        ensures taken { TakesOrBreaks S.stored O.way result self.old self.new (LineEvent line.now) }
+        ensures taken { TakesOrBreaks S.kept O.way result self.old self.new (LineEvent line.now) }
     {
         let reply = self.gateway.order(line);
         self.answer_order(&reply)
@@ -104,7 +104,7 @@ impl<O: Outlet, S: DeviceStore> Engine<'_, O, S> {
         requires { IsIdle self.old.gateway.now }
         ensures gateway { self.new.gateway.ghost_name ≡ self.old.gateway.ghost_name }
         ensures loans { O.loans self.new.outlet ≡ O.loans self.old.outlet }
-        ensures taken { TakesOrBreaks S.stored O.way result self.old self.new (event_of line.now) }
+        ensures taken { TakesOrBreaks S.kept O.way result self.old self.new (event_of line.now) }
     {
         if line.len() <= LONGEST_LINE && line.starts_with(b"S ".as_slice()) {
             self.take_digits(line)
@@ -120,7 +120,7 @@ impl<O: Outlet, S: DeviceStore> Engine<'_, O, S> {
         requires short { length line.now ≤ longest_line }
         ensures gateway { self.new.gateway.ghost_name ≡ self.old.gateway.ghost_name }
         ensures loans { O.loans self.new.outlet ≡ O.loans self.old.outlet }
-        ensures taken { TakesOrBreaks S.stored O.way result self.old self.new
+        ensures taken { TakesOrBreaks S.kept O.way result self.old self.new
             (spelled line.now (decode_of (drop 2 line.now))) }
     {
         let digits = &line[2..];

@@ -1,13 +1,9 @@
-//! A gateway's engines, which replay a script or serve a serial line and a desk; how they start, and what the program
-//! that runs them comes to.
+//! A gateway's engines, which replay a script or serve a serial line and a desk.
 #![tactic(auto)]
 
 mod desk_text;
 mod digits;
-pub mod ending;
 mod engine;
-pub mod fault;
-mod gateway_start;
 pub mod laws;
 mod line_loop;
 mod live_gateway;
@@ -18,7 +14,6 @@ mod script_replay;
 mod unended_line;
 mod wires;
 
-pub use gateway_start::start;
 pub use live_gateway::live;
 pub use runs::{LONGEST_READ, RunFault, Summary};
 pub use script_replay::replay;

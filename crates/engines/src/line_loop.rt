@@ -39,9 +39,9 @@ impl<O: Outlet, S: DeviceStore> Player<'_, O, S> {
         ensures loans { O.loans self.new.engine.outlet ≡ O.loans self.old.engine.outlet }
         ensures idle { OnOk result (IsIdle self.new.engine.gateway.now) }
         ensures taken { OnOk result ((tail : List ℕ) → Keeps tail self.old.unended →
-            TakesBytes S.stored O.way lines self.old self.new (tail ++ bytes.now)) }
+            TakesBytes S.kept O.way lines self.old self.new (tail ++ bytes.now)) }
         ensures stopped { OnErr result ((tail : List ℕ) → Keeps tail self.old.unended →
-            StopsAtLine S.stored O.way lines self.old self.new (tail ++ bytes.now)) }
+            StopsAtLine S.kept O.way lines self.old self.new (tail ++ bytes.now)) }
     {
         // The proof needs that the count is a `u64`.
         let _start = self.engine.items;
@@ -62,7 +62,7 @@ impl<O: Outlet, S: DeviceStore> Player<'_, O, S> {
         ensures idle { OnOk result (IsIdle self.new.engine.gateway.now) }
         ensures emptied { OnOk result (self.new.unended ≡ []) }
         ensures taken { (tail : List ℕ) → Keeps tail self.old.unended →
-            TakesOrBreaks S.stored O.way result self.old.engine self.new.engine
+            TakesOrBreaks S.kept O.way result self.old.engine self.new.engine
             (event_by lines (strip_carriage_return (tail ++ bytes.now))) }
     {
         if self.unended.as_slice().is_empty() {
@@ -80,7 +80,7 @@ impl<O: Outlet, S: DeviceStore> Player<'_, O, S> {
         ensures gateway { self.new.engine.gateway.ghost_name ≡ self.old.engine.gateway.ghost_name }
         ensures loans { O.loans self.new.engine.outlet ≡ O.loans self.old.engine.outlet }
         ensures taken { (tail : List ℕ) → Keeps tail self.old.unended →
-            TakesOrStops S.stored O.way result self.old.engine self.new.engine (script tail) }
+            TakesOrStops S.kept O.way result self.old.engine self.new.engine (script tail) }
     {
         // The proof needs that the count is a `u64`.
         let _start = self.engine.items;
@@ -111,7 +111,7 @@ fn take_line<O: Outlet, S: DeviceStore>(
     requires { IsIdle engine.old.gateway.now }
     ensures gateway { engine.new.gateway.ghost_name ≡ engine.old.gateway.ghost_name }
     ensures loans { O.loans engine.new.outlet ≡ O.loans engine.old.outlet }
-    ensures taken { TakesOrBreaks S.stored O.way result engine.old engine.new (event_by lines line.now) }
+    ensures taken { TakesOrBreaks S.kept O.way result engine.old engine.new (event_by lines line.now) }
 {
     match lines {
         Lines::OfScript => engine.take_script_line(line),

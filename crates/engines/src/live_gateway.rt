@@ -34,15 +34,15 @@ pub fn live<P: Source, Q: Source, R: Sink, D: Sink, S: DeviceStore>(
 ) -> Result<Summary, RunFault>
     requires { gateway.old.ready ≡ [] }
     // The headline, of a new gateway, and of readers and writers whose bytes are known.
-    ensures as_specified { ServesAsSpecified S.stored P.Source Q.Source R.Sink D.Sink explains result
+    ensures as_specified { ServesAsSpecified S.kept P.Source Q.Source R.Sink D.Sink explains result
         (gateway.old, serial_in.old, desk_in.old, serial_out.old, desk_out.old)
         (gateway.new, serial_in.new, desk_in.new, serial_out.new, desk_out.new) turns }
 
     // What is read, handled and written.
-    ensures ok { IfOk result (Serves S.stored (live_at P.Source Q.Source R.Sink D.Sink) explains
+    ensures ok { IfOk result (Serves S.kept (live_at P.Source Q.Source R.Sink D.Sink) explains
         (gateway.old, serial_in.old, desk_in.old, serial_out.old, desk_out.old)
         (gateway.new, serial_in.new, desk_in.new, serial_out.new, desk_out.new) turns) }
-    ensures err { IfErr result (ServesUntil S.stored (live_at P.Source Q.Source R.Sink D.Sink) explains
+    ensures err { IfErr result (ServesUntil S.kept (live_at P.Source Q.Source R.Sink D.Sink) explains
         (gateway.old, serial_in.old, desk_in.old, serial_out.old, desk_out.old)
         (gateway.new, serial_in.new, desk_in.new, serial_out.new, desk_out.new)) }
 

@@ -36,13 +36,13 @@ pub fn replay<R: Source, W: Sink, S: DeviceStore>(
 ) -> Result<Summary, RunFault>
     requires { gateway.old.ready ≡ [] }
     // The headline, of a new gateway, and of a reader and a writer whose bytes are known.
-    ensures as_specified { ReplaysAsSpecified S.stored R.Source W.Sink explains result
+    ensures as_specified { ReplaysAsSpecified S.kept R.Source W.Sink explains result
         (gateway.old, reader.old, writer.old) (gateway.new, reader.new, writer.new) }
 
     // What is read, handled and written.
-    ensures ok { IfOk result (Replays S.stored (replay_at R.Source W.Sink) explains
+    ensures ok { IfOk result (Replays S.kept (replay_at R.Source W.Sink) explains
         (gateway.old, reader.old, writer.old) (gateway.new, reader.new, writer.new)) }
-    ensures err { IfErr result (ReplaysUntil S.stored (replay_at R.Source W.Sink) explains
+    ensures err { IfErr result (ReplaysUntil S.kept (replay_at R.Source W.Sink) explains
         (gateway.old, reader.old, writer.old) (gateway.new, reader.new, writer.new)) }
 
     // How the reads and the writes went.

@@ -11,7 +11,8 @@ use Rattle.gateway_core.specs.Run.{Fate, Run, Taken, answer_with, state_with}
 use Rattle.gateway_core.specs.Lives.{IsLife, Life, begun}
 use Rattle.gateway_core.specs.Telling.{IsDeleted, Tells, acknowledged_change}
 use Rattle.gateway_core.specs.Acknowledgements.{Acknowledges, IsDurable, AcknowledgedIsDurable}
-use Rattle.gateway_core.specs.Ranges.{AreInRange, IsDeviceInRange, IsOfBytes, IsStateInRange}
+use Rattle.learned_devices.specs.Ranges.{AreInRange, IsDeviceInRange}
+use Rattle.gateway_core.specs.Ranges.{IsOfBytes, IsStateInRange}
 use Rattle.gateway_core.proofs.LifeLemmas.{lives_keep}
 use Rattle.gateway_core.proofs.RangeLemmas.{stays_in_range, learned-in, deleted-in}
 use Rattle.gateway_core.proofs.TellingLemmas.{teach_lines_are_told}

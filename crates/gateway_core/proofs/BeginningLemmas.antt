@@ -1,17 +1,15 @@
 -- One life, from its calls.
 use Rattle.std.proofs.Common.{◌≡◌, inl, inr, refl, sym, subst}
-use Rattle.sqlite.specs.State.{State as Stored}
-use Rattle.device_registry.specs.Devices.{Devices}
-use Rattle.device_registry.specs.Holding.{MayFind}
-use Rattle.device_registry.proofs.ForCallers.{handed_on}
+use Rattle.learned_devices.specs.Kept.{Kept}
+use Rattle.learned_devices.specs.Devices.{Devices}
 use Rattle.gateway_core.specs.Step.{change_of}
 use Rattle.gateway_core.specs.Stops.{Safe, pending, nothing_left, left_by}
 use Rattle.gateway_core.specs.Lives.{begun}
-use Rattle.gateway_core.specs.Beginnings.{CallsLeaveALife, ClosesALife, ClosesLeaveALife, EndsLeaveALife}
+use Rattle.gateway_core.specs.Beginnings.{CallsLeaveALife, EndsLeaveALife}
 use Rattle.gateway_core.specs.Beginnings.{StopsLeaveALife}
 use Rattle.gateway_core.proofs.StopLemmas.{safe-weaker, safe-pending, safe-last}
 
-module _ {S : Type 0} (stored : S → Stored) where
+module _ {S : Type 0} (stored : S → Kept) where
   pub calls_leave_a_life : CallsLeaveALife stored
   calls_leave_a_life old new found items answers honest begins handles left may =
       let went = handles.went honest (begun old.base found) begins.at in
@@ -20,7 +18,7 @@ module _ {S : Type 0} (stored : S → Stored) where
         last = went.last;
         is = record {
           run = went.run;
-          safe = safe-weaker (MayFind (stored old.registry)) (λ d. d ≡ found) begins.stop _ left
+          safe = safe-weaker (stored old.registry).may_recover (λ d. d ≡ found) begins.stop _ left
               (went.stop left may);
         };
       }
@@ -35,7 +33,7 @@ module _ {S : Type 0} (stored : S → Stored) where
       let safe : Safe Before (pending so_far went.last.devices (change_of went.last item)) left =
       elim (leaves left may) [
         | inl before ↦ safe-pending Before so_far went.last.devices (change_of went.last item) left
-            (safe-weaker (MayFind (stored old.registry)) Before begins.stop so_far left (went.stop left before))
+            (safe-weaker (stored old.registry).may_recover Before begins.stop so_far left (went.stop left before))
         | inr made ↦ subst (λ o. Safe Before (pending so_far went.last.devices o) left) (sym is) (inl (inl made))
       ] in
       record { fates = went.fates; last = went.last; is = record { run = went.run; safe = safe } }
@@ -58,10 +56,3 @@ module _ {S : Type 0} (stored : S → Stored) where
           itself = refl;
         },
       )
-
-  pub closes_leave_a_life : ClosesLeaveALife stored
-  closes_leave_a_life old new opened found next items answers honest begins handles closed opens =
-      let ends = ends_leave_a_life old new found items answers honest begins handles in
-      let itself : next ≡ ends.0 =
-      handed_on stored new.registry opened ends.0 next honest closed.committed ends.1 opens in
-      subst (ClosesALife old.base found items answers) (sym itself) ends.2

@@ -3,7 +3,7 @@ use Rattle.std.proofs.Common.{◌≡◌, ℕ, suc, ◌<◌, List, [], ◌∷◌,
 use Rattle.std.proofs.Common.{append_assoc, arith}
 use Rattle.std.proofs.Common.{append-nil, Some}
 use Rattle.std.proofs.Common.{None}
-use Rattle.sqlite.specs.State.{State as Stored}
+use Rattle.learned_devices.specs.Kept.{Kept}
 use Rattle.esp3_frames.specs.Packet.{Packet}
 use Rattle.esp3_frames.specs.Frames.{packets_in, rest_of}
 use Rattle.esp3_frames.proofs.ForCallers.{framing_in_parts, frames_of-may_become, empty_may_become}
@@ -13,7 +13,7 @@ use Rattle.gateway_core.specs.Calls.{Value, Call, Bytes, Next, Order, Moves, All
 use Rattle.gateway_core.specs.Calls.{CallsAreARun, RunsAreBytes}
 use Rattle.gateway_core.proofs.RunLemmas.{handles-nothing, handles-append}
 
-module _ {S : Type 0} (stored : S → Stored) where
+module _ {S : Type 0} (stored : S → Kept) where
   -- the stream so far holds the packets handled and those that wait, and the rest
   record Stands (stream : List ℕ) (before : List Packet) (v : Value S) : Type 0 where
     pub packets : packets_in stream ≡ before ++ v.ready

@@ -4,7 +4,7 @@ use Rattle.std.specs.Prelude.{unwrap_or, is_some}
 use Rattle.std.specs.Option.{option_map}
 use Rattle.std.specs.FinMap.{get}
 use Rattle.learned_devices.specs.declared.Device.{Device}
-use Rattle.device_registry.specs.Devices.{Learned, Devices, device, device_of}
+use Rattle.learned_devices.specs.Devices.{Learned, Devices, device, device_of}
 
 -- it has the ID under which it is found
 pub device_of-id : (devices : Devices) (id : ℕ) (known : Device) → Some known ≡ device_of devices id → known.id ≡ id

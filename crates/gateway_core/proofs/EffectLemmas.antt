@@ -11,7 +11,7 @@ use Rattle.profiles_rps.specs.Reading.{Entry}
 use Rattle.profiles_rps.specs.declared.unreadable.Unreadable.{Unreadable}
 use Rattle.profiles_rps.specs.declared.unreadable.Unreadable.TheVariants as unreadable
 use Rattle.learned_devices.specs.declared.Device.{Device}
-use Rattle.device_registry.specs.Devices.{device_of, all_of, is_full}
+use Rattle.learned_devices.specs.Devices.{device_of, all_of, is_full}
 use Rattle.teach_in.specs.declared.four_byte.FourByteQuery.{FourByteQuery}
 use Rattle.teach_in.specs.declared.ute.UteQuery.{UteQuery}
 use Rattle.teach_in.specs.declared.mode.Mode.{Mode}

@@ -1,6 +1,6 @@
 -- The facts about the definitions that proofs cite, also those of the crates above: the laws, and steps that they are
 -- made of.
-pub use Rattle.gateway_core.proofs.BeginningLemmas.{calls_leave_a_life, closes_leave_a_life, ends_leave_a_life}
+pub use Rattle.gateway_core.proofs.BeginningLemmas.{calls_leave_a_life, ends_leave_a_life}
 pub use Rattle.gateway_core.proofs.BeginningLemmas.{stops_leave_a_life}
 pub use Rattle.gateway_core.proofs.ByteLemmas.{items_are_of_bytes}
 pub use Rattle.gateway_core.proofs.CallLemmas.{calls_are_a_run}
@@ -8,7 +8,6 @@ pub use Rattle.gateway_core.proofs.CountLemmas.{count_on, refusals_are_counted, 
 pub use Rattle.gateway_core.proofs.ReplyLemmas.{radio_is_told}
 pub use Rattle.gateway_core.proofs.EventLemmas.{brought-append, brought-rest, items_of-append, cuts_do_not_matter}
 pub use Rattle.gateway_core.proofs.EventLemmas.{cuts_are_answered_alike}
-pub use Rattle.gateway_core.proofs.HeldLemmas.{registries_are_in_range}
 pub use Rattle.gateway_core.proofs.LifeLemmas.{lives_keep}
 pub use Rattle.gateway_core.proofs.LongLineLemmas.{handles_alike}
 pub use Rattle.gateway_core.proofs.PrefixLemmas.{safe_is_prefix, left_is_prefix}

@@ -7,7 +7,6 @@ pub mod EffectLemmas
 pub mod EventLemmas
 pub mod ExplainingLemmas
 pub mod ForCallers
-pub mod HeldLemmas
 pub mod LifeLemmas
 pub mod LongLineLemmas
 pub mod PrefixLemmas

@@ -8,8 +8,9 @@ use Rattle.std.proofs.lemmas.Bool.Decides.{nat_tests}
 use Rattle.std.specs.FinMap.{get, get-insert, get-remove}
 use Rattle.std.specs.Prelude.{unwrap_or, IsSome}
 use Rattle.std.specs.Option.{option_map}
-use Rattle.device_registry.specs.Devices.{Learned, Devices, Deed, Learn, Forget, Relabel, Change, kept_label, after}
-use Rattle.device_registry.specs.Devices.{entered, changed, device, learned, forgotten, relabelled}
+use Rattle.learned_devices.specs.Devices.{Learned, Devices, Deed, Learn, Forget, Relabel, Change, kept_label, after}
+use Rattle.learned_devices.specs.Devices.{changed, device, learned, forgotten, relabelled}
+use Rattle.learned_devices.proofs.ForCallers.{get-entered}
 use Rattle.gateway_core.specs.Step.{State, Item, Answer, change_of, with_change, state_after}
 use Rattle.gateway_core.specs.Run.{Fate, Taken, Refused, RefusedAtWrite, state_with, Run}
 use Rattle.gateway_core.specs.Promises.{Promises, Leaves}
@@ -24,11 +25,6 @@ same_key q = grind (arith, nat_tests)
 
 other_key : (q a : ℕ) → a ≢ q → eq_by_cmp nat_cmp q a ≡ false
 other_key q a h = grind (arith, nat_tests)
-
-pub get-entered : (devices : Devices) (id : ℕ) (o : Option Learned) (q : ℕ)
-    → get (entered devices id o) q ≡ cond (eq_by_cmp nat_cmp q id) o (get devices q)
-get-entered devices id (Some it) q = get-insert nat_cmp_total devices id it q
-get-entered devices id None q = get-remove nat_cmp_total devices id q
 
 get-same : (devices : Devices) (change : Change)
     → get (changed devices change) change.sender ≡ after (get devices change.sender) change.deed

@@ -2,8 +2,7 @@
 use Rattle.std.proofs.Common.{◌≡◌, ℕ, ◌<◌, List, [], ◌∷◌, length, refl, ap, sym, subst, ◌∙◌}
 use Rattle.std.specs.Prelude.{if◌then◌else◌, IsSome}
 use Rattle.std.proofs.lemmas.Bool.{lt-ltb}
-use Rattle.sqlite.specs.State.{State as Stored}
-use Rattle.device_registry.specs.Holding.{MayFind}
+use Rattle.learned_devices.specs.Kept.{Kept}
 use Rattle.json_lines.specs.Counts.{raised}
 use Rattle.json_lines.specs.declared.fixed.ErrorName.TheVariants.{TooLong}
 use Rattle.actuator_commands.specs.Orders.{order_of}
@@ -50,7 +49,7 @@ left_alike old item other (Refused cause ∷ fates) e = refl
 left_alike old item other (RefusedAtWrite cause ∷ fates) e =
     ap (λ (d : Effect). pending nothing_left old.devices d.change) e
 
-module _ {S : Type 0} (stored : S → Stored) where
+module _ {S : Type 0} (stored : S → Kept) where
   went_alike : (old new : HandlerValue S) (start : State) (line other : List ℕ) (answers : List Answer)
       → line_effect start line ≡ line_effect start other → Went stored old start (Ordered line ∷ []) answers new
       → Went stored old start (Ordered other ∷ []) answers new
@@ -59,7 +58,7 @@ module _ {S : Type 0} (stored : S → Stored) where
     last = went.last;
     run = run_alike start went.last line other went.fates answers e went.run;
     at = went.at;
-    stop = λ left may. let P : Left → Type 0 = λ l. Safe (MayFind (stored old.registry)) l left in
+    stop = λ left may. let P : Left → Type 0 = λ l. Safe (stored old.registry).may_recover l left in
         subst P (left_alike start (Ordered line) (Ordered other) went.fates e) (went.stop left may);
   }
 

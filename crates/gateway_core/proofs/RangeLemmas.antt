@@ -15,9 +15,10 @@ use Rattle.erp1_telegrams.specs.declared.eep.Eep.{Eep}
 use Rattle.erp1_telegrams.specs.Telegram.{Telegram, telegram_of}
 use Rattle.erp1_telegrams.proofs.TelegramLemmas.{of_carried}
 use Rattle.learned_devices.specs.declared.Device.{Device}
-use Rattle.device_registry.specs.Devices.{Learned, Devices, Deed, Learn, Forget, Relabel, Change, after, changed}
-use Rattle.device_registry.specs.Devices.{entered}
-use Rattle.device_registry.specs.Devices.{device, device_of, learned}
+use Rattle.learned_devices.specs.Devices.{Learned, Devices, Deed, Learn, Forget, Relabel, Change, after, changed}
+use Rattle.learned_devices.specs.Devices.{device, device_of, learned}
+use Rattle.learned_devices.specs.Ranges.{IsProfileInRange, IsMakerInRange, IsDeviceInRange, AreInRange}
+use Rattle.learned_devices.proofs.ForCallers.{entered-in}
 use Rattle.teach_in.specs.declared.four_byte.FourByteQuery.{FourByteQuery}
 use Rattle.teach_in.specs.declared.mode.Mode.{Mode}
 use Rattle.teach_in.specs.declared.mode.Mode.TheVariants.{Closed, LearnAnswer, LearnAs}
@@ -48,11 +49,10 @@ use Rattle.gateway_core.specs.Run.{Fate, Taken, Refused, RefusedAtWrite, state_w
 use Rattle.gateway_core.specs.Lives.{begun}
 use Rattle.gateway_core.specs.Prefixes.{IsYetDone, StopIsDone, state_by}
 use Rattle.gateway_core.specs.Telling.{IsDeleted, Tells, acknowledged_change}
-use Rattle.gateway_core.specs.Ranges.{IsProfileInRange, IsDeviceInRange, AreInRange, IsModeInRange, IsStateInRange}
+use Rattle.gateway_core.specs.Ranges.{IsModeInRange, IsStateInRange}
 use Rattle.gateway_core.specs.Ranges.{IsOfBytes, StaysInRange, LeavesInRange, IsOfDevice, TellsInRange}
 use Rattle.gateway_core.proofs.ByteLemmas.{AreBytes, field-below, four-below, front-bytes, back-bytes}
 use Rattle.gateway_core.proofs.EffectLemmas.{of_packet, of_line}
-use Rattle.gateway_core.proofs.LifeLemmas.{get-entered}
 use Rattle.gateway_core.proofs.PrefixLemmas.{left_is_prefix}
 use Rattle.gateway_core.proofs.TellingLemmas.{teach_lines_are_told}
 
@@ -70,9 +70,6 @@ sender-below packet t carried bytes =
     (four-below is.id (at 0 (omega arith)) (at 1 (omega arith)) (at 2 (omega arith)) (at 3 (omega arith)))
 
 -- ---- a plan
-
-abbrev pub IsMakerInRange : Option ℕ → Type 0
-IsMakerInRange maker = IfSome maker (λ maker. maker < 2 ^ 16)
 
 abbrev IsPlanInRange : Plan → Type 0
 IsPlanInRange (Add known) = IsProfileInRange known.eep × IsMakerInRange known.maker
@@ -237,22 +234,6 @@ after-in sender known (Learn eep maker) is old = is
 after-in sender known Forget is old = tt
 after-in sender (Some it) (Relabel label) is old = old
 after-in sender None (Relabel label) is old = tt
-
-pub entered-in : (devices : Devices) (sender : ℕ) (o : Option Learned)
-    → IfSome (option_map (device sender) o) IsDeviceInRange → AreInRange devices
-    → AreInRange (entered devices sender o)
-entered-in devices sender o is old id = by_key (eq_by_cmp nat_cmp id sender) refl
-  where
-    by_key : (b : Bool) → eq_by_cmp nat_cmp id sender ≡ b
-        → IfSome (device_of (entered devices sender o) id) IsDeviceInRange
-    by_key true e =
-        let key : id ≡ sender = grind (arith, nat_tests) in
-        subst (λ (k : Option Learned). IfSome (option_map (device id) k) IsDeviceInRange)
-        (sym (get-entered devices sender o id ∙ ap (λ b. cond b o (get devices id)) e))
-        (subst (λ k. IfSome (option_map (device k) o) IsDeviceInRange) (sym key) is)
-    by_key false e =
-        subst (λ (k : Option Learned). IfSome (option_map (device id) k) IsDeviceInRange)
-        (sym (get-entered devices sender o id ∙ ap (λ b. cond b o (get devices id)) e)) (old id)
 
 changed-in : (devices : Devices) (change : Change) → IsChangeInRange change → AreInRange devices
     → AreInRange (changed devices change)

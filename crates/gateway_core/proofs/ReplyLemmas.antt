@@ -6,7 +6,7 @@ use Rattle.esp3_frames.specs.Packet.{Packet, spelling}
 use Rattle.erp1_telegrams.specs.Telegram.{Telegram, telegram_of, sent}
 use Rattle.erp1_telegrams.specs.declared.eep.Eep.{Eep}
 use Rattle.learned_devices.specs.declared.Device.{Device}
-use Rattle.device_registry.specs.Devices.{device_of, is_full}
+use Rattle.learned_devices.specs.Devices.{device_of, is_full}
 use Rattle.teach_in.specs.Profiles.{supported}
 use Rattle.teach_in.proofs.ForCallers.{either, LearnsByTold, Hears}
 use Rattle.teach_in.specs.declared.mode.Mode.{Mode}

@@ -1,7 +1,6 @@
 -- Runs of many items.
 use Rattle.std.proofs.Common.{◌≡◌, inr, List, [], ◌∷◌, ◌++◌, refl, sym, ap, subst, ◌∙◌}
-use Rattle.sqlite.specs.State.{State as Stored}
-use Rattle.device_registry.specs.Holding.{MayFind}
+use Rattle.learned_devices.specs.Kept.{Kept}
 use Rattle.gateway_core.specs.Step.{State, Item, Answer}
 use Rattle.gateway_core.specs.Run.{Fate, Taken, Refused, RefusedAtWrite, Run, refused_for, refusal_of, answer_with}
 use Rattle.gateway_core.specs.Run.{state_with, SameRefusals}
@@ -22,7 +21,7 @@ run-append old mid new [] more (fate ∷ fates) others answers after first secon
 run-append old mid new (item ∷ items) more [] others answers after first second = absurd first
 run-append old mid new (item ∷ items) more (fate ∷ fates) others [] after first second = absurd first
 
-module _ {S : Type 0} (stored : S → Stored) where
+module _ {S : Type 0} (stored : S → Kept) where
   pub handles-nothing : (handler : HandlerValue S) → Handles stored handler [] [] handler
   handles-nothing handler = record {
     base = refl;
@@ -47,14 +46,14 @@ module _ {S : Type 0} (stored : S → Stored) where
     went = λ honest start at.
         let a = first.went (second.clean honest) start at in
         let b = second.went honest a.last a.at in
-        let Before = MayFind (stored old.registry) in
+        let Before = (stored old.registry).may_recover in
         record {
           fates = a.fates ++ b.fates;
           last = b.last;
           run = run-append start a.last b.last items more a.fates b.fates answers after a.run b.run;
           at = b.at;
           stop = λ left may. safe_joins Before start a.last items more a.fates b.fates answers left a.run
-              (safe-weaker (MayFind (stored mid.registry)) (Safe Before (left_by nothing_left start items a.fates))
+              (safe-weaker (stored mid.registry).may_recover (Safe Before (left_by nothing_left start items a.fates))
               a.stop _ left (b.stop left may));
         };
   }

@@ -1,8 +1,8 @@
 -- What is safe for two lists of items is safe for both joined.
 use Rattle.std.proofs.Common.{◌≡◌, ◌⊎◌, inl, inr, Bool, true, false, cond, List, [], ◌∷◌, ◌++◌, Option, Some, None}
 use Rattle.std.proofs.Common.{refl, sym, ap, subst, ◌∙◌}
-use Rattle.device_registry.specs.Devices.{Devices, changed}
-use Rattle.device_registry.specs.Devices.{Change}
+use Rattle.learned_devices.specs.Devices.{Devices, changed}
+use Rattle.learned_devices.specs.Devices.{Change}
 use Rattle.gateway_core.specs.Step.{State, Item, Answer, change_of, with_change}
 use Rattle.gateway_core.specs.Run.{Fate, Taken, Refused, RefusedAtWrite, state_with, Run}
 use Rattle.gateway_core.specs.Stops.{Left, nothing_left, told, pending, left_with, left_by, IsOneOf, Safe, SafeJoins}

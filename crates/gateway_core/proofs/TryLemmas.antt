@@ -3,21 +3,18 @@ use Rattle.std.proofs.Common.{◌<◌, ◌≡◌, inl, inr, ℕ, ◌≤◌, ◌+
 use Rattle.std.proofs.Common.{IsSome, List, []}
 use Rattle.std.proofs.Common.{◌∷◌, length, Option, Some, None, Result, Ok, Err, refl, sym, ap, subst, ◌∙◌, arith}
 use Rattle.std.proofs.Common.{append-nil}
-use Rattle.std.specs.Prelude.{if◌then◌else◌}
+use Rattle.std.specs.Prelude.{MatchBool, if◌then◌else◌}
 use Rattle.std.specs.Ordering.{nat_cmp}
 use Rattle.std.specs.Cmp.{nat_cmp_total}
 use Rattle.std.specs.FinMap.{get, len, insert, contains_key, from_entries, len-empty, len-insert, len-remove}
 use Rattle.std.proofs.lemmas.Bool.{leb-true, le-ltb}
-use Rattle.sqlite.specs.State.{State as Stored, HasCleanDisk}
+use Rattle.learned_devices.specs.Kept.{Kept, Keeps, Pends}
 use Rattle.erp1_telegrams.specs.declared.eep.Eep.{Eep}
 use Rattle.erp1_telegrams.specs.Telegram.{Telegram}
 use Rattle.profiles_rps.specs.Reading.{Entry}
 use Rattle.profiles_rps.specs.declared.unreadable.Unreadable.{Unreadable}
 use Rattle.learned_devices.specs.declared.Device.{Device}
-use Rattle.device_registry.specs.Devices.{most_devices, Learned, Devices, is_full, Change, learned, forgotten}
-use Rattle.device_registry.specs.Devices.{kept_label}
-use Rattle.device_registry.proofs.ForCallers.{few_are_held}
-use Rattle.device_registry.specs.Holding.{HasDevices, MayFind, AreRegistries, Keeps, Pends}
+use Rattle.learned_devices.specs.Devices.{Devices, is_full, Change, learned, forgotten}
 use Rattle.teach_in.specs.declared.mode.Mode.{Mode}
 use Rattle.teach_in.specs.declared.mode.Mode.TheVariants.{LearnAs}
 use Rattle.teach_in.specs.Profiles.{supported}
@@ -30,7 +27,7 @@ use Rattle.teach_in.specs.Plans.{plan_of}
 use Rattle.teach_in.proofs.ForCallers.{either, of_plan}
 use Rattle.json_lines.specs.declared.fixed.ErrorName.TheVariants as error
 use Rattle.gateway_core.specs.declared.handler.changes.Committed.{Committed}
-use Rattle.device_registry.specs.declared.fault.StoreFault.{StoreFault}
+use Rattle.learned_devices.specs.declared.fault.StoreFault.{StoreFault}
 use Rattle.gateway_core.specs.declared.refusal.Refusal.{Refusal}
 use Rattle.gateway_core.specs.declared.refusal.Refusal.TheVariants.{Before, AtWrite}
 use Rattle.json_lines.specs.declared.counts.Counts.{Counts}
@@ -65,11 +62,11 @@ known_with base mode counts devices = record { base = base; mode = mode; counts 
 
 -- ---- what is kept
 
-pub keeps-same : (s : Stored) (devices : Devices) → HasDevices s devices → Keeps s s devices
+pub keeps-same : (s : Kept) (devices : Devices) → s.holds devices → Keeps s s devices
 keeps-same s devices has = record { now = has; stop = λ left may. may }
 
 -- a look behind a look
-pub keeps-after : (old mid new : Stored) (devices : Devices) → Keeps old mid devices → Keeps mid new devices
+pub keeps-after : (old mid new : Kept) (devices : Devices) → Keeps old mid devices → Keeps mid new devices
     → Keeps old new devices
 keeps-after old mid new devices first second = record {
   now = second.now;
@@ -77,53 +74,11 @@ keeps-after old mid new devices first second = record {
 }
 
 -- a write that is tried behind a look
-pub pends-after : (old mid new : Stored) (change : Change) (devices : Devices) → Keeps old mid devices
+pub pends-after : (old mid new : Kept) (change : Change) (devices : Devices) → Keeps old mid devices
     → Pends mid new change devices → Pends old new change devices
 pends-after old mid new change devices keeps pends = record {
   now = pends.now;
   stop = λ left may. elim (pends.stop left may) [ inl before ↦ inl (keeps.stop left before) | inr is ↦ inr is ];
-}
-
--- ---- a full registry
-
-len-from_entries : (es : List (ℕ × Learned)) → len (from_entries {R = nat_cmp} es) ≤ length es
-len-from_entries [] = let none = len-empty nat_cmp Learned in omega (arith, none)
-len-from_entries (e ∷ es) =
-    let more =
-    one _ _ (contains_key (from_entries {R = nat_cmp} es) e.0)
-    (len-insert nat_cmp_total (from_entries es) e.0 e.1) in
-    omega (arith, more, len-from_entries es)
-  where
-    one : (n m : ℕ) (b : Bool) → m ≡ cond b n (n + 1) → m ≤ n + 1
-    one n m true is = omega (arith, is)
-    one n m false is = omega (arith, is)
-
--- with one device more than a full registry there are too many
-len-full : (devices : Devices) (id : ℕ) (it : Learned) → is_full devices id ≡ true
-    → most_devices < len (insert devices id it)
-len-full devices id it full =
-    one _ _ _ (contains_key devices id) (len-insert nat_cmp_total devices id it) (len-remove nat_cmp_total devices id)
-    (leb-true _ _ full)
-  where
-    one : (n m k : ℕ) (b : Bool) → m ≡ cond b n (n + 1) → k ≡ cond b (n - 1) n → most_devices ≤ k → most_devices < m
-    one n m k true is less many = omega (arith, is, less, many)
-    one n m k false is less many = omega (arith, is, less, many)
-
--- where the registry is full, a write that is tried leaves nothing
-pub keeps-full : (old new : Stored) (it : Device) (devices : Devices) → is_full devices it.id ≡ true
-    → Pends old new (learned it) devices → Keeps old new devices
-keeps-full old new it devices full pends = record {
-  now = pends.now;
-  stop = λ left may. elim (pends.stop left may) [
-    | inl before ↦ before
-    | inr is ↦
-        let most = few_are_held may.0 left may.2 in
-        let same = ap (λ (d : Devices). len d) is in
-        let many = len-full devices it.id
-        (record { eep = it.eep; maker = it.maker; label = kept_label (get devices it.id) })
-        full in
-        absurd (omega (arith, most, same, many))
-  ];
 }
 
 -- ---- what needs the store, which may be refused for either cause
@@ -222,7 +177,7 @@ pub by-radio : (state : State) (kind : Teach) (known : Device)
     → Adds known (tells_sender state kind (told_of known Full)) (accepts state kind known)
 by-radio state kind known = record { full_needs = refl; stays = refl; done_needs = refl; learns = refl }
 
-module _ {S : Type 0} (stored : S → Stored) where
+module _ {S : Type 0} (stored : S → Kept) where
   -- ---- an effect that comes behind a look
 
   made-after : (old mid new : S) (devices : Devices) (change : Option Change)
@@ -256,9 +211,9 @@ module _ {S : Type 0} (stored : S → Stored) where
   -- over another registry, where all else stays
   pub tries : (base : ℕ) (mode : Mode) (counts : Counts) (old new : S) (effect : State → Effect)
       (r : Result Done Refusal)
-      → (HasCleanDisk (stored new) → HasCleanDisk (stored old))
-      → (HasCleanDisk (stored new) → AreRegistries (stored new).may_leave)
-      → (HasCleanDisk (stored new) → (devices : Devices) → HasDevices (stored old) devices
+      → ((stored new).honest → (stored old).honest)
+      → ((stored new).honest → (stored new).sound)
+      → ((stored new).honest → (devices : Devices) → (stored old).holds devices
       → Comes (stored old) (stored new) devices
       (effect (record { base = base; mode = mode; counts = counts; devices = devices })) r)
       → Tries stored (record { base = base; mode = mode; counts = counts; registry = old }) effect r
@@ -306,9 +261,9 @@ module _ {S : Type 0} (stored : S → Stored) where
   pub tries-behind : (v mid new : HandlerValue S) (registry : S) (effect other : State → Effect)
       (r : Result Done Refusal)
       → mid ≡ record v { registry = registry }
-      → (HasCleanDisk (stored registry) → HasCleanDisk (stored v.registry))
-      → (HasCleanDisk (stored registry) → AreRegistries (stored registry).may_leave)
-      → (HasCleanDisk (stored registry) → (devices : Devices) → HasDevices (stored v.registry) devices
+      → ((stored registry).honest → (stored v.registry).honest)
+      → ((stored registry).honest → (stored registry).sound)
+      → ((stored registry).honest → (devices : Devices) → (stored v.registry).holds devices
       → (effect (state_of v devices) ≡ other (state_of v devices))
       × Keeps (stored v.registry) (stored registry) devices)
       → Tries stored mid other r new → Tries stored v effect r new
@@ -340,9 +295,9 @@ module _ {S : Type 0} (stored : S → Stored) where
 
   -- over another registry
   pub alone : (base : ℕ) (mode : Mode) (counts : Counts) (old new : S) (IsSo : Devices → Type 0)
-      → (HasCleanDisk (stored new) → HasCleanDisk (stored old))
-      → (HasCleanDisk (stored new) → AreRegistries (stored new).may_leave)
-      → (HasCleanDisk (stored new) → (devices : Devices) → HasDevices (stored old) devices → IsSo devices)
+      → ((stored new).honest → (stored old).honest)
+      → ((stored new).honest → (stored new).sound)
+      → ((stored new).honest → (devices : Devices) → (stored old).holds devices → IsSo devices)
       → RegistryAlone stored (record { base = base; mode = mode; counts = counts; registry = old }) IsSo
       (record { base = base; mode = mode; counts = counts; registry = new })
   alone base mode counts old new IsSo clean registries is_so =
@@ -391,22 +346,20 @@ module _ {S : Type 0} (stored : S → Stored) where
       (permitted effect.need (cause_of fault) need, keeps)
   refused-comes old new devices effect change (AtWrite fault) need changes pends = rw changes pends
 
-  -- a device is not learned: the write was tried, though the registry is full perhaps
+  -- a device is not learned: if the store is full, nothing is written
   addition-pending : (old new : S) (devices : Devices) (known : Device) (full done : Effect) → Adds known full done
-      → (cause : Cause) → Pends (stored old) (stored new) (learned known) devices
+      → (cause : Cause) → MatchBool (is_full devices known.id) (Keeps (stored old) (stored new) devices)
+      (Pends (stored old) (stored new) (learned known) devices)
       → IsPending (stored old) (stored new) devices (addition devices known full done).need cause
       (addition devices known full done).change
-  addition-pending old new devices known full done adds cause pends = one (is_full devices known.id) refl
+  addition-pending old new devices known full done adds cause refused = one (is_full devices known.id) refused
     where
-      one : (b : Bool) → is_full devices known.id ≡ b
+      one : (b : Bool)
+          → MatchBool b (Keeps (stored old) (stored new) devices) (Pends (stored old) (stored new) (learned known) devices)
           → let e : Effect = if b then full else done in
           IsPending (stored old) (stored new) devices e.need cause e.change
-      one true is =
-          rw adds.stays (
-            permitted full.need cause adds.full_needs,
-            keeps-full (stored old) (stored new) known devices is pends,
-          )
-      one false is = rw adds.learns pends
+      one true keeps = rw adds.stays (permitted full.need cause adds.full_needs, keeps)
+      one false pends = rw adds.learns pends
 
   module _ (old new : HandlerValue S) (known : Device) (full done : State → Effect)
       (adds : (devices : Devices) → Adds known (full (state_of old devices)) (done (state_of old devices))) where
@@ -509,14 +462,14 @@ module _ {S : Type 0} (stored : S → Stored) where
   -- a change that is committed, if any
   made-now : (old new : S) (devices : Devices) (change : Option Change)
       → IsMade (stored old) (stored new) devices change
-      → HasDevices (stored new) (with_change devices change)
+      → (stored new).holds (with_change devices change)
   made-now old new devices None keeps = keeps.now
   made-now old new devices (Some change) commits = commits.now
 
   made-safe : (old new : S) (devices : Devices) (change : Option Change)
       → IsMade (stored old) (stored new) devices change
-      → (left : Devices) → MayFind (stored new) left
-      → Safe (MayFind (stored old)) (told nothing_left devices change) left
+      → (left : Devices) → (stored new).may_recover left
+      → Safe (stored old).may_recover (told nothing_left devices change) left
   made-safe old new devices None keeps left may = inr (refl, keeps.stop left may)
   made-safe old new devices (Some change) commits left may = inl (inl (commits.stop left may))
 
@@ -538,7 +491,7 @@ module _ {S : Type 0} (stored : S → Stored) where
     last = refused start;
     run = (subst (λ o. IsSome o) (sym asks) refl, refl, refl);
     at = (base, mode, pends.now, counts);
-    stop = λ left may. subst (λ o. Safe (MayFind (stored old.registry)) (pending nothing_left start.devices o) left)
+    stop = λ left may. subst (λ o. Safe (stored old.registry).may_recover (pending nothing_left start.devices o) left)
         (sym asks)
         (elim (pends.stop left may) [ inl before ↦ inr (refl, before) | inr is ↦ inl (inl is) ]);
   }

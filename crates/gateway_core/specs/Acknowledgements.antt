@@ -3,14 +3,15 @@ use Rattle.std.specs.Prelude.{◌≡◌, ◌⊎◌, length, List, ◌∷◌, ◌
 use Rattle.std.specs.List.{AllByRecursion}
 use Rattle.std.specs.FinMap.{get}
 use Rattle.learned_devices.specs.declared.Device.{Device}
-use Rattle.device_registry.specs.Devices.{Devices}
+use Rattle.learned_devices.specs.Devices.{Devices}
+use Rattle.learned_devices.specs.Ranges.{AreInRange, IsDeviceInRange}
 use Rattle.teach_in.specs.declared.outcome.Outcome.TheVariants.{Accepted, Deleted}
 use Rattle.json_lines.specs.Lines.{HasNumbersInRange, Teach, TeachLine, text}
 use Rattle.gateway_core.specs.Step.{State, Item, Answer, change_of, state_after, told_of}
 use Rattle.gateway_core.specs.Run.{Fate, Run, Taken}
 use Rattle.gateway_core.specs.Lives.{AreLives, IsLife, Life, LifeSpares, Spares, StopSpares, begun}
 use Rattle.gateway_core.specs.Promises.{Promises}
-use Rattle.gateway_core.specs.Ranges.{AreInRange, IsDeviceInRange, IsOfBytes}
+use Rattle.gateway_core.specs.Ranges.{IsOfBytes}
 use Rattle.gateway_core.specs.Telling.{acknowledged_change}
 
 -- at one place, a life answered an item with this teach line

@@ -1,8 +1,7 @@
--- How the gateway's calls make a life: from the open that begins it to the stop that ends it.
+-- How the gateway's calls make a life: from its beginning to the crash that ends it.
 use Rattle.std.specs.Prelude.{◌≡◌, ℕ, List, Option, Some, None}
-use Rattle.sqlite.specs.State.{State as Stored, HasCleanDisk}
-use Rattle.device_registry.specs.Devices.{Devices, Change}
-use Rattle.device_registry.specs.Holding.{HandsOn, HasDevices, MayFind, MayLeave, Opens}
+use Rattle.learned_devices.specs.Kept.{Kept, MayLeave}
+use Rattle.learned_devices.specs.Devices.{Devices, Change}
 use Rattle.gateway_core.specs.Step.{State, Item, Answer, change_of}
 use Rattle.gateway_core.specs.Run.{Fate}
 use Rattle.gateway_core.specs.Handling.{HandlerValue, IsAt, Handles}
@@ -30,17 +29,17 @@ pub record ClosesALife (base : ℕ) (found : Devices) (items : List Item) (answe
   pub life : LeavesALife base found items answers None left
   pub itself : left ≡ life.last.devices
 
-module _ {S : Type 0} (stored : S → Stored) where
+module _ {S : Type 0} (stored : S → Kept) where
   -- a life begins: the gateway knows what was found, and a stop leaves that and nothing else
   pub record BeginsAt (v : HandlerValue S) (found : Devices) : Type 0 where
     pub at : IsAt stored v (begun v.base found)
-    pub stop : (left : Devices) → MayFind (stored v.registry) left → left ≡ found
+    pub stop : (left : Devices) → (stored v.registry).may_recover left → left ≡ found
 
   -- whatever is handled from there on, what a stop leaves then is what a life may leave
   abbrev pub CallsLeaveALife : Type 0
   CallsLeaveALife = (old new : HandlerValue S) (found : Devices) (items : List Item) (answers : List Answer)
-      → HasCleanDisk (stored new.registry) → BeginsAt old found → Handles stored old items answers new
-      → (left : Devices) → MayFind (stored new.registry) left → LeavesALife old.base found items answers None left
+      → (stored new.registry).honest → BeginsAt old found → Handles stored old items answers new
+      → (left : Devices) → (stored new.registry).may_recover left → LeavesALife old.base found items answers None left
 
   -- and so it is within the next item, from the moment that its write is tried: while it runs, where it is refused, and
   -- once it is committed and not yet answered
@@ -48,23 +47,15 @@ module _ {S : Type 0} (stored : S → Stored) where
   StopsLeaveALife =
       (old new : HandlerValue S) (within : S) (found : Devices) (items : List Item) (answers : List Answer)
       (item : Item)
-      (change : Change) → HasCleanDisk (stored within) → HasCleanDisk (stored new.registry)
+      (change : Change) → (stored within).honest → (stored new.registry).honest
       → BeginsAt old found → Handles stored old items answers new
       → ((start : State) → IsAt stored new start → change_of start item ≡ Some change)
-      → ((devices : Devices) → HasDevices (stored new.registry) devices
+      → ((devices : Devices) → (stored new.registry).holds devices
       → MayLeave (stored new.registry) (stored within) change devices)
-      → (left : Devices) → MayFind (stored within) left → LeavesALife old.base found items answers (Some item) left
+      → (left : Devices) → (stored within).may_recover left → LeavesALife old.base found items answers (Some item) left
 
   -- what is known at the end of a life is what it leaves, however it is closed
   abbrev pub EndsLeaveALife : Type 0
   EndsLeaveALife = (old new : HandlerValue S) (found : Devices) (items : List Item) (answers : List Answer)
-      → HasCleanDisk (stored new.registry) → BeginsAt old found → Handles stored old items answers new
-      → (last : Devices) × HasDevices (stored new.registry) last × ClosesALife old.base found items answers last
-
-  -- what an open finds on the connection that was closed and handed on is what a life that is closed leaves
-  abbrev pub ClosesLeaveALife : Type 0
-  ClosesLeaveALife =
-      (old new : HandlerValue S) (opened : S) (found next : Devices) (items : List Item) (answers : List Answer)
-      → HasCleanDisk (stored new.registry) → BeginsAt old found → Handles stored old items answers new
-      → HandsOn (stored new.registry) → Opens (stored new.registry) (stored opened) next
-      → ClosesALife old.base found items answers next
+      → (stored new.registry).honest → BeginsAt old found → Handles stored old items answers new
+      → (last : Devices) × (stored new.registry).holds last × ClosesALife old.base found items answers last

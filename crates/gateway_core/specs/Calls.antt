@@ -1,6 +1,6 @@
 -- What a gateway's value is, how each call moves it, and what all calls together do.
 use Rattle.std.specs.Prelude.{◌≡◌, ℕ, ◌<◌, List, [], ◌∷◌, ◌++◌, length, take, Option, Some, None}
-use Rattle.sqlite.specs.State.{State as Stored}
+use Rattle.learned_devices.specs.Kept.{Kept}
 use Rattle.esp3_frames.specs.Packet.{Packet}
 use Rattle.esp3_frames.specs.Frames.{packets_in, rest_of}
 use Rattle.teach_in.specs.declared.mode.Mode.TheVariants.{Closed}
@@ -30,7 +30,7 @@ pub data Call : Type 0 where
   Next : (answer : Option Answer) → Call
   Order : (line : List ℕ) (answer : Answer) → Call
 
-module _ {S : Type 0} (stored : S → Stored) where
+module _ {S : Type 0} (stored : S → Kept) where
   -- the call takes the gateway from old to new
   abbrev pub Moves : Value S → Call → Value S → Type 0
   -- bytes go behind the rest, which is framed anew; this is allowed if no packet waits
@@ -83,7 +83,7 @@ AreItems calls packets items = ⊥
 -- The packets handled, and behind them those that wait, are the packets of the bytes given. So those handled are a
 -- first part of these, and all of them where none waits. The answers are a run on packets and lines, in the order of
 -- the calls.
-pub record IsARun {S : Type 0} (stored : S → Stored) (old : Value S) (calls : List Call) (new : Value S) : Type 0 where
+pub record IsARun {S : Type 0} (stored : S → Kept) (old : Value S) (calls : List Call) (new : Value S) : Type 0 where
   pub handled : List Packet
   pub items : List Item
   pub packets : packets_in (bytes_of calls) ≡ handled ++ new.ready
@@ -92,7 +92,7 @@ pub record IsARun {S : Type 0} (stored : S → Stored) (old : Value S) (calls : 
   pub run : Handles stored old.handler items (answers_of calls) new.handler
 
 -- whatever is called of a new gateway
-abbrev pub CallsAreARun : {S : Type 0} → (S → Stored) → Type 0
+abbrev pub CallsAreARun : {S : Type 0} → (S → Kept) → Type 0
 CallsAreARun {S} stored = (base : ℕ) (registry : S) (calls : List Call) (new : Value S) →
     AllMove stored (new_value base registry) calls new → IsARun stored (new_value base registry) calls new
 
@@ -103,7 +103,7 @@ one_by_one (byte ∷ bytes) = Bytes (byte ∷ []) ∷ one_by_one bytes
 
 -- one call that takes some bytes, of which only the last may make a packet ready, does what a call for each of them
 -- does
-abbrev pub RunsAreBytes : {S : Type 0} → (S → Stored) → Type 0
+abbrev pub RunsAreBytes : {S : Type 0} → (S → Kept) → Type 0
 RunsAreBytes {S} stored = (old new : Value S) (bytes : List ℕ) → 0 < length bytes →
     ((k : ℕ) → k < length bytes → packets_in (old.rest ++ take k bytes) ≡ []) →
     Moves stored old (Bytes bytes) new → AllMove stored old (one_by_one bytes) new

@@ -10,7 +10,7 @@ use Rattle.profiles_rps.specs.Reading.{Entry}
 use Rattle.profiles_rps.specs.declared.unreadable.Unreadable.{Unreadable}
 use Rattle.profiles_rps.specs.declared.unreadable.Unreadable.TheVariants as unreadable
 use Rattle.learned_devices.specs.declared.Device.{Device}
-use Rattle.device_registry.specs.Devices.{device_of, forgotten, is_full, learned}
+use Rattle.learned_devices.specs.Devices.{device_of, forgotten, is_full, learned}
 use Rattle.teach_in.specs.declared.mode.Mode.TheVariants.{Closed, LearnAs}
 use Rattle.teach_in.specs.declared.outcome.Outcome.TheVariants.{Accepted, Deleted, Unsupported, Full, General}
 use Rattle.teach_in.specs.declared.outcome.Outcome.TheVariants.{NoProfile}

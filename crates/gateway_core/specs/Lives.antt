@@ -2,7 +2,7 @@
 use Rattle.std.specs.Prelude.{◌≡◌, ◌≢◌, ◌⊎◌, ℕ, List, [], ◌∷◌, ◌++◌, Option, Some, None}
 use Rattle.std.specs.List.{AllByRecursion}
 use Rattle.std.specs.FinMap.{get}
-use Rattle.device_registry.specs.Devices.{Devices, Change}
+use Rattle.learned_devices.specs.Devices.{Devices, Change}
 use Rattle.teach_in.specs.declared.mode.Mode.TheVariants.{Closed}
 use Rattle.json_lines.specs.Counts.{none_counted}
 use Rattle.gateway_core.specs.Step.{State, Item, Answer, change_of, state_after}

@@ -1,7 +1,7 @@
 -- What a stop leaves is what was known after a first part of the items, perhaps with the change of the next one. That
 -- part has every item that was told done.
 use Rattle.std.specs.Prelude.{◌≡◌, ◌<◌, ◌⊎◌, length, IsSome, List, [], ◌∷◌, ◌++◌, Option, Some, None}
-use Rattle.device_registry.specs.Devices.{Devices}
+use Rattle.learned_devices.specs.Devices.{Devices}
 use Rattle.gateway_core.specs.Step.{State, Item, change_of, with_change}
 use Rattle.gateway_core.specs.Run.{Fate, Taken, Refused, RefusedAtWrite, state_with}
 use Rattle.gateway_core.specs.Stops.{nothing_left, left_by, Safe}

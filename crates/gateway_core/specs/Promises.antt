@@ -1,6 +1,6 @@
 -- What a deed that was told promises of its sender, and which deeds leave that. Own choice.
 use Rattle.std.specs.Prelude.{◌≡◌, Option, Some, None}
-use Rattle.device_registry.specs.Devices.{Learned, Deed, Learn, Forget, Relabel}
+use Rattle.learned_devices.specs.Devices.{Learned, Deed, Learn, Forget, Relabel}
 
 -- what is promised: the profile and the maker that it was learned with, that it is not learned, or its label
 abbrev pub Promises : Deed → Option Learned → Type 0

@@ -1,12 +1,8 @@
 -- The ranges of the numbers of devices: what is learned is in range, and so is the device that a teach line reports.
 use Rattle.std.specs.Prelude.{◌≡◌, ◌⊎◌, ℕ, ◌<◌, ◌^◌, List, ◌++◌, Some, IfSome, IsTrue}
 use Rattle.std.specs.List.{All, AllByRecursion}
-use Rattle.sqlite.specs.State.{State as Stored, HasCleanDisk}
-use Rattle.sqlite_trees.specs.Tree.{Trees}
-use Rattle.erp1_telegrams.specs.declared.eep.Eep.{Eep}
 use Rattle.learned_devices.specs.declared.Device.{Device}
-use Rattle.device_registry.specs.Devices.{Devices, device_of}
-use Rattle.device_registry.specs.Holding.{Finds, HasDevices, MayFind, Opens}
+use Rattle.learned_devices.specs.Ranges.{IsProfileInRange, IsDeviceInRange, AreInRange}
 use Rattle.teach_in.specs.declared.mode.Mode.{Mode}
 use Rattle.teach_in.specs.declared.mode.Mode.TheVariants.{LearnAs}
 use Rattle.teach_in.specs.declared.outcome.Outcome.TheVariants.{Accepted, Deleted}
@@ -16,28 +12,6 @@ use Rattle.gateway_core.specs.Run.{Fate, Run, answer_with}
 use Rattle.gateway_core.specs.Events.{Event, bytes_in, items_of}
 use Rattle.gateway_core.specs.Lives.{Life, IsLife}
 use Rattle.gateway_core.specs.Telling.{acknowledged_change}
-
--- a profile has three bytes
-abbrev pub IsProfileInRange : Eep → Type 0
-IsProfileInRange eep = (eep.rorg < 256) × (eep.func < 256) × (eep.typ < 256)
-
--- an ID has four bytes, and the number of a maker, if it is known, at most two
-abbrev pub IsDeviceInRange : Device → Type 0
-IsDeviceInRange known =
-    IsProfileInRange known.eep × (known.id < 2 ^ 32) × IfSome known.maker (λ maker. maker < 2 ^ 16)
-
--- each learned device is in range
-abbrev pub AreInRange : Devices → Type 0
-AreInRange devices = (id : ℕ) → IfSome (device_of devices id) IsDeviceInRange
-
--- These devices are in range: those that a registry holds, while the disk has returned what was written and the
--- connection is open; those that a crash may leave; and those that an open or a start finds.
-pub record RegistriesAreInRange {C : Type 0} (state : C → Stored) : Type 0 where
-  pub held : (c : C) (devices : Devices) → HasCleanDisk (state c) → IsTrue (state c).is_open
-      → HasDevices (state c) devices → AreInRange devices
-  pub left : (c : C) (devices : Devices) → MayFind (state c) devices → AreInRange devices
-  pub found : (trees : Trees) (devices : Devices) → Finds trees devices → AreInRange devices
-  pub opened : (old new : C) (devices : Devices) → Opens (state old) (state new) devices → AreInRange devices
 
 -- the profile that the desk has given is in range
 abbrev pub IsModeInRange : Mode → Type 0

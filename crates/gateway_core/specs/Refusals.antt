@@ -1,6 +1,6 @@
 -- For private clauses: what a refusal says.
 use Rattle.std.specs.Prelude.{if◌then◌else◌}
-use Rattle.device_registry.specs.declared.fault.StoreFault.{StoreFault}
+use Rattle.learned_devices.specs.declared.fault.StoreFault.{StoreFault}
 use Rattle.gateway_core.specs.declared.refusal.Refusal.{Refusal}
 use Rattle.gateway_core.specs.declared.refusal.Refusal.TheVariants.{Before, AtWrite}
 use Rattle.gateway_core.specs.Step.{Cause, Memory, Store}

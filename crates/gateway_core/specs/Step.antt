@@ -10,8 +10,8 @@ use Rattle.erp1_telegrams.specs.Telegram.{Telegram, telegram_of, sent}
 use Rattle.profiles_rps.specs.Reading.{Entry}
 use Rattle.profiles_rps.specs.declared.unreadable.Unreadable.{Unreadable}
 use Rattle.learned_devices.specs.declared.Device.{Device}
-use Rattle.device_registry.specs.Devices.{Devices, device_of, all_of, is_full, Change, changed}
-use Rattle.device_registry.specs.Devices.{learned, forgotten, relabelled}
+use Rattle.learned_devices.specs.Devices.{Devices, device_of, all_of, is_full, Change, changed}
+use Rattle.learned_devices.specs.Devices.{learned, forgotten, relabelled}
 use Rattle.teach_in.specs.declared.mode.Mode.{Mode}
 use Rattle.teach_in.specs.declared.mode.Mode.TheVariants.{Closed, Learn, LearnAnswer, LearnAs}
 use Rattle.teach_in.specs.declared.outcome.Outcome.{Outcome}

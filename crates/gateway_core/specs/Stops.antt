@@ -1,6 +1,6 @@
 -- Which devices a stop may leave in the registry.
 use Rattle.std.specs.Prelude.{◌≡◌, ◌⊎◌, Bool, true, false, List, [], ◌∷◌, ◌++◌, Option, Some, None}
-use Rattle.device_registry.specs.Devices.{Devices, Change, changed}
+use Rattle.learned_devices.specs.Devices.{Devices, Change, changed}
 use Rattle.gateway_core.specs.Step.{State, Item, Answer, change_of}
 use Rattle.gateway_core.specs.Run.{Fate, Taken, Refused, RefusedAtWrite, state_with, Run}
 

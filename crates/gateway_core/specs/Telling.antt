@@ -3,7 +3,7 @@ use Rattle.std.specs.Prelude.{◌≡◌, ◌⊎◌, ◌≤◌, ℕ, true, IsSome
 use Rattle.esp3_frames.specs.Packet.{Packet, spelling}
 use Rattle.erp1_telegrams.specs.Telegram.{Telegram, telegram_of, sent}
 use Rattle.learned_devices.specs.declared.Device.{Device}
-use Rattle.device_registry.specs.Devices.{Change, device_of, learned, forgotten, relabelled}
+use Rattle.learned_devices.specs.Devices.{Change, device_of, learned, forgotten, relabelled}
 use Rattle.teach_in.specs.declared.four_byte.FourByteQuery.{FourByteQuery}
 use Rattle.teach_in.specs.declared.mode.Mode.TheVariants.{Learn, LearnAnswer}
 use Rattle.teach_in.specs.declared.outcome.Outcome.{Outcome}

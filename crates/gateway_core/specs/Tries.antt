@@ -1,9 +1,8 @@
 -- For private clauses: what comes of an item that is tried.
-use Rattle.std.specs.Prelude.{◌≡◌, ℕ, true, false, IsSome, Option, Some, None, Result, Ok, Err}
-use Rattle.sqlite.specs.State.{State as Stored, HasCleanDisk}
+use Rattle.std.specs.Prelude.{◌≡◌, ℕ, true, false, MatchBool, IsSome, Option, Some, None, Result, Ok, Err}
+use Rattle.learned_devices.specs.Kept.{Kept, Keeps, Commits, Pends}
 use Rattle.learned_devices.specs.declared.Device.{Device}
-use Rattle.device_registry.specs.Devices.{Devices, Change, is_full, learned, forgotten}
-use Rattle.device_registry.specs.Holding.{HasDevices, AreRegistries, Keeps, Commits, Pends}
+use Rattle.learned_devices.specs.Devices.{Devices, Change, is_full, learned, forgotten}
 use Rattle.teach_in.specs.declared.mode.Mode.{Mode}
 use Rattle.teach_in.specs.declared.outcome.Outcome.{Outcome}
 use Rattle.teach_in.specs.declared.outcome.Outcome.TheVariants.{Accepted}
@@ -38,7 +37,7 @@ Gives done effect =
 abbrev pub state_of : {S : Type 0} → HandlerValue S → Devices → State
 state_of v devices = record { base = v.base; mode = v.mode; counts = v.counts; devices = devices }
 
-module _ (old new : Stored) (devices : Devices) where
+module _ (old new : Kept) (devices : Devices) where
   -- the change, if any, is committed
   abbrev pub IsMade : Option Change → Type 0
   IsMade None = Keeps old new devices
@@ -56,15 +55,15 @@ module _ (old new : Stored) (devices : Devices) where
   Comes effect (Err (AtWrite fault)) = IsPending effect.need (cause_of fault) effect.change
 
 -- the effect, by what the handler knows, comes or is refused; it is not counted yet, nor is its mode set
-pub record Tries {S : Type 0} (stored : S → Stored) (old : HandlerValue S) (effect : State → Effect)
+pub record Tries {S : Type 0} (stored : S → Kept) (old : HandlerValue S) (effect : State → Effect)
     (result : Result Done Refusal) (new : HandlerValue S) : Type 0 where
   pub base : new.base ≡ old.base
   pub mode : new.mode ≡ old.mode
   pub counts : new.counts ≡ old.counts
-  pub clean : HasCleanDisk (stored new.registry) → HasCleanDisk (stored old.registry)
-  pub registries : HasCleanDisk (stored new.registry) → AreRegistries (stored old.registry).may_leave
-      → AreRegistries (stored new.registry).may_leave
-  pub comes : HasCleanDisk (stored new.registry) → (devices : Devices) → HasDevices (stored old.registry) devices
+  pub clean : (stored new.registry).honest → (stored old.registry).honest
+  pub registries : (stored new.registry).honest → (stored old.registry).sound
+      → (stored new.registry).sound
+  pub comes : (stored new.registry).honest → (devices : Devices) → (stored old.registry).holds devices
       → Comes (stored old.registry) (stored new.registry) devices (effect (state_of old devices)) result
 
 -- ---- a device that is learned or forgotten
@@ -82,13 +81,13 @@ IsCommittedAs line committed =
     × (committed.line ≡ text (TeachOf line))
 
 -- the registry alone has changed, and this is so of the devices that it had
-pub record RegistryAlone {S : Type 0} (stored : S → Stored) (old : HandlerValue S) (IsSo : Devices → Type 0)
+pub record RegistryAlone {S : Type 0} (stored : S → Kept) (old : HandlerValue S) (IsSo : Devices → Type 0)
     (new : HandlerValue S) : Type 0 where
   pub same : new ≡ record old { registry = new.registry }
-  pub clean : HasCleanDisk (stored new.registry) → HasCleanDisk (stored old.registry)
-  pub registries : HasCleanDisk (stored new.registry) → AreRegistries (stored old.registry).may_leave
-      → AreRegistries (stored new.registry).may_leave
-  pub is_so : HasCleanDisk (stored new.registry) → (devices : Devices) → HasDevices (stored old.registry) devices
+  pub clean : (stored new.registry).honest → (stored old.registry).honest
+  pub registries : (stored new.registry).honest → (stored old.registry).sound
+      → (stored new.registry).sound
+  pub is_so : (stored new.registry).honest → (devices : Devices) → (stored old.registry).holds devices
       → IsSo devices
 
 abbrev pub WasLearned : Device → Result (Option Committed) Refusal → Type 0
@@ -99,7 +98,7 @@ abbrev pub WasForgotten : TeachLine → Result Committed Refusal → Type 0
 WasForgotten line (Ok committed) = IsCommittedAs line committed
 WasForgotten line result = Unit {0}
 
-module _ (old new : Stored) (devices : Devices) where
+module _ (old new : Kept) (devices : Devices) where
   -- what is refused leaves what was known, and perhaps the change, if its write was tried
   abbrev pub IsRefused : Change → Refusal → Type 0
   IsRefused change (Before fault) = Keeps old new devices
@@ -110,7 +109,9 @@ module _ (old new : Stored) (devices : Devices) where
   IsLearning known (Ok (Some committed)) =
       (is_full devices known.id ≡ false) × Commits new (learned known) devices
   IsLearning known (Ok None) = (is_full devices known.id ≡ true) × Keeps old new devices
-  IsLearning known (Err refusal) = IsRefused (learned known) refusal
+  IsLearning known (Err (Before fault)) = Keeps old new devices
+  IsLearning known (Err (AtWrite fault)) =
+      MatchBool (is_full devices known.id) (Keeps old new devices) (Pends old new (learned known) devices)
 
   -- that a sender is forgotten is committed, or it is refused
   abbrev pub IsForgetting : ℕ → Result Committed Refusal → Type 0
@@ -118,14 +119,14 @@ module _ (old new : Stored) (devices : Devices) where
   IsForgetting id (Err refusal) = IsRefused (forgotten id) refusal
 
 -- a device is learned
-pub record Learns {S : Type 0} (stored : S → Stored) (old : HandlerValue S) (known : Device)
+pub record Learns {S : Type 0} (stored : S → Kept) (old : HandlerValue S) (known : Device)
     (result : Result (Option Committed) Refusal) (new : HandlerValue S) : Type 0 where
   pub told : WasLearned known result
   pub alone : RegistryAlone stored old
       (λ devices. IsLearning (stored old.registry) (stored new.registry) devices known result) new
 
 -- a sender is forgotten, which this line tells
-pub record Forgets {S : Type 0} (stored : S → Stored) (old : HandlerValue S) (line : TeachLine)
+pub record Forgets {S : Type 0} (stored : S → Kept) (old : HandlerValue S) (line : TeachLine)
     (result : Result Committed Refusal) (new : HandlerValue S) : Type 0 where
   pub told : WasForgotten line result
   pub alone : RegistryAlone stored old

@@ -4,10 +4,10 @@ ghost use Rattle.esp3_frames.specs.Outcome.{packet_of};
 ghost use Rattle.gateway_core.specs.Accounts;
 ghost use Rattle.gateway_core.specs.Accounts.{because, eep_told, maker_told};
 
-use device_registry::Device;
 use erp1_telegrams::{BROADCAST, Eep, Telegram};
 use esp3_frames::PacketRef;
 use json_lines::{Count, Why};
+use learned_devices::Device;
 use profiles_rps::Unreadable;
 use teach_in::{Mode, Teach};
 

@@ -6,7 +6,6 @@ ghost use Rattle.esp3_frames.specs.Frames.{front_of, packets_in};
 ghost use Rattle.esp3_frames.specs.Frames.Front.{Whole};
 ghost use Rattle.esp3_frames.specs.Packet.{Packet};
 ghost use Rattle.esp3_frames.specs.Framing.{MayBecomePacket};
-ghost use Rattle.device_registry.specs.Holding.{HandsOn};
 ghost use Rattle.erp1_telegrams.specs.Address;
 ghost use Rattle.gateway_core.specs.Accounts.{explanation};
 ghost use Rattle.gateway_core.specs.Calls.{Bytes as BytesCall, Next as NextCall, Order as OrderCall};
@@ -14,13 +13,12 @@ ghost use Rattle.gateway_core.specs.Calls.{Moves, Value, new_value};
 ghost use Rattle.gateway_core.specs.Replies.{answer_of};
 ghost use Rattle.gateway_core.specs.Step.{explained_by};
 
-use crate::device_store::DeviceStore;
 use crate::handled::HandledPacket;
 use crate::handler::Handler;
 use crate::reply::Reply;
-use device_registry::{Registry, RegistryOver, SqlConnection};
 use erp1_telegrams::is_base;
 use esp3_resync::{Framer, PacketBuf};
+use learned_devices::DeviceStore;
 use std::alloc::{AllocError, Global};
 use std::marker::Model;
 use thiserror::Error;
@@ -46,7 +44,7 @@ impl From<AllocError> for StartFault {
     }
 }
 
-/// A gateway over what keeps its devices: what it knows, the packets that wait to be handled, and the bytes behind
+/// A gateway over a store of devices: what it knows, the packets that wait to be handled, and the bytes behind
 /// them, of which one more packet may come.
 #[derive(Drop)]
 pub struct GatewayOver<S> {
@@ -74,11 +72,8 @@ impl<S> Model for GatewayOver<S> {
         } };
 }
 
-/// A gateway over a registry.
-pub type Gateway<S> = GatewayOver<Registry<S>>;
-
 impl<S: DeviceStore + Drop> GatewayOver<S> {
-    /// A gateway over this registry, for a radio module with this base ID. An ID that is no base ID is refused first;
+    /// A gateway over this store, for a radio module with this base ID. An ID that is no base ID is refused first;
     /// then that there is no memory for the framer.
     pub fn new(alloc: Global, registry: S, base: u32) -> Result<GatewayOver<S>, StartFault>
         ensures bad_base { (result ≡ Err StartFault.BadBase) ↔ (Address.is_base base ≡ false) }
@@ -108,7 +103,7 @@ impl<S: DeviceStore> GatewayOver<S> {
     /// Takes the next byte of the serial line. One byte can make several packets ready. It takes no memory.
     pub fn byte(&mut self, b: u8)
         requires { self.old.ready ≡ [] }
-        ensures { Moves S.stored self.old (BytesCall (b ∷ [])) self.new }
+        ensures { Moves S.kept self.old (BytesCall (b ∷ [])) self.new }
     {
         self.framer.push(b);
     }
@@ -119,7 +114,7 @@ impl<S: DeviceStore> GatewayOver<S> {
         requires { self.old.ready ≡ [] }
         ensures within { result ≤ length bytes.now }
         ensures some { 0 < length bytes.now → 0 < result }
-        ensures taken { Moves S.stored self.old (BytesCall (take result bytes.now)) self.new }
+        ensures taken { Moves S.kept self.old (BytesCall (take result bytes.now)) self.new }
         ensures up_to { self.new.ready ≡ [] → result ≡ length bytes.now }
         ensures before { (k : ℕ) → k < result → packets_in (self.old.rest ++ take k bytes.now) ≡ [] }
     {
@@ -133,8 +128,8 @@ impl<S: DeviceStore> GatewayOver<S> {
         requires { self.old.ready ≡ [] }
         ensures within { IfSome result (λ r. (0 < r.1) × (r.1 ≤ length bytes.now)) }
         ensures taken { IfSome result (λ r. (mid : Value S)
-            × Moves S.stored self.old (BytesCall (take r.1 bytes.now)) mid
-            × Moves S.stored mid (NextCall (Some (explained_by self.new.explained (answer_of r.0)))) self.new) }
+            × Moves S.kept self.old (BytesCall (take r.1 bytes.now)) mid
+            × Moves S.kept mid (NextCall (Some (explained_by self.new.explained (answer_of r.0)))) self.new) }
         ensures before { IfSome result (λ r. (k : ℕ) → k < r.1 →
             packets_in (self.old.rest ++ take k bytes.now) ≡ []) }
         ensures ready { IfSome result (λ r. self.new.ready ≡ []) }
@@ -147,7 +142,7 @@ impl<S: DeviceStore> GatewayOver<S> {
 
     /// Handles the first packet that waits. `None` says that none does. What explains the packet, `last_packet` tells.
     pub fn next(&mut self) -> Option<Reply>
-        ensures { Moves S.stored self.old
+        ensures { Moves S.kept self.old
             (NextCall (option_map (λ reply. explained_by self.new.explained (answer_of reply)) result)) self.new }
     {
         if !self.framer.take(&mut self.packet) {
@@ -167,20 +162,23 @@ impl<S: DeviceStore> GatewayOver<S> {
 
     /// Handles a line of the desk, without its line end.
     pub fn order(&mut self, line: &[u8]) -> Reply
-        ensures { Moves S.stored self.old (OrderCall line.now (answer_of result)) self.new }
+        ensures { Moves S.kept self.old (OrderCall line.now (answer_of result)) self.new }
     {
         self.handler.line(line)
     }
-}
 
-impl<C: SqlConnection> GatewayOver<RegistryOver<C>> {
-    /// Hands on the connection of the registry, as it is. While the disk has returned what was written, it has no open
-    /// transaction, and what the gateway knows of devices is committed.
-    pub fn close(self) -> C
-        ensures same { result ≡ self.handler.registry }
-        ensures hands_on { HandsOn (C.state self.handler.registry) }
+    /// The store of devices.
+    pub fn store(&self) -> &S
+        ensures { result.now ≡ self.now.handler.registry }
+    {
+        &self.handler.registry
+    }
+
+    /// Ends the gateway and returns its store of devices.
+    pub fn into_store(self) -> S
+        ensures { result ≡ self.handler.registry }
     {
         let GatewayOver { handler, .. } = self;
-        handler.into_registry().close()
+        handler.into_registry()
     }
 }

@@ -17,7 +17,6 @@ mod sending;
 mod teaching;
 
 use crate::account::Account;
-use crate::device_store::DeviceStore;
 use crate::handled::HandledPacket;
 use crate::handler::done::{Done, refused};
 use crate::refusal::Refusal;
@@ -25,6 +24,7 @@ use crate::reply::Reply;
 use erp1_telegrams::read;
 use esp3_frames::PacketRef;
 use json_lines::{Count, Counts, Why};
+use learned_devices::DeviceStore;
 use std::alloc::Global;
 use std::marker::Model;
 use teach_in::{Mode, classify};
@@ -118,7 +118,7 @@ impl<S: DeviceStore> Handler<S> {
     /// Handles a packet of the serial line, and stores in `last` what explains it.
     pub fn packet(&mut self, packet: &PacketRef<'_>, last: &mut Option<HandledPacket>) -> Reply
         requires { length packet.now.body.now ≤ longest_data }
-        ensures { Handles S.stored self.old (Received (packet_of packet.now) ∷ [])
+        ensures { Handles S.kept self.old (Received (packet_of packet.now) ∷ [])
             (explaining last.new (answer_of result) ∷ []) self.new }
     {
         let Ok(telegram) = read(packet) else {
@@ -136,7 +136,7 @@ impl<S: DeviceStore> Handler<S> {
 
     /// Handles a line of the desk.
     pub fn line(&mut self, line: &[u8]) -> Reply
-        ensures { Handles S.stored self.old (Ordered line.now ∷ []) (answer_of result ∷ []) self.new }
+        ensures { Handles S.kept self.old (Ordered line.now ∷ []) (answer_of result ∷ []) self.new }
     {
         let tried = self.try_line(line);
         let (reply, _) = self.reply_to(tried);

@@ -1,17 +1,16 @@
 //! Laws of the definitions, and of every gateway. Each function does nothing: its contract is the law.
 ghost use Rattle.std.specs.Prelude.{◌≡◌, ℕ, List, [], ◌++◌};
 ghost use Rattle.esp3_frames.specs.Frames.{packets_in, rest_of};
-ghost use Rattle.device_registry.specs.Devices.{Devices};
-ghost use Rattle.device_registry.specs.Holding.{MayFind};
-ghost use Rattle.gateway_core.specs.Beginnings.{CallsLeaveALife, ClosesLeaveALife, EndsLeaveALife, StopsLeaveALife};
+ghost use Rattle.learned_devices.specs.Devices.{Devices};
+ghost use Rattle.gateway_core.specs.Beginnings.{CallsLeaveALife, EndsLeaveALife, StopsLeaveALife};
 ghost use Rattle.gateway_core.specs.Calls.{CallsAreARun, RunsAreBytes};
 ghost use Rattle.gateway_core.specs.Counting.{ExplanationsAreCounted, TakenAreCounted};
 ghost use Rattle.gateway_core.specs.Events.{CutsAreAnsweredAlike, CutsDoNotMatter, Event, brought, bytes_in, items_of};
 ghost use Rattle.gateway_core.specs.Explaining.{ExplanationsAreTrue};
-ghost use Rattle.gateway_core.specs.Handling.{Handles, KnowsState, HandlerValue};
+ghost use Rattle.gateway_core.specs.Handling.{Handles, HandlerValue};
 ghost use Rattle.gateway_core.specs.Lives.{LivesKeep};
 ghost use Rattle.gateway_core.specs.Prefixes.{LeftIsPrefix, SafeIsPrefix, ToldStandBefore};
-ghost use Rattle.gateway_core.specs.Ranges.{ItemsAreOfBytes, LeavesInRange, RegistriesAreInRange, StaysInRange};
+ghost use Rattle.gateway_core.specs.Ranges.{ItemsAreOfBytes, LeavesInRange, StaysInRange};
 ghost use Rattle.gateway_core.specs.Ranges.{TellsInRange};
 ghost use Rattle.gateway_core.specs.Run.{RefusalsAreCounted, SameRefusals};
 ghost use Rattle.gateway_core.specs.Step.{Answer, Item};
@@ -20,10 +19,7 @@ ghost use Rattle.gateway_core.specs.Telling.{ChangesAreTold, LabelsAreTold, Radi
 ghost use Rattle.gateway_core.specs.Acknowledgements.{AcknowledgedIsDurable};
 ghost use Rattle.gateway_core.specs.Windows.{PacketsChangeInWindows};
 
-use crate::device_store::DeviceStore;
-use crate::gateway::GatewayOver;
-use device_registry::laws::devices_are_held;
-use device_registry::{RegistryOver, SqlConnection};
+use learned_devices::DeviceStore;
 
 /// However the bytes between two lines are cut into pieces, the items are the same.
 pub fn independent_of_cuts()
@@ -40,10 +36,10 @@ pub fn items_in_parts()
 
 /// Items that are handled, and then others, are handled one after another.
 pub fn handles_join<S: DeviceStore>()
-    ensures nothing { (handler : HandlerValue S) → Handles S.stored handler [] [] handler }
+    ensures nothing { (handler : HandlerValue S) → Handles S.kept handler [] [] handler }
     ensures join { (old mid new : HandlerValue S) (items more : List Item) (answers after : List Answer) →
-        Handles S.stored old items answers mid → Handles S.stored mid more after new
-        → Handles S.stored old (items ++ more) (answers ++ after) new }
+        Handles S.kept old items answers mid → Handles S.kept mid more after new
+        → Handles S.kept old (items ++ more) (answers ++ after) new }
 {}
 
 /// Where the same items are refused, each for the same cause, the answers are the same, be they refused before their
@@ -88,18 +84,18 @@ pub fn explanations_are_true()
 /// Whatever is called of a new gateway, in whatever order: the packets handled, and behind them those that wait, are
 /// the packets of the bytes given, and the answers are a run on packets and lines in the order of the calls.
 pub fn calls_are_a_run<S: DeviceStore>()
-    ensures { CallsAreARun S.stored }
+    ensures { CallsAreARun S.kept }
 {}
 
 /// A call that takes a run of bytes does what a call for each of them does, if none before the last makes a packet
 /// ready. So `GatewayOver::bytes` does what `GatewayOver::byte` does for each byte that it takes.
 pub fn runs_are_bytes<S: DeviceStore>()
-    ensures { RunsAreBytes S.stored }
+    ensures { RunsAreBytes S.kept }
 {}
 
 /// What is safe for a second list of items, behind what is safe for a first, is safe for both joined.
 pub fn safe_joins<S: DeviceStore>()
-    ensures { (registry : S) → SafeJoins (MayFind (S.stored registry)) }
+    ensures { (registry : S) → SafeJoins (S.kept registry).may_recover }
 {}
 
 /// The same from the devices that a life found, and from any list of maps.
@@ -140,12 +136,6 @@ pub fn numbers_stay_in_range()
     ensures stays { StaysInRange }
     ensures leaves { LeavesInRange }
     ensures tells { TellsInRange }
-{}
-
-/// The devices that a registry holds while its connection is open are in range, and so are those that a crash may leave
-/// and those that an open or a start finds.
-pub fn registries_are_in_range<C: SqlConnection>()
-    ensures { RegistriesAreInRange C.state }
 {}
 
 /// What a stop may leave is what was known after a first part of the items, perhaps with the change of the next one,
@@ -201,30 +191,16 @@ pub fn packets_change_in_windows()
 
 /// What a stop leaves after the calls of a life is what a life may leave.
 pub fn calls_leave_a_life<S: DeviceStore>()
-    ensures { CallsLeaveALife S.stored }
+    ensures { CallsLeaveALife S.kept }
 {}
 
 /// What a stop leaves from the moment that the write of the next item is tried, also once it is committed and not yet
 /// answered, is what a life that is stopped in that item may leave.
 pub fn stops_leave_a_life<S: DeviceStore>()
-    ensures { StopsLeaveALife S.stored }
+    ensures { StopsLeaveALife S.kept }
 {}
 
 /// What is known at the end of a life is what it leaves, however it is closed.
 pub fn ends_leave_a_life<S: DeviceStore>()
-    ensures { EndsLeaveALife S.stored }
+    ensures { EndsLeaveALife S.kept }
 {}
-
-/// A life may end by `close`: what the next open finds on the connection that was handed on is what the life may leave,
-/// and it is what was known at its end.
-pub fn closes_leave_a_life<C: SqlConnection>()
-    ensures { ClosesLeaveALife C.state }
-{}
-
-/// Whatever gateway over a registry there is knows a state, while the disk has returned what was written and the
-/// connection is open.
-pub fn a_state_is_known<C: SqlConnection>(gateway: &GatewayOver<RegistryOver<C>>)
-    ensures { KnowsState C.state gateway.now.handler }
-{
-    devices_are_held(&gateway.handler.registry);
-}

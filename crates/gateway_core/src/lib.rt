@@ -4,7 +4,6 @@
 #![tactic(auto)]
 
 mod account;
-mod device_store;
 mod gateway;
 mod handled;
 mod handler;
@@ -13,11 +12,13 @@ mod profiles;
 mod refusal;
 mod reply;
 mod response;
+mod sqlite_gateway;
 
 pub use actuator_commands::id_of;
-pub use device_store::DeviceStore;
 pub use erp1_telegrams::is_base;
-pub use gateway::{Gateway, GatewayOver, StartFault};
+pub use gateway::{GatewayOver, StartFault};
 pub use handled::HandledPacket;
 pub use handler::orders::LONGEST_LINE;
+pub use learned_devices::DeviceStore;
 pub use reply::{Desk, Reply};
+pub use sqlite_gateway::Gateway;

@@ -1,7 +1,7 @@
 //! Why an item is refused.
 ghost use Rattle.std.specs.Prelude.{◌≡◌};
 
-use device_registry::StoreFault;
+use learned_devices::StoreFault;
 use std::alloc::AllocError;
 
 /// Whether an item was refused before its write to the registry, or at that write. Each has what was wanting: memory,
@@ -27,7 +27,7 @@ impl From<StoreFault> for Refusal {
 
 impl From<AllocError> for Refusal {
     ghost use Rattle.std.specs.Prelude.{◌≡◌};
-    ghost use Rattle.device_registry.specs.Faults.{no_memory};
+    ghost use Rattle.learned_devices.specs.Faults.{no_memory};
     ghost use Rattle.gateway_core.specs.declared.refusal.Refusal.TheVariants.{Before};
 
     ghost from_gives = { λ _ refusal. refusal ≡ Before no_memory };

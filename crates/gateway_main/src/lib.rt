@@ -1,9 +1,14 @@
-//! The program `enogate`: its command line, and what it opens and runs. The gateway's engines are given out as before.
+//! The program `enogate`: its command line, what it opens and runs, and how it ends.
 #![tactic(auto)]
 
 pub mod command_line;
+pub mod ending;
+pub mod fault;
+mod gateway_start;
+pub mod laws;
 mod program_run;
 
 pub use byte_streams::{Failed, OverRead, OverWrite, Sink, Source};
-pub use engines::{LONGEST_READ, RunFault, Summary, ending, fault, laws, live, replay, start};
+pub use engines::{LONGEST_READ, RunFault, Summary, live, replay};
+pub use gateway_start::start;
 pub use program_run::program;

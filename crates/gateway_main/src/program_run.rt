@@ -4,12 +4,13 @@ ghost use Rattle.erp1_telegrams.specs.Address;
 ghost use Rattle.engines.specs.Played.{IsIdle};
 
 use crate::command_line;
+use crate::ending::{Ending, Served, done, status, without_arguments};
+use crate::fault::Fault;
+use crate::gateway_start::start;
 use arguments::{Access, Opened, Plan, Service};
 use byte_streams::{OverRead, OverWrite};
 use device_registry::SqlConnection;
-use engines::ending::{Ending, Served, done, status, without_arguments};
-use engines::fault::Fault;
-use engines::{RunFault, Summary, live, replay, start};
+use engines::{RunFault, Summary, live, replay};
 use gateway_core::{DeviceStore, GatewayOver};
 use sqlite::Connection;
 use std::fs::{File, OpenOptions};

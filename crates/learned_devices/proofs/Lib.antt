@@ -1,1 +1,4 @@
+pub mod DeviceLemmas
+pub mod ForCallers
 pub mod LabelLemmas
+pub mod RangeLemmas

@@ -1,14 +1,18 @@
-//! What is known of a sender. It stands below the registry, so that a crate which only speaks of devices does not load
-//! the store.
+//! Devices, and what a store of devices does. A crate that depends on this one alone does not load a database.
 #![tactic(auto)]
 
 ghost use Rattle.std.specs.Prelude.{◌≡◌};
 
+mod device_store;
+mod fault;
 mod label;
+pub mod laws;
 #[cfg(test)]
 mod tests;
 
+pub use device_store::{DeviceStore, Receipt};
 use erp1_telegrams::Eep;
+pub use fault::{LearnFault, StoreFault};
 pub use label::{LONGEST_LABEL, Label, is_name};
 
 /// What is known of a sender: plain numbers and a label, none of which takes memory.

@@ -1,6 +1,7 @@
-//! Which texts are labels, and how they are printed.
-use crate::{Device, LONGEST_LABEL, Label, is_name};
+//! Which texts are labels, how devices are copied, and what faults print.
+use crate::{Device, LONGEST_LABEL, Label, LearnFault, StoreFault, is_name};
 use erp1_telegrams::Eep;
+use std::alloc::AllocError;
 use std::test::Fail;
 
 /// The text of the label that is made of a text.
@@ -85,6 +86,23 @@ fn labels_are_printed(rt: HostRuntime) -> Result<(), Fail> {
     ] {
         let label = Label::new(text).unwrap_or(Label::empty());
         let written = format!(in rt.alloc(); "{label:?}")?;
+        assert_eq!(rt; written.as_str(), printed);
+    }
+    Ok(())
+}
+
+#[test]
+fn each_fault_says_why(rt: HostRuntime) -> Result<(), Fail> {
+    let no_memory = StoreFault::from(AllocError);
+    let no_answer = StoreFault::no_answer();
+    assert!(rt; no_memory.is_memory());
+    assert!(rt; !no_answer.is_memory());
+    for (fault, printed) in [
+        (LearnFault::from(no_memory), "there is no memory"),
+        (LearnFault::from(no_answer), "the store does not answer"),
+        (LearnFault::Full, "1,000 other devices are learned"),
+    ] {
+        let written = format!(in rt.alloc(); "{fault}")?;
         assert_eq!(rt; written.as_str(), printed);
     }
     Ok(())

@@ -2,7 +2,7 @@
 ghost use Rattle.std.specs.Prelude.{◌≡◌, ◌≢◌, MatchBool};
 
 use crate::outcome::Outcome;
-use device_registry::Receipt;
+use learned_devices::Receipt;
 
 /// What came of a sender. That it was learned or forgotten is told by the receipt of the change alone, so that change
 /// is committed.

@@ -12,7 +12,7 @@ use Rattle.learned_devices.specs.declared.Device.{Device}
 use Rattle.learned_devices.specs.Labels.{is_label}
 use Rattle.device_registry.specs.declared.table.Version.{Version}
 use Rattle.device_registry.specs.declared.table.Version.TheVariants.{First, Second}
-use Rattle.device_registry.specs.Devices.{Learned, Devices, device}
+use Rattle.learned_devices.specs.Devices.{Learned, Devices, device}
 use Rattle.device_registry.specs.Table.{number_of, last_sender, last_profile, last_maker}
 
 -- ---- the values

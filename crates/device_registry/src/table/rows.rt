@@ -11,7 +11,6 @@ ghost use Rattle.device_registry.specs.Table.Rows.{shows_device, devices_rise, e
 ghost use Rattle.device_registry.specs.Table.Rows.{maker_in, label_in};
 
 use super::{KEY, LAST_MAKER, LAST_PROFILE, LAST_SENDER, NO_MAKER, Version};
-use crate::fault::StoreFault;
 use erp1_telegrams::Eep;
 use learned_devices::{Device, Label};
 use sqlite::types::ValueRef;
@@ -112,15 +111,15 @@ pub fn is_version(rows: &[Row], version: Version) -> bool
 }
 
 /// The device that a row shows. No registry has a row that shows none.
-fn shown(row: &Row) -> Result<Device, StoreFault>
+fn shown(row: &Row) -> Result<Device, Error>
     ensures shown { IfOk result (λ it. it ≡ listed row.now) }
     ensures refused { IfErr result (IsMemoryWhere (IsTrue (shows_device row.now))) }
 {
-    Ok(device_in(row).ok_or(Error::SqliteFailure(ErrorCode::DatabaseCorrupt))?)
+    device_in(row).ok_or(Error::SqliteFailure(ErrorCode::DatabaseCorrupt))
 }
 
 /// The device of a sender, whose rows these are.
-pub fn found(rows: &[Row]) -> Result<Option<Device>, StoreFault>
+pub fn found(rows: &[Row]) -> Result<Option<Device>, Error>
     ensures found { (known : Option Device) → AreFound known rows.now → IfOk result (λ found. found ≡ known) }
     ensures refused { IfErr result (IsMemoryWhere (All (λ row. IsTrue (shows_device row)) rows.now)) }
 {
@@ -131,7 +130,7 @@ pub fn found(rows: &[Row]) -> Result<Option<Device>, StoreFault>
 }
 
 /// The devices that the rows list.
-pub fn all_listed(alloc: Global, rows: &[Row]) -> Result<Vec<Device>, StoreFault>
+pub fn all_listed(alloc: Global, rows: &[Row]) -> Result<Vec<Device>, Error>
     ensures listed { IfOk result (λ all. all.items ≡ map listed rows.now) }
     ensures refused { IfErr result (IsMemoryWhere (All (λ row. IsTrue (shows_device row)) rows.now)) }
 {
@@ -143,14 +142,14 @@ pub fn all_listed(alloc: Global, rows: &[Row]) -> Result<Vec<Device>, StoreFault
 }
 
 /// The number that a query shows in one row.
-pub fn number(rows: &[Row]) -> Result<u64, StoreFault>
+pub fn number(rows: &[Row]) -> Result<u64, Error>
     ensures number { IfOk result (λ n. (row : SqlRow) × (more : _) × (rows.now ≡ row ∷ more)
         × (column row 0 ≡ Int (pos n))) }
     ensures refused { IfErr result (IsMemoryWhere ((row : SqlRow) × (more : _) × (rows.now ≡ row ∷ more)
         × (0 < length row) × ((n : ℕ) × (column row 0 ≡ Int (pos n))))) }
 {
     let row = rows.first().ok_or(Error::QueryReturnedNoRows)?;
-    Ok(row.get(0)?)
+    row.get(0)
 }
 
 /// The number of a profile.

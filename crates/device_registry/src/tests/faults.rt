@@ -1,16 +1,11 @@
-//! What the faults say.
-use crate::{LearnFault, OpenFault, StoreFault};
+//! What the faults of an open say.
+use crate::OpenFault;
 use sqlite::{Error, ErrorCode};
 use std::alloc::{AllocError, Global};
-use std::fmt::Display;
 use std::process::Abort;
 use std::test::Fail;
 
-const NO_MEMORY: &str = "there is no memory";
-
-const NO_ANSWER: &str = "the store does not answer";
-
-fn says<T: Display>(alloc: Global, rt: &impl Abort, fault: &T, text: &str) -> Result<(), Fail> {
+fn says(alloc: Global, rt: &impl Abort, fault: &OpenFault, text: &str) -> Result<(), Fail> {
     let said = format!(in alloc; "{fault}")?;
     assert_eq!(rt; said.as_str(), text);
     Ok(())
@@ -18,27 +13,23 @@ fn says<T: Display>(alloc: Global, rt: &impl Abort, fault: &T, text: &str) -> Re
 
 #[test]
 fn each_fault_says_why(rt: HostRuntime) -> Result<(), Fail> {
-    let alloc = rt.alloc();
-    let full_disk = Error::SqliteFailure(ErrorCode::DiskFull);
-    says(alloc, &rt, &StoreFault::from(AllocError), NO_MEMORY)?;
-    says(alloc, &rt, &StoreFault::from(full_disk), NO_ANSWER)?;
-    says(
-        alloc,
-        &rt,
-        &LearnFault::Full,
-        "1,000 other devices are learned",
-    )?;
-    says(
-        alloc,
-        &rt,
-        &LearnFault::from(StoreFault::from(AllocError)),
-        NO_MEMORY,
-    )?;
-    says(
-        alloc,
-        &rt,
-        &OpenFault::NotARegistry,
-        "the database is no registry of version 1 or 2",
-    )?;
-    says(alloc, &rt, &OpenFault::from(AllocError), NO_MEMORY)
+    let no_registry = "the database is no registry of version 1 or 2";
+    let no_memory = "there is no memory";
+    let no_answer = "the store does not answer";
+    for (fault, text) in [
+        (OpenFault::NotARegistry, no_registry),
+        (OpenFault::from(AllocError), no_memory),
+        (
+            OpenFault::from(Error::SqliteFailure(ErrorCode::OutOfMemory)),
+            no_memory,
+        ),
+        (
+            OpenFault::from(Error::SqliteFailure(ErrorCode::DiskFull)),
+            no_answer,
+        ),
+        (OpenFault::from(Error::QueryReturnedNoRows), no_answer),
+    ] {
+        says(rt.alloc(), &rt, &fault, text)?;
+    }
+    Ok(())
 }

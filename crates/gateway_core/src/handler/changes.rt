@@ -6,14 +6,13 @@ ghost use Rattle.json_lines.specs.declared.fixed.ErrorName.{ErrorName};
 ghost use Rattle.gateway_core.specs.Step.{NeedsStore, addition, forgets, learns, tells};
 ghost use Rattle.gateway_core.specs.Tries.{Learns, Forgets, Tries};
 
-use crate::device_store::DeviceStore;
 use crate::handler::Handler;
 use crate::handler::done::{Done, denied, told};
 use crate::refusal::Refusal;
 use crate::reply::Desk;
-use device_registry::{Device, LearnFault};
 use erp1_telegrams::Eep;
 use json_lines::{ErrorName, Line, teach_line};
+use learned_devices::{Device, DeviceStore, LearnFault};
 use teach_in::{Outcome, Verdict};
 
 // What came of a device that is learned or forgotten, and the line that tells it.
@@ -28,7 +27,7 @@ impl<S: DeviceStore> Handler<S> {
     // full, which tells so before it writes.
     pub(crate) fn learn(&mut self, device: Device) -> Result<Option<Committed>, Refusal>
         requires { device.label ≡ [] }
-        ensures { Learns S.stored self.old device result self.new }
+        ensures { Learns S.kept self.old device result self.new }
     {
         let draft = teach_line(
             self.alloc,
@@ -54,7 +53,7 @@ impl<S: DeviceStore> Handler<S> {
         eep: Option<Eep>,
         maker: Option<u16>,
     ) -> Result<Committed, Refusal>
-        ensures { Forgets S.stored self.old
+        ensures { Forgets S.kept self.old
             (record { eep = eep; id = id; maker = maker; outcome = Outcome.Deleted }) result self.new }
     {
         let draft = teach_line(self.alloc, id, eep, maker, Outcome::Deleted)?;
@@ -70,7 +69,7 @@ impl<S: DeviceStore> Handler<S> {
     // Learns a device that the desk names.
     pub(crate) fn learn_named(&mut self, device: Device) -> Result<Done, Refusal>
         requires { device.label ≡ [] }
-        ensures { Tries S.stored self.old (λ state. addition state.devices device
+        ensures { Tries S.kept self.old (λ state. addition state.devices device
             (tells NeedsStore (Error ErrorName.Full ∷ [])) (learns device)) result self.new }
     {
         match self.learn(device)? {
@@ -81,7 +80,7 @@ impl<S: DeviceStore> Handler<S> {
 
     // Forgets a device that the desk names.
     pub(crate) fn forget_named(&mut self, device: Device) -> Result<Done, Refusal>
-        ensures { Tries S.stored self.old (λ state. forgets device) result self.new }
+        ensures { Tries S.kept self.old (λ state. forgets device) result self.new }
     {
         let committed = self.forget(device.id, Some(device.eep), device.maker)?;
         Ok(told(Desk::Owned(committed.line)))

@@ -5,16 +5,15 @@ ghost use Rattle.actuator_commands.specs.Orders.{IsInRange};
 ghost use Rattle.gateway_core.specs.Step.{if_supported, line_effect, order_effect, sets};
 ghost use Rattle.gateway_core.specs.Tries.{Gives, Tries};
 
-use crate::device_store::DeviceStore;
 use crate::handler::Handler;
 use crate::handler::done::{Done, denied, labelled, sets, told};
 use crate::handler::sending::{ask_base, error_of};
 use crate::refusal::Refusal;
 use crate::reply::Desk;
 use actuator_commands::{Order, parse};
-use device_registry::{Device, Label};
 use erp1_telegrams::Eep;
 use json_lines::{ErrorName, device_lines, status_line};
+use learned_devices::{Device, DeviceStore, Label};
 use teach_in::{Mode, supported};
 
 /// The longest line of the desk, in bytes. Own choice.
@@ -34,7 +33,7 @@ fn open_as(eep: Eep) -> Done
 impl<S: DeviceStore> Handler<S> {
     // Learns a device that the desk names.
     fn try_add(&mut self, id: u32, eep: Eep) -> Result<Done, Refusal>
-        ensures { Tries S.stored self.old (λ state. order_effect state (Ok (Order.Add id eep))) result self.new }
+        ensures { Tries S.kept self.old (λ state. order_effect state (Ok (Order.Add id eep))) result self.new }
     {
         if !supported(eep) {
             return Ok(denied(ErrorName::UnsupportedProfile));
@@ -49,7 +48,7 @@ impl<S: DeviceStore> Handler<S> {
 
     // Forgets a device that the desk names.
     fn try_remove(&mut self, id: u32) -> Result<Done, Refusal>
-        ensures { Tries S.stored self.old (λ state. order_effect state (Ok (Order.Remove id))) result self.new }
+        ensures { Tries S.kept self.old (λ state. order_effect state (Ok (Order.Remove id))) result self.new }
     {
         match self.registry.find(id)? {
             Some(device) => self.forget_named(device),
@@ -60,7 +59,7 @@ impl<S: DeviceStore> Handler<S> {
     // Labels a device that the desk names, if it is learned. That is asked first, so that what is refused at its write
     // is a change. What tells that it is done is a fixed text, so nothing is refused behind the write.
     fn try_label(&mut self, id: u32, label: &Label) -> Result<Done, Refusal>
-        ensures { Tries S.stored self.old (λ state. order_effect state (Ok (Order.Label id label.now)))
+        ensures { Tries S.kept self.old (λ state. order_effect state (Ok (Order.Label id label.now)))
             result self.new }
     {
         let Some(_) = self.registry.find(id)? else {
@@ -75,7 +74,7 @@ impl<S: DeviceStore> Handler<S> {
 
     // Tells all devices.
     fn try_list(&mut self) -> Result<Done, Refusal>
-        ensures { Tries S.stored self.old (λ state. order_effect state (Ok Order.List)) result self.new }
+        ensures { Tries S.kept self.old (λ state. order_effect state (Ok Order.List)) result self.new }
     {
         let all = self.registry.all()?;
         let lines = device_lines(self.alloc, all.as_slice())?;
@@ -84,7 +83,7 @@ impl<S: DeviceStore> Handler<S> {
 
     // Tells the counts and the mode.
     fn try_status(&self) -> Result<Done, Refusal>
-        ensures { Tries S.stored self.now (λ state. order_effect state (Ok Order.Status)) result self.now }
+        ensures { Tries S.kept self.now (λ state. order_effect state (Ok Order.Status)) result self.now }
     {
         let line = status_line(self.alloc, &self.counts, self.mode)?;
         Ok(told(Desk::Owned(line)))
@@ -93,7 +92,7 @@ impl<S: DeviceStore> Handler<S> {
     // Does an order.
     fn try_order(&mut self, order: Order) -> Result<Done, Refusal>
         requires { IsInRange order }
-        ensures { Tries S.stored self.old (λ state. order_effect state (Ok order)) result self.new }
+        ensures { Tries S.kept self.old (λ state. order_effect state (Ok order)) result self.new }
     {
         match order {
             Order::LearnOn => Ok(sets(Mode::Learn)),
@@ -120,7 +119,7 @@ impl<S: DeviceStore> Handler<S> {
 
     // Handles a line, or refuses it.
     pub(crate) fn try_line(&mut self, line: &[u8]) -> Result<Done, Refusal>
-        ensures { Tries S.stored self.old (λ state. line_effect state line.now) result self.new }
+        ensures { Tries S.kept self.old (λ state. line_effect state line.now) result self.new }
     {
         if line.len() > LONGEST_LINE {
             return Ok(denied(ErrorName::TooLong));

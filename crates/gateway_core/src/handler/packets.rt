@@ -1,7 +1,7 @@
 //! How a packet of the serial line is handled.
 ghost use Rattle.std.specs.Prelude.{◌≡◌, IfOk, Some};
 ghost use Rattle.esp3_frames.specs.Outcome.{packet_of};
-ghost use Rattle.device_registry.specs.Devices.{device_of};
+ghost use Rattle.learned_devices.specs.Devices.{device_of};
 ghost use Rattle.teach_in.specs.Telegrams.{teach_in_of};
 ghost use Rattle.gateway_core.specs.Profiles.{read_by};
 ghost use Rattle.gateway_core.specs.Responses;
@@ -9,17 +9,16 @@ ghost use Rattle.gateway_core.specs.Step.{case_effect, data_case, reading_effect
 ghost use Rattle.gateway_core.specs.Tries.{Gives, Tries};
 
 use crate::account::{Account, why_other, why_passed_over, why_unread};
-use crate::device_store::DeviceStore;
 use crate::handler::Handler;
 use crate::handler::done::{Done, accounted, ignored};
 use crate::profiles;
 use crate::refusal::Refusal;
 use crate::reply::Desk;
 use crate::response::response_in;
-use device_registry::Device;
 use erp1_telegrams::{Telegram, is_passed_over};
 use esp3_frames::PacketRef;
 use json_lines::{Why, reading_line, response_line};
+use learned_devices::{Device, DeviceStore};
 use profiles_rps::Readings;
 use std::alloc::{AllocError, Global};
 use teach_in::Teach;
@@ -47,7 +46,7 @@ impl<S: DeviceStore> Handler<S> {
     // Tells what a data telegram of a learned sender says. Another sender is learned by it, where that is planned.
     fn try_data(&mut self, telegram: &Telegram, teach: &Teach) -> Result<Done, Refusal>
         requires { teach.now ≡ teach_in_of telegram.now }
-        ensures { Tries S.stored self.old (λ state. case_effect state telegram.now
+        ensures { Tries S.kept self.old (λ state. case_effect state telegram.now
             (data_case (device_of state.devices telegram.now.sender))) result self.new }
     {
         let Some(device) = self.registry.find(telegram.sender())? else {
@@ -65,7 +64,7 @@ impl<S: DeviceStore> Handler<S> {
         teach: &Teach,
     ) -> Result<Done, Refusal>
         requires { teach.now ≡ teach_in_of telegram.now }
-        ensures { Tries S.stored self.old (λ state. telegram_effect state telegram.now) result self.new }
+        ensures { Tries S.kept self.old (λ state. telegram_effect state telegram.now) result self.new }
     {
         if is_passed_over(self.base, telegram) {
             return Ok(ignored(why_passed_over(telegram)));
@@ -81,7 +80,7 @@ impl<S: DeviceStore> Handler<S> {
 
     // Handles a packet without a telegram, or refuses it.
     pub(crate) fn try_other(&self, packet: &PacketRef<'_>) -> Result<Done, Refusal>
-        ensures { Tries S.stored self.now (λ _. other_effect (packet_of packet.now)
+        ensures { Tries S.kept self.now (λ _. other_effect (packet_of packet.now)
             (Responses.response_in (packet_of packet.now))) result self.now }
     {
         let Some(response) = response_in(packet) else {

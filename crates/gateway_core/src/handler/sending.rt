@@ -10,16 +10,15 @@ ghost use Rattle.gateway_core.specs.Step;
 ghost use Rattle.gateway_core.specs.Step.{order_effect, telegram_sent};
 ghost use Rattle.gateway_core.specs.Tries.{Gives, Tries};
 
-use crate::device_store::DeviceStore;
 use crate::handler::Handler;
 use crate::handler::done::{Done, denied, sends_packet};
 use crate::refusal::Refusal;
 use actuator_commands::{Order, OrderFault, packet_of};
 use arrayvec::ArrayVec;
-use device_registry::Device;
 use erp1_telegrams::{Telegram, write};
 use esp3_frames::write_packet;
 use json_lines::ErrorName;
+use learned_devices::{Device, DeviceStore};
 
 /// The packet type COMMON_COMMAND (EnOcean Serial Protocol 3, "Packet types").
 const COMMON_COMMAND: u8 = 5;
@@ -79,7 +78,7 @@ impl<S: DeviceStore> Handler<S> {
     pub(crate) fn try_send(&mut self, order: &Order) -> Result<Done, Refusal>
         requires sends { sends order.now ≡ true }
         requires in_range { IsInRange order.now }
-        ensures { Tries S.stored self.old (λ state. order_effect state (Ok order.now)) result self.new }
+        ensures { Tries S.kept self.old (λ state. order_effect state (Ok order.now)) result self.new }
     {
         let Some(id) = order.recipient() else {
             return Ok(send(order, None, self.base));

@@ -1,6 +1,6 @@
 //! How the sender of a telegram is learned or forgotten, or told why it is not, and what it is replied.
 ghost use Rattle.std.specs.Prelude.{◌≡◌, ◌≢◌, [], ℕ, Bool, false, None, Some, IfOk, option_map};
-ghost use Rattle.device_registry.specs.Devices.{Devices};
+ghost use Rattle.learned_devices.specs.Devices.{Devices};
 ghost use Rattle.teach_in.specs.declared.outcome.Outcome as spec;
 ghost use Rattle.teach_in.specs.declared.outcome.Outcome.TheVariants as outcome;
 ghost use Rattle.teach_in.specs.Plans.{plan_of};
@@ -14,7 +14,6 @@ ghost use Rattle.gateway_core.specs.Step.{told_of};
 ghost use Rattle.gateway_core.specs.Tries.{Gives, MayReply, Tries, state_of};
 
 use crate::account::{Account, told_by, why_silent};
-use crate::device_store::DeviceStore;
 use crate::handler::Handler;
 use crate::handler::changes::Committed;
 use crate::handler::done::{Done, ignored};
@@ -22,9 +21,9 @@ use crate::handler::sending::packet_with;
 use crate::refusal::Refusal;
 use crate::reply::{Desk, Reply};
 use arrayvec::ArrayVec;
-use device_registry::Device;
 use erp1_telegrams::{Eep, Telegram};
 use json_lines::{Line, Why, teach_line};
+use learned_devices::{Device, DeviceStore};
 use std::alloc::AllocError;
 use teach_in::{Mode, Outcome, Plan, Teach, Verdict, four_byte_reply, plan, ute_reply};
 
@@ -104,7 +103,7 @@ impl<S: DeviceStore> Handler<S> {
         requires label { device.label ≡ [] }
         requires accepted { MayReply teach.now device.id outcome.Accepted }
         requires full { MayReply teach.now device.id outcome.Full }
-        ensures { Tries S.stored self.old (λ state. addition state.devices device
+        ensures { Tries S.kept self.old (λ state. addition state.devices device
             (Step.tells_sender state teach.now (told_of device outcome.Full)) (accepts state teach.now device))
             result self.new }
     {
@@ -123,7 +122,7 @@ impl<S: DeviceStore> Handler<S> {
     // Forgets the sender of a telegram, learned or not.
     fn try_forget(&mut self, teach: &Teach, id: u32) -> Result<Done, Refusal>
         requires { MayReply teach.now id outcome.Deleted }
-        ensures { Tries S.stored self.old (λ state. deletes state teach.now id) result self.new }
+        ensures { Tries S.kept self.old (λ state. deletes state teach.now id) result self.new }
     {
         let (eep, maker) = told_by(teach);
         let Committed { verdict, line } = self.forget(id, eep, maker)?;
@@ -139,7 +138,7 @@ impl<S: DeviceStore> Handler<S> {
         asked: bool,
     ) -> Result<Done, Refusal>
         requires { teach.now ≡ teach_in_of telegram.now }
-        ensures { Tries S.stored self.old (λ state. plan_effect state telegram.now asked
+        ensures { Tries S.kept self.old (λ state. plan_effect state telegram.now asked
             (plan_of telegram.now state.mode false)) result self.new }
     {
         // whether the sender is known is asked for data alone, and data of a known sender does not come here

@@ -2,7 +2,7 @@ use Rattle.std.proofs.Common.{rules, ◌≡◌, subst, OnOk, OnErr}
 use Rattle.sqlite.specs.State.{HasCleanDisk, Survives}
 use Rattle.sqlite.specs.Held.{Held, state}
 use Rattle.device_registry.specs.declared.table.Version.TheVariants.{First}
-use Rattle.device_registry.specs.Devices.{Devices}
+use Rattle.learned_devices.specs.Devices.{Devices}
 use Rattle.device_registry.specs.Stored.{RegistersAs, Holds}
 use Rattle.device_registry.specs.Ready.{Shows, KeepsOthers}
 use Rattle.device_registry.specs.Opening.{Remains}

@@ -3,7 +3,7 @@ use Rattle.std.proofs.lemmas.Grind.{common_steps}
 use Rattle.device_registry.proofs.FindAnswer.{unknown_is_removed}
 use Rattle.device_registry.specs.Table.{renew_text}
 use Rattle.device_registry.proofs.WritesTurn.{executed_if}
-use Rattle.device_registry.specs.Devices.{forgotten}
+use Rattle.learned_devices.specs.Devices.{forgotten}
 use Rattle.device_registry.proofs.store_calls.forget_or_renew.Goals as goal
 
 pub returns-then-is_empty-clause-turns : goal.returns-then-is_empty-clause-turns

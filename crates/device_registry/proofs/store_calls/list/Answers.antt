@@ -1,6 +1,6 @@
 use Rattle.std.proofs.Common.{◌≡◌, arith, [], map, subst}
 use Rattle.sqlite.specs.State.{HasCleanDisk, Shown}
-use Rattle.device_registry.specs.Devices.{Devices, all_of}
+use Rattle.learned_devices.specs.Devices.{Devices, all_of}
 use Rattle.device_registry.specs.Ready.{Shows, IsReady}
 use Rattle.device_registry.specs.Table.Rows.{listed}
 use Rattle.device_registry.specs.declared.table.Version.TheVariants.{Second}

@@ -1,6 +1,6 @@
 use Rattle.std.proofs.Common.{arith, subst}
 use Rattle.sqlite.specs.State.{HasCleanDisk, Shown}
-use Rattle.device_registry.specs.Devices.{Devices, device_of}
+use Rattle.learned_devices.specs.Devices.{Devices, device_of}
 use Rattle.device_registry.specs.Ready.{Shows, IsReady}
 use Rattle.device_registry.specs.Table.Rows.{AreFound}
 use Rattle.device_registry.specs.Table.{find_text}

@@ -1,7 +1,7 @@
 use Rattle.std.proofs.Common.{rules, ◌≡◌, ◌<◌, true, SFits, w64, to_z-of_z}
 use Rattle.sqlite.specs.State.{HasCleanDisk, Executes, CommitsBy, Survives}
 use Rattle.learned_devices.specs.Labels.{is_label}
-use Rattle.device_registry.specs.Devices.{Learned, known_of}
+use Rattle.learned_devices.specs.Devices.{Learned, known_of}
 use Rattle.device_registry.specs.Table.{put_text}
 use Rattle.device_registry.specs.Table.Rows.{put_params}
 use Rattle.device_registry.proofs.WritesTurn.{executed_if, put_turns}

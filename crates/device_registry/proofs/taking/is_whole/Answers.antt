@@ -7,7 +7,7 @@ use Rattle.sqlite.specs.Listing.{understood}
 use Rattle.sqlite.specs.Effect.{Database}
 use Rattle.sqlite.proofs.Callers.{unchanged_then}
 use Rattle.device_registry.specs.Table.{number_of, find_all_text}
-use Rattle.device_registry.specs.Devices.{most_devices}
+use Rattle.learned_devices.specs.Devices.{most_devices}
 use Rattle.device_registry.specs.Table.Rows.{ShowsVersion, devices_rise}
 use Rattle.device_registry.proofs.ListDevicesMeaning.{all_means}
 use Rattle.device_registry.proofs.VersionMeaning.{version_means}

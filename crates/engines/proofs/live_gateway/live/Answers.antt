@@ -27,7 +27,7 @@ loop-turn-init g c =
         refl,
         reads_none (source_value g.P.Source c.args.serial_in.now),
         reads_none (source_value g.Q.Source c.args.desk_in.now),
-        turns_none g.S.DeviceStore.stored (way_of_wires g.R.Sink g.D.Sink) _ idle (omega arith) c.new.ensures,
+        turns_none g.S.DeviceStore.kept (way_of_wires g.R.Sink g.D.Sink) _ idle (omega arith) c.new.ensures,
       );
       serial_made = made_none (g.P.Source.counts c.args.serial_in.now);
       desk_made = made_none (g.Q.Source.counts c.args.desk_in.now);
@@ -41,7 +41,7 @@ take_piece-requires g c = c.loop-turn.invariant.idle
 pub returns-in_default-clause-err : goal.returns-in_default-clause-err
 returns-in_default-clause-err g c =
     let (read, count, serial, desk, taken) = c.loop-turn.invariant.progress in
-    let stored = g.S.DeviceStore.stored in
+    let stored = g.S.DeviceStore.kept in
     let way = way_of_wires g.R.Sink g.D.Sink in
     let entry = first_player stored way taken in
     record {
@@ -81,7 +81,7 @@ pub returns-in_default-take_piece-clause-err : goal.returns-in_default-take_piec
 returns-in_default-take_piece-clause-err g c =
     let piece = take c.in-Ok.length c.read.new.buffer in
     let (read, count, serial, desk, taken) = c.loop-turn.invariant.progress in
-    let stored = g.S.DeviceStore.stored in
+    let stored = g.S.DeviceStore.kept in
     let way = way_of_wires g.R.Sink g.D.Sink in
     let entry = first_player stored way taken in
     record {
@@ -112,7 +112,7 @@ returns-in_default-take_piece-clause-whole g c =
     let new = c.take_piece.new.self in
     let piece = take c.in-Ok.length c.read.new.buffer in
     let (read, count, serial, desk, taken) = c.loop-turn.invariant.progress in
-    let stored = g.S.DeviceStore.stored in
+    let stored = g.S.DeviceStore.kept in
     let way = way_of_wires g.R.Sink g.D.Sink in
     let entry = first_player stored way taken in
     let part =
@@ -132,7 +132,7 @@ returns-in_default-read-clause-err g c =
     let new = c.take_piece.new.self in
     let piece = take c.in-Ok.length c.read.new.buffer in
     let (read, count, serial, desk, taken) = c.loop-turn.invariant.progress in
-    let stored = g.S.DeviceStore.stored in
+    let stored = g.S.DeviceStore.kept in
     let way = way_of_wires g.R.Sink g.D.Sink in
     let entry = first_player stored way taken in
     record {
@@ -180,7 +180,7 @@ returns-in_default-take_bytes-clause-err g c =
     let bytes = take c.in-Ok-read.length c.read-in-loop-turn.new.buffer in
     let turn : Turn = record { piece = piece; desk = bytes } in
     let (read, count, serial, desk, taken) = c.loop-turn.invariant.progress in
-    let stored = g.S.DeviceStore.stored in
+    let stored = g.S.DeviceStore.kept in
     let way = way_of_wires g.R.Sink g.D.Sink in
     let entry = first_player stored way taken in
     record {
@@ -216,7 +216,7 @@ returns-in_default-take_bytes-clause-whole g c =
     let piece = take c.in-Ok.length c.read.new.buffer in
     let bytes = take c.in-Ok-read.length c.read-in-loop-turn.new.buffer in
     let (read, count, serial, desk, taken) = c.loop-turn.invariant.progress in
-    let stored = g.S.DeviceStore.stored in
+    let stored = g.S.DeviceStore.kept in
     let way = way_of_wires g.R.Sink g.D.Sink in
     let entry = first_player stored way taken in
     let part =
@@ -243,7 +243,7 @@ loop-turn-preserved g c =
     let both : Turn = record { piece = piece; desk = bytes } in
     let before = c.loop-turn.invariant in
     let (read, count, serial, desk, taken) = before.progress in
-    let stored = g.S.DeviceStore.stored in
+    let stored = g.S.DeviceStore.kept in
     let way = way_of_wires g.R.Sink g.D.Sink in
     let entry = first_player stored way taken in
     record {
@@ -277,7 +277,7 @@ loop-turn-preserved g c =
 pub returns-clause-ok : goal.returns-clause-ok
 returns-clause-ok g c =
     let (read, count, serial, desk, taken) = c.loop-turn.invariant.progress in
-    let stored = g.S.DeviceStore.stored in
+    let stored = g.S.DeviceStore.kept in
     let way = way_of_wires g.R.Sink g.D.Sink in
     let entry = first_player stored way taken in
     let done = c.loop-turn-test.false in
@@ -337,25 +337,25 @@ returns-clause-whole g c =
 
 pub returns-in_default-clause-as_specified : goal.returns-in_default-clause-as_specified
 returns-in_default-clause-as_specified g c =
-    served_until g.S.DeviceStore.stored g.P.Source g.Q.Source g.R.Sink g.D.Sink c.args.explains _ _ c.args.turns Read
+    served_until g.S.DeviceStore.kept g.P.Source g.Q.Source g.R.Sink g.D.Sink c.args.explains _ _ c.args.turns Read
     (returns-in_default-clause-err g c)
 
 pub returns-in_default-take_piece-clause-as_specified : goal.returns-in_default-take_piece-clause-as_specified
 returns-in_default-take_piece-clause-as_specified g c =
-    served_until g.S.DeviceStore.stored g.P.Source g.Q.Source g.R.Sink g.D.Sink c.args.explains _ _ c.args.turns Write
+    served_until g.S.DeviceStore.kept g.P.Source g.Q.Source g.R.Sink g.D.Sink c.args.explains _ _ c.args.turns Write
     (returns-in_default-take_piece-clause-err g c)
 
 pub returns-in_default-read-clause-as_specified : goal.returns-in_default-read-clause-as_specified
 returns-in_default-read-clause-as_specified g c =
-    served_until g.S.DeviceStore.stored g.P.Source g.Q.Source g.R.Sink g.D.Sink c.args.explains _ _ c.args.turns Read
+    served_until g.S.DeviceStore.kept g.P.Source g.Q.Source g.R.Sink g.D.Sink c.args.explains _ _ c.args.turns Read
     (returns-in_default-read-clause-err g c)
 
 pub returns-in_default-take_bytes-clause-as_specified : goal.returns-in_default-take_bytes-clause-as_specified
 returns-in_default-take_bytes-clause-as_specified g c =
-    served_until g.S.DeviceStore.stored g.P.Source g.Q.Source g.R.Sink g.D.Sink c.args.explains _ _ c.args.turns Write
+    served_until g.S.DeviceStore.kept g.P.Source g.Q.Source g.R.Sink g.D.Sink c.args.explains _ _ c.args.turns Write
     (returns-in_default-take_bytes-clause-err g c)
 
 pub returns-clause-as_specified : goal.returns-clause-as_specified
 returns-clause-as_specified g c =
-    served g.S.DeviceStore.stored g.P.Source g.Q.Source g.R.Sink g.D.Sink c.args.explains _ _ c.args.turns _
+    served g.S.DeviceStore.kept g.P.Source g.Q.Source g.R.Sink g.D.Sink c.args.explains _ _ c.args.turns _
     (returns-clause-ok g c)

@@ -17,7 +17,7 @@ invariant-loop-turn g l = record {
   progress : (read : List Turn) × (length read ≡ l._turn)
       × ReadsWell (source_value g.P.Source l.fn.serial_in) (source_value g.P.Source l.serial_in) (pieces read)
       × ReadsWell (source_value g.Q.Source l.fn.desk_in) (source_value g.Q.Source l.desk_in) (desks read)
-      × TakesTurns g.S.DeviceStore.stored (way_of_wires g.R.Sink g.D.Sink) l.initial.player l.player read;
+      × TakesTurns g.S.DeviceStore.kept (way_of_wires g.R.Sink g.D.Sink) l.initial.player l.player read;
   serial_made : Made (g.P.Source.counts l.fn.serial_in) (g.P.Source.counts l.serial_in) l._turn;
   desk_made : Made (g.Q.Source.counts l.fn.desk_in) (g.Q.Source.counts l.desk_in) l._turn;
 }

@@ -28,7 +28,7 @@ loop-turn-init g c =
       progress = (
         [],
         Consumes-nil (g.R.Source.left c.args.reader.now),
-        bytes_none g.S.DeviceStore.stored (way_of_text g.W.Sink) OfScript _ [] idle (omega arith)
+        bytes_none g.S.DeviceStore.kept (way_of_text g.W.Sink) OfScript _ [] idle (omega arith)
             (rw c.new.ensures keeps_none),
       );
       writes = (refl, refl);
@@ -40,36 +40,36 @@ pub returns-in-Err-clause-err : goal.returns-in-Err-clause-err
 returns-in-Err-clause-err g c =
     let left = g.R.Source.left in
     let (input, read, taken) = c.loop-turn.invariant.progress in
-    let entry = first_player g.S.DeviceStore.stored (way_of_text g.W.Sink) OfScript taken in
+    let entry = first_player g.S.DeviceStore.kept (way_of_text g.W.Sink) OfScript taken in
     record {
       input = input;
       read =
           Consumes-kept (left c.args.reader.now) (left c.loop-turn.reader) (left c.read.new.self) input read
           c.in-Err.ensures.bytes;
       played =
-          plays_ended g.S.DeviceStore.stored g.W.Sink entry c.loop-turn.player input _ _ (search rules) (search rules)
+          plays_ended g.S.DeviceStore.kept g.W.Sink entry c.loop-turn.player input _ _ (search rules) (search rules)
           taken;
     }
 
 pub returns-clause-err : goal.returns-clause-err
 returns-clause-err g c =
     let (input, read, taken) = c.loop-turn.invariant.progress in
-    let entry = first_player g.S.DeviceStore.stored (way_of_text g.W.Sink) OfScript taken in
+    let entry = first_player g.S.DeviceStore.kept (way_of_text g.W.Sink) OfScript taken in
     record {
       input = input;
       read = read;
       played =
-          plays_ended g.S.DeviceStore.stored g.W.Sink entry c.loop-turn.player input _ _ (search rules) (search rules)
+          plays_ended g.S.DeviceStore.kept g.W.Sink entry c.loop-turn.player input _ _ (search rules) (search rules)
           taken;
     }
 
 pub returns-then-length-eq0-clause-ok : goal.returns-then-length-eq0-clause-ok
 returns-then-length-eq0-clause-ok g c =
-    let stored = g.S.DeviceStore.stored in
+    let stored = g.S.DeviceStore.kept in
     let left = g.R.Source.left in
     let new = c.take_last.new.self.engine in
     let (input, read, taken) = c.loop-turn.invariant.progress in
-    let entry = first_player g.S.DeviceStore.stored (way_of_text g.W.Sink) OfScript taken in
+    let entry = first_player g.S.DeviceStore.kept (way_of_text g.W.Sink) OfScript taken in
     let none : Consumes (left c.loop-turn.reader) (left c.read.new.self) [] =
     rw c.if-length-eq0.true at c.in-Ok.ensures.bytes.0 in
     let done =
@@ -88,17 +88,17 @@ pub returns-then-length-eq0-clause-ended : goal.returns-then-length-eq0-clause-e
 returns-then-length-eq0-clause-ended g c =
     let (input, read, taken) = c.loop-turn.invariant.progress in
     let done =
-    script_taken g.S.DeviceStore.stored g.W.Sink _ c.loop-turn.player input c.take_last.new.self.engine taken
+    script_taken g.S.DeviceStore.kept g.W.Sink _ c.loop-turn.player input c.take_last.new.self.engine taken
     (c.in-Ok-take_last.ensures.taken taken.rest taken.keeps) in
     let went = done.played.answered.out.1.went in
     let reads = c.loop-turn.invariant.reads in search rules
 
 pub returns-in_default-clause-err : goal.returns-in_default-clause-err
 returns-in_default-clause-err g c =
-    let stored = g.S.DeviceStore.stored in
+    let stored = g.S.DeviceStore.kept in
     let left = g.R.Source.left in
     let (input, read, taken) = c.loop-turn.invariant.progress in
-    let entry = first_player g.S.DeviceStore.stored (way_of_text g.W.Sink) OfScript taken in
+    let entry = first_player g.S.DeviceStore.kept (way_of_text g.W.Sink) OfScript taken in
     let none : Consumes (left c.loop-turn.reader) (left c.read.new.self) [] =
     rw c.if-length-eq0.true at c.in-Ok.ensures.bytes.0 in
     record {
@@ -130,11 +130,11 @@ returns-in_default-clause-write g c =
 
 pub returns-in_default-take_bytes-clause-err : goal.returns-in_default-take_bytes-clause-err
 returns-in_default-take_bytes-clause-err g c =
-    let stored = g.S.DeviceStore.stored in
+    let stored = g.S.DeviceStore.kept in
     let left = g.R.Source.left in
     let reads = g.R.Source.counts in
     let (input, read, taken) = c.loop-turn.invariant.progress in
-    let entry = first_player g.S.DeviceStore.stored (way_of_text g.W.Sink) OfScript taken in
+    let entry = first_player g.S.DeviceStore.kept (way_of_text g.W.Sink) OfScript taken in
     let chunk = take c.in-Ok.length c.read.new.buffer in
     let stop =
     stops_behind stored (way_of_text g.W.Sink) OfScript _ c.loop-turn.player c.take_bytes.new.self input chunk taken
@@ -158,7 +158,7 @@ pub returns-in_default-take_bytes-clause-write : goal.returns-in_default-take_by
 returns-in_default-take_bytes-clause-write g c =
     let (input, read, taken) = c.loop-turn.invariant.progress in
     let stop =
-    stops_behind g.S.DeviceStore.stored (way_of_text g.W.Sink) OfScript _ c.loop-turn.player c.take_bytes.new.self input
+    stops_behind g.S.DeviceStore.kept (way_of_text g.W.Sink) OfScript _ c.loop-turn.player c.take_bytes.new.self input
     _ taken (c.in_default-take_bytes.ensures.stopped taken.rest taken.keeps) in
     λ _. (
       search rules,
@@ -171,7 +171,7 @@ returns-in_default-take_bytes-clause-too_many g c =
     let counts = g.W.Sink.counts in
     let (input, read, taken) = c.loop-turn.invariant.progress in
     let stop =
-    stops_behind g.S.DeviceStore.stored (way_of_text g.W.Sink) OfScript _ c.loop-turn.player c.take_bytes.new.self input
+    stops_behind g.S.DeviceStore.kept (way_of_text g.W.Sink) OfScript _ c.loop-turn.player c.take_bytes.new.self input
     _ taken (c.in_default-take_bytes.ensures.stopped taken.rest taken.keeps) in
     let wrong : OneWrong (counts c.args.writer.now) (counts c.take_bytes.new.self.engine.outlet.sink.now) =
     stop.broken.answered.out.1.went in search rules
@@ -185,7 +185,7 @@ loop-turn-preserved g c =
     let chunk = take c.in-Ok.length c.read.new.buffer in
     let after = c.in-Ok-take_bytes.ensures in
     let now =
-    bytes_behind g.S.DeviceStore.stored (way_of_text g.W.Sink) OfScript _ c.loop-turn.player c.take_bytes.new.self input
+    bytes_behind g.S.DeviceStore.kept (way_of_text g.W.Sink) OfScript _ c.loop-turn.player c.take_bytes.new.self input
     chunk taken (after.taken taken.rest taken.keeps) in
     record {
       gateway = search rules;
@@ -257,22 +257,22 @@ returns-clause-too_many g c = search rules
 
 pub returns-in-Err-clause-as_specified : goal.returns-in-Err-clause-as_specified
 returns-in-Err-clause-as_specified g c =
-    replayed_until g.S.DeviceStore.stored g.R.Source g.W.Sink c.args.explains _ _ Read (returns-in-Err-clause-err g c)
+    replayed_until g.S.DeviceStore.kept g.R.Source g.W.Sink c.args.explains _ _ Read (returns-in-Err-clause-err g c)
 
 pub returns-clause-as_specified : goal.returns-clause-as_specified
 returns-clause-as_specified g c =
-    replayed_until g.S.DeviceStore.stored g.R.Source g.W.Sink c.args.explains _ _ TooManyTurns (returns-clause-err g c)
+    replayed_until g.S.DeviceStore.kept g.R.Source g.W.Sink c.args.explains _ _ TooManyTurns (returns-clause-err g c)
 
 pub returns-in_default-clause-as_specified : goal.returns-in_default-clause-as_specified
 returns-in_default-clause-as_specified g c =
-    replayed_until g.S.DeviceStore.stored g.R.Source g.W.Sink c.args.explains _ _ Write
+    replayed_until g.S.DeviceStore.kept g.R.Source g.W.Sink c.args.explains _ _ Write
     (returns-in_default-clause-err g c)
 
 pub returns-in_default-take_bytes-clause-as_specified : goal.returns-in_default-take_bytes-clause-as_specified
 returns-in_default-take_bytes-clause-as_specified g c =
-    replayed_until g.S.DeviceStore.stored g.R.Source g.W.Sink c.args.explains _ _ Write
+    replayed_until g.S.DeviceStore.kept g.R.Source g.W.Sink c.args.explains _ _ Write
     (returns-in_default-take_bytes-clause-err g c)
 
 pub returns-then-length-eq0-clause-as_specified : goal.returns-then-length-eq0-clause-as_specified
 returns-then-length-eq0-clause-as_specified g c =
-    replayed g.S.DeviceStore.stored g.R.Source g.W.Sink c.args.explains _ _ _ (returns-then-length-eq0-clause-ok g c)
+    replayed g.S.DeviceStore.kept g.R.Source g.W.Sink c.args.explains _ _ _ (returns-then-length-eq0-clause-ok g c)

@@ -15,7 +15,7 @@ invariant-loop-turn g l = record {
   writer : l.player.engine.outlet.sink.ghost_name ≡ l.initial.player.engine.outlet.sink.ghost_name;
   idle : IsIdle l.player.engine.gateway.now;
   progress : (input : List ℕ) × Consumes (g.R.Source.left l.fn.reader) (g.R.Source.left l.reader) input
-      × TakesBytes g.S.DeviceStore.stored (way_of_text g.W.Sink) OfScript l.initial.player l.player input;
+      × TakesBytes g.S.DeviceStore.kept (way_of_text g.W.Sink) OfScript l.initial.player l.player input;
   writes : WentWell (g.W.Sink.counts l.fn.writer) (g.W.Sink.counts l.player.engine.outlet.sink.now);
   reads : WentWell (g.R.Source.counts l.fn.reader) (g.R.Source.counts l.reader);
   gave : (parts : List (List ℕ)) × (length parts ≡ l._turn)

@@ -1,5 +1,5 @@
 use Rattle.std.proofs.Common.{◌≡◌}
-use Rattle.device_registry.specs.Devices.{Devices}
+use Rattle.learned_devices.specs.Devices.{Devices}
 use Rattle.gateway_core.specs.Stops.{IsOneOf}
 use Rattle.gateway_core.proofs.StopLemmas.{safe_joins}
 use Rattle.gateway_core.proofs.laws.safe_joins_in_a_life.Goals as goal

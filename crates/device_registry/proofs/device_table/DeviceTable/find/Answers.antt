@@ -1,4 +1,4 @@
-use Rattle.device_registry.specs.Devices.{device_of}
+use Rattle.learned_devices.specs.Devices.{device_of}
 use Rattle.device_registry.proofs.RegistryCalls.{had, keeps_well, looks_up, if_err, ready_if}
 use Rattle.device_registry.proofs.device_table.DeviceTable.find.Goals as goal
 

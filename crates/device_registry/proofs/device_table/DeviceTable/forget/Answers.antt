@@ -1,9 +1,9 @@
 use Rattle.std.proofs.Common.{◌∙◌, subst, option_map}
-use Rattle.device_registry.specs.Devices.{device, forgotten}
+use Rattle.learned_devices.specs.Devices.{device, forgotten}
 use Rattle.device_registry.specs.Table.Rows.{AreFound}
 use Rattle.device_registry.proofs.OpenRenews.{written_by}
-use Rattle.device_registry.proofs.RegistryCalls.{keeps_well, forgets_not, refused_well, forget_refused, made_well}
-use Rattle.device_registry.proofs.RegistryCalls.{had, shown_before, ready_made, forget_made}
+use Rattle.device_registry.proofs.RegistryCalls.{keeps_well, updates_not, refused_well, update_refused, made_well}
+use Rattle.device_registry.proofs.RegistryCalls.{had, shown_before, ready_made, update_made}
 use Rattle.device_registry.proofs.device_table.DeviceTable.forget.Goals as goal
 
 -- ---- the query failed
@@ -14,9 +14,9 @@ invariant_of-self g c = keeps_well (g.C.SqlConnection.state c.self.inside.conn)
 
 pub returns-in_err-rows-clause-forgets : goal.returns-in_err-rows-clause-forgets
 returns-in_err-rows-clause-forgets g c =
-    rw (← c.self.view_is) (forgets_not (g.C.SqlConnection.state c.self.inside.conn)
+    rw (← c.self.view_is) (updates_not (g.C.SqlConnection.state c.self.inside.conn)
     (g.C.SqlConnection.state c.look_up.new.conn)
-    c.look_up.ensures.stays c.self.invariant c.args.id c.from_residual.result c.from_residual.ensures.0)
+    c.look_up.ensures.stays c.self.invariant (forgotten c.args.id) c.from_residual.result c.from_residual.ensures.0)
 
 -- ---- the write
 
@@ -30,25 +30,26 @@ forget_or_renew-requires-clause-found g c clean devices shows =
     rw c.deref.ensures.value ((c.in_ok-rows.ensures.found clean).1 devices
     (shown_before old mid c.look_up.ensures.stays c.self.invariant clean devices shows))
 
-pub invariant_of-self-in_err-changed : goal.invariant_of-self-in_err-changed
-invariant_of-self-in_err-changed g c =
+pub invariant_of-self-in_err-forget_or_renew : goal.invariant_of-self-in_err-forget_or_renew
+invariant_of-self-in_err-forget_or_renew g c =
     refused_well (g.C.SqlConnection.state c.self.inside.conn) (g.C.SqlConnection.state c.look_up.new.conn)
     (g.C.SqlConnection.state c.forget_or_renew.new.conn) (forgotten c.args.id) c.forget_or_renew.result
-    c.look_up.ensures.stays c.self.invariant c.forget_or_renew.ensures.turns c.in_err-changed.ensures.turns.refused
+    c.look_up.ensures.stays c.self.invariant c.forget_or_renew.ensures.turns c.in_err-forget_or_renew.ensures.turns.refused
 
-pub returns-in_err-changed-clause-forgets : goal.returns-in_err-changed-clause-forgets
-returns-in_err-changed-clause-forgets g c =
-    rw (← c.self.view_is) (forget_refused (g.C.SqlConnection.state c.self.inside.conn)
+pub returns-in_err-forget_or_renew-clause-forgets : goal.returns-in_err-forget_or_renew-clause-forgets
+returns-in_err-forget_or_renew-clause-forgets g c =
+    rw (← c.self.view_is) (update_refused (g.C.SqlConnection.state c.self.inside.conn)
     (g.C.SqlConnection.state c.look_up.new.conn)
     (g.C.SqlConnection.state c.forget_or_renew.new.conn) c.forget_or_renew.result
-    c.look_up.ensures.stays c.self.invariant c.args.id c.from_residual-in_err-changed.result
-    c.from_residual-in_err-changed.ensures.0 c.forget_or_renew.ensures.turns c.in_err-changed.ensures.turns.refused)
+    c.look_up.ensures.stays c.self.invariant (forgotten c.args.id) c.from_residual-in_err-forget_or_renew.result
+    c.from_residual-in_err-forget_or_renew.ensures.0 c.forget_or_renew.ensures.turns
+    c.in_err-forget_or_renew.ensures.turns.refused)
 
 pub invariant_of-self-2 : goal.invariant_of-self-2
 invariant_of-self-2 g c =
     made_well (g.C.SqlConnection.state c.self.inside.conn) (g.C.SqlConnection.state c.look_up.new.conn)
     (g.C.SqlConnection.state c.forget_or_renew.new.conn) (forgotten c.args.id) c.forget_or_renew.result
-    c.look_up.ensures.stays c.self.invariant c.forget_or_renew.ensures.turns c.in_ok-changed.ensures.turns.made
+    c.look_up.ensures.stays c.self.invariant c.forget_or_renew.ensures.turns c.in_ok-forget_or_renew.ensures.turns.made
     (λ clean. (c.in_ok-rows.ensures.found clean).0)
 
 pub returns-clause-forgets : goal.returns-clause-forgets
@@ -56,26 +57,33 @@ returns-clause-forgets g c =
     let old = g.C.SqlConnection.state c.self.inside.conn in
     let mid = g.C.SqlConnection.state c.look_up.new.conn in
     let new = g.C.SqlConnection.state c.forget_or_renew.new.conn in
-    let turns = c.forget_or_renew.ensures.turns in
-    rw (← c.self.view_is, c.forgotten.ensures)
-    (forget_made old mid new c.forget_or_renew.result c.look_up.ensures.stays c.self.invariant
-    c.args.id turns c.in_ok-changed.ensures.turns.made
+    rw (← c.self.view_is)
+    (update_made old mid new c.forget_or_renew.result c.look_up.ensures.stays c.self.invariant _
+    (forgotten c.args.id) c.forget_or_renew.ensures.turns c.in_ok-forget_or_renew.ensures.turns.made
     (λ clean. (c.in_ok-rows.ensures.found clean).0)
-    (λ trees is_open. g.met.C.SqlConnection.settled c.forget_or_renew.new.conn trees is_open)
+    (λ trees is_open. g.met.C.SqlConnection.settled c.forget_or_renew.new.conn trees is_open))
+
+pub returns-clause-written : goal.returns-clause-written
+returns-clause-written g c =
+    let old = g.C.SqlConnection.state c.self.inside.conn in
+    let mid = g.C.SqlConnection.state c.look_up.new.conn in
+    let new = g.C.SqlConnection.state c.forget_or_renew.new.conn in
+    let turns = c.forget_or_renew.ensures.turns in
+    rw (← c.self.view_is)
     (λ clean devices has none.
     let early = turns.clean clean in
     let found = c.in_ok-rows.ensures.found early in
     let shows = had old mid c.look_up.ensures.stays c.self.invariant early found.0 devices has in
     let no_rows = subst (λ o. AreFound (option_map (device c.args.id) o) c.in_ok-rows.rows.items) none
     (found.1 devices shows) in
-    written_by old mid new c.in_ok-changed.changed devices shows (c.in_ok-rows.ensures.same early)
+    written_by old mid new c.in_ok-forget_or_renew.field-0 devices shows (c.in_ok-rows.ensures.same early)
     c.look_up.ensures.survives found.0
-    (c.in_ok-changed.ensures.written clean (c.deref.ensures.value ∙ no_rows))))
+    (c.in_ok-forget_or_renew.ensures.written clean (c.deref.ensures.value ∙ no_rows)))
 
 pub returns-clause-ready : goal.returns-clause-ready
 returns-clause-ready g c clean =
     rw (← c.self.view_is) (ready_made (g.C.SqlConnection.state c.self.inside.conn)
     (g.C.SqlConnection.state c.look_up.new.conn)
     (g.C.SqlConnection.state c.forget_or_renew.new.conn) (forgotten c.args.id) c.forget_or_renew.result
-    c.look_up.ensures.stays c.self.invariant c.forget_or_renew.ensures.turns (c.in_ok-changed.ensures.turns.made clean)
+    c.look_up.ensures.stays c.self.invariant c.forget_or_renew.ensures.turns (c.in_ok-forget_or_renew.ensures.turns.made clean)
     clean (c.in_ok-rows.ensures.found (c.forget_or_renew.ensures.turns.clean clean)).0)

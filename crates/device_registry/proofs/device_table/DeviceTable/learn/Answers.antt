@@ -1,10 +1,9 @@
 use Rattle.std.proofs.Common.{◌∙◌, sym, ap, subst, Err}
-use Rattle.std.proofs.lemmas.Result.{err_from_is_err_and}
-use Rattle.device_registry.specs.Devices.{learned, known_of}
-use Rattle.device_registry.specs.Holding.{Learns, WritesRow}
+use Rattle.learned_devices.specs.Devices.{learned, known_of}
+use Rattle.device_registry.specs.Holding.{WritesRow}
 use Rattle.device_registry.proofs.RegistryCalls.{puts_it, had, shown_before, keeps, keeps_well}
-use Rattle.device_registry.proofs.RegistryCalls.{learns_not, is_full_then, refused_well}
-use Rattle.device_registry.proofs.RegistryCalls.{learn_refused, made_well, learn_made, ready_both, ready_made}
+use Rattle.device_registry.proofs.RegistryCalls.{adds_not, is_full_then, refused_well}
+use Rattle.device_registry.proofs.RegistryCalls.{add_refused, made_well, add_made, ready_both, ready_made}
 use Rattle.device_registry.proofs.device_table.DeviceTable.learn.Goals as goal
 
 -- ---- the count failed
@@ -13,13 +12,12 @@ pub invariant_of-self : goal.invariant_of-self
 invariant_of-self g c = keeps_well (g.C.SqlConnection.state c.self.inside.conn)
     (g.C.SqlConnection.state c.has_no_room.new.conn) c.has_no_room.ensures.stays c.self.invariant
 
-pub returns-in_err-has_no_room-clause-learns : goal.returns-in_err-has_no_room-clause-learns
-returns-in_err-has_no_room-clause-learns g c =
+pub returns-in_err-has_no_room-clause-adds : goal.returns-in_err-has_no_room-clause-adds
+returns-in_err-has_no_room-clause-adds g c =
     let old = g.C.SqlConnection.state c.self.inside.conn in
     let new = g.C.SqlConnection.state c.has_no_room.new.conn in
-    let why = err_from_is_err_and c.from_residual.result c.from_residual.ensures.1 in
-    rw (← c.self.view_is) (subst (Learns old new c.args.device) (sym (why.1 ∙ ap Err why.2))
-    (learns_not old new c.has_no_room.ensures.stays c.self.invariant c.args.device _))
+    rw (← c.self.view_is) (adds_not old new c.has_no_room.ensures.stays c.self.invariant c.args.device
+    c.from_residual.result c.from_residual.ensures.0)
 
 -- ---- there is no room
 
@@ -27,8 +25,8 @@ pub invariant_of-self-then-branch : goal.invariant_of-self-then-branch
 invariant_of-self-then-branch g c = keeps_well (g.C.SqlConnection.state c.self.inside.conn)
     (g.C.SqlConnection.state c.has_no_room.new.conn) c.has_no_room.ensures.stays c.self.invariant
 
-pub returns-then-branch-clause-learns : goal.returns-then-branch-clause-learns
-returns-then-branch-clause-learns g c =
+pub returns-then-branch-clause-adds : goal.returns-then-branch-clause-adds
+returns-then-branch-clause-adds g c =
     let old = g.C.SqlConnection.state c.self.inside.conn in
     let new = g.C.SqlConnection.state c.has_no_room.new.conn in
     rw (← c.self.view_is) (is_full_then old new c.has_no_room.ensures.stays c.self.invariant c.args.device
@@ -37,11 +35,11 @@ returns-then-branch-clause-learns g c =
     sym (told.1 devices (had old new c.has_no_room.ensures.stays c.self.invariant clean told.0 devices has))
     ∙ c.if-branch.true))
 
-pub returns-then-branch-clause-ready_if_full : goal.returns-then-branch-clause-ready_if_full
-returns-then-branch-clause-ready_if_full g c clean =
+pub returns-then-branch-clause-ready : goal.returns-then-branch-clause-ready
+returns-then-branch-clause-ready g c clean =
     let both = ready_both (g.C.SqlConnection.state c.self.inside.conn) (g.C.SqlConnection.state c.has_no_room.new.conn)
     c.has_no_room.ensures.stays c.self.invariant clean (c.in_ok-has_no_room.ensures.full clean).0 in
-    rw (← c.self.view_is) (λ is. both)
+    rw (← c.self.view_is) both
 
 -- ---- the write
 
@@ -55,8 +53,8 @@ put-requires-clause-room g c clean devices shows =
     sym ((c.in_ok-has_no_room.ensures.full clean).1 devices
     (shown_before old mid c.has_no_room.ensures.stays c.self.invariant clean devices shows)) ∙ c.if-branch.false
 
-pub invariant_of-self-in_err-changed : goal.invariant_of-self-in_err-changed
-invariant_of-self-in_err-changed g c =
+pub invariant_of-self-in_err-put : goal.invariant_of-self-in_err-put
+invariant_of-self-in_err-put g c =
     let old = g.C.SqlConnection.state c.self.inside.conn in
     let mid = g.C.SqlConnection.state c.has_no_room.new.conn in
     let new = g.C.SqlConnection.state c.put.new.conn in
@@ -66,10 +64,10 @@ invariant_of-self-in_err-changed g c =
     (rw (← c.self.view_is) at c.requires) in
     let turns = c.put.ensures.turns change makes in
     refused_well old mid new change c.put.result stays c.self.invariant turns
-    (c.in_err-changed.ensures.turns change makes).refused
+    (c.in_err-put.ensures.turns change makes).refused
 
-pub returns-in_err-changed-clause-learns : goal.returns-in_err-changed-clause-learns
-returns-in_err-changed-clause-learns g c =
+pub returns-in_err-put-clause-adds : goal.returns-in_err-put-clause-adds
+returns-in_err-put-clause-adds g c =
     let old = g.C.SqlConnection.state c.self.inside.conn in
     let mid = g.C.SqlConnection.state c.has_no_room.new.conn in
     let new = g.C.SqlConnection.state c.put.new.conn in
@@ -78,10 +76,13 @@ returns-in_err-changed-clause-learns g c =
     let makes = puts_it old mid stays c.self.invariant change (known_of c.args.device)
     (rw (← c.self.view_is) at c.requires) in
     let turns = c.put.ensures.turns change makes in
-    let why = err_from_is_err_and c.from_residual-in_err-changed.result c.from_residual-in_err-changed.ensures.1 in
-    rw (← c.self.view_is) (subst (Learns old new c.args.device) (sym (why.1 ∙ ap Err why.2))
-    (learn_refused old mid new c.put.result stays c.self.invariant c.args.device _ turns
-    (c.in_err-changed.ensures.turns change makes).refused))
+    rw (← c.self.view_is) (add_refused old mid new c.put.result stays c.self.invariant c.args.device
+    c.from_residual-in_err-put.result c.from_residual-in_err-put.ensures.0 turns
+    (c.in_err-put.ensures.turns change makes).refused
+    (λ clean devices has.
+    let told = c.in_ok-has_no_room.ensures.full clean in
+    sym (told.1 devices (had old mid stays c.self.invariant clean told.0 devices has))
+    ∙ c.if-branch.false))
 
 pub invariant_of-self-2 : goal.invariant_of-self-2
 invariant_of-self-2 g c =
@@ -94,11 +95,11 @@ invariant_of-self-2 g c =
     (rw (← c.self.view_is) at c.requires) in
     let turns = c.put.ensures.turns change makes in
     made_well old mid new change c.put.result stays c.self.invariant turns
-    (c.in_ok-changed.ensures.turns change makes).made
+    (c.in_ok-put.ensures.turns change makes).made
     (λ clean. (c.in_ok-has_no_room.ensures.full clean).0)
 
-pub returns-clause-learns : goal.returns-clause-learns
-returns-clause-learns g c =
+pub returns-clause-adds : goal.returns-clause-adds
+returns-clause-adds g c =
     let old = g.C.SqlConnection.state c.self.inside.conn in
     let mid = g.C.SqlConnection.state c.has_no_room.new.conn in
     let new = g.C.SqlConnection.state c.put.new.conn in
@@ -107,9 +108,9 @@ returns-clause-learns g c =
     let makes = puts_it old mid stays c.self.invariant change (known_of c.args.device)
     (rw (← c.self.view_is) at c.requires) in
     let turns = c.put.ensures.turns change makes in
-    rw (← c.self.view_is, c.learned.ensures)
-    (learn_made old mid new c.put.result stays c.self.invariant c.args.device turns
-    (c.in_ok-changed.ensures.turns change makes).made
+    rw (← c.self.view_is)
+    (add_made old mid new c.put.result stays c.self.invariant c.args.device turns
+    (c.in_ok-put.ensures.turns change makes).made
     (λ clean. (c.in_ok-has_no_room.ensures.full clean).0)
     (λ trees is_open. g.met.C.SqlConnection.settled c.put.new.conn trees is_open)
     (λ clean devices has.
@@ -127,13 +128,13 @@ returns-clause-written g c =
     let turns = c.put.ensures.turns (learned c.args.device) makes in
     rw (← c.self.view_is) (λ clean devices has.
     let early = turns.clean clean in
-    let row : WritesRow g.C.SqlConnection.state c.put.new.conn (learned c.args.device) devices = record {
+    λ _. let row : WritesRow g.C.SqlConnection.state c.put.new.conn (learned c.args.device) devices = record {
       row = known_of c.args.device;
       is = asked (stays.clean early) devices has;
       before = c.has_no_room.new.conn;
       had = (keeps old mid stays c.self.invariant early devices has).now;
-      count = c.in_ok-changed.changed;
-      executed = c.in_ok-changed.ensures.written clean;
+      count = c.in_ok-put.field-0;
+      executed = c.in_ok-put.ensures.written clean;
     } in row)
 
 pub returns-clause-ready : goal.returns-clause-ready
@@ -147,5 +148,5 @@ returns-clause-ready g c clean =
     (rw (← c.self.view_is) at c.requires) in
     let turns = c.put.ensures.turns change makes in
     rw (← c.self.view_is) (ready_made old mid new change c.put.result stays c.self.invariant turns
-    ((c.in_ok-changed.ensures.turns change makes).made clean) clean
+    ((c.in_ok-put.ensures.turns change makes).made clean) clean
     (c.in_ok-has_no_room.ensures.full (turns.clean clean)).0)

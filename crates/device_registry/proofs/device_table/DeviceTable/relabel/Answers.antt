@@ -1,7 +1,7 @@
-use Rattle.device_registry.specs.Devices.{known_of, relabelled}
+use Rattle.learned_devices.specs.Devices.{known_of, relabelled}
 use Rattle.device_registry.specs.Holding.{WritesRow}
 use Rattle.device_registry.proofs.RegistryCalls.{puts_it, stays_itself, room_if_known, refused_well, made_well}
-use Rattle.device_registry.proofs.RegistryCalls.{relabel_refused, relabel_made, ready_made}
+use Rattle.device_registry.proofs.RegistryCalls.{update_refused, update_made, ready_made}
 use Rattle.device_registry.proofs.device_table.DeviceTable.relabel.Goals as goal
 
 pub put-requires-clause-ready : goal.put-requires-clause-ready
@@ -23,16 +23,16 @@ invariant_of-self g c =
     refused_well old old new change c.put.result (stays_itself old) c.self.invariant turns
     (c.in_err-put.ensures.turns change makes).refused
 
-pub returns-in_err-put-clause-relabels : goal.returns-in_err-put-clause-relabels
-returns-in_err-put-clause-relabels g c =
+pub returns-in_err-put-clause-updates : goal.returns-in_err-put-clause-updates
+returns-in_err-put-clause-updates g c =
     let old = g.C.SqlConnection.state c.self.inside.conn in
     let new = g.C.SqlConnection.state c.put.new.conn in
     let change = relabelled c.args.device.id c.args.device.label in
     let makes = puts_it old old (stays_itself old) c.self.invariant change (known_of c.args.device)
     (rw (← c.self.view_is) at c.requires.known) in
     let turns = c.put.ensures.turns change makes in
-    rw (← c.self.view_is) (relabel_refused old new c.put.result c.self.invariant c.args.device.id c.args.device.label
-    turns c.from_residual.result c.from_residual.ensures.0 (c.in_err-put.ensures.turns change makes).refused)
+    rw (← c.self.view_is) (update_refused old old new c.put.result (stays_itself old) c.self.invariant change
+    c.from_residual.result c.from_residual.ensures.0 turns (c.in_err-put.ensures.turns change makes).refused)
 
 pub invariant_of-self-2 : goal.invariant_of-self-2
 invariant_of-self-2 g c =
@@ -45,19 +45,17 @@ invariant_of-self-2 g c =
     made_well old old new change c.put.result (stays_itself old) c.self.invariant turns
     (c.in_ok-put.ensures.turns change makes).made (rw (← c.self.view_is) at c.requires.ready)
 
-pub returns-clause-relabels : goal.returns-clause-relabels
-returns-clause-relabels g c =
+pub returns-clause-updates : goal.returns-clause-updates
+returns-clause-updates g c =
     let old = g.C.SqlConnection.state c.self.inside.conn in
     let new = g.C.SqlConnection.state c.put.new.conn in
     let change = relabelled c.args.device.id c.args.device.label in
     let makes = puts_it old old (stays_itself old) c.self.invariant change (known_of c.args.device)
     (rw (← c.self.view_is) at c.requires.known) in
     let turns = c.put.ensures.turns change makes in
-    rw (← c.self.view_is) (relabel_made old new c.put.result c.self.invariant c.args.device.id c.args.device.label
-    turns (known_of c.args.device) (c.in_ok-put.ensures.turns change makes).made
-    (rw (← c.self.view_is) at c.requires.ready)
-    (λ trees is_open. g.met.C.SqlConnection.settled c.put.new.conn trees is_open)
-    (rw (← c.self.view_is) at c.requires.known))
+    rw (← c.self.view_is) (update_made old old new c.put.result (stays_itself old) c.self.invariant _ change turns
+    (c.in_ok-put.ensures.turns change makes).made (rw (← c.self.view_is) at c.requires.ready)
+    (λ trees is_open. g.met.C.SqlConnection.settled c.put.new.conn trees is_open))
 
 pub returns-clause-written : goal.returns-clause-written
 returns-clause-written g c =

@@ -1,4 +1,4 @@
-use Rattle.device_registry.proofs.CacheAgreement.{listed_recalled}
+use Rattle.device_registry.proofs.CacheAgreement.{listed_recalled, cleared_recalled}
 use Rattle.device_registry.proofs.registry.RegistryOver.all.Goals as goal
 
 pub invariant_of-self : goal.invariant_of-self
@@ -11,7 +11,17 @@ invariant_of-self g c = (
 )
 
 pub returns-in-Ok : goal.returns-in-Ok
-returns-in-Ok g c = rw (← c.self.view_is) c.in-Ok.ensures.lists
+returns-in-Ok g c =
+    let lists = c.in-Ok.ensures.lists in
+    rw (← c.self.view_is) (record { clean = lists.clean; registries = lists.registries; devices = lists.devices })
 
 pub returns-in-Err : goal.returns-in-Err
-returns-in-Err g c = rw (← c.self.view_is) c.in-Err.ensures.lists
+returns-in-Err g c =
+    let lists = c.in-Err.ensures.lists in
+    rw (← c.self.view_is) (record { clean = lists.clean; registries = lists.registries; devices = lists.devices })
+
+pub invariant_of-self-in-Err : goal.invariant_of-self-in-Err
+invariant_of-self-in-Err g c = (
+  c.all.ensures.lists.registries,
+  cleared_recalled (g.C.SqlConnection.state c.all.new.self) _ _ c.clear.ensures,
+)

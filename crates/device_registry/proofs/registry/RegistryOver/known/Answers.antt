@@ -1,4 +1,4 @@
-use Rattle.device_registry.proofs.CacheAgreement.{fewer_recalled, recalled, told_ready, unmoved, found_recalled}
+use Rattle.device_registry.proofs.CacheAgreement.{fewer_recalled, recalled, told_ready, unmoved, found_recalled, cleared_recalled}
 use Rattle.device_registry.proofs.registry.RegistryOver.known.Goals as goal
 
 -- ---- the sender is remembered
@@ -44,10 +44,20 @@ invariant_of-self-in-Ok g c =
     )
 
 pub returns-in-Ok-clause-looks_up : goal.returns-in-Ok-clause-looks_up
-returns-in-Ok-clause-looks_up g c = rw (← c.self.view_is) c.in-Ok.ensures.looks_up
+returns-in-Ok-clause-looks_up g c =
+    let looks = c.in-Ok.ensures.looks_up in
+    rw (← c.self.view_is) (record { clean = looks.clean; registries = looks.registries; devices = looks.devices })
 
 pub returns-in-Ok-clause-ready : goal.returns-in-Ok-clause-ready
 returns-in-Ok-clause-ready g c clean = rw (← c.self.view_is) (c.in-Ok.ensures.ready clean)
 
 pub returns-in-Err-clause-looks_up : goal.returns-in-Err-clause-looks_up
-returns-in-Err-clause-looks_up g c = rw (← c.self.view_is) c.in-Err.ensures.looks_up
+returns-in-Err-clause-looks_up g c =
+    let looks = c.in-Err.ensures.looks_up in
+    rw (← c.self.view_is) (record { clean = looks.clean; registries = looks.registries; devices = looks.devices })
+
+pub invariant_of-self-in-Err : goal.invariant_of-self-in-Err
+invariant_of-self-in-Err g c = (
+  c.find.ensures.looks_up.registries,
+  cleared_recalled (g.C.SqlConnection.state c.find.new.self) _ _ c.clear.ensures,
+)

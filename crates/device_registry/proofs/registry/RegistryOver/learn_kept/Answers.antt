@@ -1,53 +1,78 @@
-use Rattle.std.proofs.Common.{◌≡◌, ◌∙◌, Some, Err, option_map, ap, sym, subst}
-use Rattle.device_registry.specs.Devices.{device, learned}
-use Rattle.device_registry.specs.Holding.{Learns}
-use Rattle.device_registry.specs.declared.fault.LearnFault.TheVariants.{Full}
-use Rattle.device_registry.proofs.CacheAgreement.{changed_recalled, full_recalled}
+use Rattle.std.proofs.Common.{◌≡◌, ◌∙◌, true, false, Some, Ok, option_map, ap, sym, subst}
+use Rattle.learned_devices.specs.Devices.{device, learned}
+use Rattle.device_registry.specs.Holding.{kept}
+use Rattle.device_registry.specs.TableCalls.{Adds}
+use Rattle.device_registry.proofs.CacheAgreement.{changed_recalled, full_recalled, cleared_recalled}
 use Rattle.device_registry.proofs.registry.RegistryOver.learn_kept.Goals as goal
 
 pub learn-requires : goal.learn-requires
 learn-requires g c = rw (← c.self.view_is) at c.requires
 
+-- ---- there is room
+
 pub invariant_of-self : goal.invariant_of-self
-invariant_of-self g c = (
-  c.learn.ensures.learns.registries,
-  changed_recalled (g.C.SqlConnection.state c.self.inside.table) (g.C.SqlConnection.state c.learn.new.self)
-      (learned c.args.device)
-      (Some c.copied-copy.result) c.self.inside.cache.entries c.forget_entry.new.cache.entries
-      c.remember.new.cache.entries
-      c.learn.ensures.learns.clean c.in-Ok.ensures.ready
-      (λ clean devices has. (c.in-Ok.ensures.learns.devices clean devices has).1)
-      (λ clean devices has. ap (λ it. Some it) c.copied-copy.ensures
-      ∙ sym (ap (option_map (device c.args.device.id)) ((rw (← c.self.view_is) at c.requires) clean devices has)))
-      c.self.invariant.1 c.forget_entry.ensures.kept c.remember.ensures.kept,
-)
+invariant_of-self g c =
+    let old = g.C.SqlConnection.state c.self.inside.table in
+    let new = g.C.SqlConnection.state c.learn.new.self in
+    let adds : Adds (kept old) (kept new) c.args.device (Ok true) =
+    subst (Adds (kept old) (kept new) c.args.device) (c.in-Ok-true.is ∙ ap Ok c.in-Ok-true.field-0-test)
+    c.learn.ensures.adds in (
+      adds.registries,
+      changed_recalled old new (learned c.args.device) (Some c.copied-copy.result) c.self.inside.cache.entries
+          c.forget_entry.new.cache.entries c.remember.new.cache.entries adds.clean c.in-Ok-true.ensures.ready
+          (λ clean devices has. (adds.devices clean devices has).1)
+          (λ clean devices has. ap (λ it. Some it) c.copied-copy.ensures
+          ∙ sym (ap (option_map (device c.args.device.id)) ((rw (← c.self.view_is) at c.requires) clean devices has)))
+          c.self.invariant.1 c.forget_entry.ensures.kept c.remember.ensures.kept,
+    )
 
-pub returns-in-Ok-clause-learns : goal.returns-in-Ok-clause-learns
-returns-in-Ok-clause-learns g c = rw (← c.self.view_is) c.in-Ok.ensures.learns
+pub returns-in-Ok-true-clause-learns : goal.returns-in-Ok-true-clause-learns
+returns-in-Ok-true-clause-learns g c =
+    let old = g.C.SqlConnection.state c.self.inside.table in
+    let new = g.C.SqlConnection.state c.learn.new.self in
+    let adds : Adds (kept old) (kept new) c.args.device (Ok true) =
+    subst (Adds (kept old) (kept new) c.args.device) (c.in-Ok-true.is ∙ ap Ok c.in-Ok-true.field-0-test)
+    c.learn.ensures.adds in
+    rw (← c.self.view_is) (record { clean = adds.clean; registries = adds.registries; devices = adds.devices })
 
-pub returns-in-Ok-clause-written : goal.returns-in-Ok-clause-written
-returns-in-Ok-clause-written g c = rw (← c.self.view_is) c.in-Ok.ensures.written
+pub returns-in-Ok-true-clause-written : goal.returns-in-Ok-true-clause-written
+returns-in-Ok-true-clause-written g c =
+    rw (← c.self.view_is) (λ clean devices has.
+    c.in-Ok-true.ensures.written clean devices has c.in-Ok-true.field-0-test)
 
 -- ---- there is no room, and what is remembered of the others stays
 
-pub invariant_of-self-in-Err-Full : goal.invariant_of-self-in-Err-Full
-invariant_of-self-in-Err-Full g c =
+pub invariant_of-self-in-Ok-false : goal.invariant_of-self-in-Ok-false
+invariant_of-self-in-Ok-false g c =
     let old = g.C.SqlConnection.state c.self.inside.table in
     let new = g.C.SqlConnection.state c.learn.new.self in
-    let full : c.learn.result ≡ Err Full = c.in-Err-Full.is ∙ ap Err c.in-Err-Full.field-0-is in
-    let told : Learns old new c.args.device (Err Full) =
-    subst (Learns old new c.args.device) full c.learn.ensures.learns in (
-      told.registries,
-      full_recalled old new c.self.inside.cache.entries c.forget_entry.new.cache.entries told.clean
-          (λ clean. c.learn.ensures.ready_if_full clean full) (λ clean devices has. (told.devices clean devices has).1)
+    let adds : Adds (kept old) (kept new) c.args.device (Ok false) =
+    subst (Adds (kept old) (kept new) c.args.device) (c.in-Ok-false.is ∙ ap Ok c.in-Ok-false.field-0-test)
+    c.learn.ensures.adds in (
+      adds.registries,
+      full_recalled old new c.self.inside.cache.entries c.forget_entry.new.cache.entries adds.clean
+          c.in-Ok-false.ensures.ready (λ clean devices has. (adds.devices clean devices has).1)
           c.self.invariant.1 (λ e has. (c.forget_entry.ensures.kept e has).0),
     )
 
-pub returns-in-Err-Full-clause-learns : goal.returns-in-Err-Full-clause-learns
-returns-in-Err-Full-clause-learns g c =
-    rw (← c.self.view_is) (subst
-    (Learns (g.C.SqlConnection.state c.self.inside.table) (g.C.SqlConnection.state c.learn.new.self) c.args.device)
-    (c.in-Err-Full.is ∙ ap Err c.in-Err-Full.field-0-is) c.learn.ensures.learns)
+pub returns-in-Ok-false-clause-learns : goal.returns-in-Ok-false-clause-learns
+returns-in-Ok-false-clause-learns g c =
+    let old = g.C.SqlConnection.state c.self.inside.table in
+    let new = g.C.SqlConnection.state c.learn.new.self in
+    let adds : Adds (kept old) (kept new) c.args.device (Ok false) =
+    subst (Adds (kept old) (kept new) c.args.device) (c.in-Ok-false.is ∙ ap Ok c.in-Ok-false.field-0-test)
+    c.learn.ensures.adds in
+    rw (← c.self.view_is) (record { clean = adds.clean; registries = adds.registries; devices = adds.devices })
+
+-- ---- the store does not answer
 
 pub returns-in-Err-clause-learns : goal.returns-in-Err-clause-learns
-returns-in-Err-clause-learns g c = rw (← c.self.view_is) c.in-Err.ensures.learns
+returns-in-Err-clause-learns g c =
+    let adds = c.in-Err.ensures.adds in
+    rw (← c.self.view_is) (record { clean = adds.clean; registries = adds.registries; devices = adds.devices })
+
+pub invariant_of-self-in-Err : goal.invariant_of-self-in-Err
+invariant_of-self-in-Err g c = (
+  c.learn.ensures.adds.registries,
+  cleared_recalled (g.C.SqlConnection.state c.learn.new.self) _ _ c.clear.ensures,
+)

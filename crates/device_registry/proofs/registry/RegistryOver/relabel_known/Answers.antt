@@ -1,7 +1,6 @@
 use Rattle.std.proofs.Common.{◌∙◌, Some, option_map, ap, sym}
-use Rattle.device_registry.specs.Devices.{device, relabelled}
-use Rattle.device_registry.proofs.CacheAgreement.{changed_recalled}
-use Rattle.device_registry.proofs.RegistryCalls.{committed_label}
+use Rattle.learned_devices.specs.Devices.{device, relabelled}
+use Rattle.device_registry.proofs.CacheAgreement.{changed_recalled, cleared_recalled}
 use Rattle.device_registry.proofs.registry.RegistryOver.relabel_known.Goals as goal
 
 pub relabel-requires-clause-ready : goal.relabel-requires-clause-ready
@@ -15,23 +14,33 @@ invariant_of-self g c =
     let old = g.C.SqlConnection.state c.self.inside.table in
     let new = g.C.SqlConnection.state c.relabel.new.self in
     let known = rw (← c.self.view_is) at c.requires.known in (
-      c.relabel.ensures.relabels.registries,
+      c.relabel.ensures.updates.registries,
       changed_recalled old new (relabelled c.args.device.id c.args.device.label) (Some c.copied-labelled.result)
           c.self.inside.cache.entries c.forget_entry.new.cache.entries c.remember.new.cache.entries
-          c.relabel.ensures.relabels.clean c.in-Ok.ensures.ready
-          (λ clean devices has. committed_label old new c.args.device.id c.args.device.label _ c.in-Ok.done devices
-          (known (c.relabel.ensures.relabels.clean clean) devices has)
-          (c.in-Ok.ensures.relabels.devices clean devices has))
+          c.relabel.ensures.updates.clean c.in-Ok.ensures.ready
+          c.in-Ok.ensures.updates.devices
           (λ clean devices has. ap (λ it. Some it) c.copied-labelled.ensures
           ∙ sym (ap (option_map (device c.args.device.id)) (known clean devices has)))
           c.self.invariant.1 c.forget_entry.ensures.kept c.remember.ensures.kept,
     )
 
-pub returns-in-Ok-clause-relabels : goal.returns-in-Ok-clause-relabels
-returns-in-Ok-clause-relabels g c = rw (← c.self.view_is) c.in-Ok.ensures.relabels
+pub returns-in-Ok-clause-updates : goal.returns-in-Ok-clause-updates
+returns-in-Ok-clause-updates g c =
+    let updates = c.in-Ok.ensures.updates in
+    rw (← c.self.view_is)
+    (record { clean = updates.clean; registries = updates.registries; devices = updates.devices })
 
 pub returns-in-Ok-clause-written : goal.returns-in-Ok-clause-written
 returns-in-Ok-clause-written g c = rw (← c.self.view_is) c.in-Ok.ensures.written
 
-pub returns-in-Err-clause-relabels : goal.returns-in-Err-clause-relabels
-returns-in-Err-clause-relabels g c = rw (← c.self.view_is) c.in-Err.ensures.relabels
+pub returns-in-Err-clause-updates : goal.returns-in-Err-clause-updates
+returns-in-Err-clause-updates g c =
+    let updates = c.in-Err.ensures.updates in
+    rw (← c.self.view_is)
+    (record { clean = updates.clean; registries = updates.registries; devices = updates.devices })
+
+pub invariant_of-self-in-Err : goal.invariant_of-self-in-Err
+invariant_of-self-in-Err g c = (
+  c.relabel.ensures.updates.registries,
+  cleared_recalled (g.C.SqlConnection.state c.relabel.new.self) _ _ c.clear.ensures,
+)

@@ -19,7 +19,7 @@ loop-reply-init g c =
       gateway = refl;
       loans = refl;
       drains =
-          drains_nothing g.S.DeviceStore.stored o.way old.gateway.now old.outlet
+          drains_nothing g.S.DeviceStore.kept o.way old.gateway.now old.outlet
           old.items
           (search rules);
     }
@@ -32,7 +32,7 @@ returns-in_err-answer_packet-clause-broken g c =
     let new = c.answer_packet.new.self in
     let exit = err_from_is_err_and c.from_residual.result c.from_residual.ensures.1 in
     rw exit.1
-    (drains_part g.S.DeviceStore.stored o.way old.gateway.now now.gateway.now
+    (drains_part g.S.DeviceStore.kept o.way old.gateway.now now.gateway.now
     new.gateway.now
     (explained_by c.next.new.self.explained (answer_of c.in-Some.reply)) old.outlet now.outlet new.outlet old.items
     now.items c.loop-reply.invariant.drains
@@ -43,7 +43,7 @@ abbrev Kept : (g : Over) → Engine g.row.O.Denot g.row.S.Denot → Engine g.row
 Kept g old now = record {
   gateway : now.gateway.ghost_name ≡ old.gateway.ghost_name;
   loans : g.O.Outlet.loans now.outlet ≡ g.O.Outlet.loans old.outlet;
-  drains : Drains g.S.DeviceStore.stored old.gateway.now now.gateway.now (g.O.Outlet.way.puts old.outlet now.outlet)
+  drains : Drains g.S.DeviceStore.kept old.gateway.now now.gateway.now (g.O.Outlet.way.puts old.outlet now.outlet)
       old.items now.items;
 }
 
@@ -61,7 +61,7 @@ Answered g now new next reply = record {
 -- one reply more went out, so what the loop keeps holds again
 one_more_out : (g : Over) (old now new : Engine g.row.O.Denot g.row.S.Denot) (next : Value g.row.S.Denot)
     (reply : Reply) → Kept g old now
-    → Moves g.S.DeviceStore.stored now.gateway.now (Next (Some (explained_by next.explained (answer_of reply)))) next
+    → Moves g.S.DeviceStore.kept now.gateway.now (Next (Some (explained_by next.explained (answer_of reply)))) next
     → Answered g now new next reply → Kept g old new
 one_more_out g old now new next reply before moved out =
     let o = g.O.Outlet in
@@ -69,7 +69,7 @@ one_more_out g old now new next reply before moved out =
       gateway = out.gateway ∙ before.gateway;
       loans = out.loans ∙ before.loans;
       drains =
-          drains_one g.S.DeviceStore.stored o.way old.gateway.now now.gateway.now
+          drains_one g.S.DeviceStore.kept o.way old.gateway.now now.gateway.now
           new.gateway.now
           (explained_by next.explained (answer_of reply)) old.outlet now.outlet new.outlet old.items now.items
           new.items before.drains

@@ -5,7 +5,7 @@ use Rattle.engines.proofs.engine.Engine.take_order.Goals as goal
 
 pub returns-clause-taken : goal.returns-clause-taken
 returns-clause-taken g c =
-    let stored = g.S.DeviceStore.stored in
+    let stored = g.S.DeviceStore.kept in
     let way = g.O.Outlet.way in
     let old = c.args.self.now in
     let new = c.answer_order.new.self in

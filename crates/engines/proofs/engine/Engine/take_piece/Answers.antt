@@ -9,7 +9,7 @@ loop-count-init g c = record {
   within = omega arith;
   gateway = refl;
   loans = refl;
-  takes = takes_nothing g.S.DeviceStore.stored g.O.Outlet.way c.args.self.now c.requires (search rules);
+  takes = takes_nothing g.S.DeviceStore.kept g.O.Outlet.way c.args.self.now c.requires (search rules);
 }
 
 pub returns-in_err-count-clause-taken : goal.returns-in_err-count-clause-taken
@@ -19,7 +19,7 @@ returns-in_err-count-clause-taken g c =
     let exit = err_from_is_err_and c.from_residual.result c.from_residual.ensures.1 in
     rw exit.1
     (rw (split_rest piece i) at
-    (breaks_behind g.S.DeviceStore.stored g.O.Outlet.way c.args.self.now c.loop-count.self c.take_run.new.self
+    (breaks_behind g.S.DeviceStore.kept g.O.Outlet.way c.args.self.now c.loop-count.self c.take_run.new.self
     (take i piece) (take (length piece - i) (drop i piece)) c.loop-count.invariant.takes c.in_err-count.ensures.taken))
 
 pub loop-count-preserved : goal.loop-count-preserved
@@ -34,6 +34,6 @@ loop-count-preserved g c =
       gateway = search rules;
       loans = c.take_run.ensures.loans ∙ before.loans;
       takes = rw (take_run piece i n)
-          (takes_both g.S.DeviceStore.stored g.O.Outlet.way c.args.self.now c.loop-count.self c.take_run.new.self
+          (takes_both g.S.DeviceStore.kept g.O.Outlet.way c.args.self.now c.loop-count.self c.take_run.new.self
           (take i piece) (take n (take (length piece - i) (drop i piece))) before.takes c.in_ok-count.ensures.taken);
     }

@@ -9,7 +9,7 @@ invariant-loop-count g l = record {
   within : l.count ≤ length l.piece;
   gateway : l.self.gateway.ghost_name ≡ l.fn.self.gateway.ghost_name;
   loans : g.O.Outlet.loans l.self.outlet ≡ g.O.Outlet.loans l.fn.self.outlet;
-  takes : Takes g.S.DeviceStore.stored g.O.Outlet.way l.fn.self l.self (Piece (take l.count l.piece) ∷ []);
+  takes : Takes g.S.DeviceStore.kept g.O.Outlet.way l.fn.self l.self (Piece (take l.count l.piece) ∷ []);
 }
 
 abbrev pub decreases-loop-count : goal.decreases-loop-count

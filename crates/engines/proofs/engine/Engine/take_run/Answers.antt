@@ -11,7 +11,7 @@ use Rattle.engines.proofs.engine.Engine.take_run.Goals as goal
 
 pub returns-in_err-answer_packet-clause-taken : goal.returns-in_err-answer_packet-clause-taken
 returns-in_err-answer_packet-clause-taken g c =
-    let stored = g.S.DeviceStore.stored in
+    let stored = g.S.DeviceStore.kept in
     let way = g.O.Outlet.way in
     let old = c.args.self.now in
     let new = c.answer_packet.new.self in
@@ -29,7 +29,7 @@ returns-in_err-answer_packet-clause-taken g c =
 
 pub returns-in-Some-clause-taken : goal.returns-in-Some-clause-taken
 returns-in-Some-clause-taken g c =
-    let stored = g.S.DeviceStore.stored in
+    let stored = g.S.DeviceStore.kept in
     let way = g.O.Outlet.way in
     let old = c.args.self.now in
     let new = c.answer_packet.new.self in
@@ -46,7 +46,7 @@ returns-in-Some-clause-taken g c =
 
 pub returns-in_err-drain-clause-taken : goal.returns-in_err-drain-clause-taken
 returns-in_err-drain-clause-taken g c =
-    let stored = g.S.DeviceStore.stored in
+    let stored = g.S.DeviceStore.kept in
     let n = c.bytes-count.result in
     let bytes = c.args.bytes.now in
     let mid = c.bytes-count.new.self in
@@ -60,7 +60,7 @@ returns-in_err-drain-clause-taken g c =
 
 pub returns-in_ok-drain-clause-taken : goal.returns-in_ok-drain-clause-taken
 returns-in_ok-drain-clause-taken g c =
-    let stored = g.S.DeviceStore.stored in
+    let stored = g.S.DeviceStore.kept in
     let run = take c.bytes-count.result c.args.bytes.now in
     let mid = c.bytes-count.new.self in
     let moved =
@@ -71,7 +71,7 @@ returns-in_ok-drain-clause-taken g c =
 
 pub returns-else-is_ready-clause-taken : goal.returns-else-is_ready-clause-taken
 returns-else-is_ready-clause-taken g c =
-    let stored = g.S.DeviceStore.stored in
+    let stored = g.S.DeviceStore.kept in
     let way = g.O.Outlet.way in
     let old = c.args.self.now in
     let run = take c.bytes-count.result c.args.bytes.now in

@@ -18,14 +18,14 @@ loop-end-init g c = record {
     [],
     refl,
     λ tail keeps.
-        bytes_none g.S.DeviceStore.stored g.O.Outlet.way c.args.lines c.args.self.now tail c.requires (search rules)
+        bytes_none g.S.DeviceStore.kept g.O.Outlet.way c.args.lines c.args.self.now tail c.requires (search rules)
         keeps,
   );
 }
 
 pub returns-in_err-take_ended-clause-stopped : goal.returns-in_err-take_ended-clause-stopped
 returns-in_err-take_ended-clause-stopped g c =
-    let stored = g.S.DeviceStore.stored in
+    let stored = g.S.DeviceStore.kept in
     let way = g.O.Outlet.way in
     let lines = c.args.lines in
     let old = c.args.self.now in
@@ -48,7 +48,7 @@ returns-in_err-take_ended-clause-stopped g c =
 
 pub loop-end-preserved : goal.loop-end-preserved
 loop-end-preserved g c =
-    let stored = g.S.DeviceStore.stored in
+    let stored = g.S.DeviceStore.kept in
     let way = g.O.Outlet.way in
     let lines = c.args.lines in
     let old = c.args.self.now in
@@ -84,7 +84,7 @@ loop-end-preserved g c =
 
 pub returns-clause-taken : goal.returns-clause-taken
 returns-clause-taken g c =
-    let stored = g.S.DeviceStore.stored in
+    let stored = g.S.DeviceStore.kept in
     let way = g.O.Outlet.way in
     let lines = c.args.lines in
     let rest = c.loop-end.rest.now in

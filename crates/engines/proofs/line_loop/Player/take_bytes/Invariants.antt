@@ -11,7 +11,7 @@ invariant-loop-end g l = record {
   loans : g.O.Outlet.loans l.self.engine.outlet ≡ g.O.Outlet.loans l.fn.self.engine.outlet;
   idle : IsIdle l.self.engine.gateway.now;
   taken : (done : List ℕ) × (l.bytes ≡ done ++ l.rest) × ((tail : List ℕ) → Keeps tail l.fn.self.unended →
-      TakesBytes g.S.DeviceStore.stored g.O.Outlet.way l.lines l.fn.self l.self (tail ++ done));
+      TakesBytes g.S.DeviceStore.kept g.O.Outlet.way l.lines l.fn.self l.self (tail ++ done));
 }
 
 abbrev pub decreases-loop-end : goal.decreases-loop-end

@@ -10,7 +10,7 @@ use Rattle.engines.proofs.line_loop.Player.take_ended.Goals as goal
 
 pub returns-then-is_empty-clause-taken : goal.returns-then-is_empty-clause-taken
 returns-then-is_empty-clause-taken g c = λ tail keeps.
-    let stored = g.S.DeviceStore.stored in
+    let stored = g.S.DeviceStore.kept in
     let way = g.O.Outlet.way in
     let old = c.args.self.now.engine in
     let new = c.take_line.new.engine in
@@ -23,7 +23,7 @@ returns-then-is_empty-clause-taken g c = λ tail keeps.
 
 pub returns-in_err-take_line-clause-taken : goal.returns-in_err-take_line-clause-taken
 returns-in_err-take_line-clause-taken g c =
-    let stored = g.S.DeviceStore.stored in
+    let stored = g.S.DeviceStore.kept in
     let way = g.O.Outlet.way in
     let old = c.args.self.now.engine in
     let new = c.take_line-2.new.engine in
@@ -37,7 +37,7 @@ returns-in_err-take_line-clause-taken g c =
 
 pub returns-clause-taken : goal.returns-clause-taken
 returns-clause-taken g c = λ tail keeps.
-    let stored = g.S.DeviceStore.stored in
+    let stored = g.S.DeviceStore.kept in
     let way = g.O.Outlet.way in
     let old = c.args.self.now.engine in
     let new = c.take_line-2.new.engine in

@@ -8,7 +8,7 @@ use Rattle.engines.proofs.line_loop.Player.take_last.Goals as goal
 
 pub returns-then-is_empty-clause-taken : goal.returns-then-is_empty-clause-taken
 returns-then-is_empty-clause-taken g c = λ tail keeps.
-    let stored = g.S.DeviceStore.stored in
+    let stored = g.S.DeviceStore.kept in
     let way = g.O.Outlet.way in
     let old = c.args.self.now.engine in
     let kept = c.args.self.now.unended in
@@ -22,5 +22,5 @@ returns-clause-taken g c = λ tail keeps.
     let kept = c.args.self.now.unended in
     let tested = rw c.as_slice-line.ensures at c.is_empty.ensures in
     let there = eqb-false (length kept) 0 (sym tested ∙ c.if-is_empty.false) in
-    last_line g.S.DeviceStore.stored g.O.Outlet.way c.take_script_line.result c.args.self.now.engine
+    last_line g.S.DeviceStore.kept g.O.Outlet.way c.take_script_line.result c.args.self.now.engine
     c.take_script_line.new.self tail kept keeps there (rw c.as_slice-line.ensures at c.take_script_line.ensures.taken)

@@ -10,7 +10,7 @@ returns-in_err-draft g c =
     let error = err_from_is_err_and c.from_residual.result c.from_residual.ensures.1 in
     rw (error.1, error.2) (record {
       told = tt;
-      alone = alone-unasked g.S.DeviceStore.stored _ _
+      alone = alone-unasked g.S.DeviceStore.kept _ _
           (λ devices keeps. keeps);
     })
 
@@ -18,8 +18,8 @@ pub returns-in-Err : goal.returns-in-Err
 returns-in-Err g c =
     rw (← c.self.view_is) (record {
       told = tt;
-      alone = alone g.S.DeviceStore.stored _ _ _ _ _ _ c.forget.ensures.clean c.forget.ensures.registries
-          (λ honest devices has. c.in-Err.ensures.devices honest devices has);
+      alone = alone g.S.DeviceStore.kept _ _ _ _ _ _ c.forget.ensures.forgets.clean c.forget.ensures.forgets.registries
+          (λ honest devices has. c.in-Err.ensures.forgets.devices honest devices has);
     })
 
 pub returns : goal.returns
@@ -32,6 +32,6 @@ returns g c =
             c.committed-verdict.ensures.outcome,
         c.tell-line.ensures ∙ c.in_ok-draft.ensures.line,
       );
-      alone = alone g.S.DeviceStore.stored _ _ _ _ _ _ c.forget.ensures.clean c.forget.ensures.registries
-          (λ honest devices has. c.in-Ok.ensures.devices honest devices has);
+      alone = alone g.S.DeviceStore.kept _ _ _ _ _ _ c.forget.ensures.forgets.clean c.forget.ensures.forgets.registries
+          (λ honest devices has. c.in-Ok.ensures.forgets.devices honest devices has);
     })

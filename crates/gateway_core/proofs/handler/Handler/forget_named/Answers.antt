@@ -9,12 +9,12 @@ pub returns-in_err-committed : goal.returns-in_err-committed
 returns-in_err-committed g c =
     let error = err_from_is_err_and c.from_residual.result c.from_residual.ensures.1 in
     rw (error.1, error.2)
-    (tries-unforgotten g.S.DeviceStore.stored _ _ (told_of c.args.device Deleted) (λ state. forgets c.args.device)
+    (tries-unforgotten g.S.DeviceStore.kept _ _ (told_of c.args.device Deleted) (λ state. forgets c.args.device)
     (λ devices. record { needs = refl; forgets = refl }) c.in_err-committed.field-0.0 c.in_err-committed.ensures)
 
 pub returns : goal.returns
 returns g c =
-    tries-forgotten g.S.DeviceStore.stored _ _ (told_of c.args.device Deleted) (λ state. forgets c.args.device)
+    tries-forgotten g.S.DeviceStore.kept _ _ (told_of c.args.device Deleted) (λ state. forgets c.args.device)
     (λ devices. record { needs = refl; forgets = refl }) c.in_ok-committed.committed _ c.in_ok-committed.ensures
     (λ devices. (
       c.told.ensures.answer ∙ ap said (c.in_ok-committed.ensures.told.2 ∙ sym (append-nil _)),

@@ -1,9 +1,9 @@
 use Rattle.std.proofs.Common.{◌≡◌, subst, ◌∙◌}
 use Rattle.std.specs.Bool.{MatchBool}
 use Rattle.std.proofs.lemmas.Result.{err_from_is_err_and}
-use Rattle.device_registry.specs.declared.fault.LearnFault.{LearnFault}
-use Rattle.device_registry.specs.declared.fault.LearnFault.TheVariants as fault
-use Rattle.device_registry.specs.Holding.{RefusesToLearn}
+use Rattle.learned_devices.specs.declared.fault.LearnFault.{LearnFault}
+use Rattle.learned_devices.specs.declared.fault.LearnFault.TheVariants as fault
+use Rattle.learned_devices.specs.StoreCalls.{RefusesToLearn}
 use Rattle.teach_in.specs.declared.outcome.Outcome.TheVariants.{Accepted, Deleted}
 use Rattle.gateway_core.proofs.TryLemmas.{alone, alone-unasked}
 use Rattle.gateway_core.proofs.handler.Handler.learn.Goals as goal
@@ -13,7 +13,7 @@ returns-in_err-draft g c =
     let error = err_from_is_err_and c.from_residual.result c.from_residual.ensures.1 in
     rw (error.1, error.2) (record {
       told = tt;
-      alone = alone-unasked g.S.DeviceStore.stored _ _
+      alone = alone-unasked g.S.DeviceStore.kept _ _
           (λ devices keeps. keeps);
     })
 
@@ -21,24 +21,24 @@ pub returns-in-Err-Full : goal.returns-in-Err-Full
 returns-in-Err-Full g c =
     rw (← c.self.view_is) (record {
       told = tt;
-      alone = alone g.S.DeviceStore.stored _ _ _ _ _ _ c.learn.ensures.clean c.learn.ensures.registries
+      alone = alone g.S.DeviceStore.kept _ _ _ _ _ _ c.learn.ensures.learns.clean c.learn.ensures.learns.registries
           (λ honest devices has.
-          let Why = λ (why : LearnFault). RefusesToLearn (g.S.DeviceStore.stored c.self.inside.registry)
-          (g.S.DeviceStore.stored c.learn.new.self) c.args.device devices why in
+          let Why = λ (why : LearnFault). RefusesToLearn (g.S.DeviceStore.kept c.self.inside.registry)
+          (g.S.DeviceStore.kept c.learn.new.self) c.args.device devices why in
           let full : Why fault.Full = subst Why c.in-Err-Full.field-0-is
-          (c.in-Err-Full.ensures.devices honest devices has) in full);
+          (c.in-Err-Full.ensures.learns.devices honest devices has) in full);
     })
 
 pub returns-in-Err-Refused : goal.returns-in-Err-Refused
 returns-in-Err-Refused g c =
     rw (← c.self.view_is) (record {
       told = tt;
-      alone = alone g.S.DeviceStore.stored _ _ _ _ _ _ c.learn.ensures.clean c.learn.ensures.registries
+      alone = alone g.S.DeviceStore.kept _ _ _ _ _ _ c.learn.ensures.learns.clean c.learn.ensures.learns.registries
           (λ honest devices has.
-          let Why = λ (why : LearnFault). RefusesToLearn (g.S.DeviceStore.stored c.self.inside.registry)
-          (g.S.DeviceStore.stored c.learn.new.self) c.args.device devices why in
+          let Why = λ (why : LearnFault). RefusesToLearn (g.S.DeviceStore.kept c.self.inside.registry)
+          (g.S.DeviceStore.kept c.learn.new.self) c.args.device devices why in
           let pends : Why (fault.Refused c.in-Err-Refused.fault) = subst Why c.in-Err-Refused.field-0-is
-          (c.in-Err-Refused.ensures.devices honest devices has) in pends);
+          (c.in-Err-Refused.ensures.learns.devices honest devices has) in pends);
     })
 
 pub returns : goal.returns
@@ -51,6 +51,6 @@ returns g c =
             c.committed-verdict.ensures.outcome,
         c.tell-line.ensures ∙ c.in_ok-draft.ensures.line,
       );
-      alone = alone g.S.DeviceStore.stored _ _ _ _ _ _ c.learn.ensures.clean c.learn.ensures.registries
-          c.in-Ok.ensures.devices;
+      alone = alone g.S.DeviceStore.kept _ _ _ _ _ _ c.learn.ensures.learns.clean c.learn.ensures.learns.registries
+          c.in-Ok.ensures.learns.devices;
     })

@@ -11,7 +11,7 @@ pub returns-in_err-committed : goal.returns-in_err-committed
 returns-in_err-committed g c =
     let error = err_from_is_err_and c.from_residual.result c.from_residual.ensures.1 in
     rw (error.1, error.2)
-    (tries-refused g.S.DeviceStore.stored _ _ c.args.device (λ state. tells NeedsStore (Error name.Full ∷ []))
+    (tries-refused g.S.DeviceStore.kept _ _ c.args.device (λ state. tells NeedsStore (Error name.Full ∷ []))
     (λ state. learns c.args.device)
     (λ devices. by-desk c.args.device)
     c.in_err-committed.field-0.0 c.in_err-committed.ensures)
@@ -19,9 +19,9 @@ returns-in_err-committed g c =
 pub returns-in-Some : goal.returns-in-Some
 returns-in-Some g c =
     let learned =
-    subst (λ o. Learns g.S.DeviceStore.stored c.args.self.now c.args.device (Ok o) c.learn.new.self) c.in-Some.is
+    subst (λ o. Learns g.S.DeviceStore.kept c.args.self.now c.args.device (Ok o) c.learn.new.self) c.in-Some.is
     c.in_ok-committed.ensures in
-    tries-learned g.S.DeviceStore.stored _ _ c.args.device (λ state. tells NeedsStore (Error name.Full ∷ []))
+    tries-learned g.S.DeviceStore.kept _ _ c.args.device (λ state. tells NeedsStore (Error name.Full ∷ []))
     (λ state. learns c.args.device)
     (λ devices. by-desk c.args.device)
     c.in-Some.committed _ learned
@@ -34,9 +34,9 @@ returns-in-Some g c =
 pub returns-in-None : goal.returns-in-None
 returns-in-None g c =
     let none =
-    subst (λ o. Learns g.S.DeviceStore.stored c.args.self.now c.args.device (Ok o) c.learn.new.self) c.in-None.is
+    subst (λ o. Learns g.S.DeviceStore.kept c.args.self.now c.args.device (Ok o) c.learn.new.self) c.in-None.is
     c.in_ok-committed.ensures in
-    tries-full g.S.DeviceStore.stored _ _ c.args.device (λ state. tells NeedsStore (Error name.Full ∷ []))
+    tries-full g.S.DeviceStore.kept _ _ c.args.device (λ state. tells NeedsStore (Error name.Full ∷ []))
     (λ state. learns c.args.device)
     (λ devices. by-desk c.args.device) _ none
     (λ devices. c.denied.ensures)

@@ -5,7 +5,7 @@ use Rattle.gateway_core.proofs.handler.Handler.line.Goals as goal
 
 pub returns : goal.returns
 returns g c =
-    tries-handles g.S.DeviceStore.stored _ _ _ (Ordered c.args.line.now) _ _
+    tries-handles g.S.DeviceStore.kept _ _ _ (Ordered c.args.line.now) _ _
     (record {
       answer_is = ap (explained_by []) c.reply_to-reply.ensures.answer;
       base = c.reply_to-reply.ensures.base;

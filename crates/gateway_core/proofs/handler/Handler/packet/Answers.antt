@@ -12,7 +12,7 @@ returns-in_default g c =
     let reply = c.reply_to-reply in
     let none = sym c.read.ensures ∙ c.in_default.is in
     let line = c.of_other.ensures c.in_default.field-0 none ∙ ap (line_for item) reply.ensures.account in
-    tries-handles g.S.DeviceStore.stored _ _ _ item _ _
+    tries-handles g.S.DeviceStore.kept _ _ _ item _ _
     (record {
       answer_is = ap (λ l. explaining l (answer_of reply.result.0)) line
           ∙ ap (explaining (line_for item (account_from c.try_other-tried.result))) reply.ensures.answer;
@@ -20,7 +20,7 @@ returns-in_default g c =
       mode = reply.ensures.mode;
       counts = reply.ensures.counts;
       registry = reply.ensures.registry;
-    }) (tries-same g.S.DeviceStore.stored _ _ _ _ _ (λ devices. rw none refl) c.try_other-tried.ensures)
+    }) (tries-same g.S.DeviceStore.kept _ _ _ _ _ (λ devices. rw none refl) c.try_other-tried.ensures)
 
 pub returns : goal.returns
 returns g c =
@@ -29,7 +29,7 @@ returns g c =
     let telegram = sym c.read.ensures ∙ c.in-Ok.is in
     let line = c.of_telegram.ensures (packet_of c.args.packet.now) telegram
     ∙ ap (line_for item) reply.ensures.account in
-    tries-handles g.S.DeviceStore.stored _ _ _ item _ _
+    tries-handles g.S.DeviceStore.kept _ _ _ item _ _
     (record {
       answer_is = ap (λ l. explaining l (answer_of reply.result.0)) line
           ∙ ap (explaining (line_for item (account_from c.try_telegram-tried.result))) reply.ensures.answer;
@@ -37,4 +37,4 @@ returns g c =
       mode = reply.ensures.mode;
       counts = reply.ensures.counts;
       registry = reply.ensures.registry;
-    }) (tries-same g.S.DeviceStore.stored _ _ _ _ _ (λ devices. rw telegram refl) c.try_telegram-tried.ensures)
+    }) (tries-same g.S.DeviceStore.kept _ _ _ _ _ (λ devices. rw telegram refl) c.try_telegram-tried.ensures)

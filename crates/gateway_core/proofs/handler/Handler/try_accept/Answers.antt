@@ -13,7 +13,7 @@ pub returns-in_err-verdict : goal.returns-in_err-verdict
 returns-in_err-verdict g c =
     let error = err_from_is_err_and c.from_residual.result c.from_residual.ensures.1 in
     rw (error.1, error.2)
-    (tries-refused g.S.DeviceStore.stored _ _ c.args.device
+    (tries-refused g.S.DeviceStore.kept _ _ c.args.device
     (λ state. tells_sender state c.args.teach.now (told_of c.args.device Full))
     (λ state. accepts state c.args.teach.now c.args.device)
     (λ devices. by-radio (state_of c.args.self.now devices) c.args.teach.now c.args.device)
@@ -23,10 +23,10 @@ pub returns-in_err-full : goal.returns-in_err-full
 returns-in_err-full g c =
     let error = err_from_is_err_and c.from_residual-in_err-full.result c.from_residual-in_err-full.ensures.1 in
     let none =
-    subst (λ o. Learns g.S.DeviceStore.stored c.args.self.now c.args.device (Ok o) c.learn.new.self) c.in_default.is
+    subst (λ o. Learns g.S.DeviceStore.kept c.args.self.now c.args.device (Ok o) c.learn.new.self) c.in_default.is
     c.in_ok-verdict.ensures in
     rw (error.1, error.2)
-    (tries-untold g.S.DeviceStore.stored _ _ c.args.device
+    (tries-untold g.S.DeviceStore.kept _ _ c.args.device
     (λ state. tells_sender state c.args.teach.now (told_of c.args.device Full))
     (λ state. accepts state c.args.teach.now c.args.device)
     (λ devices. by-radio (state_of c.args.self.now devices) c.args.teach.now c.args.device) _ none)
@@ -34,9 +34,9 @@ returns-in_err-full g c =
 pub returns-in_default : goal.returns-in_default
 returns-in_default g c =
     let none =
-    subst (λ o. Learns g.S.DeviceStore.stored c.args.self.now c.args.device (Ok o) c.learn.new.self) c.in_default.is
+    subst (λ o. Learns g.S.DeviceStore.kept c.args.self.now c.args.device (Ok o) c.learn.new.self) c.in_default.is
     c.in_ok-verdict.ensures in
-    tries-full g.S.DeviceStore.stored _ _ c.args.device
+    tries-full g.S.DeviceStore.kept _ _ c.args.device
     (λ state. tells_sender state c.args.teach.now (told_of c.args.device Full))
     (λ state. accepts state c.args.teach.now c.args.device)
     (λ devices. by-radio (state_of c.args.self.now devices) c.args.teach.now c.args.device) _ none
@@ -45,9 +45,9 @@ returns-in_default g c =
 pub returns : goal.returns
 returns g c =
     let learned =
-    subst (λ o. Learns g.S.DeviceStore.stored c.args.self.now c.args.device (Ok o) c.learn.new.self) c.in-Some.is
+    subst (λ o. Learns g.S.DeviceStore.kept c.args.self.now c.args.device (Ok o) c.learn.new.self) c.in-Some.is
     c.in_ok-verdict.ensures in
-    tries-learned g.S.DeviceStore.stored _ _ c.args.device
+    tries-learned g.S.DeviceStore.kept _ _ c.args.device
     (λ state. tells_sender state c.args.teach.now (told_of c.args.device Full))
     (λ state. accepts state c.args.teach.now c.args.device)
     (λ devices. by-radio (state_of c.args.self.now devices) c.args.teach.now c.args.device)

@@ -13,7 +13,7 @@ pub returns-in_err-verdict : goal.returns-in_err-verdict
 returns-in_err-verdict g c =
     let error = err_from_is_err_and c.from_residual.result c.from_residual.ensures.1 in
     rw (error.1, error.2)
-    (tries-unforgotten g.S.DeviceStore.stored _ _ _ (λ state. deletes state c.args.teach.now c.args.id)
+    (tries-unforgotten g.S.DeviceStore.kept _ _ _ (λ state. deletes state c.args.teach.now c.args.id)
     (λ devices. record { needs = refl; forgets = refl }) c.in_err-verdict.field-0.0 c.in_err-verdict.ensures)
 
 pub returns : goal.returns
@@ -21,7 +21,7 @@ returns g c =
     let forgotten = c.in_ok-verdict.ensures in
     let line =
     sym (line_told c.args.id c.args.teach.now Deleted _ _ c.told_by-eep.ensures.eep c.told_by-eep.ensures.maker) in
-    tries-forgotten g.S.DeviceStore.stored _ _ _ (λ state. deletes state c.args.teach.now c.args.id)
+    tries-forgotten g.S.DeviceStore.kept _ _ _ (λ state. deletes state c.args.teach.now c.args.id)
     (λ devices. record { needs = refl; forgets = refl }) _ _ forgotten
     (λ devices. (
       taught-answer (state_of c.forget.new.self devices) c.args.teach.now

@@ -1,7 +1,7 @@
 use Rattle.std.proofs.Common.{◌≡◌, true, false, Ok, refl, sym, ap, subst, ◌∙◌}
 use Rattle.std.proofs.lemmas.Result.{err_from_is_err_and}
-use Rattle.device_registry.specs.Devices.{device_of, relabelled}
-use Rattle.device_registry.specs.Holding.{Relabels}
+use Rattle.learned_devices.specs.Devices.{device_of, relabelled}
+use Rattle.learned_devices.specs.StoreCalls.{Relabels}
 use Rattle.gateway_core.specs.Step.{labels}
 use Rattle.gateway_core.proofs.DeviceLemmas.{device_of-has}
 use Rattle.gateway_core.proofs.TryLemmas.{permitted, tries, known-need, pends-after}
@@ -12,7 +12,7 @@ pub returns-in_err-find : goal.returns-in_err-find
 returns-in_err-find g c =
     let error = err_from_is_err_and c.from_residual.result c.from_residual.ensures.1 in
     rw (← c.self.view_is, error.1, error.2)
-    (tries g.S.DeviceStore.stored _ _ _ _ _ _ _ c.find.ensures.clean c.find.ensures.registries
+    (tries g.S.DeviceStore.kept _ _ _ _ _ _ _ c.find.ensures.clean c.find.ensures.registries
     (λ honest devices has. (
       permitted _ _
           (known-need (device_of devices c.args.id) (λ it. labels c.args.id c.args.label.now) (λ it. refl)),
@@ -21,22 +21,22 @@ returns-in_err-find g c =
 
 pub returns-in_default : goal.returns-in_default
 returns-in_default g c =
-    rw (← c.self.view_is) (tries g.S.DeviceStore.stored _ _ _ _ _ _ _ c.find.ensures.clean c.find.ensures.registries
+    rw (← c.self.view_is) (tries g.S.DeviceStore.kept _ _ _ _ _ _ _ c.find.ensures.clean c.find.ensures.registries
     (λ honest devices has.
     let found = c.in_ok-find.ensures.devices honest devices has in
     rw (← (sym c.in_default.is ∙ found.0)) (c.denied.ensures, found.1)))
 
 pub returns : goal.returns
 returns g c =
-    let stored = g.S.DeviceStore.stored in
+    let stored = g.S.DeviceStore.kept in
     let relabels =
     subst (λ text. Relabels (stored c.find.new.self) (stored c.relabel.new.self) c.args.id text c.relabel.result)
-    c.as_str.ensures.text c.relabel.ensures in
+    c.as_str.ensures.text c.relabel.ensures.relabels in
     let Was = Relabels (stored c.find.new.self) (stored c.relabel.new.self) c.args.id c.args.label.now in
-    rw (← c.self.view_is) (tries g.S.DeviceStore.stored _ _ _ _ _ _ _
-    (λ honest. c.find.ensures.clean (c.relabel.ensures.clean honest)) c.relabel.ensures.registries
+    rw (← c.self.view_is) (tries g.S.DeviceStore.kept _ _ _ _ _ _ _
+    (λ honest. c.find.ensures.clean (c.relabel.ensures.relabels.clean honest)) c.relabel.ensures.relabels.registries
     (λ honest devices has.
-    let found = c.in_ok-find.ensures.devices (c.relabel.ensures.clean honest) devices has in
+    let found = c.in_ok-find.ensures.devices (c.relabel.ensures.relabels.clean honest) devices has in
     let known = sym c.in-Some.is ∙ found.0 in
     elim c.match-relabel.branch [
       | in-Ok-true w ↦

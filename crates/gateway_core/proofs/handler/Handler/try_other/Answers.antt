@@ -9,19 +9,19 @@ use Rattle.gateway_core.proofs.handler.Handler.try_other.Goals as goal
 pub returns-in_default : goal.returns-in_default
 returns-in_default g c =
     let none = sym c.response_in.ensures ∙ ap (option_map response_of) c.in_default.is in
-    tries-alone g.S.DeviceStore.stored _ _ _
+    tries-alone g.S.DeviceStore.kept _ _ _
     (λ devices keeps. rw none (rw (← c.why_other.ensures) (c.ignored.ensures false), keeps))
 
 pub returns-in_err-line : goal.returns-in_err-line
 returns-in_err-line g c =
     let error = err_from_is_err_and c.from_residual.result c.from_residual.ensures.1 in
     let found = sym c.response_in.ensures ∙ ap (option_map response_of) c.in-Some.is in
-    rw (error.1, error.2) (tries-alone g.S.DeviceStore.stored _ _ _ (λ devices keeps. rw found (tt, keeps)))
+    rw (error.1, error.2) (tries-alone g.S.DeviceStore.kept _ _ _ (λ devices keeps. rw found (tt, keeps)))
 
 pub returns : goal.returns
 returns g c =
     let found = sym c.response_in.ensures ∙ ap (option_map response_of) c.in-Some.is in
-    tries-alone g.S.DeviceStore.stored _ _ _
+    tries-alone g.S.DeviceStore.kept _ _ _
     (λ devices keeps.
     rw found (
       (

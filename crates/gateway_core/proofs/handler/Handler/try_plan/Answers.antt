@@ -34,33 +34,33 @@ returns-in_err-refused-in-Refuse g c =
     err_from_is_err_and c.from_residual.result c.from_residual.ensures.1 in
     let plan = sym c.plan.ensures ∙ c.in-Refuse.is in
     rw (← c.self.view_is, error.1, error.2)
-    (tries-alone g.S.DeviceStore.stored _ _ _ (λ devices keeps. rw plan (permits-memory c.args.asked, keeps)))
+    (tries-alone g.S.DeviceStore.kept _ _ _ (λ devices keeps. rw plan (permits-memory c.args.asked, keeps)))
 
 pub returns-in-Silent : goal.returns-in-Silent
 returns-in-Silent g c =
     let plan = sym c.plan.ensures ∙ c.in-Silent.is in
-    rw (← c.self.view_is) (tries-alone g.S.DeviceStore.stored _ _ _
+    rw (← c.self.view_is) (tries-alone g.S.DeviceStore.kept _ _ _
     (λ devices keeps. rw (plan, ← c.why_silent.ensures) (c.ignored.ensures c.args.asked, keeps)))
 
 pub returns-in-Add : goal.returns-in-Add
 returns-in-Add g c =
     let plan : plan_of c.args.telegram.now c.args.self.now.mode false ≡ Add c.in-Add.device =
     rw (← c.self.view_is) (sym c.plan.ensures ∙ c.in-Add.is) in
-    tries-same g.S.DeviceStore.stored _ _ _ _ _ (λ devices. rw (plan, ← c.requires) refl)
+    tries-same g.S.DeviceStore.kept _ _ _ _ _ (λ devices. rw (plan, ← c.requires) refl)
     c.try_accept.ensures
 
 pub returns-in-Forget : goal.returns-in-Forget
 returns-in-Forget g c =
     let plan : plan_of c.args.telegram.now c.args.self.now.mode false ≡ Forget c.in-Forget.id =
     rw (← c.self.view_is) (sym c.plan.ensures ∙ c.in-Forget.is) in
-    tries-same g.S.DeviceStore.stored _ _ _ _ _ (λ devices. rw (plan, ← c.requires) refl)
+    tries-same g.S.DeviceStore.kept _ _ _ _ _ (λ devices. rw (plan, ← c.requires) refl)
     c.try_forget.ensures
 
 pub returns-in_ok-refused-in-Refuse : goal.returns-in_ok-refused-in-Refuse
 returns-in_ok-refused-in-Refuse g c =
     let plan : plan_of c.args.telegram.now c.args.self.now.mode false ≡ Refuse c.in-Refuse.outcome =
     rw (← c.self.view_is) (sym c.plan.ensures ∙ c.in-Refuse.is) in
-    tries-alone g.S.DeviceStore.stored _ _ _
+    tries-alone g.S.DeviceStore.kept _ _ _
     (λ devices keeps.
     rw plan (
       refused-gives c.in_ok-refused-in-Refuse.refused (state_of c.args.self.now devices) c.args.telegram.now

@@ -7,11 +7,11 @@ use Rattle.gateway_core.proofs.handler.Handler.try_status.Goals as goal
 pub returns-in_err-line : goal.returns-in_err-line
 returns-in_err-line g c =
     let error = err_from_is_err_and c.from_residual.result c.from_residual.ensures.1 in
-    rw (error.1, error.2) (tries-alone g.S.DeviceStore.stored _ _ _ (λ devices keeps. (tt, keeps)))
+    rw (error.1, error.2) (tries-alone g.S.DeviceStore.kept _ _ _ (λ devices keeps. (tt, keeps)))
 
 pub returns : goal.returns
 returns g c =
-    rw (← c.self.view_is) (tries-alone g.S.DeviceStore.stored _ _ _
+    rw (← c.self.view_is) (tries-alone g.S.DeviceStore.kept _ _ _
     (λ devices keeps. (
       (
         c.told.ensures.answer ∙ ap said (c.in_ok-line.ensures ∙ sym (append-nil _)),

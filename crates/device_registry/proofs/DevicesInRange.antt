@@ -1,0 +1,58 @@
+-- What a registry holds is in range.
+use Rattle.std.proofs.Common.{inl, inr, ℤ, pos, negsuc, ◌<◌, ◌^◌, List, [], ◌∷◌}
+use Rattle.std.proofs.Common.{Option, Some, nat_cmp, sym, subst, arith}
+use Rattle.std.specs.Prelude.{◌≤ℤ◌, IfSome}
+use Rattle.std.specs.List.{AllByRecursion}
+use Rattle.std.specs.Option.{option_map}
+use Rattle.std.specs.FinMap.{empty, get-empty}
+use Rattle.std.proofs.lemmas.Int.{ints}
+use Rattle.std.proofs.lemmas.Bool.Decides.{nat_tests}
+use Rattle.sqlite.specs.declared.types.Value.{Value}
+use Rattle.sqlite.specs.declared.types.Value.TheVariants.{Int}
+use Rattle.sqlite.specs.State.{State}
+use Rattle.sqlite.specs.Effect.{Database}
+use Rattle.sqlite.specs.Order.{Row}
+use Rattle.sqlite_trees.specs.Tree.{Trees}
+use Rattle.device_registry.specs.Holding.{Finds}
+use Rattle.learned_devices.specs.Devices.{Learned, Devices, device}
+use Rattle.device_registry.specs.Stored.{RegistersAs}
+use Rattle.device_registry.specs.declared.table.Version.{Version}
+use Rattle.device_registry.specs.Table.{last_maker}
+use Rattle.device_registry.specs.Table.Rows.{IsDevice, natural, maker_in, entry_of, devices_in}
+use Rattle.learned_devices.specs.Ranges.{IsMakerInRange, IsDeviceInRange, AreInRange}
+use Rattle.learned_devices.proofs.ForCallers.{empty-in, entered-in}
+use Rattle.device_registry.specs.Ranges.{RegistriesAreInRange}
+
+maker-in : (maker : ℤ) → maker ≤ℤ pos last_maker → IsMakerInRange (maker_in (Int maker))
+maker-in (pos n) below = grind (arith, ints, nat_tests)
+maker-in (negsuc n) below = tt
+
+row-in : (row : Row) → IsDevice row → IsDeviceInRange (device (entry_of row).0 (entry_of row).1)
+row-in row is = (
+  (omega arith, omega arith, omega arith),
+  subst (λ (v : Value). natural v < 2 ^ 32) (sym is.id_is) (omega (arith, is.is_sender)),
+  subst (λ (v : Value). IsMakerInRange (maker_in v)) (sym is.maker_is) (maker-in is.maker is.is_maker.1),
+)
+
+rows-in : (rows : List Row) → AllByRecursion IsDevice rows → AreInRange (devices_in rows)
+rows-in [] all = empty-in
+rows-in (row ∷ rows) all =
+    entered-in (devices_in rows) (entry_of row).0 (Some (entry_of row).1) (row-in row all.0) (rows-in rows all.1)
+
+registers-in : {version : Version} {db : Database} {devices : Devices} → RegistersAs version db devices
+    → AreInRange devices
+registers-in registers = subst AreInRange registers.is (rows-in _ registers.registry.whole.rows)
+
+found-in : {trees : Trees} {devices : Devices} → Finds trees devices → AreInRange devices
+found-in found = elim found [
+  | inl (version, holds) ↦ registers-in holds.registers
+  | inr (free, none) ↦ subst AreInRange (sym none) empty-in
+]
+
+pub registries_are_in_range : {C : Type 0} (state : C → State) → RegistriesAreInRange state
+registries_are_in_range state = record {
+  held = λ c devices clean is_open has. registers-in (has clean is_open);
+  left = λ c devices (trees, leaves, holds). registers-in holds.registers;
+  found = λ trees devices found. found-in found;
+  opened = λ old new devices opens. found-in opens.found;
+}

@@ -1,0 +1,52 @@
+use Rattle.std.proofs.Common.{◌≡◌, ◌∙◌, Err, OnOk, ap, sym, subst}
+use Rattle.std.proofs.lemmas.Result.{err_from_is_err_and}
+use Rattle.learned_devices.specs.Devices.{Devices, Learned, Learn, learned}
+use Rattle.learned_devices.specs.StoreCalls.{Learns}
+use Rattle.device_registry.specs.Holding.{HasDevices, WritesRow, kept}
+use Rattle.device_registry.proofs.RegistryCalls.{learns_unlooked, keeps_label, learns_after, learns_alike}
+use Rattle.device_registry.proofs.RegistryCalls.{written_after}
+use Rattle.device_registry.proofs.registry.RegistryOver.put_device.Goals as goal
+
+pub returns-in_err-known-clause-learns : goal.returns-in_err-known-clause-learns
+returns-in_err-known-clause-learns g c =
+    let old = g.C.SqlConnection.state c.args.self.now in
+    let mid = g.C.SqlConnection.state c.known.new.self in
+    let why = err_from_is_err_and c.from_residual.result c.from_residual.ensures.1 in
+    subst (Learns (kept old) (kept mid) c.args.device) (sym (why.1 ∙ ap Err why.2))
+    (learns_unlooked old mid c.args.device.id c.args.device _ c.in_err-known.ensures.looks_up)
+
+pub learn_kept-requires : goal.learn_kept-requires
+learn_kept-requires g c =
+    let old = g.C.SqlConnection.state c.args.self.now in
+    let mid = g.C.SqlConnection.state c.known.new.self in
+    keeps_label old mid c.args.device.id c.in_ok-known.known c.in_ok-known.ensures.looks_up mid
+    c.in_ok-known.ensures.ready c.keeping_label.result c.args.device.eep c.args.device.maker c.keeping_label.ensures.0
+    c.keeping_label.ensures.1
+
+pub returns-clause-learns : goal.returns-clause-learns
+returns-clause-learns g c =
+    let old = g.C.SqlConnection.state c.args.self.now in
+    let mid = g.C.SqlConnection.state c.known.new.self in
+    let new = g.C.SqlConnection.state c.learn_kept.new.self in
+    let is = c.keeping_label.ensures.1 in
+    learns_alike old new c.args.device c.keeping_label.result c.learn_kept.result c.keeping_label.ensures.0
+    (ap (λ (l : Learned). l.eep) is) (ap (λ (l : Learned). l.maker) is)
+    (learns_after old mid c.args.device.id c.in_ok-known.known c.in_ok-known.ensures.looks_up new
+    c.keeping_label.result c.learn_kept.result c.learn_kept.ensures.learns)
+
+pub returns-clause-written : goal.returns-clause-written
+returns-clause-written g c clean =
+    let old = g.C.SqlConnection.state c.args.self.now in
+    let mid = g.C.SqlConnection.state c.known.new.self in
+    let is = c.keeping_label.ensures.1 in
+    let same : learned c.keeping_label.result ≡ learned c.args.device =
+    λ i. record {
+      sender = c.keeping_label.ensures.0 i;
+      deed = Learn (ap (λ (l : Learned). l.eep) is i) (ap (λ (l : Learned). l.maker) is i);
+    } in
+    subst (λ change. (devices : Devices) → HasDevices old devices → OnOk c.learn_kept.result (WritesRow
+    g.C.SqlConnection.state c.learn_kept.new.self change devices)) same
+    (written_after old mid c.args.device.id c.in_ok-known.known c.in_ok-known.ensures.looks_up
+    (g.C.SqlConnection.state c.learn_kept.new.self) g.C.SqlConnection.state c.learn_kept.new.self
+    (learned c.keeping_label.result) c.learn_kept.result
+    (λ _. c.learn_kept.ensures.written clean) (c.learn_kept.ensures.learns.clean clean))

@@ -1,0 +1,32 @@
+//! The registry as a store of devices.
+ghost use Rattle.device_registry.specs.Holding.{Writes, kept_by};
+
+use crate::registry::RegistryOver;
+use crate::sql_connection::SqlConnection;
+use learned_devices::{Device, DeviceStore, LearnFault, StoreFault};
+
+impl<C: SqlConnection> DeviceStore for RegistryOver<C> {
+    ghost kept = { kept_by C.state };
+
+    ghost wrote = { Writes C.state };
+
+    fn find(&mut self, id: u32) -> Result<Option<Device>, StoreFault> {
+        RegistryOver::find(self, id)
+    }
+
+    fn put(&mut self, device: Device) -> Result<(), LearnFault> {
+        self.put_device(device)
+    }
+
+    fn delete(&mut self, id: u32) -> Result<(), StoreFault> {
+        self.delete_device(id)
+    }
+
+    fn relabel(&mut self, id: u32, text: &str) -> Result<bool, StoreFault> {
+        RegistryOver::relabel(self, id, text)
+    }
+
+    fn all(&mut self) -> Result<Vec<Device>, StoreFault> {
+        RegistryOver::all(self)
+    }
+}

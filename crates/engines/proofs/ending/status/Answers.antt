@@ -1,8 +1,0 @@
-use Rattle.std.proofs.Common.{rules}
-use Rattle.engines.proofs.ending.status.Goals as goal
-
-pub returns-in-Err-Failed : goal.returns-in-Err-Failed
-returns-in-Err-Failed c = search rules
-
-pub returns-in-DisplayHelp : goal.returns-in-DisplayHelp
-returns-in-DisplayHelp c = search rules

@@ -1,5 +1,0 @@
-use Rattle.gateway_core.proofs.HeldLemmas.{registries_are_in_range}
-use Rattle.gateway_core.proofs.laws.registries_are_in_range.Goals as goal
-
-pub returns : goal.returns
-returns g c = registries_are_in_range g.C.SqlConnection.state

@@ -1,0 +1,20 @@
+//! The gateway over a registry in SQLite.
+ghost use Rattle.std.specs.Prelude.{◌≡◌};
+ghost use Rattle.device_registry.specs.Holding.{HandsOn};
+
+use crate::gateway::GatewayOver;
+use device_registry::{Registry, RegistryOver, SqlConnection};
+
+/// A gateway over a registry. `GatewayOver::new` makes one.
+pub type Gateway<S> = GatewayOver<Registry<S>>;
+
+impl<C: SqlConnection> GatewayOver<RegistryOver<C>> {
+    /// Ends the gateway and returns the connection of its registry, as it is. While the disk has returned what was
+    /// written, the connection has no open transaction, and what the gateway knows of devices is committed.
+    pub fn close(self) -> C
+        ensures same { result ≡ self.handler.registry }
+        ensures hands_on { HandsOn (C.state self.handler.registry) }
+    {
+        self.into_store().close()
+    }
+}

@@ -1,0 +1,26 @@
+use Rattle.std.proofs.Common.{sym, subst}
+use Rattle.std.proofs.lemmas.Result.{err_from_is_err_and}
+use Rattle.gateway_main.specs.Started.{RefusesToStart}
+use Rattle.gateway_main.proofs.StartLemmas.{idle_at_first, new_gateway, refuses_as_open, starts}
+use Rattle.gateway_main.proofs.gateway_start.start.Goals as goal
+
+pub returns-in_err-registry-clause-refused : goal.returns-in_err-registry-clause-refused
+returns-in_err-registry-clause-refused g c =
+    let fault = err_from_is_err_and c.from_residual.result c.from_residual.ensures.1 in
+    rw fault.1 (subst (RefusesToStart g.C.SqlConnection.state c.args.conn) (sym fault.2)
+    (refuses_as_open g.C.SqlConnection.state c.args.conn _ c.in_err-registry.ensures.refused))
+
+pub returns-clause-idle : goal.returns-clause-idle
+returns-clause-idle g c =
+    idle_at_first c.args.base c.in_ok-registry.registry c.in_ok-gateway_over.field-0 c.in_ok-gateway_over.ensures
+
+pub returns-clause-starts : goal.returns-clause-starts
+returns-clause-starts g c =
+    starts g.C.SqlConnection.state c.args.conn c.in_ok-registry.registry c.args.base c.in_ok-gateway_over.field-0
+    c.in_ok-gateway_over.ensures c.in_ok-registry.ensures.registries c.in_ok-registry.ensures.opens
+
+pub returns-clause-begins : goal.returns-clause-begins
+returns-clause-begins g c =
+    new_gateway g.C.SqlConnection.state c.args.conn c.in_ok-registry.registry c.args.base
+    c.in_ok-gateway_over.field-0 c.in_ok-gateway_over.ensures c.in_ok-registry.ensures.registries
+    c.in_ok-registry.ensures.opens c.in_ok-registry.ensures.ready

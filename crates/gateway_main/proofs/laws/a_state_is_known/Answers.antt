@@ -1,0 +1,20 @@
+use Rattle.std.proofs.Common.{refl}
+use Rattle.learned_devices.specs.Kept.{Kept}
+use Rattle.sqlite.specs.State.{State}
+use Rattle.device_registry.specs.Holding.{HoldsSome, kept_by}
+use Rattle.gateway_core.specs.Handling.{HandlerValue, KnowsState}
+use Rattle.gateway_main.proofs.laws.a_state_is_known.Goals as goal
+
+-- the base ID, the mode and the counts are known of themselves, and the devices by the registry
+knows_state : {C : Type 0} (state : C → State) (v : HandlerValue C) → HoldsSome (state v.registry)
+    → KnowsState (kept_by state) v
+knows_state state v holds clean =
+    let some = holds clean in
+    (record { base = v.base; mode = v.mode; counts = v.counts; devices = some.0 }, (refl, refl, some.1, refl))
+
+pub returns : goal.returns
+returns g c =
+    let handler = c.args.gateway.now.handler in
+    let holds : HoldsSome (g.C.SqlConnection.state handler.registry) =
+    rw c.store.ensures at c.devices_are_held.ensures in
+    knows_state g.C.SqlConnection.state handler holds

@@ -1,0 +1,4 @@
+pub mod Faults
+pub mod Endings
+pub mod Started
+pub mod Lived

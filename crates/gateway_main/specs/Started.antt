@@ -1,0 +1,32 @@
+-- How a gateway's life begins, and why none does.
+use Rattle.std.specs.Prelude.{◌≡◌, ℕ, ⊤}
+use Rattle.sqlite.specs.State.{State}
+use Rattle.learned_devices.specs.Devices.{Devices}
+use Rattle.device_registry.specs.Holding.{AreRegistries, Finds, kept_by}
+use Rattle.device_registry.specs.Opening.{RefusesToOpen}
+use Rattle.device_registry.specs.declared.fault.OpenFault.TheVariants as opening
+use Rattle.gateway_core.specs.Handling.{HandlerValue}
+use Rattle.gateway_core.specs.Beginnings.{BeginsAt}
+use Rattle.gateway_main.specs.declared.fault.Fault.{Fault}
+use Rattle.gateway_main.specs.declared.fault.Fault.TheVariants.{NotARegistry, Store, Memory, CannotOpen}
+use Rattle.gateway_main.specs.declared.fault.Fault.TheVariants.{Read, Write, TooManyTurns}
+
+-- The gateway knows the devices that the database held when it was last committed. A stop leaves these, in a registry.
+pub record Starts {C : Type 0} (state : C → State) (database : C) (base : ℕ) (now : HandlerValue C) : Type 0 where
+  pub found : Devices
+  pub finds : Finds (state database).committed.trees found
+  pub base_is : now.base ≡ base
+  pub begins : BeginsAt (kept_by state) now found
+  pub registries : AreRegistries (state now.registry).may_leave
+
+-- Why no gateway is made: the database is no registry, in the words of its open; or the store refuses; or there is no
+-- memory. Which of the latter two it is, no clause says, nor what is left behind. Nothing is read or written yet.
+abbrev pub RefusesToStart : {C : Type 0} → (C → State) → C → Fault → Type 0
+RefusesToStart {C} state database NotARegistry =
+    (last : C) × RefusesToOpen (state database) (state last) opening.NotARegistry
+RefusesToStart state database Store = ⊤
+RefusesToStart state database Memory = ⊤
+RefusesToStart state database CannotOpen = ⊥
+RefusesToStart state database Read = ⊥
+RefusesToStart state database Write = ⊥
+RefusesToStart state database TooManyTurns = ⊥

@@ -1,0 +1,85 @@
+//! How the program ends, and with which status.
+ghost use Rattle.std.specs.Prelude.{◌≡◌};
+ghost use Rattle.std.specs.IoError.{error_kind};
+ghost use Rattle.gateway_main.specs.Endings.{done_of, ending_of_arguments, status_of};
+
+use crate::fault::Fault;
+use arguments::Refused;
+use clap::error::ErrorKind;
+use engines::{RunFault, Summary};
+use std::io;
+
+/// Why the program ends without having done to its end what it was asked.
+#[derive(Debug, Drop)]
+pub enum Ending {
+    /// A fault ended it.
+    Failed(Fault),
+    /// An argument is not text.
+    NotText,
+    /// What stands for the base ID is none.
+    BadBase,
+    /// `clap` has something to say: the command line is not taken, or asks for help or for the version.
+    Said(clap::Error),
+}
+
+impl From<Fault> for Ending {
+    ghost use Rattle.gateway_main.specs.declared.ending.Ending.TheVariants.{Failed};
+
+    ghost from_gives = { λ fault ending. ending ≡ Failed fault };
+
+    fn from(fault: Fault) -> Ending {
+        Ending::Failed(fault)
+    }
+}
+
+impl From<Refused> for Ending {
+    ghost use Rattle.gateway_main.specs.Endings.{ending_of_line};
+
+    ghost from_gives = { λ why ending. ending ≡ ending_of_line why };
+
+    fn from(why: Refused) -> Ending {
+        match why {
+            Refused::BadBase => Ending::BadBase,
+            Refused::Words(error) if error.kind() == ErrorKind::OutOfMemory => Ending::Failed(
+                Fault::Memory,
+            ),
+            Refused::Words(error) => Ending::Said(error),
+        }
+    }
+}
+
+/// The ending where the program's arguments cannot be had.
+pub fn without_arguments(error: &io::Error) -> Ending
+    ensures { result ≡ ending_of_arguments (error_kind error.now) }
+{
+    match error.kind() {
+        io::ErrorKind::OutOfMemory => Ending::Failed(Fault::Memory),
+        _ => Ending::NotText,
+    }
+}
+
+/// What the gateway did: what its run came to, or the fault for which it never ran.
+pub type Served = Result<Result<Summary, RunFault>, Fault>;
+
+/// What the gateway's work and the close of its database come to: a fault of the work is told before one of the close.
+pub fn done(served: Served, closed: Result<(), sqlite::Error>) -> Result<(), Fault>
+    ensures { result ≡ done_of served closed }
+{
+    served??;
+    Ok(closed?)
+}
+
+/// The status that the program ends with.
+pub fn status(ended: &Result<(), Ending>) -> u8
+    ensures { result ≡ status_of ended.now }
+{
+    match ended {
+        Ok(()) => 0,
+        Err(Ending::Failed(_)) => 1,
+        Err(Ending::NotText | Ending::BadBase) => 2,
+        Err(Ending::Said(error)) => match error.kind() {
+            ErrorKind::DisplayHelp | ErrorKind::DisplayVersion => 0,
+            _ => 2,
+        },
+    }
+}

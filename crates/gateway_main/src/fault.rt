@@ -1,0 +1,85 @@
+//! What ends the program with status 1.
+ghost use Rattle.std.specs.Prelude.{◌≡◌};
+
+use device_registry::OpenFault;
+use engines::RunFault;
+use sqlite::ErrorCode;
+use std::alloc::AllocError;
+use thiserror::Error;
+
+/// What ends the program with status 1. Its text is what the program says of it.
+#[derive(Clone, Copy, Debug, PartialEq, Eq, Error)]
+pub enum Fault {
+    /// The database is no registry of this program.
+    #[error("not a registry")]
+    NotARegistry,
+    /// The database does not open, refuses to be read or written, or cannot be closed.
+    #[error("store")]
+    Store,
+    /// There is no memory for the command line, the database or the gateway.
+    #[error("memory")]
+    Memory,
+    /// The serial line, the desk's file or the file of the answers does not open.
+    #[error("cannot open")]
+    CannotOpen,
+    /// Standard input, the serial line or the desk's file cannot be read.
+    #[error("read")]
+    Read,
+    /// Standard output, the serial line or the file of the answers cannot be written.
+    #[error("write")]
+    Write,
+    /// Standard input has not ended after all reads that the program makes.
+    #[error("too many turns")]
+    TooManyTurns,
+}
+
+impl From<AllocError> for Fault {
+    ghost use Rattle.gateway_main.specs.declared.fault.Fault.TheVariants.{Memory};
+
+    ghost from_gives = { λ _ fault. fault ≡ Memory };
+
+    fn from(_error: AllocError) -> Fault {
+        Fault::Memory
+    }
+}
+
+impl From<sqlite::Error> for Fault {
+    ghost use Rattle.gateway_main.specs.Faults.{fault_of_store};
+
+    ghost from_gives = { λ error fault. fault ≡ fault_of_store error };
+
+    fn from(error: sqlite::Error) -> Fault {
+        match error {
+            sqlite::Error::SqliteFailure(ErrorCode::OutOfMemory) => Fault::Memory,
+            _ => Fault::Store,
+        }
+    }
+}
+
+impl From<OpenFault> for Fault {
+    ghost use Rattle.gateway_main.specs.Faults.{fault_of_open};
+
+    ghost from_gives = { λ refused fault. fault ≡ fault_of_open refused };
+
+    fn from(refused: OpenFault) -> Fault {
+        match refused {
+            OpenFault::NotARegistry => Fault::NotARegistry,
+            OpenFault::Refused(why) if why.is_memory() => Fault::Memory,
+            OpenFault::Refused(_) => Fault::Store,
+        }
+    }
+}
+
+impl From<RunFault> for Fault {
+    ghost use Rattle.gateway_main.specs.Faults.{fault_of_run};
+
+    ghost from_gives = { λ stopped fault. fault ≡ fault_of_run stopped };
+
+    fn from(stopped: RunFault) -> Fault {
+        match stopped {
+            RunFault::Read => Fault::Read,
+            RunFault::Write => Fault::Write,
+            RunFault::TooManyTurns => Fault::TooManyTurns,
+        }
+    }
+}

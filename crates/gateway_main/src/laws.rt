@@ -1,0 +1,60 @@
+//! Laws of the gateway over a registry in SQLite, and those of its engines. Each function does nothing: its contract is
+//! the law.
+ghost use Rattle.std.specs.Prelude.{Bool, List, Option, ℕ};
+ghost use Rattle.device_registry.specs.Holding.{kept_by};
+ghost use Rattle.gateway_core.specs.Handling.{KnowsState};
+ghost use Rattle.engines.specs.Streams.{sink_value};
+ghost use Rattle.engines.specs.Wires.{wires};
+ghost use Rattle.engines.specs.Written.{WritesAll, WritesPart};
+ghost use Rattle.gateway_main.specs.Lived.{BrokenClosedPlaysAreLives, BrokenPlaysAreLives, ClosedPlaysAreLives};
+ghost use Rattle.gateway_main.specs.Lived.{ClosesLeaveALife, PlaysAreLives};
+
+use byte_streams::Sink;
+use device_registry::laws::devices_are_held;
+use device_registry::{RegistryOver, SqlConnection};
+pub use engines::laws::explanations_stand_apart;
+use gateway_core::GatewayOver;
+
+/// Whatever gateway over a registry there is knows a state, while the disk has returned what was written and the
+/// connection is open.
+pub fn a_state_is_known<C: SqlConnection>(gateway: &GatewayOver<RegistryOver<C>>)
+    ensures { KnowsState (kept_by C.state) gateway.now.handler }
+{
+    devices_are_held(gateway.store());
+}
+
+/// A life may end by `close`: what the next open finds on the connection that was returned is what the life may leave,
+/// and it is what was known at its end.
+pub fn closes_leave_a_life<C: SqlConnection>()
+    ensures { ClosesLeaveALife C.state }
+{}
+
+/// What a stop leaves after `replay` or `live`, by a gateway that `start` made, is what a life may leave that found the
+/// devices that were committed last and handled what came.
+pub fn engines_leave_lives<R: Sink, D: Sink, C: SqlConnection>()
+    ensures replay { (explains : Bool) (held now : Option (List ℕ))
+        → PlaysAreLives C.state (WritesAll explains held now) }
+    ensures broken_replay { (explains : Bool) (held now : Option (List ℕ))
+        → BrokenPlaysAreLives C.state (WritesPart explains held now) }
+    ensures live { (explains : Bool) (serial serial_now : R) (desk desk_now : D)
+        → PlaysAreLives C.state ((wires explains).puts (sink_value R.Sink serial, sink_value D.Sink desk)
+        (sink_value R.Sink serial_now, sink_value D.Sink desk_now)) }
+    ensures broken_live { (explains : Bool) (serial serial_now : R) (desk desk_now : D)
+        → BrokenPlaysAreLives C.state ((wires explains).breaks (sink_value R.Sink serial, sink_value D.Sink desk)
+        (sink_value R.Sink serial_now, sink_value D.Sink desk_now)) }
+{}
+
+/// After `replay` or `live`, by a gateway that `start` made and that is closed then, what the next open finds is what
+/// such a life may leave, and it is what was known at its end.
+pub fn closed_engines_leave_lives<R: Sink, D: Sink, C: SqlConnection>()
+    ensures replay { (explains : Bool) (held now : Option (List ℕ))
+        → ClosedPlaysAreLives C.state (WritesAll explains held now) }
+    ensures broken_replay { (explains : Bool) (held now : Option (List ℕ))
+        → BrokenClosedPlaysAreLives C.state (WritesPart explains held now) }
+    ensures live { (explains : Bool) (serial serial_now : R) (desk desk_now : D)
+        → ClosedPlaysAreLives C.state ((wires explains).puts (sink_value R.Sink serial, sink_value D.Sink desk)
+        (sink_value R.Sink serial_now, sink_value D.Sink desk_now)) }
+    ensures broken_live { (explains : Bool) (serial serial_now : R) (desk desk_now : D)
+        → BrokenClosedPlaysAreLives C.state ((wires explains).breaks (sink_value R.Sink serial, sink_value D.Sink desk)
+        (sink_value R.Sink serial_now, sink_value D.Sink desk_now)) }
+{}

@@ -1,0 +1,59 @@
+-- The calls of a store of devices, from what it kept before to what it keeps afterwards. Own choice.
+use Rattle.std.specs.Prelude.{◌≡◌, ℕ, Bool, false, is_some, IsTrue, MatchBool, MatchResult}
+use Rattle.std.specs.Prelude.{List, Option, Result, Vec}
+use Rattle.std.specs.declared.alloc.Global.{Global}
+use Rattle.std.specs.FinMap.{get}
+use Rattle.learned_devices.specs.declared.Device.{Device}
+use Rattle.learned_devices.specs.declared.fault.LearnFault.{LearnFault}
+use Rattle.learned_devices.specs.declared.fault.LearnFault.TheVariants.{Full, Refused}
+use Rattle.learned_devices.specs.Devices.{Devices, Change, device_of, all_of, is_full, learned, forgotten, relabelled}
+use Rattle.learned_devices.specs.Kept.{Kept, Keeps, Commits, Pends}
+
+-- a sender is looked up
+pub record LooksUp {E : Type 0} (old new : Kept) (id : ℕ) (result : Result (Option Device) E) : Type 0 where
+  pub clean : new.honest → old.honest
+  pub registries : new.honest → new.sound
+  pub devices : new.honest → (devices : Devices) → old.holds devices
+      → MatchResult result (λ found. (found ≡ device_of devices id) × Keeps old new devices)
+      (λ _. Keeps old new devices)
+
+-- a change is committed, or its write failed
+pub record Updates {A E : Type 0} (old new : Kept) (change : Change) (result : Result A E) : Type 0 where
+  pub clean : new.honest → old.honest
+  pub registries : new.honest → new.sound
+  pub devices : new.honest → (devices : Devices) → old.holds devices
+      → MatchResult result (λ _. Commits new change devices) (λ _. Pends old new change devices)
+
+-- A device is not learned. If 1,000 others are, nothing is written; otherwise the write failed.
+abbrev pub RefusesToLearn : Kept → Kept → Device → Devices → LearnFault → Type 0
+RefusesToLearn old new it devices Full = IsTrue (is_full devices it.id) × Keeps old new devices
+RefusesToLearn old new it devices (Refused fault) =
+    MatchBool (is_full devices it.id) (Keeps old new devices) (Pends old new (learned it) devices)
+
+-- a device is learned, in place of what was known of its sender, except for the label
+pub record Learns {A : Type 0} (old new : Kept) (it : Device) (result : Result A LearnFault) : Type 0 where
+  pub clean : new.honest → old.honest
+  pub registries : new.honest → new.sound
+  pub devices : new.honest → (devices : Devices) → old.holds devices
+      → MatchResult result (λ _. (is_full devices it.id ≡ false) × Commits new (learned it) devices)
+      (RefusesToLearn old new it devices)
+
+-- a sender is forgotten, also one of which nothing is known
+abbrev pub Forgets : {A E : Type 0} → Kept → Kept → ℕ → Result A E → Type 0
+Forgets old new id result = Updates old new (forgotten id) result
+
+-- a sender gets a label, if it is learned: the result is whether it is
+pub record Relabels {E : Type 0} (old new : Kept) (id : ℕ) (label : List ℕ) (result : Result Bool E) : Type 0 where
+  pub clean : new.honest → old.honest
+  pub registries : new.honest → new.sound
+  pub devices : new.honest → (devices : Devices) → old.holds devices
+      → MatchResult result (λ known. (known ≡ is_some (get devices id))
+      × MatchBool known (Commits new (relabelled id label) devices) (Keeps old new devices))
+      (λ _. Pends old new (relabelled id label) devices)
+
+-- all devices are listed
+pub record ListsAll {E : Type 0} (old new : Kept) (result : Result (Vec Device Global) E) : Type 0 where
+  pub clean : new.honest → old.honest
+  pub registries : new.honest → new.sound
+  pub devices : new.honest → (devices : Devices) → old.holds devices
+      → MatchResult result (λ all. (all.items ≡ all_of devices) × Keeps old new devices) (λ _. Keeps old new devices)

@@ -1,0 +1,94 @@
+//! A store of devices, and the receipts for its updates.
+ghost use Rattle.std.specs.Prelude.{◌≡◌, [], true, false, IfOk, IsTrue, OnOk};
+ghost use Rattle.learned_devices.specs.Devices.{Devices, Change, forgotten, learned, relabelled};
+ghost use Rattle.learned_devices.specs.Kept.{Kept};
+ghost use Rattle.learned_devices.specs.Labels.{is_label};
+ghost use Rattle.learned_devices.specs.StoreCalls.{LooksUp, Learns, Forgets, Relabels, ListsAll};
+
+use crate::Device;
+use crate::fault::{LearnFault, StoreFault};
+
+/// That an update is committed. Only `DeviceStore::learn` and `DeviceStore::forget` make one, after the commit. It
+/// cannot be dropped: it has to be spent.
+pub struct Receipt {
+    id: u32,
+    is_learned: bool,
+}
+
+impl Receipt {
+    /// The sender, and whether it was learned, not forgotten.
+    pub fn spend(self) -> (u32, bool)
+        ensures { (result.0 ≡ self.id) × (result.1 ≡ self.is_learned) }
+    {
+        let Receipt { id, is_learned } = self;
+        (id, is_learned)
+    }
+}
+
+/// A store of at most 1,000 devices, each by the ID of its sender.
+pub trait DeviceStore {
+    /// What it keeps.
+    ghost kept: { Self → Kept };
+
+    /// That the call between these two values wrote this update of these devices, even if it changed none of them.
+    ghost wrote: { Self → Self → Change → Devices → Type 0 };
+
+    /// The device of a sender, if it is learned.
+    fn find(&mut self, id: u32) -> Result<Option<Device>, StoreFault>
+        ensures { LooksUp (kept self.old) (kept self.new) id result };
+
+    /// Stores a device, in place of what was known of its sender, except for the label, which a known sender keeps.
+    /// `Ok` is returned after the commit.
+    fn put(&mut self, device: Device) -> Result<(), LearnFault>
+        requires { device.label ≡ [] }
+        ensures learns { Learns (kept self.old) (kept self.new) device result }
+        ensures written { (kept self.new).honest → (devices : Devices) → (kept self.old).holds devices →
+            OnOk result (wrote self.old self.new (learned device) devices) };
+
+    /// Deletes the device of a sender, also if there is none. `Ok` is returned after the commit.
+    fn delete(&mut self, id: u32) -> Result<(), StoreFault>
+        ensures forgets { Forgets (kept self.old) (kept self.new) id result }
+        ensures written { (kept self.new).honest → (devices : Devices) → (kept self.old).holds devices →
+            OnOk result (wrote self.old self.new (forgotten id) devices) };
+
+    /// Gives a sender a label, if it is learned. The result is whether it is.
+    fn relabel(&mut self, id: u32, text: &str) -> Result<bool, StoreFault>
+        requires { is_label text.now ≡ true }
+        ensures relabels { Relabels (kept self.old) (kept self.new) id text.now result }
+        ensures written { (kept self.new).honest → (devices : Devices) → (kept self.old).holds devices →
+            IfOk result (λ known. IsTrue known → wrote self.old self.new (relabelled id text.now) devices) };
+
+    /// All devices, by rising ID.
+    fn all(&mut self) -> Result<Vec<Device>, StoreFault>
+        ensures { ListsAll (kept self.old) (kept self.new) result };
+
+    /// Learns a device, as `put` stores it, and gives the receipt for it.
+    fn learn(&mut self, device: Device) -> Result<Receipt, LearnFault>
+        requires { device.label ≡ [] }
+        ensures learns { Learns (kept self.old) (kept self.new) device result }
+        ensures receipt { IfOk result (λ receipt. (receipt.id ≡ device.id) × IsTrue receipt.is_learned) }
+        ensures written { (kept self.new).honest → (devices : Devices) → (kept self.old).holds devices →
+            OnOk result (wrote self.old self.new (learned device) devices) }
+    {
+        let id = device.id;
+        self.put(device)?;
+        Ok(Receipt {
+            id,
+            is_learned: true,
+        })
+    }
+
+    /// Forgets a sender, as `delete` does, and gives the receipt for it.
+    fn forget(&mut self, id: u32) -> Result<Receipt, StoreFault>
+        ensures forgets { Forgets (kept self.old) (kept self.new) id result }
+        ensures receipt { IfOk result (λ receipt. (receipt.id ≡ id) × (receipt.is_learned ≡ false)) }
+        ensures written { (kept self.new).honest → (devices : Devices) → (kept self.old).holds devices →
+            OnOk result (wrote self.old self.new (forgotten id) devices) }
+    {
+        self.delete(id)?;
+        Ok(Receipt {
+            id,
+            is_learned: false,
+        })
+    }
+}

@@ -1,0 +1,61 @@
+//! Why a call of a store of devices fails.
+ghost use Rattle.std.specs.Prelude.{◌≡◌};
+ghost use Rattle.learned_devices.specs.Faults.{no_answer};
+
+use std::alloc::AllocError;
+
+/// What a store lacked: memory, or an answer of its database.
+#[derive(Clone, Copy, Debug, PartialEq, Eq, thiserror::Error)]
+#[error("{}", if *.is_memory {"there is no memory"} else {"the store does not answer"})]
+pub struct StoreFault {
+    is_memory: bool,
+}
+
+impl StoreFault {
+    /// The database does not answer. A fault for lack of memory is made of the allocator's error alone.
+    pub fn no_answer() -> StoreFault
+        ensures { result ≡ no_answer }
+    {
+        StoreFault { is_memory: false }
+    }
+
+    /// Whether there was no memory.
+    pub fn is_memory(&self) -> bool
+        ensures { result ≡ self.now.is_memory }
+    {
+        self.is_memory
+    }
+}
+
+impl From<AllocError> for StoreFault {
+    ghost use Rattle.std.specs.Prelude.{◌≡◌};
+    ghost use Rattle.learned_devices.specs.Faults.{no_memory};
+
+    ghost from_gives = { λ _ fault. fault ≡ no_memory };
+
+    fn from(_error: AllocError) -> StoreFault {
+        StoreFault { is_memory: true }
+    }
+}
+
+/// Why a device is not learned.
+#[derive(Clone, Copy, Debug, PartialEq, Eq, thiserror::Error)]
+pub enum LearnFault {
+    /// 1,000 other devices are learned.
+    #[error("1,000 other devices are learned")]
+    Full,
+    /// The store does not answer.
+    #[error(transparent)]
+    Refused(StoreFault),
+}
+
+impl From<StoreFault> for LearnFault {
+    ghost use Rattle.std.specs.Prelude.{◌≡◌};
+    ghost use Rattle.learned_devices.specs.declared.fault.LearnFault.TheVariants.{Refused};
+
+    ghost from_gives = { λ fault why. why ≡ Refused fault };
+
+    fn from(fault: StoreFault) -> LearnFault {
+        LearnFault::Refused(fault)
+    }
+}
