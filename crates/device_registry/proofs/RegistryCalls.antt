@@ -182,10 +182,9 @@ told_all (Err e) rows shown devices read same told = tt
 
 -- ---- what the calls promise
 
--- for a full registry and for another
-by_room : {K P : Type 0} (full : Bool) → K → P → MatchBool full K P
-by_room true keeps pends = keeps
-by_room false keeps pends = pends
+by_case : {A B : Type 0} (is : Bool) → A → B → MatchBool is A B
+by_case true a b = a
+by_case false a b = b
 
 module _ (old new : State) (stays : Stays old new) (well : IsWell old) where
   pub looks_up : {E : Type 0} (id : ℕ) (r : Result (Option Device) E)
@@ -216,7 +215,7 @@ module _ (old new : State) (stays : Stays old new) (well : IsWell old) where
     registries = (keeps_well old new stays well).0;
     devices = λ clean devices has.
         let same = keeps old new stays well clean devices has in
-        by_room (is_full devices it.id) same (kept_pends old new (learned it) devices same);
+        by_case (is_full devices it.id) same (kept_pends old new (learned it) devices same);
   }
 
   pub updates_not : {A E : Type 0} (change : Change) (r : Result A E) → IsErr r
@@ -368,7 +367,7 @@ module _ (old mid : State) (id : ℕ) where
     registries = looks.registries;
     devices = λ clean devices has.
         let same = looks.devices clean devices has in
-        by_room (is_full devices it.id) same (kept_pends old mid (learned it) devices same);
+        by_case (is_full devices it.id) same (kept_pends old mid (learned it) devices same);
   }
 
   pub relabels_unlooked : (label : List ℕ) (fault : StoreFault) → LooksUp (kept old) (kept mid) id (Err fault)
@@ -376,7 +375,9 @@ module _ (old mid : State) (id : ℕ) where
   relabels_unlooked label fault looks = record {
     clean = looks.clean;
     registries = looks.registries;
-    devices = λ clean devices has. kept_pends old mid (relabelled id label) devices (looks.devices clean devices has);
+    devices = λ clean devices has.
+        let same = looks.devices clean devices has in
+        by_case (is_some (get devices id)) (kept_pends old mid (relabelled id label) devices same) same;
   }
 
   unknown : (known : Option Learned) → None ≡ option_map (device id) known → false ≡ is_some known
@@ -470,15 +471,18 @@ module _ (old mid : State) (id : ℕ) where
     }
 
     -- the write of a label failed, or it is committed
-    pub relabels_failed : {A E F : Type 0} (label : List ℕ) (error : E) (fault : F)
+    pub relabels_failed : {A E F : Type 0} (label : List ℕ) (error : E) (fault : F) (it : Learned)
+        → (HasCleanDisk mid → (devices : Devices) → HasDevices mid devices
+        → after (get devices id) (Relabel label) ≡ Some it)
         → Updates {A = A} (kept mid) (kept new) (relabelled id label) (Err error)
         → Relabels (kept old) (kept new) id label (Err fault)
-    relabels_failed label error fault updates = record {
+    relabels_failed label error fault it known updates = record {
       clean = λ clean. looks.clean (updates.clean clean);
       registries = updates.registries;
       devices = λ clean devices has.
           let keeps = kept_here (updates.clean clean) devices has in
-          pends_then old mid new (relabelled id label) devices keeps (updates.devices clean devices keeps.now);
+          rw (← is_known (get devices id) label it (known (updates.clean clean) devices keeps.now))
+          (pends_then old mid new (relabelled id label) devices keeps (updates.devices clean devices keeps.now));
     }
 
     pub relabels_known : {A E F : Type 0} (label : List ℕ) (done : A) (it : Learned)

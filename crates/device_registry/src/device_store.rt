@@ -3,7 +3,7 @@ ghost use Rattle.device_registry.specs.Holding.{Writes, kept_by};
 
 use crate::registry::RegistryOver;
 use crate::sql_connection::SqlConnection;
-use learned_devices::{Device, DeviceStore, LearnFault, StoreFault};
+use learned_devices::{Device, DeviceStore, Label, LearnFault, StoreFault};
 
 impl<C: SqlConnection> DeviceStore for RegistryOver<C> {
     ghost kept = { kept_by C.state };
@@ -22,8 +22,8 @@ impl<C: SqlConnection> DeviceStore for RegistryOver<C> {
         self.delete_device(id)
     }
 
-    fn relabel(&mut self, id: u32, text: &str) -> Result<bool, StoreFault> {
-        RegistryOver::relabel(self, id, text)
+    fn relabel(&mut self, id: u32, label: Label) -> Result<bool, StoreFault> {
+        self.relabel_as(id, label)
     }
 
     fn all(&mut self) -> Result<Vec<Device>, StoreFault> {

@@ -66,22 +66,18 @@ fn keeping_label(device: Device, known: Option<Device>) -> Device
 }
 
 // The device of a sender, of which this is known, with this label in place of its own.
-fn with_label(id: u32, known: Device, text: &str) -> Device
-    requires { is_label text.now ≡ true }
+fn with_label(id: u32, known: Device, label: Label) -> Device
     ensures { (result.id ≡ id) × (known_of result ≡ record {
       eep = known.eep;
       maker = known.maker;
-      label = text.now;
+      label = label;
     }) }
 {
-    match Label::new(text) {
-        Some(label) => Device {
-            id,
-            eep: known.eep,
-            maker: known.maker,
-            label,
-        },
-        None => unreachable!(),
+    Device {
+        id,
+        eep: known.eep,
+        maker: known.maker,
+        label,
     }
 }
 
@@ -189,7 +185,23 @@ impl<C: SqlConnection> RegistryOver<C> {
         }
     }
 
-    /// Gives a sender this label, if it is learned: the answer is whether it is. A label that it has already is written
+    // Gives a sender this label, if it is learned, and returns whether it is.
+    pub(crate) fn relabel_as(&mut self, id: u32, label: Label) -> Result<bool, StoreFault>
+        ensures relabels { Relabels (kept (C.state self.old)) (kept (C.state self.new)) id label result }
+        ensures written { HasCleanDisk (C.state self.new) → (devices : Devices) →
+            HasDevices (C.state self.old) devices → IfOk result (λ known. IsTrue known → WritesRow C.state self.new
+            (relabelled id label) devices) }
+    {
+        match self.known(id)? {
+            Some(known) => {
+                self.relabel_known(with_label(id, known, label))?;
+                Ok(true)
+            }
+            None => Ok(false),
+        }
+    }
+
+    /// Gives a sender this label, if it is learned, and returns whether it is. A label that it already has is written
     /// again.
     pub fn relabel(&mut self, id: u32, text: &str) -> Result<bool, StoreFault>
         requires { is_label text.now ≡ true }
@@ -198,12 +210,9 @@ impl<C: SqlConnection> RegistryOver<C> {
             HasDevices (C.state self.old) devices → IfOk result (λ known. IsTrue known → WritesRow C.state self.new
             (relabelled id text.now) devices) }
     {
-        match self.known(id)? {
-            Some(known) => {
-                self.relabel_known(with_label(id, known, text))?;
-                Ok(true)
-            }
-            None => Ok(false),
+        match Label::new(text) {
+            Some(label) => self.relabel_as(id, label),
+            None => unreachable!(),
         }
     }
 

@@ -18,12 +18,3 @@ device_of-id devices id known is = one (get devices id) is
 pub device_of-known : (devices : Devices) (id : ℕ) (known : Device) → device_of devices id ≡ Some known
     → device_of devices known.id ≡ Some known
 device_of-known devices id known is = ap (device_of devices) (device_of-id devices id known (sym is)) ∙ is
-
--- and something is known under it
-pub device_of-has : (devices : Devices) (id : ℕ) (known : Device) → Some known ≡ device_of devices id
-    → is_some (get devices id) ≡ true
-device_of-has devices id known is = one (get devices id) is
-  where
-    one : (it : Option Learned) → Some known ≡ option_map (device id) it → is_some it ≡ true
-    one None is = absurd cc
-    one (Some it) is = refl

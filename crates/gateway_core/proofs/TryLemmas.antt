@@ -1,20 +1,19 @@
 -- One item, done or refused.
-use Rattle.std.proofs.Common.{◌<◌, ◌≡◌, inl, inr, ℕ, ◌≤◌, ◌+◌, ◌-◌, Bool, true, false, cond}
+use Rattle.std.proofs.Common.{◌≡◌, inl, inr, ℕ, ◌≤◌, ◌-◌, Bool, true, false}
 use Rattle.std.proofs.Common.{IsSome, List, []}
-use Rattle.std.proofs.Common.{◌∷◌, length, Option, Some, None, Result, Ok, Err, refl, sym, ap, subst, ◌∙◌, arith}
+use Rattle.std.proofs.Common.{◌∷◌, length, Option, Some, None, Result, Ok, Err, refl, sym, ap, subst, ◌∙◌}
 use Rattle.std.proofs.Common.{append-nil}
-use Rattle.std.specs.Prelude.{MatchBool, if◌then◌else◌}
-use Rattle.std.specs.Ordering.{nat_cmp}
-use Rattle.std.specs.Cmp.{nat_cmp_total}
-use Rattle.std.specs.FinMap.{get, len, insert, contains_key, from_entries, len-empty, len-insert, len-remove}
-use Rattle.std.proofs.lemmas.Bool.{leb-true, le-ltb}
-use Rattle.learned_devices.specs.Kept.{Kept, Keeps, Pends}
+use Rattle.std.specs.Prelude.{MatchBool, is_some, if◌then◌else◌}
+use Rattle.std.specs.FinMap.{get}
+use Rattle.std.specs.Option.{option_map}
+use Rattle.std.proofs.lemmas.Bool.{le-ltb}
+use Rattle.learned_devices.specs.Kept.{Kept, Keeps, Commits, Pends}
 use Rattle.erp1_telegrams.specs.declared.eep.Eep.{Eep}
 use Rattle.erp1_telegrams.specs.Telegram.{Telegram}
 use Rattle.profiles_rps.specs.Reading.{Entry}
 use Rattle.profiles_rps.specs.declared.unreadable.Unreadable.{Unreadable}
 use Rattle.learned_devices.specs.declared.Device.{Device}
-use Rattle.learned_devices.specs.Devices.{Devices, is_full, Change, learned, forgotten}
+use Rattle.learned_devices.specs.Devices.{Learned, Devices, device, device_of, is_full, Change, learned, forgotten, relabelled}
 use Rattle.teach_in.specs.declared.mode.Mode.{Mode}
 use Rattle.teach_in.specs.declared.mode.Mode.TheVariants.{LearnAs}
 use Rattle.teach_in.specs.Profiles.{supported}
@@ -35,7 +34,7 @@ use Rattle.gateway_core.specs.declared.handler.done.Done.{Done}
 use Rattle.json_lines.specs.Counts.{raised}
 use Rattle.json_lines.specs.Lines.{Error, Teach as TeachOf, TeachLine, text}
 use Rattle.gateway_core.specs.Step.{State, Item, Answer, Effect, explaining, line_for, count_in, tells, learns}
-use Rattle.gateway_core.specs.Step.{addition, if_known}
+use Rattle.gateway_core.specs.Step.{addition, if_known, labels}
 use Rattle.actuator_commands.specs.declared.orders.Order.{Order}
 use Rattle.actuator_commands.specs.declared.orders.OrderFault.{OrderFault}
 use Rattle.actuator_commands.specs.Orders.{order_of}
@@ -345,6 +344,39 @@ module _ {S : Type 0} (stored : S → Kept) where
   refused-comes old new devices effect change (Before fault) need changes keeps =
       (permitted effect.need (cause_of fault) need, keeps)
   refused-comes old new devices effect change (AtWrite fault) need changes pends = rw changes pends
+
+  -- a label is committed, or nothing is known of the sender
+  pub label-comes : (old new : S) (devices : Devices) (id : ℕ) (label : List ℕ) (known : Bool) (done : Done)
+      → known ≡ is_some (get devices id)
+      → MatchBool known (Gives done (labels id label) × Commits (stored new) (relabelled id label) devices)
+      (Gives done (tells NeedsStore (Error error.UnknownDevice ∷ [])) × Keeps (stored old) (stored new) devices)
+      → Comes (stored old) (stored new) devices (if_known (device_of devices id) (λ it. labels id label)) (Ok done)
+  label-comes old new devices id label known done is comes = one (get devices id) known is comes
+    where
+      one : (it : Option Learned) (b : Bool) → b ≡ is_some it
+          → MatchBool b (Gives done (labels id label) × Commits (stored new) (relabelled id label) devices)
+          (Gives done (tells NeedsStore (Error error.UnknownDevice ∷ [])) × Keeps (stored old) (stored new) devices)
+          → Comes (stored old) (stored new) devices (if_known (option_map (device id) it) (λ it. labels id label))
+          (Ok done)
+      one (Some it) true is comes = comes
+      one (Some it) false is comes = absurd (let no = is in cc)
+      one None true is comes = absurd (let no = is in cc)
+      one None false is comes = comes
+
+  pub label-refused : (old new : S) (devices : Devices) (id : ℕ) (label : List ℕ) (fault : StoreFault)
+      → MatchBool (is_some (get devices id)) (Pends (stored old) (stored new) (relabelled id label) devices)
+      (Keeps (stored old) (stored new) devices)
+      → Comes (stored old) (stored new) devices (if_known (device_of devices id) (λ it. labels id label))
+      (Err (AtWrite fault))
+  label-refused old new devices id label fault refused = one (get devices id) refused
+    where
+      one : (it : Option Learned)
+          → MatchBool (is_some it) (Pends (stored old) (stored new) (relabelled id label) devices)
+          (Keeps (stored old) (stored new) devices)
+          → Comes (stored old) (stored new) devices (if_known (option_map (device id) it) (λ it. labels id label))
+          (Err (AtWrite fault))
+      one (Some it) pends = pends
+      one None keeps = (permitted NeedsStore (cause_of fault) refl, keeps)
 
   -- a device is not learned: if the store is full, nothing is written
   addition-pending : (old new : S) (devices : Devices) (known : Device) (full done : Effect) → Adds known full done

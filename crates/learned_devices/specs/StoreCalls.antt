@@ -42,14 +42,14 @@ pub record Learns {A : Type 0} (old new : Kept) (it : Device) (result : Result A
 abbrev pub Forgets : {A E : Type 0} → Kept → Kept → ℕ → Result A E → Type 0
 Forgets old new id result = Updates old new (forgotten id) result
 
--- a sender gets a label, if it is learned: the result is whether it is
+-- A sender gets a label, if it is learned: the result is whether it is. If it is not, nothing is written.
 pub record Relabels {E : Type 0} (old new : Kept) (id : ℕ) (label : List ℕ) (result : Result Bool E) : Type 0 where
   pub clean : new.honest → old.honest
   pub registries : new.honest → new.sound
   pub devices : new.honest → (devices : Devices) → old.holds devices
       → MatchResult result (λ known. (known ≡ is_some (get devices id))
       × MatchBool known (Commits new (relabelled id label) devices) (Keeps old new devices))
-      (λ _. Pends old new (relabelled id label) devices)
+      (λ _. MatchBool (is_some (get devices id)) (Pends old new (relabelled id label) devices) (Keeps old new devices))
 
 -- all devices are listed
 pub record ListsAll {E : Type 0} (old new : Kept) (result : Result (Vec Device Global) E) : Type 0 where

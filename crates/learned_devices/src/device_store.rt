@@ -1,12 +1,11 @@
 //! A store of devices, and the receipts for its updates.
-ghost use Rattle.std.specs.Prelude.{◌≡◌, [], true, false, IfOk, IsTrue, OnOk};
+ghost use Rattle.std.specs.Prelude.{◌≡◌, [], false, IfOk, IsTrue, OnOk};
 ghost use Rattle.learned_devices.specs.Devices.{Devices, Change, forgotten, learned, relabelled};
 ghost use Rattle.learned_devices.specs.Kept.{Kept};
-ghost use Rattle.learned_devices.specs.Labels.{is_label};
 ghost use Rattle.learned_devices.specs.StoreCalls.{LooksUp, Learns, Forgets, Relabels, ListsAll};
 
-use crate::Device;
 use crate::fault::{LearnFault, StoreFault};
+use crate::{Device, Label};
 
 /// That an update is committed. Only `DeviceStore::learn` and `DeviceStore::forget` make one, after the commit. It
 /// cannot be dropped: it has to be spent.
@@ -52,11 +51,10 @@ pub trait DeviceStore {
             OnOk result (wrote self.old self.new (forgotten id) devices) };
 
     /// Gives a sender a label, if it is learned. The result is whether it is.
-    fn relabel(&mut self, id: u32, text: &str) -> Result<bool, StoreFault>
-        requires { is_label text.now ≡ true }
-        ensures relabels { Relabels (kept self.old) (kept self.new) id text.now result }
+    fn relabel(&mut self, id: u32, label: Label) -> Result<bool, StoreFault>
+        ensures relabels { Relabels (kept self.old) (kept self.new) id label result }
         ensures written { (kept self.new).honest → (devices : Devices) → (kept self.old).holds devices →
-            IfOk result (λ known. IsTrue known → wrote self.old self.new (relabelled id text.now) devices) };
+            IfOk result (λ known. IsTrue known → wrote self.old self.new (relabelled id label) devices) };
 
     /// All devices, by rising ID.
     fn all(&mut self) -> Result<Vec<Device>, StoreFault>

@@ -56,16 +56,12 @@ impl<S: DeviceStore> Handler<S> {
         }
     }
 
-    // Labels a device that the desk names, if it is learned. That is asked first, so that what is refused at its write
-    // is a change. What tells that it is done is a fixed text, so nothing is refused behind the write.
-    fn try_label(&mut self, id: u32, label: &Label) -> Result<Done, Refusal>
-        ensures { Tries S.kept self.old (λ state. order_effect state (Ok (Order.Label id label.now)))
-            result self.new }
+    // Labels a device that the desk names, if it is learned. The answer is a fixed text, so nothing is refused after
+    // the write.
+    fn try_label(&mut self, id: u32, label: Label) -> Result<Done, Refusal>
+        ensures { Tries S.kept self.old (λ state. order_effect state (Ok (Order.Label id label))) result self.new }
     {
-        let Some(_) = self.registry.find(id)? else {
-            return Ok(denied(ErrorName::UnknownDevice));
-        };
-        match self.registry.relabel(id, label.as_str()) {
+        match self.registry.relabel(id, label) {
             Ok(true) => Ok(labelled()),
             Ok(false) => Ok(denied(ErrorName::UnknownDevice)),
             Err(fault) => Err(Refusal::AtWrite(fault)),
@@ -101,7 +97,7 @@ impl<S: DeviceStore> Handler<S> {
             Order::LearnOff => Ok(sets(Mode::Closed)),
             Order::Add(id, eep) => self.try_add(id, eep),
             Order::Remove(id) => self.try_remove(id),
-            Order::Label { id, label } => self.try_label(id, &label),
+            Order::Label { id, label } => self.try_label(id, label),
             Order::List => self.try_list(),
             Order::Status => self.try_status(),
             Order::Base => Ok(ask_base()),
