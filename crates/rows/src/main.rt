@@ -10,6 +10,7 @@ mod fakes;
 mod gateways;
 mod hostile;
 mod lives;
+mod one_device;
 mod replays;
 mod scripts;
 mod telling;
@@ -23,6 +24,7 @@ fn main(rt: HostRuntime) -> Result<ExitCode> {
     scripts::tell(&rt, &mut telling)?;
     caches::tell(&rt, &mut telling)?;
     gateways::tell(&rt, &mut telling)?;
+    one_device::tell(&rt, &mut telling)?;
     replays::tell(&rt, &mut telling)?;
     lives::tell(&rt, &mut telling)?;
     endings::tell(&rt, &mut telling)?;

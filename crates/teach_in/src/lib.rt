@@ -16,7 +16,7 @@ mod verdict;
 pub use four_byte::{FourByteQuery, four_byte_reply};
 pub use mode::Mode;
 pub use outcome::Outcome;
-pub use planning::plan;
+pub use planning::{plan, plan_for};
 pub use plans::Plan;
 pub use profiles::supported;
 pub use telegrams::{Teach, classify};

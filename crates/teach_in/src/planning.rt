@@ -55,14 +55,14 @@ fn plan_asked(telegram: &Telegram, query: &UteQuery) -> Plan
 }
 
 // What is planned in the modes that learn by what a telegram tells.
-fn plan_told(telegram: &Telegram) -> Plan
-    ensures { (known : Bool) → result ≡ (row_of telegram.now known (teach_in_of telegram.now)).told }
+fn plan_told(telegram: &Telegram, teach: &Teach) -> Plan
+    ensures { (known : Bool) → result ≡ (row_of telegram.now known teach.now).told }
 {
-    match classify(telegram) {
+    match teach {
         Teach::Contact => add(telegram, CONTACT, None),
         Teach::Bare => Plan::Refuse(Outcome::NoProfile),
         Teach::FourByte(query) => add_told(telegram, query.eep(), query.maker()),
-        Teach::Ute(query) => plan_asked(telegram, &query),
+        Teach::Ute(query) => plan_asked(telegram, query),
         Teach::Plain | Teach::Answer => Plan::Silent,
     }
 }
@@ -79,10 +79,10 @@ fn is_learned_by(telegram: &Telegram) -> bool
 }
 
 // What is planned in the mode that learns with this profile.
-fn plan_as(telegram: &Telegram, eep: Eep, known: bool) -> Plan
-    ensures { result ≡ (row_of telegram.now known (teach_in_of telegram.now)).given eep }
+fn plan_as(telegram: &Telegram, teach: &Teach, eep: Eep, known: bool) -> Plan
+    ensures { result ≡ (row_of telegram.now known teach.now).given eep }
 {
-    match (classify(telegram), eep.rorg) {
+    match (teach, eep.rorg) {
         (Teach::Contact, 0xD5) | (Teach::Bare, 0xA5) => add(telegram, eep, None),
         (Teach::FourByte(query), 0xA5) => add(telegram, eep, Some(query.maker())),
         (Teach::Plain, rorg) if !known && rorg == telegram.rorg() && is_learned_by(telegram) => {
@@ -92,13 +92,22 @@ fn plan_as(telegram: &Telegram, eep: Eep, known: bool) -> Plan
     }
 }
 
-/// What is planned about the sender of a telegram, by the mode and by whether the sender is learned already.
-pub fn plan(telegram: &Telegram, mode: Mode, known: bool) -> Plan
+/// What is planned about the sender of a telegram, by what the telegram is at teach-in, by the mode, and by whether the
+/// sender is learned already.
+pub fn plan_for(telegram: &Telegram, teach: &Teach, mode: Mode, known: bool) -> Plan
+    requires { teach.now ≡ teach_in_of telegram.now }
     ensures { result ≡ plan_of telegram.now mode known }
 {
     match mode {
         Mode::Closed => Plan::Silent,
-        Mode::Learn | Mode::LearnAnswer => plan_told(telegram),
-        Mode::LearnAs(eep) => plan_as(telegram, eep, known),
+        Mode::Learn | Mode::LearnAnswer => plan_told(telegram, teach),
+        Mode::LearnAs(eep) => plan_as(telegram, teach, eep, known),
     }
+}
+
+/// The same for a telegram that is not classified yet.
+pub fn plan(telegram: &Telegram, mode: Mode, known: bool) -> Plan
+    ensures { result ≡ plan_of telegram.now mode known }
+{
+    plan_for(telegram, &classify(telegram), mode, known)
 }

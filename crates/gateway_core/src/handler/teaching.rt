@@ -25,7 +25,7 @@ use erp1_telegrams::{Eep, Telegram};
 use json_lines::{Line, Why, teach_line};
 use learned_devices::{Device, DeviceStore};
 use std::alloc::AllocError;
-use teach_in::{Mode, Outcome, Plan, Teach, Verdict, four_byte_reply, plan, ute_reply};
+use teach_in::{Mode, Outcome, Plan, Teach, Verdict, four_byte_reply, plan_for, ute_reply};
 
 // The mode that learns with the desk's profile is for one sender.
 fn mode_after_one(mode: Mode) -> Option<Mode>
@@ -142,7 +142,7 @@ impl<S: DeviceStore> Handler<S> {
             (plan_of telegram.now state.mode false)) result self.new }
     {
         // whether the sender is known is asked for data alone, and data of a known sender does not come here
-        match plan(telegram, self.mode, false) {
+        match plan_for(telegram, teach, self.mode, false) {
             Plan::Silent => Ok(ignored(why_silent(asked, self.mode))),
             Plan::Add(device) => self.try_accept(teach, device),
             Plan::Forget(id) => self.try_forget(teach, id),

@@ -10,56 +10,56 @@ use Rattle.gateway_core.proofs.handler.Handler.try_plan.Goals as goal
 pub try_accept-requires-clause-accepted : goal.try_accept-requires-clause-accepted
 try_accept-requires-clause-accepted g c =
     (can_reply c.args.telegram.now _ c.args.teach.now (Add c.in-Add.device) c.requires
-    (sym c.plan.ensures ∙ c.in-Add.is)).0
+    (sym c.plan_for.ensures ∙ c.in-Add.is)).0
 
 pub try_accept-requires-clause-full : goal.try_accept-requires-clause-full
 try_accept-requires-clause-full g c =
     (can_reply c.args.telegram.now _ c.args.teach.now (Add c.in-Add.device) c.requires
-    (sym c.plan.ensures ∙ c.in-Add.is)).1
+    (sym c.plan_for.ensures ∙ c.in-Add.is)).1
 
 pub try_forget-requires : goal.try_forget-requires
 try_forget-requires g c =
     can_reply c.args.telegram.now _ c.args.teach.now (Forget c.in-Forget.id) c.requires
-    (sym c.plan.ensures ∙ c.in-Forget.is)
+    (sym c.plan_for.ensures ∙ c.in-Forget.is)
 
 pub refuse-requires-clause-reply : goal.refuse-requires-clause-reply
 refuse-requires-clause-reply g c =
     subst (λ id. MayReply c.args.teach.now id c.in-Refuse.outcome) (sym c.sender.ensures)
     (can_reply c.args.telegram.now _ c.args.teach.now (Refuse c.in-Refuse.outcome) c.requires
-    (sym c.plan.ensures ∙ c.in-Refuse.is))
+    (sym c.plan_for.ensures ∙ c.in-Refuse.is))
 
 pub returns-in_err-refused-in-Refuse : goal.returns-in_err-refused-in-Refuse
 returns-in_err-refused-in-Refuse g c =
     let error =
     err_from_is_err_and c.from_residual.result c.from_residual.ensures.1 in
-    let plan = sym c.plan.ensures ∙ c.in-Refuse.is in
+    let plan = sym c.plan_for.ensures ∙ c.in-Refuse.is in
     rw (← c.self.view_is, error.1, error.2)
     (tries-alone g.S.DeviceStore.kept _ _ _ (λ devices keeps. rw plan (permits-memory c.args.asked, keeps)))
 
 pub returns-in-Silent : goal.returns-in-Silent
 returns-in-Silent g c =
-    let plan = sym c.plan.ensures ∙ c.in-Silent.is in
+    let plan = sym c.plan_for.ensures ∙ c.in-Silent.is in
     rw (← c.self.view_is) (tries-alone g.S.DeviceStore.kept _ _ _
     (λ devices keeps. rw (plan, ← c.why_silent.ensures) (c.ignored.ensures c.args.asked, keeps)))
 
 pub returns-in-Add : goal.returns-in-Add
 returns-in-Add g c =
     let plan : plan_of c.args.telegram.now c.args.self.now.mode false ≡ Add c.in-Add.device =
-    rw (← c.self.view_is) (sym c.plan.ensures ∙ c.in-Add.is) in
+    rw (← c.self.view_is) (sym c.plan_for.ensures ∙ c.in-Add.is) in
     tries-same g.S.DeviceStore.kept _ _ _ _ _ (λ devices. rw (plan, ← c.requires) refl)
     c.try_accept.ensures
 
 pub returns-in-Forget : goal.returns-in-Forget
 returns-in-Forget g c =
     let plan : plan_of c.args.telegram.now c.args.self.now.mode false ≡ Forget c.in-Forget.id =
-    rw (← c.self.view_is) (sym c.plan.ensures ∙ c.in-Forget.is) in
+    rw (← c.self.view_is) (sym c.plan_for.ensures ∙ c.in-Forget.is) in
     tries-same g.S.DeviceStore.kept _ _ _ _ _ (λ devices. rw (plan, ← c.requires) refl)
     c.try_forget.ensures
 
 pub returns-in_ok-refused-in-Refuse : goal.returns-in_ok-refused-in-Refuse
 returns-in_ok-refused-in-Refuse g c =
     let plan : plan_of c.args.telegram.now c.args.self.now.mode false ≡ Refuse c.in-Refuse.outcome =
-    rw (← c.self.view_is) (sym c.plan.ensures ∙ c.in-Refuse.is) in
+    rw (← c.self.view_is) (sym c.plan_for.ensures ∙ c.in-Refuse.is) in
     tries-alone g.S.DeviceStore.kept _ _ _
     (λ devices keeps.
     rw plan (

@@ -1,5 +1,5 @@
 use Rattle.std.proofs.Common.{rules}
-use Rattle.teach_in.proofs.planning.plan.Goals as goal
+use Rattle.teach_in.proofs.planning.plan_for.Goals as goal
 
 pub returns-in-Closed : goal.returns-in-Closed
 returns-in-Closed c = search rules
