@@ -25,8 +25,8 @@ use Rattle.teach_in.specs.Telegrams.{teach_in_of}
 use Rattle.teach_in.specs.Plans.{add, plan_of}
 use Rattle.teach_in.proofs.ForCallers.{either, LearnsByTold, Hears, AsksDeletion, Refuses, of_plan}
 use Rattle.json_lines.specs.declared.counts.Count.TheVariants as count
-use Rattle.json_lines.specs.declared.packet.Why.{Why}
-use Rattle.json_lines.specs.declared.packet.Why.TheVariants as why
+use Rattle.teach_in.specs.declared.why.Why.{Why}
+use Rattle.teach_in.specs.declared.why.Why.TheVariants as why
 use Rattle.json_lines.specs.declared.fixed.ErrorName.{ErrorName}
 use Rattle.json_lines.specs.declared.fixed.ErrorName.TheVariants as error
 use Rattle.actuator_commands.specs.declared.orders.Order.{Order}

@@ -31,8 +31,8 @@ use Rattle.teach_in.specs.Plans.{add, add_told, in_mode, is_learned_by, plan_ask
 use Rattle.teach_in.specs.Ute as ute
 use Rattle.teach_in.specs.Ute.{request_in, deletion, not_used}
 use Rattle.teach_in.proofs.ForCallers.{IsOpen, LearnsByTold, either, hears-open, of_plan}
-use Rattle.json_lines.specs.declared.packet.Why.{Why}
-use Rattle.json_lines.specs.declared.packet.Why.TheVariants as why
+use Rattle.teach_in.specs.declared.why.Why.{Why}
+use Rattle.teach_in.specs.declared.why.Why.TheVariants as why
 use Rattle.gateway_core.specs.declared.account.Account.{Account}
 use Rattle.gateway_core.specs.Accounts.{because, destination_told, eep_told, explanation, line_of, of_device}
 use Rattle.gateway_core.specs.Accounts.{told_packet}

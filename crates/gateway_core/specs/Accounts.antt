@@ -21,11 +21,11 @@ use Rattle.json_lines.specs.declared.counts.Count.TheVariants as count
 use Rattle.json_lines.specs.declared.packet.PacketLine.{PacketLine}
 use Rattle.json_lines.specs.declared.packet.ToldPacket.{ToldPacket}
 use Rattle.json_lines.specs.declared.packet.ToldPacket.TheVariants as told
-use Rattle.json_lines.specs.declared.packet.Why.{Why}
-use Rattle.json_lines.specs.declared.packet.Why.TheVariants.{Refused, Response, EmptyResponse, OtherType, NoTelegram}
-use Rattle.json_lines.specs.declared.packet.Why.TheVariants.{FromBroadcast, ForOthers, TeachInReply, Told, Read}
-use Rattle.json_lines.specs.declared.packet.Why.TheVariants.{WindowClosed, OtherMode, UnknownSender}
-use Rattle.json_lines.specs.declared.packet.Why.TheVariants.{WrongKind, WrongLength, OtherMessage}
+use Rattle.teach_in.specs.declared.why.Why.{Why}
+use Rattle.teach_in.specs.declared.why.Why.TheVariants.{Refused, Response, EmptyResponse, OtherType, NoTelegram}
+use Rattle.teach_in.specs.declared.why.Why.TheVariants.{FromBroadcast, ForOthers, TeachInReply, Told, Read}
+use Rattle.teach_in.specs.declared.why.Why.TheVariants.{WindowClosed, OtherMode, UnknownSender}
+use Rattle.teach_in.specs.declared.why.Why.TheVariants.{WrongKind, WrongLength, OtherMessage}
 use Rattle.json_lines.specs.PacketLines.{packet_text}
 use Rattle.json_lines.specs.ToldTelegram.{ToldTelegram}
 use Rattle.gateway_core.specs.declared.account.Account.{Account}

@@ -2,8 +2,8 @@
 use Rattle.std.specs.Prelude.{◌≡◌, ◌↔◌, IsSome, ℕ, List, [], ◌∷◌, Option, Some, None}
 use Rattle.esp3_frames.specs.Packet.{Packet}
 use Rattle.json_lines.specs.declared.counts.Count.TheVariants as count
-use Rattle.json_lines.specs.declared.packet.Why.{Why}
-use Rattle.json_lines.specs.declared.packet.Why.TheVariants as why
+use Rattle.teach_in.specs.declared.why.Why.{Why}
+use Rattle.teach_in.specs.declared.why.Why.TheVariants as why
 use Rattle.json_lines.specs.Counts.{counted}
 use Rattle.json_lines.specs.Lines.{DeskLine, Reading, ReadingLine, Response, ResponseLine, TeachLine, Teach, text}
 use Rattle.json_lines.specs.PacketLines.{packet_text}

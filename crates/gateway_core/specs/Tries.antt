@@ -12,7 +12,7 @@ use Rattle.teach_in.specs.FourByte.{four_byte_code}
 use Rattle.teach_in.specs.Ute.{ute_code}
 use Rattle.json_lines.specs.declared.counts.Count.TheVariants as count
 use Rattle.json_lines.specs.declared.counts.Counts.{Counts}
-use Rattle.json_lines.specs.declared.packet.Why.TheVariants as why
+use Rattle.teach_in.specs.declared.why.Why.TheVariants as why
 use Rattle.gateway_core.specs.declared.handler.done.Done.{Done}
 use Rattle.gateway_core.specs.declared.handler.changes.Committed.{Committed}
 use Rattle.gateway_core.specs.declared.refusal.Refusal.{Refusal}

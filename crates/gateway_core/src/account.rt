@@ -6,10 +6,10 @@ ghost use Rattle.gateway_core.specs.Accounts.{because, eep_told, maker_told};
 
 use erp1_telegrams::{BROADCAST, Eep, Telegram};
 use esp3_frames::PacketRef;
-use json_lines::{Count, Why};
+use json_lines::Count;
 use learned_devices::Device;
 use profiles_rps::Unreadable;
-use teach_in::{Mode, Teach};
+use teach_in::{Mode, Teach, Why};
 
 /// The packet type RADIO_ERP1 (EnOcean Serial Protocol 3, "Packet types").
 const RADIO_ERP1: u8 = 1;

@@ -23,11 +23,11 @@ use crate::refusal::Refusal;
 use crate::reply::Reply;
 use erp1_telegrams::read;
 use esp3_frames::PacketRef;
-use json_lines::{Count, Counts, Why};
+use json_lines::{Count, Counts};
 use learned_devices::DeviceStore;
 use std::alloc::Global;
 use std::marker::Model;
-use teach_in::{Mode, classify};
+use teach_in::{Mode, Why, classify};
 
 /// What the gateway knows: the base ID of its radio module, the mode in which it learns, what it has counted, and the
 /// registry of the learned devices.

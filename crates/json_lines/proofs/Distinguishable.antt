@@ -8,7 +8,7 @@ use Rattle.json_lines.specs.ToldTelegram.{ToldTelegram}
 use Rattle.json_lines.specs.declared.packet.PacketLine.{PacketLine}
 use Rattle.json_lines.specs.declared.packet.ToldPacket.{ToldPacket}
 use Rattle.json_lines.specs.declared.packet.ToldPacket.TheVariants.{Telegram, Other}
-use Rattle.json_lines.specs.declared.packet.Why.{Why}
+use Rattle.teach_in.specs.declared.why.Why.{Why}
 use Rattle.json_lines.proofs.PacketLineTexts.{behind, behind-comma, strength-alone}
 
 regrouped : (first others more : List ℕ) → (((first ++ others) ++ codes "}") ++ codes "\n") ++ more

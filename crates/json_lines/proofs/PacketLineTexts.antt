@@ -20,7 +20,7 @@ use Rattle.json_lines.specs.ToldTelegram.{ToldTelegram}
 use Rattle.json_lines.specs.declared.packet.PacketLine.{PacketLine}
 use Rattle.json_lines.specs.declared.packet.ToldPacket.{ToldPacket}
 use Rattle.json_lines.specs.declared.packet.ToldPacket.TheVariants.{Telegram, Other}
-use Rattle.json_lines.specs.declared.packet.Why.{Why}
+use Rattle.teach_in.specs.declared.why.Why.{Why}
 use Rattle.json_lines.proofs.HexTexts.{id_bytes}
 use Rattle.json_lines.proofs.PacketTexts.{mag-minus}
 use Rattle.json_lines.proofs.TeachLines.{same-bytes, same-id, same-byte, same-eep, same-maker, not-null}

@@ -11,7 +11,7 @@ use Rattle.json_lines.specs.Lines.{dbm_text, member_text, object_text}
 use Rattle.json_lines.specs.PacketLines.{packet_members, end_members, members_text}
 use Rattle.json_lines.specs.declared.packet.ToldPacket.{ToldPacket}
 use Rattle.json_lines.specs.declared.packet.ToldPacket.TheVariants.{Telegram, Other}
-use Rattle.json_lines.specs.declared.packet.Why.{Why}
+use Rattle.teach_in.specs.declared.why.Why.{Why}
 
 -- a signal strength has a sign and at most three digits
 pub mag-minus : (byte : ℕ) → mag (pos 0 -ℤ pos byte) ≤ byte

@@ -5,11 +5,11 @@ use Rattle.std.specs.Str.{bytes_eq}
 use Rattle.teach_in.specs.declared.outcome.Outcome.TheVariants.{Accepted, Deleted, Unsupported, Full, General}
 use Rattle.teach_in.specs.declared.outcome.Outcome.TheVariants.{NoProfile}
 use Rattle.json_lines.specs.PacketLines.{why_word}
-use Rattle.json_lines.specs.declared.packet.Why.{Why}
-use Rattle.json_lines.specs.declared.packet.Why.TheVariants.{Refused, Response, EmptyResponse, OtherType, NoTelegram}
-use Rattle.json_lines.specs.declared.packet.Why.TheVariants.{FromBroadcast, ForOthers, TeachInReply, Told}
-use Rattle.json_lines.specs.declared.packet.Why.TheVariants.{WindowClosed, OtherMode, Read, UnknownSender, WrongKind}
-use Rattle.json_lines.specs.declared.packet.Why.TheVariants.{WrongLength, OtherMessage}
+use Rattle.teach_in.specs.declared.why.Why.{Why}
+use Rattle.teach_in.specs.declared.why.Why.TheVariants.{Refused, Response, EmptyResponse, OtherType, NoTelegram}
+use Rattle.teach_in.specs.declared.why.Why.TheVariants.{FromBroadcast, ForOthers, TeachInReply, Told}
+use Rattle.teach_in.specs.declared.why.Why.TheVariants.{WindowClosed, OtherMode, Read, UnknownSender, WrongKind}
+use Rattle.teach_in.specs.declared.why.Why.TheVariants.{WrongLength, OtherMessage}
 
 -- the first of some reasons with this word, or else the last of all
 with-word : List ℕ → List Why → Why

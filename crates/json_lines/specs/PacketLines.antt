@@ -9,11 +9,11 @@ use Rattle.json_lines.specs.ToldTelegram.{ToldTelegram}
 use Rattle.json_lines.specs.declared.packet.PacketLine.{PacketLine}
 use Rattle.json_lines.specs.declared.packet.ToldPacket.{ToldPacket}
 use Rattle.json_lines.specs.declared.packet.ToldPacket.TheVariants.{Telegram, Other}
-use Rattle.json_lines.specs.declared.packet.Why.{Why}
-use Rattle.json_lines.specs.declared.packet.Why.TheVariants.{Refused, Response, EmptyResponse, OtherType, NoTelegram}
-use Rattle.json_lines.specs.declared.packet.Why.TheVariants.{FromBroadcast, ForOthers, TeachInReply, Told}
-use Rattle.json_lines.specs.declared.packet.Why.TheVariants.{WindowClosed, OtherMode, Read, UnknownSender, WrongKind}
-use Rattle.json_lines.specs.declared.packet.Why.TheVariants.{WrongLength, OtherMessage}
+use Rattle.teach_in.specs.declared.why.Why.{Why}
+use Rattle.teach_in.specs.declared.why.Why.TheVariants.{Refused, Response, EmptyResponse, OtherType, NoTelegram}
+use Rattle.teach_in.specs.declared.why.Why.TheVariants.{FromBroadcast, ForOthers, TeachInReply, Told}
+use Rattle.teach_in.specs.declared.why.Why.TheVariants.{WindowClosed, OtherMode, Read, UnknownSender, WrongKind}
+use Rattle.teach_in.specs.declared.why.Why.TheVariants.{WrongLength, OtherMessage}
 
 -- the word of why; of what came of a sender, the outcome's. Own choice
 abbrev pub why_word : Why → List ℕ

@@ -3,7 +3,7 @@ ghost use Rattle.std.specs.Prelude.{◌≡◌, ◌≢◌, ℕ, List, [], ◌∷�
 ghost use Rattle.json_lines.specs.Lines.{DeskLine, HasNumbersInRange, Teach, TeachLine, text, texts};
 ghost use Rattle.json_lines.specs.PacketLines.{HasPacketNumbersInRange, longest_packet_line, packet_text, why_word};
 ghost use Rattle.json_lines.specs.declared.packet.PacketLine.{PacketLine};
-ghost use Rattle.json_lines.specs.declared.packet.Why.{Why};
+ghost use Rattle.teach_in.specs.declared.why.Why.{Why};
 ghost use Rattle.json_lines.specs.declared.pieces.TheConstants.{LONGEST_PACKET_LINE};
 
 /// Lines that together have the text of a teach line are one teach line, with the same outcome.

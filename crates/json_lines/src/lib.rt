@@ -23,7 +23,7 @@ pub use counts::{Count, Counts};
 pub use devices::device_lines;
 pub use fixed::{ErrorName, done_line};
 pub use line::Line;
-pub use packet::{PacketLine, ToldPacket, ToldTelegram, Why, packet_line};
+pub use packet::{PacketLine, ToldPacket, ToldTelegram, packet_line};
 pub use pieces::LONGEST_PACKET_LINE;
 pub use reading::reading_line;
 pub use response::response_line;

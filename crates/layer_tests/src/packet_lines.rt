@@ -1,9 +1,9 @@
 //! Packet lines whose bytes are known.
 use arrayvec::ArrayVec;
 use erp1_telegrams::Eep;
-use json_lines::{LONGEST_PACKET_LINE, PacketLine, ToldPacket, ToldTelegram, Why, packet_line};
+use json_lines::{LONGEST_PACKET_LINE, PacketLine, ToldPacket, ToldTelegram, packet_line};
 use std::test::Fail;
-use teach_in::Outcome;
+use teach_in::{Outcome, Why};
 
 /// A telegram, and its line.
 struct OfTelegram {

@@ -76,7 +76,8 @@ impl DeviceStore for OneDevice {
         self.answered()?;
         let mut all = Vec::with_capacity(self.alloc, 1)?;
         if let Some(device) = &self.device {
-            all.push(device.copied()).map_err(|_| StoreFault::from(AllocError))?;
+            all.push(device.copied())
+                .map_err(|_| StoreFault::from(AllocError))?;
         }
         Ok(all)
     }

@@ -12,6 +12,7 @@ mod reply;
 mod telegrams;
 mod ute;
 mod verdict;
+mod why;
 
 pub use four_byte::{FourByteQuery, four_byte_reply};
 pub use mode::Mode;
@@ -22,3 +23,4 @@ pub use profiles::supported;
 pub use telegrams::{Teach, classify};
 pub use ute::{UteQuery, ute_reply};
 pub use verdict::Verdict;
+pub use why::Why;

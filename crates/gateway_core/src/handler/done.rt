@@ -13,8 +13,8 @@ use crate::account::Account;
 use crate::refusal::Refusal;
 use crate::reply::{Desk, Reply};
 use arrayvec::ArrayVec;
-use json_lines::{ErrorName, Why, done_line};
-use teach_in::Mode;
+use json_lines::{ErrorName, done_line};
+use teach_in::{Mode, Why};
 
 // The account of a packet, the mode that is set, if any, and the answer to the item.
 #[derive(Drop)]

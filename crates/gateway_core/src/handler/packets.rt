@@ -17,11 +17,11 @@ use crate::reply::Desk;
 use crate::response::response_in;
 use erp1_telegrams::{Telegram, is_passed_over};
 use esp3_frames::PacketRef;
-use json_lines::{Why, reading_line, response_line};
+use json_lines::{reading_line, response_line};
 use learned_devices::{Device, DeviceStore};
 use profiles_rps::Readings;
 use std::alloc::{AllocError, Global};
-use teach_in::Teach;
+use teach_in::{Teach, Why};
 
 // The line of what the telegram of this device tells, if its profile reads it.
 fn reading(alloc: Global, telegram: &Telegram, device: &Device) -> Result<Done, AllocError>

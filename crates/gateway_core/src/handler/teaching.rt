@@ -6,7 +6,7 @@ ghost use Rattle.teach_in.specs.declared.outcome.Outcome.TheVariants as outcome;
 ghost use Rattle.teach_in.specs.Plans.{plan_of};
 ghost use Rattle.teach_in.specs.Telegrams.{teach_in_of};
 ghost use Rattle.gateway_core.specs.Replies.{answer_of};
-ghost use Rattle.json_lines.specs.declared.packet.Why.TheVariants as why;
+ghost use Rattle.teach_in.specs.declared.why.Why.TheVariants as why;
 ghost use Rattle.gateway_core.specs.Accounts.{because};
 ghost use Rattle.gateway_core.specs.Step;
 ghost use Rattle.gateway_core.specs.Step.{accepts, addition, deletes, line_with, plan_effect, radio_of, reply_of};
@@ -22,10 +22,10 @@ use crate::refusal::Refusal;
 use crate::reply::{Desk, Reply};
 use arrayvec::ArrayVec;
 use erp1_telegrams::{Eep, Telegram};
-use json_lines::{Line, Why, teach_line};
+use json_lines::{Line, teach_line};
 use learned_devices::{Device, DeviceStore};
 use std::alloc::AllocError;
-use teach_in::{Mode, Outcome, Plan, Teach, Verdict, four_byte_reply, plan_for, ute_reply};
+use teach_in::{Mode, Outcome, Plan, Teach, Verdict, Why, four_byte_reply, plan_for, ute_reply};
 
 // The mode that learns with the desk's profile is for one sender.
 fn mode_after_one(mode: Mode) -> Option<Mode>

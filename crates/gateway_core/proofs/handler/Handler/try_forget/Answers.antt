@@ -1,7 +1,7 @@
 use Rattle.std.proofs.Common.{refl, sym, ap, ◌∙◌, Some}
 use Rattle.std.proofs.lemmas.Result.{err_from_is_err_and}
 use Rattle.teach_in.specs.declared.outcome.Outcome.TheVariants.{Deleted}
-use Rattle.json_lines.specs.declared.packet.Why.TheVariants.{Told}
+use Rattle.teach_in.specs.declared.why.Why.TheVariants.{Told}
 use Rattle.json_lines.specs.Lines.{Teach, TeachLine, text}
 use Rattle.gateway_core.specs.Accounts.{because}
 use Rattle.gateway_core.specs.Step.{deletes, line_with}
