@@ -1,11 +1,12 @@
-"""The files of crates/rows/data that the scripts beside this file write: a row NAME is a script, NAME.in, and what has
-to be written for it: NAME.out, and NAME.explained where it is replayed with `--explain` too. With them, the lines of
-the desk that more than one of these scripts tells."""
+"""The sessions of crates/rows/data that the scripts beside this file check: a row NAME is a script, and what has to be
+written for it, without `--explain` and with it, in NAME.session (tests/oracle/session.py). With them, the lines of the
+desk that more than one of these scripts tells."""
 import json
 import pathlib
 import sys
 
-DATA = pathlib.Path(__file__).resolve().parent.parent.parent / "crates" / "rows" / "data"
+sys.path.insert(0, str(pathlib.Path(__file__).resolve().parent.parent.parent / "tests" / "oracle"))
+import session
 
 
 def line(value):
@@ -67,17 +68,14 @@ def worked(script, example):
     return lines, wanted
 
 
-def write_or_check(makers, suffixes=(".in", ".out")):
-    """Writes the rows that these calls make, by name: each makes the texts of its files with these suffixes. With
-    `--check` it tells which files are not as they would be written. The answer is the status of the program."""
+def write_or_check(makers, parts=("script", "plain")):
+    """Makes these parts of the rows that these calls make, by name, and prints which are not so in their sessions. The
+    answer is the status of the program."""
     differ = []
     for name, make in makers.items():
-        for suffix, text in zip(suffixes, make()):
-            path, written = DATA / (name + suffix), text.encode()
-            if "--check" not in sys.argv:
-                path.write_bytes(written)
-            elif not path.exists() or path.read_bytes() != written:
-                differ.append(path.name)
+        for part, text in zip(parts, make()):
+            if session.part(session.read(name), part) != text.encode():
+                differ.append(f"{name}, {part},")
     for name in differ:
-        print(f"{name} is not what this script writes")
+        print(f"{name} is not what this script makes")
     return 1 if differ else 0
