@@ -1,217 +1,14 @@
-#!/usr/bin/env python3
-"""Writes twelve rows of crates/rows/data on the orders of the desk. `orders` has every order at both ends of its
-ranges, and past them, and lines that one letter, digit, space or word keeps from being an order; `orders-to-devices`
-each order to a device, against devices of every profile, and unknown ones; `orders-to-all` the orders that send and
-need no device; `label-texts` labels with every character, and texts that are none; the others are worked examples.
-
-    scripts/rows/order-rows            writes the files
-    scripts/rows/order-rows --check    tells whether the files are as they would be written
-
-It shares nothing with the program: the orders stand in the table ORDERS below; its packets are those of
-esp3.py beside it, the profiles those of profiles.py. The answers to the worked examples stand in full at the end, and
-the table has to say the same.
-"""
-import functools
+"""The sessions on the orders. `orders` has every order at both ends of its ranges, and past them, and lines that one
+letter, digit, space or word keeps from being an order; `orders-to-devices` each order to a device, against devices of
+every profile, and unknown ones; `orders-to-all` the orders that send and need no device; `label-texts` labels with
+every character, and texts that are none; `full-registry` a thousand devices, and one more."""
 import itertools
-import re
-import sys
 
-from esp3 import ALL, packet, pieces, radio, sent, telegram
-from profiles import IN_TABLES, says
-from rows import LABEL_TEXT, LONGEST_LABEL, OK, Script, device_lines, error, line, teach_line, worked, write_or_check
-
-# The orders. A line is an order if it has the words of a row, with one space between two, and nothing else. A word in
-# capitals stands for a value, any other word for itself; TEXT is all that is left of the line. Where a line fits two
-# rows, the first one that can be done is done. A row has, behind the words, what is done:
-#
-#   mode M           the mode becomes M
-#   D2-01, D2-05-00  a VLD telegram with this payload goes from the base ID to the device ID, whose profile has to begin
-#                    so
-#   all              a 4BS telegram with this payload goes to all, from the base ID + OFF
-#   module           a command with these bytes (packet type 5) goes to the radio module
-#   else             what `order` below says of this word; nothing is sent
-#
-# Payloads are hexadecimal.
-ORDERS = [
-    # Words                Done
-    ("learn on",           "mode",     "on"),
-    ("learn on answer",    "mode",     "answer"),
-    ("learn as EEP",       "mode",     "as EEP"),
-    ("learn off",          "mode",     "closed"),
-    ("add ID EEP",         "add",      ""),
-    ("remove ID",          "remove",   ""),
-    ("label ID TEXT",      "label",    ""),
-    ("label ID",           "label",    ""),
-    ("list",               "list",     ""),
-    ("status",             "status",   ""),
-    ("base",               "module",   "08"),
-    ("switch ID CH on",    "D2-01",    "01 CH 64"),
-    ("switch ID CH off",   "D2-01",    "01 CH 00"),
-    ("dim ID CH VAL",      "D2-01",    "01 CH VAL"),
-    ("query ID CH",        "D2-01",    "03 CH"),
-    ("query ID 0",         "D2-05-00", "03"),
-    ("meter ID CH energy", "D2-01",    "06 CH"),
-    ("meter ID CH power",  "D2-01",    "06 CH+80"),
-    ("blind ID VAL",       "D2-05-00", "VAL 7F 00 01"),
-    ("stop ID",            "D2-05-00", "02"),
-    ("central OFF on",     "all",      "01 00 00 09"),
-    ("central OFF off",    "all",      "01 00 00 08"),
-    ("level OFF 0 RAMP",   "all",      "02 00 RAMP 0C"),
-    ("level OFF VAL RAMP", "all",      "02 VAL RAMP 0D"),
-    ("teach OFF",          "all",      "E0 47 FF 80"),
-]
-
-# The numbers, each with the greatest that is in its range; the least is 0. An ID is in its range unless it is FFFFFFFF,
-# and a text if it has at most 32 bytes.
-GREATEST = {"CH": 30, "OFF": 127, "VAL": 100, "RAMP": 255}
-
-# How the values are written.
-SHAPES = {
-    "ID": "[0-9A-Fa-f]{8}",
-    "EEP": "[0-9A-Fa-f]{2}-[0-9A-Fa-f]{2}-[0-9A-Fa-f]{2}",
-    "TEXT": LABEL_TEXT,
-    **dict.fromkeys(GREATEST, "0|[1-9][0-9]{0,4}"),
-}
-
-BASE = 0xFF800000
-LONGEST = 200
-MOST = 1000
-CODES = ["OK", "ERROR", "NOT_SUPPORTED", "WRONG_PARAM", "OPERATION_DENIED"]
-
-
-def values_of(words, text):
-    """The values that this line has at the words in capitals, or None where it does not fit the words."""
-    words = words.split(" ")
-    said = text.split(" ", len(words) - 1 if words[-1] == "TEXT" else -1)
-    if len(words) != len(said):
-        return None
-    values = {}
-    for word, as_said in zip(words, said):
-        if word not in SHAPES:
-            if word != as_said:
-                return None
-        elif not re.fullmatch(SHAPES[word], as_said):
-            return None
-        elif word == "EEP":
-            values[word] = as_said.upper()
-        elif word == "TEXT":
-            values[word] = as_said
-        else:
-            values[word] = int(as_said, 16 if word == "ID" else 10)
-    return values
-
-
-def is_in_range(values):
-    if values.get("ID") == ALL or len(values.get("TEXT", "")) > LONGEST_LABEL:
-        return False
-    return all(values.get(word, 0) <= greatest for word, greatest in GREATEST.items())
-
-
-def is_supported(eep):
-    return int(eep.replace("-", ""), 16) in IN_TABLES
-
-
-def payload_of(by, values):
-    """The bytes of a payload as it stands in the table."""
-
-    def byte(word):
-        name, _, more = word.partition("+")
-        return values[name] + int(more or "0", 16) if name in values else int(word, 16)
-
-    return bytes(byte(word) for word in by.split(" "))
-
-
-def radio_line(stream):
-    return f"S {stream.hex()}\n"
-
-
-class Gateway:
-    """What the gateway has to write for each line of a script. A line with serial bytes ends a packet, or holds a part
-    of one."""
-
-    def __init__(self):
-        self.devices, self.labels, self.mode, self.held = {}, {}, "closed", b""
-        self.counts = dict.fromkeys(("ignored", "readings", "refused", "responses", "teach"), 0)
-
-    def answer(self, text):
-        text = text.removesuffix("\r")
-        if len(text.encode()) > LONGEST:
-            return error("too_long")
-        if not re.fullmatch("S ([0-9A-Fa-f]{2})*", text):
-            return self.order(text)
-        self.held += bytes.fromhex(text[2:])
-        if len(self.held) < 6 or len(self.held) < 7 + int.from_bytes(self.held[1:3], "big") + self.held[3]:
-            return ""
-        stream, self.held = self.held, b""
-        return self.packet(stream)
-
-    def order(self, text):
-        fitting = [(values_of(words, text), does, by) for words, does, by in ORDERS]
-        fitting = [row for row in fitting if row[0] is not None]
-        if not fitting:
-            return error("syntax")
-        if not all(is_in_range(values) for values, _, _ in fitting):
-            return error("range")
-        values, does, by = fitting[0]
-        sender, eep = values.get("ID"), values.get("EEP")
-        if eep is not None and not is_supported(eep):
-            return error("unsupported_profile")
-        if does == "mode":
-            self.mode = by.replace("EEP", eep or "")
-            return OK
-        if does == "list":
-            return device_lines(self.devices, self.labels)
-        if does == "status":
-            return line({**self.counts, "mode": self.mode, "type": "status"})
-        if does == "module":
-            return radio_line(packet(5, payload_of(by, values))) + OK
-        if does == "all":
-            return radio_line(sent(0xA5, payload_of(by, values), BASE + values["OFF"])) + OK
-        if does == "add":
-            if sender not in self.devices and len(self.devices) >= MOST:
-                return error("full")
-            self.devices[sender] = (eep, None)
-            return teach_line(sender, eep, None, "accepted")
-        if sender not in self.devices:
-            return error("unknown_device")
-        if does == "label":
-            self.labels[sender] = values.get("TEXT", "")
-            return OK
-        if does == "remove":
-            self.labels.pop(sender, None)
-            return teach_line(sender, *self.devices.pop(sender), "deleted")
-        own = self.devices[sender][0]
-        for values, profile, by in fitting:
-            if own.startswith(profile):
-                return radio_line(sent(0xD2, payload_of(by, values), BASE, sender)) + OK
-        return error("wrong_profile")
-
-    def packet(self, stream):
-        """Responses of the module; telegrams of known devices; and a contact's teach-in, in the mode `on`. What other
-        telegrams do stands in scripts/rows/verdict-rows."""
-        length, kind = int.from_bytes(stream[1:3], "big"), stream[4]
-        data = stream[6 : 6 + length]
-        assert stream == packet(kind, data, stream[6 + length : -1])
-        if kind == 2:
-            self.counts["responses"] += 1
-            name = CODES[data[0]] if data[0] < len(CODES) else None
-            return line({"code": data[0], "data": data[1:].hex().upper(), "name": name, "type": "response"})
-        assert kind == 1
-        rorg, payload, sender, status = data[0], data[1:-5], int.from_bytes(data[-5:-1], "big"), data[-1]
-        if rorg == 0xD5 and payload[0] & 8 == 0:
-            assert self.mode == "on"
-            self.counts["teach"] += 1
-            self.devices[sender] = ("D5-00-01", None)
-            return teach_line(sender, "D5-00-01", None, "accepted")
-        assert self.mode == "closed" or sender in self.devices
-        eep = self.devices.get(sender, ("none", None))[0]
-        told = says(eep, rorg, payload, status) if sender in self.devices else None
-        if told is None:
-            self.counts["ignored"] += 1
-            return ""
-        self.counts["readings"] += 1
-        return line({"dbm": -45, "eep": eep, "id": f"{sender:08X}", "readings": told, "type": "reading"})
-
+from oracle.esp3 import ALL, radio, sent, telegram
+from oracle.gateway import BASE, LONGEST
+from oracle.orders import BY_NAME, GREATEST, ORDERS
+from oracle.profiles import IN_TABLES, eep_of
+from oracle.sessions import Session
 
 # Devices that are known, by what an order has to find; a device for the orders that need none; and an unknown one.
 SWITCH, BLIND, CONTACT, STRANGER = 0x01800ABC, 0x01800ABD, 0xABCDEF09, 0x01800ABE
@@ -252,43 +49,29 @@ def places(kinds, orders=ORDERS):
 TO_DEVICES = [row for row in ORDERS if row[1].startswith("D2")]
 TO_ALL = [row for row in ORDERS if row[1] in ("all", "module")]
 # One row for each order; and all rows but those that are as the row beside them, but for the last word.
-EACH = [next(rows) for _, rows in itertools.groupby(ORDERS, named)]
+EACH = [rows[0] for rows in BY_NAME.values()]
 VARIED = [row for row in ORDERS if not row[0].endswith((" off", " energy"))]
 
 
-class Row(Script):
-    def __init__(self):
-        super().__init__(Gateway())
-
+class Row(Session):
     def try_each(self, lines):
         """These lines, each once, and each of them while the devices are known."""
         for text in dict.fromkeys(lines):
-            self.know(DEVICES)
+            self.add(DEVICES)
             self.say(text)
-
-    def know(self, devices):
-        """These senders are learned with these profiles. Orders are said where they are needed."""
-        for sender, eep in devices.items():
-            if self.gateway.devices.get(sender) != (eep, None):
-                self.say(f"add {sender:08X} {eep}")
-
-    def send(self, rorg, payload, sender, destination=ALL):
-        self.say(pieces(telegram(rorg, bytes.fromhex(payload), sender, 0, radio(1, destination))).strip())
 
     def count(self):
         """No count but `refused` is 0 behind this."""
         self.say("learn on")
         for payload in ("00", "09", "08"):
-            self.send(0xD5, payload, CONTACT)
+            self.send("D5 " + payload, CONTACT)
         self.say("learn off", f"remove {CONTACT:08X}", "S 5500010002650000", "S 5500010002650107")
-        self.send(0xD5, "09", CONTACT)
+        self.send("D5 09", CONTACT)
         self.say("status")
 
     def clear(self):
-        """The mode is closed, and no device is known."""
-        if self.gateway.mode != "closed":
-            self.say("learn off")
-        self.say(*(f"remove {sender:08X}" for sender in sorted(self.gateway.devices)), "list", "status")
+        super().clear()
+        self.say("status")
 
 
 def numbers_near(greatest):
@@ -420,7 +203,7 @@ def orders():
         group(row)
         row.say("status")
     row.clear()
-    return row.text()
+    return row
 
 
 # Profiles of each RORG, among them some that share FUNC or TYPE with those that take orders.
@@ -437,7 +220,7 @@ def at_ends(order):
 def each_kind(row):
     """Every order to a device, with values at their ends, against a device of each kind, and an unknown one."""
     targets = {0x01900000 + place: eep for place, eep in enumerate(PROFILES)}
-    row.know(targets)
+    row.add(targets)
     texts = list(dict.fromkeys(text for order in TO_DEVICES for text in at_ends(order)))
     for target in [*targets, STRANGER]:
         row.say(*(text.format(f"{target:08X}") for text in texts), "status")
@@ -448,7 +231,7 @@ def each_profile(row):
     """A device has every profile in turn: all orders to a device where the profile is VLD, and two at the others."""
     texts = [said(order, ID=f"{STRANGER:08X}") for order in TO_DEVICES if order in VARIED]
     for place, number in enumerate(sorted(IN_TABLES)):
-        eep = number.to_bytes(3, "big").hex("-").upper()
+        eep = eep_of(number)
         some = [texts[place % len(texts)], texts[(place + 3) % len(texts)]]
         row.say(f"add {STRANGER:08X} {eep}", *(texts if eep.startswith("D2") else some))
     row.say("status")
@@ -457,7 +240,7 @@ def each_profile(row):
 
 def each_number(row):
     """Every channel and every value, and the next ones."""
-    row.know(DEVICES)
+    row.add(DEVICES)
     for channel in range(32):
         row.say(f"query {SWITCH:08X} {channel}")
     for value in range(102):
@@ -468,7 +251,7 @@ def each_number(row):
 
 def refusals(row):
     """Where there are two causes: a line that is too long, then syntax, then range, and then the device."""
-    row.know(DEVICES)
+    row.add(DEVICES)
     for order in [order for order in TO_DEVICES if order in VARIED]:
         kinds = [word for word in order[0].split(" ") if word in GREATEST]
         for sender in (SWITCH, BLIND, CONTACT, STRANGER, ALL):
@@ -492,7 +275,7 @@ def learned_anew(row):
     for eep in ("D2-01-00", "D2-05-00", "F6-02-01", "D2-01-12"):
         row.say(f"add {STRANGER:08X} {eep}", *texts)
     row.say("learn on")
-    row.send(0xD5, "00", STRANGER)
+    row.send("D5 00", STRANGER)
     row.say(*texts, f"add {STRANGER:08X} D2-05-00", *texts, f"remove {STRANGER:08X}", *texts, "learn off", "status")
     row.clear()
 
@@ -515,7 +298,7 @@ def in_each_mode(row, sending):
 
 def answers(row):
     """What devices answer to orders: the answers are addressed to the gateway. And orders amid a packet."""
-    row.know(DEVICES)
+    row.add(DEVICES)
     for text, sender, payload in (
         (f"switch {SWITCH:08X} 0 on", SWITCH, "0460E4"),
         (f"dim {SWITCH:08X} 3 0", SWITCH, "046380"),
@@ -526,7 +309,7 @@ def answers(row):
         (f"stop {BLIND:08X}", BLIND, "2D640004"),
     ):
         row.say(text)
-        row.send(0xD2, payload, sender, BASE)
+        row.send("D2 " + payload, sender, radio(1, BASE))
         stream = telegram(0xD2, bytes.fromhex(payload), sender, 0, radio(1, BASE))
         for cut in (5, len(stream) - 1):
             row.say("S " + stream[:cut].hex(), text, "S " + stream[cut:].hex())
@@ -541,11 +324,11 @@ def orders_to_devices():
     row.count()
     for group in (each_kind, each_profile, each_number, refusals, learned_anew):
         group(row)
-    row.know(DEVICES)
+    row.add(DEVICES)
     in_each_mode(row, TO_DEVICES)
     row.clear()
     answers(row)
-    return row.text()
+    return row
 
 
 def orders_to_all():
@@ -567,7 +350,7 @@ def orders_to_all():
     in_each_mode(row, TO_ALL)
     row.clear()
     # Known devices do not matter, not even those with the gateway's own IDs.
-    row.know({BASE: "D2-01-12", BASE + 5: "D2-05-00", **DEVICES})
+    row.add({BASE: "D2-01-12", BASE + 5: "D2-05-00", **DEVICES})
     row.say(*(said(order) for order in TO_ALL), "status", "list")
     # What the module answers to `base`, also amid a packet of it, and what the gateway sends, if it comes back.
     for response in ("5500010002650000", "5500050002CE00FF800000DA"):
@@ -576,7 +359,7 @@ def orders_to_all():
         row.say(said(order))
     row.say("S " + sent(0xA5, bytes.fromhex("01000009"), BASE + 6).hex(), "status")
     row.clear()
-    return row.text()
+    return row
 
 
 # Texts that are labels, and texts that are none. A space, or a tab, stands within one or at its ends; others have a
@@ -616,10 +399,10 @@ def kept_labels(row):
     """A label stays where its device is learned anew, and goes where it is forgotten."""
     row.say(f"label {CONTACT:08X} Hall", "list", f"add {CONTACT:08X} D5-00-01", "list")
     row.say(f"add {CONTACT:08x} A5-02-05", "list", f"add {CONTACT:08X} D5-00-02", "list", "learn on")
-    row.send(0xD5, "00", CONTACT)
+    row.send("D5 00", CONTACT)
     row.say("list", "learn off", f"remove {CONTACT:08X}", "list", f"label {CONTACT:08X} Door", "list")
     row.say(f"add {CONTACT:08X} D5-00-01", "list", f"label {CONTACT:08X} Door", f"label {CONTACT:08X}", "list")
-    row.send(0xD5, "09", CONTACT)
+    row.send("D5 09", CONTACT)
     row.say("status", "list")
 
 
@@ -633,124 +416,25 @@ def many_labels(row):
 def label_texts():
     row = Row()
     for group in (all_labels, label_refusals, kept_labels):
-        row.know({CONTACT: "D5-00-01"})
+        row.add({CONTACT: "D5-00-01"})
         group(row)
     row.clear()
     many_labels(row)
     row.clear()
-    return row.text()
+    return row
 
 
-# The worked examples: lines of a script, and below each, further in, what is written for it.
-WORKED = {
-    "labels": r"""
-add 01800ABC D5-00-01
-    {"eep":"D5-00-01","id":"01800ABC","maker":null,"result":"accepted","type":"teach"}
-label 01800ABC Door "A"
-    {"type":"ok"}
-list
-    {"eep":"D5-00-01","id":"01800ABC","label":"Door \"A\"","maker":null,"type":"device"}
-    {"count":1,"type":"list"}
-add 01800ABC D5-00-01
-    {"eep":"D5-00-01","id":"01800ABC","maker":null,"result":"accepted","type":"teach"}
-list
-    {"eep":"D5-00-01","id":"01800ABC","label":"Door \"A\"","maker":null,"type":"device"}
-    {"count":1,"type":"list"}
-remove 01800ABC
-    {"eep":"D5-00-01","id":"01800ABC","maker":null,"result":"deleted","type":"teach"}
-add 01800ABC D5-00-01
-    {"eep":"D5-00-01","id":"01800ABC","maker":null,"result":"accepted","type":"teach"}
-list
-    {"eep":"D5-00-01","id":"01800ABC","label":"","maker":null,"type":"device"}
-    {"count":1,"type":"list"}
-""",
-    "label-refusals": """
-label 01800ABD x
-    {"error":"unknown_device","type":"error"}
-label 01800ABC  x
-    {"error":"syntax","type":"error"}
-label 01800ABC ABCDEFGHIJKLMNOPQRSTUVWXYZABCDEFG
-    {"error":"range","type":"error"}
-label FFFFFFFF x
-    {"error":"range","type":"error"}
-label 01800ABC
-    {"error":"unknown_device","type":"error"}
-status
-    {"ignored":0,"mode":"closed","readings":0,"refused":0,"responses":0,"teach":0,"type":"status"}
-""",
-    "switch-on": """
-add 01800ABC D2-01-12
-    {"eep":"D2-01-12","id":"01800ABC","maker":null,"result":"accepted","type":"teach"}
-switch 01800ABC 0 on
-    S 550009070156d2010064ff800000000301800abcff0024
-    {"type":"ok"}
-""",
-    "order-refusals": f"""
-add 01800ABC D5-00-01
-    {{"eep":"D5-00-01","id":"01800ABC","maker":null,"result":"accepted","type":"teach"}}
-switch 01800ABC 0 on
-    {{"error":"wrong_profile","type":"error"}}
-switch 01800ABD 0 on
-    {{"error":"unknown_device","type":"error"}}
-switch 01800ABD 31 on
-    {{"error":"range","type":"error"}}
-switch 0180 0 on
-    {{"error":"syntax","type":"error"}}
+def full_registry():
+    """A thousand devices, one more, a profile that cannot be learned, and a device once more."""
+    row = Session()
+    row.say(*(f"add {sender:08X} D5-00-01" for sender in range(1001)), "add 01800ABD A5-38-08", "add 000003E7 D5-00-01")
+    return row
 
-    {{"error":"syntax","type":"error"}}
-add 01800ABD A5-38-08
-    {{"error":"unsupported_profile","type":"error"}}
-add FFFFFFFF A5-38-08
-    {{"error":"range","type":"error"}}
-{201 * "x"}
-    {{"error":"too_long","type":"error"}}
-""",
-    "base-id": """
-base
-    S 5500010005700838
-    {"type":"ok"}
-S 5500010002650000
-    {"code":0,"data":"","name":"OK","type":"response"}
-S 5500050002CE00FF800000DA
-    {"code":0,"data":"FF800000","name":"OK","type":"response"}
-""",
-    "central-and-teach": """
-teach 5
-    S 55000a0701eba5e047ff80ff8000050003ffffffffff00ce
-    {"type":"ok"}
-central 5 on
-    S 55000a0701eba501000009ff8000050003ffffffffff0063
-    {"type":"ok"}
-central 128 on
-    {"error":"range","type":"error"}
-""",
-    "blind-and-query": """
-add 01800ABC D2-05-00
-    {"eep":"D2-05-00","id":"01800ABC","maker":null,"result":"accepted","type":"teach"}
-blind 01800ABC 50
-    S 55000a0701ebd2327f0001ff800000000301800abcff0068
-    {"type":"ok"}
-query 01800ABC 1
-    {"error":"wrong_profile","type":"error"}
-""",
-    "order-shapes": """
-dim 01800ABC 0 007
-    {"error":"syntax","type":"error"}
-dim 01800ABC  0 7
-    {"error":"syntax","type":"error"}
-status\x20
-    {"error":"syntax","type":"error"}
-dim 01800ABC 0 101
-    {"error":"range","type":"error"}
-""",
+
+SESSIONS = {
+    "orders": orders,
+    "orders-to-devices": orders_to_devices,
+    "orders-to-all": orders_to_all,
+    "label-texts": label_texts,
+    "full-registry": full_registry,
 }
-
-
-def main():
-    makers = {name: functools.partial(worked, Row(), example) for name, example in WORKED.items()}
-    made = {"orders": orders, "orders-to-devices": orders_to_devices, "orders-to-all": orders_to_all}
-    return write_or_check({**makers, **made, "label-texts": label_texts})
-
-
-if __name__ == "__main__":
-    sys.exit(main())

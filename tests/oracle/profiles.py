@@ -1,5 +1,5 @@
-"""The profiles of EnOcean Equipment Profiles 2.6 that the gateway reads, and what a telegram says by each. The scripts
-beside this file make their rows of these tables. They share nothing with the program: the fractions are Python's."""
+"""The profiles of EnOcean Equipment Profiles 2.6 that the gateway reads, and what a telegram says by each. The oracle
+makes its sessions of these tables. They share nothing with the program: the fractions are Python's."""
 from fractions import Fraction
 
 # How a row reads its number. A row is (name, offset, length, condition, kind). A condition lists fields and their
@@ -183,6 +183,14 @@ VARIABLE_LENGTH = [f"D2-01-{kind:02X}" for kind in range(0x13)] + ["D2-05-00"]
 
 # The profiles of the tables, as numbers of three bytes.
 IN_TABLES = {int(eep.replace("-", ""), 16) for eep in [*SWITCHES, *FOUR_BYTE, *VARIABLE_LENGTH]}
+
+
+def eep_of(number):
+    return number.to_bytes(3, "big").hex("-").upper()
+
+
+def is_supported(eep):
+    return int(eep.replace("-", ""), 16) in IN_TABLES
 
 
 def bits_of(data):
