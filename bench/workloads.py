@@ -8,9 +8,9 @@ import sys
 import typing
 
 ROOT = pathlib.Path(__file__).resolve().parent.parent
-sys.path.insert(0, str(ROOT / "scripts" / "rows"))
+sys.path.insert(0, str(ROOT / "tests"))
 
-from esp3 import packet, pieces, telegram
+from oracle.esp3 import packet, pieces, telegram
 
 PROGRAM = ROOT / "crates/enogate/out/enogate"  # what `make build` makes
 

@@ -1,4 +1,4 @@
-"""Compares the table of entities with the profiles of scripts/rows/profiles.py, and tells what is wrong: each reading
+"""Compares the table of entities with the profiles of tests/oracle/profiles.py, and tells what is wrong: each reading
 of each profile has a line, each line is for a reading, with the words that the profile has for it, and what a line
 tells Home Assistant is something that it knows. It reads the table by itself.
 
@@ -8,7 +8,7 @@ import fnmatch
 import shlex
 import sys
 
-from profiles import BLIND, FOUR_BYTE, MEASUREMENT, STATE, SWITCHES, VARIABLE_LENGTH
+from oracle.profiles import BLIND, FOUR_BYTE, MEASUREMENT, STATE, SWITCHES, VARIABLE_LENGTH
 
 # The units and the state classes that Home Assistant allows for a device class, and how it writes units of profiles.
 MEASURED, COUNTED = {"measurement"}, {"total", "total_increasing"}

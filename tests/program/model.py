@@ -1,14 +1,12 @@
-"""What the built program has to write for a script, and what it may leave, by the table of verdict-rows."""
+"""What the built program has to write for a script, and what it may leave, by the oracle."""
 import copy
 import re
-import runpy
 
 from runs import ROOT, run
 
-from esp3 import pieces, telegram
-
-TABLE = runpy.run_path(str(ROOT / "scripts/rows/verdict-rows"))
-Gateway, error, OK = TABLE["Gateway"], TABLE["error"], TABLE["OK"]
+from oracle.esp3 import pieces, telegram
+from oracle.gateway import Gateway
+from oracle.lines import OK, error
 
 
 def sent(text, sender):

@@ -7,7 +7,7 @@ import subprocess
 import sys
 
 ROOT = pathlib.Path(__file__).resolve().parent.parent.parent
-sys.path.insert(0, str(ROOT / "scripts" / "rows"))
+sys.path.insert(0, str(ROOT / "tests"))
 
 PROGRAM = pathlib.Path(os.environ.get("TESTED_PROGRAM", ROOT / "crates/enogate/out/enogate"))
 # If the program is emulated, a limit of the process would limit the emulator.

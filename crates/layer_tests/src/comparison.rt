@@ -222,7 +222,7 @@ fn as_a_plain_framer(rt: HostRuntime) -> Result<(), Fail> {
             (stream, counts.packets)
         );
     }
-    // scripts/rows/stream-counts makes the same streams, and finds so many packets by the rule.
+    // tests/oracle/stream-counts makes the same streams, and finds so many packets by the rule.
     assert_eq!(rt; counts.packets, 40_297);
     assert_eq!(rt; counts.longest, 22);
     Ok(())

@@ -1,5 +1,8 @@
-//! The worked rows: of each a script, `NAME.in`, and what has to be written for it: `NAME.out`, and `NAME.explained`
-//! with explanations.
+//! The worked rows. Each is a session, `NAME.session`: the lines of a script, and below each what is written for it.
+//!
+//! - `> TEXT` is a line of the script. If `\ no LF` follows, it has no LF.
+//! - `+ TEXT` is a line that is written only with explanations.
+//! - Any other line is written with explanations and without.
 use crate::gateways::replay_new;
 use crate::telling::Telling;
 use anyhow::Result;
@@ -8,6 +11,8 @@ use std::fs;
 
 /// More reads than any row takes.
 const TURNS: u64 = 100_000;
+
+const NO_LF: &[u8] = b"\\ no LF\n";
 
 pub(crate) fn tell(rt: &HostRuntime, telling: &mut Telling) -> Result<()> {
     for line in fs::read_to_string(rt, "rows.txt")?.lines() {
@@ -34,8 +39,21 @@ fn is_replayed(rt: &HostRuntime, name: &str, explains: bool) -> Result<bool> {
 /// A row's script, and what is wanted for it, with explanations or without.
 pub(crate) fn row(rt: &HostRuntime, name: &str, explains: bool) -> Result<(Vec<u8>, Vec<u8>)> {
     let alloc = rt.alloc();
-    let ending = if explains { "explained" } else { "out" };
-    let script = fs::read(rt, format!(in alloc; "{name}.in")?)?;
-    let wanted = fs::read(rt, format!(in alloc; "{name}.{ending}")?)?;
+    let session = fs::read(rt, format!(in alloc; "{name}.session")?)?;
+    let mut script = Vec::new(alloc);
+    let mut wanted = Vec::new(alloc);
+    for line in session.as_slice().split_inclusive(|byte| *byte == b'\n') {
+        if let Some(text) = line.strip_prefix(b"> ".as_slice()) {
+            script.extend_from_slice(text)?;
+        } else if line == NO_LF {
+            script.pop();
+        } else if let Some(text) = line.strip_prefix(b"+ ".as_slice()) {
+            if explains {
+                wanted.extend_from_slice(text)?;
+            }
+        } else {
+            wanted.extend_from_slice(line)?;
+        }
+    }
     Ok((script, wanted))
 }

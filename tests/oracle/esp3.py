@@ -1,0 +1,68 @@
+"""Packets of EnOcean Serial Protocol 3, and the lines of a script that bring them. The oracle and the scripts in
+`bench` and `tests` make their data of these. It shares nothing with the program."""
+
+
+def checks_of_bytes():
+    for check in range(256):
+        for _ in range(8):
+            check = check << 1 ^ 0x107 if check & 0x80 else check << 1
+        yield check
+
+
+CHECKS = list(checks_of_bytes())
+
+
+def check8(data):
+    """The check byte: CRC-8 with the polynomial x^8 + x^2 + x + 1, from 0."""
+    check = 0
+    for byte in data:
+        check = CHECKS[check ^ byte]
+    return check
+
+
+def packet(kind, data, optional=b""):
+    """A packet of this type."""
+    header = len(data).to_bytes(2, "big") + bytes([len(optional), kind])
+    return bytes([0x55, *header, check8(header), *data, *optional, check8(data + optional)])
+
+
+def packets(stream):
+    """The packets of a stream, each as its type, its data and its optional data; at the end, what may still begin one.
+    Where a packet stands it is taken, and otherwise a byte is skipped."""
+    start = stream.find(0x55)
+    while start >= 0 and len(stream) >= start + 6:
+        header = stream[start + 1 : start + 5]
+        middle = start + 6 + int.from_bytes(header[:2], "big")
+        end = middle + header[2]
+        begins = end > start + 6 and check8(header) == stream[start + 5]
+        if begins and end >= len(stream):
+            break
+        if begins and check8(stream[start + 6 : end]) == stream[end]:
+            yield header[3], stream[start + 6 : middle], stream[middle:end]
+            start = end
+        start = stream.find(0x55, start + 1)
+    return stream[start:] if start >= 0 else b""
+
+
+ALL = 0xFFFFFFFF
+
+
+def radio(subtelegrams=1, destination=ALL, dbm=45):
+    """The optional data of a telegram; no security."""
+    return bytes([subtelegrams, *destination.to_bytes(4, "big"), dbm, 0])
+
+
+def telegram(rorg, payload, sender, status=0, optional=radio()):
+    """The packet of a telegram; without more it is to all, one subtelegram, -45 dBm."""
+    data = bytes([rorg, *payload, *sender.to_bytes(4, "big"), status])
+    return packet(1, data, optional)
+
+
+def sent(rorg, payload, sender, destination=ALL):
+    """The packet of a telegram that the gateway sends: three subtelegrams, no strength of a signal, status 0."""
+    return telegram(rorg, payload, sender, 0, radio(3, destination, 255))
+
+
+def pieces(stream, size=99):
+    """The lines `S ` of a script that bring these bytes, so many at a time. A line takes 99 bytes at most."""
+    return "".join(f"S {stream[k : k + size].hex().upper()}\n" for k in range(0, len(stream), size))

@@ -1,0 +1,26 @@
+"""The lines that the gateway writes and that more than one module needs. The JSON is Python's."""
+import json
+
+
+def line(value):
+    return json.dumps(value, sort_keys=True, separators=(",", ":")) + "\n"
+
+
+OK = line({"type": "ok"})
+
+
+def error(name):
+    return line({"error": name, "type": "error"})
+
+
+def teach_line(sender, eep, maker, result):
+    return line({"eep": eep, "id": f"{sender:08X}", "maker": maker, "result": result, "type": "teach"})
+
+
+def device_lines(devices, labels={}):
+    """The devices are profiles and makers by sender; a sender without a label has the empty one."""
+    listed = sorted(devices.items())
+    return "".join(
+        line({"eep": eep, "id": f"{sender:08X}", "label": labels.get(sender, ""), "maker": maker, "type": "device"})
+        for sender, (eep, maker) in listed
+    ) + line({"count": len(listed), "type": "list"})

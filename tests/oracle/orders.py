@@ -1,0 +1,108 @@
+"""The orders: how each is written, the ranges of its values, and what it does."""
+import re
+
+from oracle.esp3 import ALL
+
+# The orders. A line is an order if it has the words of a row, with one space between two, and nothing else. A word in
+# capitals stands for a value, any other word for itself; TEXT is all that is left of the line. Where a line fits two
+# rows, the first one that can be done is done. A row has, behind the words, what is done:
+#
+#   mode M           the mode becomes M
+#   D2-01, D2-05-00  a VLD telegram with this payload goes from the base ID to the device ID, whose profile has to begin
+#                    so
+#   all              a 4BS telegram with this payload goes to all, from the base ID + OFF
+#   module           a command with these bytes (packet type 5) goes to the radio module
+#   else             what `Gateway.order` says of this word; nothing is sent
+#
+# Payloads are hexadecimal.
+ORDERS = [
+    # Words                Done
+    ("learn on",           "mode",     "on"),
+    ("learn on answer",    "mode",     "answer"),
+    ("learn as EEP",       "mode",     "as EEP"),
+    ("learn off",          "mode",     "closed"),
+    ("add ID EEP",         "add",      ""),
+    ("remove ID",          "remove",   ""),
+    ("label ID TEXT",      "label",    ""),
+    ("label ID",           "label",    ""),
+    ("list",               "list",     ""),
+    ("status",             "status",   ""),
+    ("base",               "module",   "08"),
+    ("switch ID CH on",    "D2-01",    "01 CH 64"),
+    ("switch ID CH off",   "D2-01",    "01 CH 00"),
+    ("dim ID CH VAL",      "D2-01",    "01 CH VAL"),
+    ("query ID CH",        "D2-01",    "03 CH"),
+    ("query ID 0",         "D2-05-00", "03"),
+    ("meter ID CH energy", "D2-01",    "06 CH"),
+    ("meter ID CH power",  "D2-01",    "06 CH+80"),
+    ("blind ID VAL",       "D2-05-00", "VAL 7F 00 01"),
+    ("stop ID",            "D2-05-00", "02"),
+    ("central OFF on",     "all",      "01 00 00 09"),
+    ("central OFF off",    "all",      "01 00 00 08"),
+    ("level OFF 0 RAMP",   "all",      "02 00 RAMP 0C"),
+    ("level OFF VAL RAMP", "all",      "02 VAL RAMP 0D"),
+    ("teach OFF",          "all",      "E0 47 FF 80"),
+]
+
+# The rows by their first word, which is never in capitals.
+BY_NAME = {}
+for row in ORDERS:
+    BY_NAME.setdefault(row[0].split(" ")[0], []).append(row)
+
+# The numbers, each with the greatest that is in its range; the least is 0. An ID is in its range unless it is FFFFFFFF,
+# and a text if it has at most 32 bytes.
+GREATEST = {"CH": 30, "OFF": 127, "VAL": 100, "RAMP": 255}
+LONGEST_LABEL = 32
+
+# How the values are written. A text has characters from space to `~`, of which neither the first nor the last is a
+# space.
+SHAPES = {
+    "ID": "[0-9A-Fa-f]{8}",
+    "EEP": "[0-9A-Fa-f]{2}-[0-9A-Fa-f]{2}-[0-9A-Fa-f]{2}",
+    "TEXT": "[!-~](?:[ -~]*[!-~])?",
+    **dict.fromkeys(GREATEST, "0|[1-9][0-9]{0,4}"),
+}
+
+
+def values_of(words, text):
+    """The values that this line has at the words in capitals, or None where it does not fit the words."""
+    words = words.split(" ")
+    said = text.split(" ", len(words) - 1 if words[-1] == "TEXT" else -1)
+    if len(words) != len(said):
+        return None
+    values = {}
+    for word, as_said in zip(words, said):
+        if word not in SHAPES:
+            if word != as_said:
+                return None
+        elif not re.fullmatch(SHAPES[word], as_said):
+            return None
+        elif word == "EEP":
+            values[word] = as_said.upper()
+        elif word == "TEXT":
+            values[word] = as_said
+        else:
+            values[word] = int(as_said, 16 if word == "ID" else 10)
+    return values
+
+
+def fitting(text):
+    """The rows that this line fits: its values, what is done, and by what."""
+    rows = ((values_of(words, text), does, by) for words, does, by in BY_NAME.get(text.split(" ")[0], []))
+    return [row for row in rows if row[0] is not None]
+
+
+def is_in_range(values):
+    if values.get("ID") == ALL or len(values.get("TEXT", "")) > LONGEST_LABEL:
+        return False
+    return all(values.get(word, 0) <= greatest for word, greatest in GREATEST.items())
+
+
+def payload_of(by, values):
+    """The bytes of a payload as it stands in the table."""
+
+    def byte(word):
+        name, _, more = word.partition("+")
+        return values[name] + int(more or "0", 16) if name in values else int(word, 16)
+
+    return bytes(byte(word) for word in by.split(" "))

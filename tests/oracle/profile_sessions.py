@@ -1,0 +1,135 @@
+"""The sessions on profiles: `switches`, `four-byte` and `variable-length` have telegrams of every profile;
+`other-profiles` an `add` of profiles that are next to those of the tables, which are refused; `two-hundred-contacts`
+devices that are learned, and then heard."""
+import itertools
+
+from oracle.profiles import BLIND, FOUR_BYTE, IN_TABLES, MESSAGES, SWITCHES, eep_of, with_fields
+from oracle.sessions import Session
+
+# The RORGs of the five kinds of telegrams.
+RORGS = (0xF6, 0xD5, 0xA5, 0xD2, 0xD4)
+
+
+def payloads(rows, size, fixed, fills=(0, 1)):
+    """Payloads with these fixed fields: each row's field at each end of its range, just past them, at its words, and at
+    the least and the greatest number, under every value of every condition, with all other bits 0, and with all other
+    bits 1."""
+    places = {}
+    for _, _, _, condition, kind in rows:
+        for place in condition:
+            places.setdefault(place, range(2 ** place[1]))
+    if any(name == "MR" for name, *_ in rows):
+        places[(30, 2)] = range(4)
+    made = {}
+    for _, offset, length, _, kind in rows:
+        greatest = 2**length - 1
+        near = [end + step for end in kind.ends for step in (-1, 0, 1)]
+        numbers = sorted({number for number in near + [0, greatest] if 0 <= number <= greatest})
+        for values in itertools.product(*places.values()):
+            for number in numbers:
+                fields = {**dict(zip(places, values)), (offset, length): number, **fixed}
+                for fill in fills:
+                    made[with_fields(size, fields, fill)] = None
+    return list(made)
+
+
+class Row(Session):
+    def learn(self, eep):
+        """A device of its own is learned with this profile."""
+        self.eep, self.device = eep, 0x01800000 + len(self.gateway.devices)
+        self.add({self.device: eep})
+
+    def hear(self, payload, status=0, is_read=True):
+        """A telegram of the device that was learned last, and whether its profile reads it."""
+        self.send(f"{self.eep[:2]} {payload.hex()} {status:02X}", self.device)
+        assert ('"type":"reading"' in self.steps[-1][1]) == is_read, f"{self.eep}: {payload.hex()}"
+
+
+def switches():
+    """Each switch at all payloads, with NU 0 and 1. The bit (4,1) of a contact is 0 at teach-in."""
+    row = Row()
+    for eep in SWITCHES:
+        row.learn(eep)
+        for status in (0x20, 0x30):
+            for byte in range(256):
+                row.hear(bytes([byte]), status, is_read=not (eep.startswith("D5") and byte & 8 == 0))
+    row.say("status")
+    return row
+
+
+def four_byte():
+    """Each 4BS profile; the bit (28,1) is 0 at teach-in."""
+    row = Row()
+    for eep, rows in FOUR_BYTE.items():
+        row.learn(eep)
+        for payload in payloads(rows, 4, {(28, 1): 1}):
+            row.hear(payload)
+        row.hear(with_fields(4, {(16, 8): 127}), is_read=False)
+    row.say("status")
+    return row
+
+
+def variable_length():
+    """Each VLD profile; other commands and other lengths are not read. The types of D2-01 have the same rows, so the
+    other bits are 0 with every second type, and 1 with the others."""
+    row = Row()
+    for kind in range(0x13):
+        row.learn(f"D2-01-{kind:02X}")
+        for command, (size, rows) in MESSAGES.items():
+            for payload in payloads(rows, size, {(4, 4): command}, fills=(kind % 2,)):
+                row.hear(payload)
+            for size_of_other in {1, size - 1, size + 1, 14}:
+                row.hear(with_fields(size_of_other, {(4, 4): command}), is_read=False)
+        for command in set(range(16)) - set(MESSAGES):
+            for size in (1, 3, 6):
+                row.hear(with_fields(size, {(4, 4): command}), is_read=False)
+    row.learn("D2-05-00")
+    for payload in payloads(BLIND, 4, {(28, 4): 4}):
+        row.hear(payload)
+    for command in set(range(16)) - {4}:
+        row.hear(with_fields(4, {(28, 4): command}), is_read=False)
+    for size in (1, 3, 5):
+        row.hear(with_fields(size, {(8 * size - 4, 4): 4}), is_read=False)
+    row.say("status")
+    return row
+
+
+def others(profiles):
+    """An `add` of each of these profiles that is outside the tables. It learns nothing."""
+    row = Session()
+    row.say(*(f"add 01800ABC {eep_of(number)}" for number in sorted(set(profiles) - IN_TABLES)), "list", "status")
+    assert not row.gateway.devices
+    return row
+
+
+def other_profiles():
+    """The profiles one step from those of the tables: RORG, FUNC or TYPE is one more or one less."""
+    steps = [sign << shift for shift in (0, 8, 16) for sign in (1, -1)]
+    return others(number + step for number in IN_TABLES for step in steps)
+
+
+def all_other_profiles():
+    """All profiles of the five RORGs, and with every other RORG the FUNC and TYPE of each profile in the tables."""
+    known = {number & 0xFFFF for number in IN_TABLES}
+    return others(
+        rorg << 16 | rest for rorg in range(256) for rest in (range(0x10000) if rorg in RORGS else known)
+    )
+
+
+def two_hundred_contacts():
+    """Each is learned, and then heard twice."""
+    row, senders = Session(), range(0x01800A00, 0x01800AC8)
+    row.add(dict.fromkeys(senders, "D5-00-01"))
+    for sender in senders:
+        row.send("D5 09", sender)
+        row.send("D5 09", sender)
+    return row
+
+
+SESSIONS = {
+    "switches": switches,
+    "four-byte": four_byte,
+    "variable-length": variable_length,
+    "other-profiles": other_profiles,
+    "two-hundred-contacts": two_hundred_contacts,
+}

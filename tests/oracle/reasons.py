@@ -1,0 +1,87 @@
+"""Why a packet is handled as it is: the lines of `--explain`. Each word but `refused` is below."""
+from oracle.esp3 import ALL
+from oracle.profiles import says, unsaid
+from oracle.teach_in import kind_of
+
+# The words, by the count that their packets raise. Those of `teach` are the results of the teach line.
+WORDS = {
+    "responses": ["response"],
+    "readings": ["read"],
+    "teach": ["accepted", "deleted", "unsupported", "full", "general", "no_profile"],
+    "ignored": [
+        "empty_response",
+        "other_type",
+        "no_telegram",
+        "from_broadcast",
+        "for_others",
+        "teach_in_reply",
+        "window_closed",
+        "other_mode",
+        "unknown_sender",
+        "wrong_kind",
+        "wrong_length",
+        "other_message",
+    ],
+}
+COUNTS = {word: count for count, words in WORDS.items() for word in words}
+
+# The kinds of telegrams that are data, and the words of data whose sender is learned.
+DATA_KINDS = ["data", "RPS press, stranger", "VLD, stranger"]
+OF_LEARNED = ["read", "wrong_kind", "wrong_length", "other_message"]
+
+
+def first(cases):
+    """The word of the first case that holds."""
+    return next(word for word, holds in cases if holds)
+
+
+def of_packet(kind, data):
+    """Why, of a packet without a telegram."""
+    return first(
+        [
+            ("response", kind == 2 and data),
+            ("empty_response", kind == 2),
+            ("other_type", kind != 1),
+            ("no_telegram", True),
+        ]
+    )
+
+
+def of_telegram(heard, mode, known, taught):
+    """Why, where the window was in this mode. What was known of its sender, the profile and the maker, is None where it
+    was not learned; so is what a teach line has (profile, maker and result), where there is none."""
+    kind, _ = kind_of(heard.rorg, heard.payload, known is not None)
+    is_data = kind in DATA_KINDS
+    return first(
+        [
+            ("from_broadcast", heard.sender == ALL),
+            ("for_others", not heard.is_for_gateway()),
+            ("teach_in_reply", kind == "reply"),
+            (taught and taught[2], taught),
+            ("window_closed", not is_data and mode == "closed"),
+            ("other_mode", not is_data),
+            ("unknown_sender", known is None),
+            ("read", known and says(known[0], heard.rorg, heard.payload, heard.status) is not None),
+            (known and unsaid(known[0], heard.rorg, heard.payload), True),
+        ]
+    )
+
+
+def members(heard, why, known, taught):
+    """What is told of a telegram. Its profile and maker are those that it tells itself, as a query does; else those
+    with which its sender is learned, by this telegram or, where it is data that is looked at, before."""
+    eep, maker = kind_of(heard.rorg, heard.payload, known is not None)[1]
+    if eep is None and why == "accepted":
+        eep, maker, _ = taught
+    elif eep is None and why in OF_LEARNED:
+        eep, maker = known
+    return {
+        "dbm": heard.dbm,
+        "dest": None if heard.destination == ALL else f"{heard.destination:08X}",
+        "eep": eep,
+        "id": f"{heard.sender:08X}",
+        "maker": maker,
+        "payload": heard.payload.hex().upper(),
+        "rorg": f"{heard.rorg:02X}",
+        "status": f"{heard.status:02X}",
+    }

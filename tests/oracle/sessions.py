@@ -1,0 +1,67 @@
+"""Sessions that the oracle makes: a script, and below each line what the gateway has to write for it."""
+from oracle.esp3 import pieces, radio, telegram
+from oracle.gateway import Gateway, without_explanations
+from oracle.session import NO_LF, read, steps
+
+# The orders of the modes, by the names that `status` tells.
+MODE_ORDERS = {"closed": "learn off", "on": "learn on", "answer": "learn on answer"}
+
+
+class Session:
+    def __init__(self):
+        self.gateway, self.steps = Gateway(), []
+
+    def text(self, explains):
+        return "".join(line + (told if explains else without_explanations(told)) for line, told in self.steps)
+
+    def say(self, *lines):
+        for text in lines:
+            self.steps.append((f"> {text}\n", self.gateway.explained(text)))
+
+    def say_last(self, text):
+        """A line without LF: a CR at its end belongs to it."""
+        self.steps.append((f"> {text}\n{NO_LF.decode()}", self.gateway.explained(text + "\r")))
+
+    def send(self, text, sender, optional=radio()):
+        """A telegram: its RORG and payload, and its status where it is not 0, in hexadecimal."""
+        rorg, payload, status = (bytes.fromhex(word) for word in (text + " 00").split(" ")[:3])
+        self.say(*pieces(telegram(rorg[0], payload, sender, status[0], optional)).splitlines())
+
+    def add(self, devices):
+        """These senders are learned with these profiles. Orders are said where they are needed."""
+        for sender, eep in devices.items():
+            if self.gateway.devices.get(sender) != (eep, None):
+                self.say(f"add {sender:08X} {eep}")
+
+    def bring(self, mode, stranger=None):
+        """The mode is this one, and this sender is not learned. Orders are said where they are needed."""
+        if self.gateway.mode != mode:
+            self.say(MODE_ORDERS.get(mode, "learn " + mode))
+        self.forget(stranger)
+
+    def forget(self, sender):
+        if sender in self.gateway.devices:
+            self.say(f"remove {sender:08X}")
+
+    def clear(self):
+        """The mode is closed, and no sender is learned."""
+        self.bring("closed")
+        for sender in sorted(self.gateway.devices):
+            self.forget(sender)
+        self.say("list")
+
+
+def say_again(session, kept):
+    """Says the lines of a session that is kept."""
+    for line, _ in steps(kept):
+        text = line.decode(errors="surrogateescape")
+        if text.endswith("\n"):
+            session.say(text[:-1])
+        else:
+            session.say_last(text)
+    return session
+
+
+def by_hand(name):
+    """The lines of a row that is kept by hand, and what the oracle says below them."""
+    return say_again(Session(), read(name))
