@@ -2,6 +2,7 @@
 import concurrent.futures
 import os
 import pathlib
+import resource
 import sqlite3
 import subprocess
 import sys
@@ -13,6 +14,12 @@ PROGRAM = pathlib.Path(os.environ.get("TESTED_PROGRAM", ROOT / "crates/enogate/o
 # If the program is emulated, a limit of the process would limit the emulator.
 CAN_BE_LIMITED = "TESTED_PROGRAM" not in os.environ
 REFUSE_CALL = "refuse_call.c"
+
+ADD = "add 01800ABC D5-00-01\n"
+ACCEPTED = '{"eep":"D5-00-01","id":"01800ABC","maker":null,"result":"accepted","type":"teach"}\n'
+READING = '{"dbm":-45,"eep":"D5-00-01","id":"01800ABC","readings":[{"name":"CO","word":"closed"}],"type":"reading"}\n'
+OK = '{"type":"ok"}\n'
+
 TEST = pathlib.Path(sys.argv[0]).name
 failed = []
 
@@ -21,6 +28,25 @@ def wants(name, is_so):
     print(f"{TEST}: {name} {'ok' if is_so else 'FAILED'}", flush=True)
     if not is_so:
         failed.append(name)
+
+
+def counts(ignored=0, readings=0, responses=0, teach=0, mode="closed"):
+    """The answer to `status` if no order was refused."""
+    return (
+        f'{{"ignored":{ignored},"mode":"{mode}","readings":{readings},"refused":0,"responses":{responses},'
+        f'"teach":{teach},"type":"status"}}\n'
+    )
+
+
+def on_small_stack():
+    """Limits a process to a stack of 128 KiB."""
+    resource.setrlimit(resource.RLIMIT_STACK, (128 << 10, 128 << 10))
+
+
+def in_little_memory():
+    """Limits a process to this stack and 20 MiB of addresses."""
+    on_small_stack()
+    resource.setrlimit(resource.RLIMIT_AS, (20 << 20, 20 << 20))
 
 
 def command(base, database):

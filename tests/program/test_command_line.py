@@ -1,0 +1,150 @@
+"""The command line of the built program: what it prints for words that it knows and for words that it does not, and how
+it ends if its input or its output fails."""
+import os
+import unittest
+
+from runs import ACCEPTED, OK, READING, ROOT
+from testcase import ProgramTest
+
+CONTACT = ROOT / "examples/contact.txt"
+FOLDER = ROOT / "docs"
+EXPLANATION = (
+    '{"dbm":-45,"dest":null,"eep":"D5-00-01","id":"01800ABC","maker":null,"payload":"09",'
+    '"rorg":"D5","status":"00","type":"packet","why":"read"}\n'
+)
+READINGS = (
+    '{"eep":"A5-02-05","id":"01800ABC","maker":null,"result":"accepted","type":"teach"}\n'
+    '{"eep":"F6-02-01","id":"01800ABD","maker":null,"result":"accepted","type":"teach"}\n'
+    '{"dbm":-45,"eep":"A5-02-05","id":"01800ABC","readings":[{"den":51,"name":"TMP","num":1024,"unit":"C"}],'
+    '"type":"reading"}\n'
+    '{"dbm":-45,"eep":"F6-02-01","id":"01800ABD","readings":[{"name":"R1","word":"BI"},'
+    '{"name":"EB","word":"pressed"}],"type":"reading"}\n'
+    '{"code":0,"data":"FF800000","name":"OK","type":"response"}\n'
+    '{"ignored":0,"mode":"closed","readings":2,"refused":0,"responses":1,"teach":0,"type":"status"}\n'
+)
+RANGE = '{"error":"range","type":"error"}\n'
+
+
+class Replay(ProgramTest):
+    """Scripts, and base IDs."""
+
+    def test_the_first_example(self):
+        self.assert_ended(self.replay(script=CONTACT), ACCEPTED + READING)
+
+    def test_the_first_example_with_explanations(self):
+        self.assert_ended(self.replay("--explain", script=CONTACT), ACCEPTED + EXPLANATION + READING)
+
+    def test_the_example_of_readings(self):
+        self.assert_ended(self.replay(script=ROOT / "examples/readings.txt"), READINGS)
+
+    def test_a_base_in_lower_case(self):
+        self.assert_ended(self.replay(base="ff800000", script=CONTACT), ACCEPTED + READING)
+
+    def test_an_empty_script(self):
+        self.assert_ended(self.replay(base="FFFFFF80"))
+
+    def test_orders_at_the_greatest_base_id(self):
+        """The last sender of this base ID would be the broadcast ID."""
+        script = "teach 127\ncentral 127 on\nlevel 127 0 0\nteach 126\ncentral 126 on\n"
+        first = "S 55000a0701eba5e047ff80fffffffe0003ffffffffff0061\n"
+        second = "S 55000a0701eba501000009fffffffe0003ffffffffff00cc\n"
+        self.assert_ended(self.replay(base="FFFFFF80", script=script), 3 * RANGE + first + OK + second + OK)
+
+    def test_bad_bases(self):
+        for base in ("FF800001", "FF7FFF80", "FFFFFFFF", "FF80000", "FF8000000", "0xFF8000", ""):
+            with self.subTest(base=base):
+                self.assert_fault(self.replay(base=base), "bad base", 2)
+
+    def test_an_argument_that_is_no_text(self):
+        self.assert_fault(self.replay(base=b"\377"), "an argument is not text", 2)
+
+
+class Streams(ProgramTest):
+    """Input that cannot be read, and output that cannot be written."""
+
+    def test_a_closed_input(self):
+        self.assert_fault(self.replay(preexec_fn=lambda: os.close(0)), "read")
+
+    def test_an_input_that_cannot_be_read(self):
+        folder = os.open(FOLDER, os.O_RDONLY)
+        self.addCleanup(os.close, folder)
+        self.assert_fault(self.replay(stdin=folder), "read")
+
+    def test_an_output_that_is_full(self):
+        with open("/dev/full", "wb") as full:
+            self.assert_fault(self.replay(script=CONTACT, stdout=full), "write")
+
+    def test_a_closed_output(self):
+        self.assert_fault(self.replay(script=CONTACT, preexec_fn=lambda: os.close(1)), "write")
+
+    def test_a_bad_base_that_cannot_be_printed(self):
+        with open("/dev/full", "wb") as full:
+            self.assert_ended(self.replay(base="FF800001", stderr=full), status=2)
+
+    def test_a_fault_that_cannot_be_printed(self):
+        folder = os.open(FOLDER, os.O_RDONLY)
+        self.addCleanup(os.close, folder)
+        with open("/dev/full", "wb") as full:
+            self.assert_ended(self.replay(stdin=folder, stderr=full), status=1)
+
+    def test_the_reads_of_a_script_of_1000_bytes(self):
+        """A read takes at most 256 bytes: four reads take the script, and the fifth finds its end."""
+        reads = self.work / "reads"
+        run = self.replay(script=1000 * "0", env=self.preloading("count_reads.c", COUNT_READS=reads))
+        self.assert_ended(run, '{"error":"too_long","type":"error"}\n')
+        self.assert_content(reads, "0 5\n")
+
+
+class Pages(ProgramTest):
+    """Help, the version, and messages on usage."""
+
+    def test_help(self):
+        run = self.run_program("--help")
+        for text in (
+            "Usage: enogate <COMMAND>",
+            "  replay  Run a recorded script from standard input to standard output",
+            "  live    Run a gateway on a serial port",
+        ):
+            with self.subTest(text=text):
+                self.assert_help(run, text)
+
+    def test_help_on_replay(self):
+        run = self.run_program("replay", "--help")
+        self.assert_help(run, "Usage: enogate replay [OPTIONS] --base <ID>")
+
+    def test_the_version(self):
+        for option in ("--version", "-V"):
+            with self.subTest(option=option):
+                self.assert_ended(self.run_program(option), "enogate 0.2.0\n")
+
+    def test_replay_has_no_version(self):
+        self.assert_usage(self.replay("--version"), "unexpected argument '--version'")
+
+    def test_no_command(self):
+        self.assert_usage(self.run_program(), "requires a subcommand")
+
+    def test_an_unknown_command(self):
+        self.assert_usage(self.run_program("listen"), "unrecognized subcommand")
+
+    def test_no_base(self):
+        self.assert_usage(self.run_program("replay"), "--base <ID>")
+
+    def test_a_base_with_no_value(self):
+        self.assert_usage(self.run_program("replay", "--base"), "a value is required for '--base <ID>'")
+
+    def test_two_bases(self):
+        self.assert_usage(self.replay("--base", "FF800000"), "cannot be used multiple times")
+
+    def test_a_flag_twice(self):
+        run = self.replay("--explain", "--explain")
+        self.assert_usage(run, "'--explain' cannot be used multiple times")
+
+    def test_a_flag_with_a_value(self):
+        self.assert_usage(self.replay("--explain=yes"), "unexpected value 'yes' for '--explain'")
+
+    def test_a_word_too_many(self):
+        self.assert_usage(self.replay("more"), "unexpected argument")
+
+
+if __name__ == "__main__":
+    unittest.main()

@@ -1,0 +1,308 @@
+"""How often the built program allocates memory. A growth is a call that asks for memory, or for more of it. Each query
+of the database has growths, so a run with no more growths than another one has no more queries."""
+import random
+import unittest
+
+from runs import ACCEPTED, ADD, OK, REFUSE_CALL, counts
+from testcase import ProgramTest, text_of
+
+from oracle.esp3 import ALL, check8, packet, pieces, radio, telegram
+
+DEVICE = 0x01800ABC
+PACKET = "S 55000707017AD50901800ABC0001FFFFFFFF2D001F\n"
+CONTACT = pieces(telegram(0xD5, b"\x00", DEVICE))
+
+
+def from_device(rorg, payload):
+    """The line that brings a telegram of the device."""
+    return pieces(telegram(rorg, bytes.fromhex(payload), DEVICE))
+
+
+# Telegrams of 4BS and UTE that teach in or out, or seem to.
+QUERY, UNSUPPORTED = from_device(0xA5, "08284680"), from_device(0xA5, "50084680")
+BARE, REPLY = from_device(0xA5, "00000000"), from_device(0xA5, "082846F0")
+UNIVERSAL, UNIVERSAL_UNSUPPORTED = from_device(0xD4, "A00146001201D2"), from_device(0xD4, "A00146000032D2")
+DELETION, NOT_USED = from_device(0xD4, "900146001201D2"), from_device(0xD4, "B00146001201D2")
+UNIVERSAL_REPLY = from_device(0xD4, "910146001201D2")
+ALL_UNIVERSAL = UNIVERSAL + UNIVERSAL_UNSUPPORTED + DELETION + NOT_USED + UNIVERSAL_REPLY
+ALL_BUT_CONTACT = QUERY + UNSUPPORTED + BARE + REPLY + ALL_UNIVERSAL
+
+WINDOWS = {"on": "learn on\n", "answer": "learn on answer\n"}
+LEARN_4BS = "learn as A5-02-05\n"
+ADD_4BS, ADD_VLD, REMOVE = "add 01800ABC A5-02-05\n", "add 01800ABC D2-01-12\n", "remove 01800ABC\n"
+
+
+class GrowthsTest(ProgramTest):
+    def growths(self, script, *options):
+        """How many growths a run has, and what it prints."""
+        counted = self.work / "counted"
+        counted.unlink(missing_ok=True)
+        env = self.preloading(REFUSE_CALL, REFUSE_KIND="growth", COUNT_CALLS=counted)
+        run = self.replay(*options, script=script, env=env)
+        self.assertEqual((text_of(run.stderr), run.returncode), ("", 0))
+        return int(counted.read_text()), text_of(run.stdout)
+
+    def assert_alike(self, one, other):
+        """Runs on these two scripts have as many growths. Returns what the second one prints."""
+        other_growths, output = self.growths(other)
+        self.assertEqual(self.growths(one)[0], other_growths)
+        return output
+
+    def growths_by_packet(self, orders, line, *options):
+        """How many growths this packet has after these orders, and how many when it comes a second and a third time."""
+        made = [self.growths(orders + times * line, *options)[0] for times in range(4)]
+        return [after - before for before, after in zip(made, made[1:])]
+
+    def growths_of_reading(self):
+        """How many growths one line of output has."""
+        return self.growths_by_packet(ADD, PACKET)[0]
+
+    def asked(self):
+        """The options for a registry in a file, in which an earlier start stored the device."""
+        options = ["--db", self.work / "asked.db"]
+        self.assert_ended(self.replay(*options, script=ADD), ACCEPTED)
+        return options
+
+
+class Queries(GrowthsTest):
+    """A sender is looked up in the database once."""
+
+    def test_a_sender_that_is_not_learned_is_looked_up_once(self):
+        self.assert_alike(PACKET, 1000 * PACKET)
+
+    def test_a_sender_is_looked_up_once_after_the_window_is_opened(self):
+        for window in ("on", "on answer", "as D5-00-01", "as F6-02-01"):
+            with self.subTest(window=window):
+                self.assert_alike(f"learn {window}\n{PACKET}", f"learn {window}\n{1000 * PACKET}")
+
+    def test_each_packet_of_a_learned_device_takes_as_much_memory(self):
+        line, *others = self.growths_by_packet(ADD, PACKET)
+        self.assertGreater(line, 0)
+        self.assertEqual(others, [line, line])
+
+    def test_only_the_first_packet_after_a_start_asks_the_database(self):
+        """The packets after it take less memory than the question alone."""
+        line = self.growths_of_reading()
+        first, *others = self.growths_by_packet("", PACKET, *self.asked())
+        self.assertEqual(others, [line, line])
+        self.assertGreater(first - line, line)
+
+    def test_1000_devices_and_24_strangers_are_remembered(self):
+        """After each has sent once, three rounds of them in turn have as many growths as one device and one stranger
+        that send as often. So no packet queries the database."""
+
+        def script(senders):
+            senders = [*range(1024), *senders, *senders, *senders]
+            adds = "".join(f"add {sender:08X} D5-00-01\n" for sender in range(1000))
+            return adds + "".join(pieces(telegram(0xD5, b"\x09", sender)) for sender in senders) + "status\n"
+
+        output = self.assert_alike(script([7] * 1000 + [1000] * 24), script(range(1024)))
+        self.assertEqual(output.count('"type":"reading"'), 4000)
+        self.assertEqual(output.splitlines(keepends=True)[-1], counts(96, 4000))
+
+
+class Lines(GrowthsTest):
+    """What takes only the memory of its line of output, and so does not ask the database."""
+
+    def assert_lines_only(self, orders, line, *options):
+        """After these orders the packet takes each time as much memory as a reading does."""
+        self.assertEqual(self.growths_by_packet(orders, line, *options), 3 * [self.growths_of_reading()])
+
+    def test_the_longest_line_of_readings_is_allocated_at_once(self):
+        """It is that of A5-08-03 at -255 dBm."""
+        longest = pieces(telegram(0xA5, bytes.fromhex("65A7010B"), DEVICE, 0, radio(3, ALL, 255)))
+        sensor = "add 01800ABC A5-08-03\n"
+        self.assert_lines_only(sensor, longest)
+        self.assertEqual(len(text_of(self.replay(script=sensor + longest).stdout).splitlines(keepends=True)[-1]), 276)
+
+    def test_packets_of_a_device_that_was_taught_in_over_the_air(self):
+        self.assert_lines_only(WINDOWS["on"] + CONTACT, PACKET)
+
+    def test_teach_ins_that_are_refused(self):
+        kinds = {"unsupported": UNSUPPORTED, "bare": BARE}
+        kinds |= {"universal_unsupported": UNIVERSAL_UNSUPPORTED, "not_used": NOT_USED}
+        asked = self.asked()
+        for mode, window in WINDOWS.items():
+            for kind, line in kinds.items():
+                with self.subTest(mode=mode, kind=kind):
+                    self.assert_lines_only(window, line, *asked)
+
+
+class TeachIn(GrowthsTest):
+    """A telegram that teaches a device in or out asks the database as often as an order that does the same."""
+
+    def assert_as_adds(self, add, script):
+        """This script, which teaches a device in 50 times, has as many growths as 50 orders that add it."""
+        output = self.assert_alike(50 * add, script)
+        self.assertEqual(output.count('"result":"accepted"'), 50)
+
+    def test_50_contacts_have_the_growths_of_50_adds(self):
+        self.assert_as_adds(ADD, WINDOWS["on"] + 50 * CONTACT)
+
+    def test_50_4bs_queries_have_the_growths_of_50_adds(self):
+        for mode, window in WINDOWS.items():
+            with self.subTest(mode=mode):
+                self.assert_as_adds(ADD_4BS, window + 50 * QUERY)
+
+    def test_50_4bs_teach_ins_by_learn_as_have_the_growths_of_50_adds(self):
+        for kind, line in {"query": QUERY, "unsupported": UNSUPPORTED, "bare": BARE}.items():
+            with self.subTest(kind=kind):
+                self.assert_as_adds(ADD_4BS, 50 * (LEARN_4BS + line))
+
+    def test_50_ute_queries_have_the_growths_of_50_adds(self):
+        for mode, window in WINDOWS.items():
+            with self.subTest(mode=mode):
+                self.assert_as_adds(ADD_VLD, window + 50 * UNIVERSAL)
+
+    def test_50_deletions_have_the_growths_of_50_removes(self):
+        for mode, window in WINDOWS.items():
+            with self.subTest(mode=mode):
+                output = self.assert_alike(50 * (ADD_VLD + REMOVE), window + 50 * (UNIVERSAL + DELETION))
+                self.assertEqual(output.count('"result":"deleted"'), 50)
+
+    def test_each_deletion_of_a_device_that_is_not_learned_asks_the_database(self):
+        line, made = self.growths_of_reading(), self.growths_by_packet(WINDOWS["on"], DELETION)
+        self.assertEqual([growths for growths in made if growths <= line], [], f"{made}, and a line has {line}")
+
+    def test_a_device_that_was_deleted_over_the_air_is_not_looked_up(self):
+        deletions = WINDOWS["answer"] + 50 * (UNIVERSAL + DELETION)
+        self.assert_alike(deletions, deletions + 1000 * PACKET)
+
+
+def spoilt(good):
+    """A packet with a wrong check byte."""
+    return good[:-1] + bytes([good[-1] ^ 1])
+
+
+class NoMemory(GrowthsTest):
+    """What takes no memory after the start: some 100,000 bytes of each kind."""
+
+    def assert_no_memory(self, script, ignored, mode="closed"):
+        """A run on this script has only the growths of its start. With a packet after it, so many packets are ignored,
+        and the mode is this one. The `learn` orders of the script are done.
+
+        The packet comes after 01 and 65,791 zeros, so that a false header does not take it for its data."""
+        self.assert_alike("", script)
+        rest = pieces(b"\x01" + bytes(65_791) + telegram(0xD5, b"\x09", DEVICE)) + "status\n"
+        done = OK * sum(line.startswith("learn") for line in script.splitlines())
+        self.assert_ended(self.replay(script=script + rest), done + counts(ignored, mode=mode))
+
+    def test_random_bytes(self):
+        self.assert_no_memory(pieces(random.Random(1).randbytes(100_000)), 1)
+
+    def test_sync_bytes(self):
+        self.assert_no_memory(pieces(b"\x55" * 100_000), 1)
+
+    def test_false_headers(self):
+        """None of these makes a packet. If a header announces a row of headers only, their check byte is not the 55
+        after them. Otherwise it announces headers and then 01 and zeros: that is an odd number of bits 1, and the bytes
+        after the header of a packet have an even one, since the polynomial of the check byte has the factor x + 1."""
+        header = packet(9, bytes(65535), bytes(255))[:6]
+        self.assertNotEqual(check8(header * 10_965), 0x55)
+        self.assert_no_memory(pieces(header * 16_667), 1)
+
+    def test_packets_with_a_wrong_check(self):
+        self.assert_no_memory(pieces(spoilt(telegram(0xD5, b"\x09", DEVICE)) * 5000), 1)
+
+    def test_the_longest_packets_with_a_wrong_check(self):
+        self.assert_no_memory(pieces(spoilt(packet(9, bytes(65535), bytes(255))) * 2), 1)
+
+    def test_packets_of_another_type(self):
+        self.assert_no_memory(pieces(packet(9, telegram(0xD5, b"\x09", DEVICE)[6:20]) * 5000), 5001)
+
+    def test_the_longest_packets_of_another_type(self):
+        self.assert_no_memory(pieces(packet(9, bytes(65535), bytes(255)) * 2), 3)
+
+    def test_teach_ins_in_a_closed_window(self):
+        self.assert_no_memory(500 * (CONTACT + ALL_BUT_CONTACT), 5001)
+
+    def test_replies_in_an_open_window(self):
+        for mode, window in WINDOWS.items():
+            with self.subTest(mode=mode):
+                self.assert_no_memory(window + 3000 * (REPLY + UNIVERSAL_REPLY), 6001, mode)
+
+    def test_4bs_and_ute_in_the_mode_of_a_contact(self):
+        self.assert_no_memory("learn as D5-00-01\n" + 500 * ALL_BUT_CONTACT, 4501, "as D5-00-01")
+
+    def test_1bs_and_replies_and_ute_in_the_mode_of_a_4bs_sensor(self):
+        self.assert_no_memory(LEARN_4BS + 700 * (CONTACT + REPLY + ALL_UNIVERSAL), 4901, "as A5-02-05")
+
+    def test_teach_ins_in_the_mode_of_a_profile_without_teach_in(self):
+        for profile in ("F6-02-01", "D2-01-12"):
+            with self.subTest(profile=profile):
+                script = f"learn as {profile}\n" + 500 * (CONTACT + ALL_BUT_CONTACT)
+                self.assert_no_memory(script, 5001, f"as {profile}")
+
+    def test_learn_orders(self):
+        self.assert_no_memory(1000 * "learn on\nlearn on answer\nlearn as F6-02-01\nlearn off\n", 1)
+
+    def test_orders_that_are_refused_before_the_database_is_asked(self):
+        refused = (
+            ("later", "syntax"),
+            (201 * " ", "too_long"),
+            ("add FFFFFFFF D5-00-01", "range"),
+            ("add 00000001 D5-00-02", "unsupported_profile"),
+            ("learn as D5-00-02", "unsupported_profile"),
+            ("learn", "syntax"),
+            ("label 00000001  x", "syntax"),
+            ("label FFFFFFFF x", "range"),
+            ("label 00000001 " + 33 * "0", "range"),
+        )
+        script = 1000 * "".join(f"{line}\n" for line, _ in refused)
+        self.assert_alike("", script)
+        self.assert_ended(self.replay(script=script), 1000 * "".join(error_line(name) for _, name in refused))
+
+
+def error_line(name):
+    return f'{{"error":"{name}","type":"error"}}\n'
+
+
+class Orders(GrowthsTest):
+    """How many growths a list, an `add`, a `remove` and a `label` have, as they were counted on this program with the
+    kit that the README names. They show a change, as a second question to the database is one. They do not show that
+    there is one question."""
+
+    TWO = "add 00000001 D5-00-01\nadd 00000002 D5-00-01\n"
+    LABEL = "label 00000001 x\n"
+
+    def assert_growths(self, wanted, script, line):
+        """After this script the line has so many growths."""
+        before, after = (self.growths(text)[0] for text in (script, script + line))
+        self.assertEqual(after - before, wanted)
+
+    def test_a_third_add(self):
+        self.assert_growths(56, self.TWO, "add 00000003 D5-00-01\n")
+
+    def test_an_add_of_a_known_device(self):
+        self.assert_growths(47, self.TWO, "add 00000001 D5-00-01\n")
+
+    def test_an_add_of_a_device_with_a_label(self):
+        self.assert_growths(57, self.TWO + self.LABEL, "add 00000001 D5-00-01\n")
+
+    def test_a_second_remove(self):
+        self.assert_growths(31, self.TWO + "remove 00000001\n", "remove 00000002\n")
+
+    def test_a_second_list_of_two_devices(self):
+        self.assert_growths(22, self.TWO + "list\n", "list\n")
+
+    def test_a_label(self):
+        self.assert_growths(42, self.TWO, self.LABEL)
+
+    def test_a_label_in_place_of_another(self):
+        self.assert_growths(41, self.TWO + self.LABEL, "label 00000001 y\n")
+
+    def test_the_longest_label(self):
+        self.assert_growths(42, self.TWO, "label 00000001 abcdefghijklmnopqrstuvwxyz 12345\n")
+
+    def test_the_empty_label(self):
+        self.assert_growths(31, self.TWO, "label 00000001\n")
+
+    def test_a_label_of_a_device_that_is_not_learned(self):
+        self.assert_growths(15, self.TWO, "label 00000003 x\n")
+
+    def test_a_label_of_a_device_that_was_found_not_to_be_learned(self):
+        self.assert_growths(0, self.TWO + "label 00000003 x\n", "label 00000003 x\n")
+
+
+if __name__ == "__main__":
+    unittest.main()

@@ -1,0 +1,252 @@
+"""The built program as `live`, over plain files: what it reads and writes, and in which order it opens its files.
+tests/around shows what it does at a terminal."""
+import os
+import resource
+import shutil
+import subprocess
+import unittest
+
+from runs import ACCEPTED, OK, PROGRAM, READING, ROOT
+from testcase import ProgramTest
+
+FOLDER = ROOT / "docs"
+CONTACT = bytes.fromhex("55000707017AD50901800ABC0001FFFFFFFF2D001F")
+BASE_REQUEST = bytes.fromhex("5500010005700838")
+EXPLANATION = (
+    '{"dbm":-45,"dest":null,"eep":"D5-00-01","id":"01800ABC","maker":null,"payload":"09",'
+    '"rorg":"D5","status":"00","type":"packet","why":"read"}\n'
+)
+LABELLED = (
+    '{"type":"ok"}\n'
+    '{"eep":"D5-00-01","id":"01800ABC","label":"Door \\"A\\"","maker":null,"type":"device"}\n'
+    '{"count":1,"type":"list"}\n'
+)
+EARLIER = "an earlier line\n"
+
+
+def in_a_minute():
+    """Limits a process to a minute of a processor, which only a run that hangs takes."""
+    resource.setrlimit(resource.RLIMIT_CPU, (60, 60))
+
+
+class LiveTest(ProgramTest):
+    """Each test has a serial line and a desk, which are empty files. The file of answers is new."""
+
+    def setUp(self):
+        super().setUp()
+        self.line, self.desk, self.answers = self.file("line"), self.file("desk"), self.work / "answers"
+
+    def live(self, *options, turns=1, line=None, desk=None, answers=None, **settings):
+        """Runs `live` with these options. The defaults are the files of the test."""
+        line, desk = self.line if line is None else line, self.desk if desk is None else desk
+        answers = self.answers if answers is None else answers
+        words = ["--base", "FF800000", "--serial", line, "--desk", desk, "--out", answers, "--turns", str(turns)]
+        return self.run_program("live", *words, *options, **settings)
+
+
+class Gateway(LiveTest):
+    """What `live` reads and writes."""
+
+    def packet_in_the_second_turn(self):
+        """A telegram comes in the second turn, and the last line of the desk has no end."""
+        self.line.write_bytes(bytes(256) + CONTACT)
+        self.desk.write_text("add 01800ABC D5-00-01\nlist")
+
+    def test_a_turn_reads_256_bytes_and_answers_whole_lines(self):
+        self.packet_in_the_second_turn()
+        self.assert_ended(self.live(turns=2))
+        self.assert_content(self.answers, ACCEPTED + READING)
+
+    def test_explanations_come_before_what_a_packet_reports_and_orders_have_none(self):
+        self.packet_in_the_second_turn()
+        self.assert_ended(self.live("--explain", turns=2))
+        self.assert_content(self.answers, ACCEPTED + EXPLANATION + READING)
+
+    def test_one_turn_in_place_of_earlier_answers(self):
+        self.packet_in_the_second_turn()
+        self.answers.write_text(EARLIER + ACCEPTED + READING)
+        self.assert_ended(self.live())
+        self.assert_content(self.answers, ACCEPTED)
+
+    def test_a_label_and_nothing_for_the_serial_line(self):
+        self.desk.write_bytes(b'add 01800ABC D5-00-01\nlabel 01800ABC Door "A"\r\nlist\n')
+        self.assert_ended(self.live())
+        self.assert_content(self.answers, ACCEPTED + LABELLED)
+        self.assertEqual(self.line.read_bytes(), b"")
+
+    def test_an_order_for_the_module(self):
+        self.desk.write_text("base\n")
+        self.assert_ended(self.live(turns=3))
+        self.assertEqual(self.line.read_bytes().hex(), BASE_REQUEST.hex())
+        self.assert_content(self.answers, OK)
+
+    def test_a_desk_that_is_a_pipe(self):
+        """A program that opens this pipe waits until another program opens its other end."""
+        pipe = self.work / "pipe"
+        os.mkfifo(pipe)
+        writer = subprocess.Popen(["sh", "-c", 'echo base >"$0"', pipe])
+        self.addCleanup(writer.wait)
+        self.addCleanup(writer.kill)
+        self.assert_ended(self.live(desk=pipe))
+        self.assert_content(self.answers, OK)
+
+    def test_a_plain_file_as_the_serial_line_is_opened_once_and_not_to_append(self):
+        """256 of its 300 bytes are read, and the packet that is sent is written after these."""
+        self.line.write_bytes(bytes(300))
+        self.desk.write_text("base\n")
+        self.assert_ended(self.live())
+        self.assertEqual(self.line.read_bytes().hex(), (bytes(256) + BASE_REQUEST + bytes(36)).hex())
+
+    def test_864000_turns_each_read_the_line_and_the_desk_once(self):
+        """These are a day, and more than 16 bits count."""
+        reads = self.work / "reads"
+        env = self.preloading("count_reads.c", COUNT_READS=reads)
+        silent = self.file("silent")
+        files = {"line": silent, "desk": silent, "answers": "/dev/null"}
+        self.assert_ended(self.live(turns=864000, **files, env=env, preexec_fn=in_a_minute))
+        self.assert_content(reads, "0 1728000\n")
+
+
+class Access(LiveTest):
+    """How the three files are opened."""
+
+    def test_each_file_is_opened_once_in_this_order_with_no_more_access(self):
+        self.line.write_bytes(bytes(300))
+        self.desk.write_text("base\n")
+        opens = self.work / "opens"
+        self.assert_ended(self.live(env=self.preloading("record_opens.c", RECORD_OPENS=opens)))
+        self.assert_content(opens, f"{self.line} read-write\n{self.desk} read\n{self.answers} write create truncate\n")
+
+    def test_a_user_may_only_read_the_desk_and_only_write_the_answers(self):
+        rights = self.work / "rights"
+        rights.mkdir()
+        program, line, desk, answers = (rights / name for name in ("enogate", "line", "desk", "answers"))
+        shutil.copy(PROGRAM, program)
+        line.touch()
+        desk.write_text("list\n")
+        answers.touch()
+        desk.chmod(0o400)
+        answers.chmod(0o200)
+        other = {}
+        if os.geteuid() == 0:
+            self.work.chmod(0o711)
+            for path in (rights, program, line, desk, answers):
+                os.chown(path, 65534, 65534)
+            other = {"user": 65534, "group": 65534, "extra_groups": []}
+        run = self.live(program=program, line=line, desk=desk, answers=answers, **other)
+        self.assert_ended(run)
+        answers.chmod(0o600)
+        self.assert_content(answers, '{"count":0,"type":"list"}\n')
+
+
+class WrongPaths(LiveTest):
+    """The serial line is opened before the desk, and the file of answers last."""
+
+    def setUp(self):
+        super().setUp()
+        self.none, self.no_folder, self.new = self.work / "none", self.work / "no/folder", self.work / "new"
+        self.database = self.work / "live.db"
+        self.line.write_bytes(bytes(300))
+        self.desk.write_text("base\n")
+
+    def test_serial_lines_that_do_not_open(self):
+        for path in (self.none, self.no_folder, FOLDER, ""):
+            with self.subTest(path=path):
+                self.answers.write_text(EARLIER)
+                self.assert_fault(self.live(line=path), "cannot open")
+                self.assert_content(self.answers, EARLIER)
+
+    def test_desks_that_do_not_open(self):
+        for path in (self.none, self.no_folder, ""):
+            with self.subTest(path=path):
+                self.answers.write_text(EARLIER)
+                self.assert_fault(self.live(desk=path), "cannot open")
+                self.assert_content(self.answers, EARLIER)
+
+    def test_a_file_of_answers_is_not_made_if_there_is_no_desk(self):
+        self.assert_fault(self.live(desk=self.none, answers=self.new), "cannot open")
+        self.assertFalse(self.new.exists())
+
+    def test_files_of_answers_that_do_not_open(self):
+        for path in (self.no_folder, FOLDER, ""):
+            with self.subTest(path=path):
+                self.assert_fault(self.live(answers=path), "cannot open")
+
+    def test_a_registry_is_made_before_the_paths_are_opened(self):
+        run = self.live("--db", self.database, line=self.none, answers=self.new)
+        self.assert_fault(run, "cannot open")
+        self.assertIn(b"enogate_device_v2", self.database.read_bytes())
+        self.assertFalse(self.new.exists())
+        self.assert_ended(self.live("--db", self.database))
+
+    def test_the_serial_line_is_opened_before_a_desk_that_nobody_writes(self):
+        pipe = self.work / "pipe"
+        os.mkfifo(pipe)
+        self.assert_fault(self.live(line=self.none, desk=pipe, answers=self.new), "cannot open")
+        self.assertFalse(self.new.exists())
+
+    def test_a_registry_that_does_not_open_is_reported_before_the_paths(self):
+        database = self.work / "no/folder.db"
+        run = self.live("--db", database, line=self.none, desk=self.none, answers=self.new)
+        self.assert_fault(run, "store")
+        self.assertFalse(self.new.exists())
+
+    def test_a_bad_base_is_reported_before_all_that_is_opened(self):
+        words = ["--base", "FF800001", "--serial", self.none, "--desk", self.desk, "--out", self.new, "--turns", "1"]
+        self.assert_fault(self.run_program("live", *words, "--db", self.work / "no/folder.db"), "bad base", 2)
+        self.assertFalse(self.new.exists())
+
+    def test_a_desk_that_cannot_be_read(self):
+        self.assert_fault(self.live(desk=FOLDER), "read")
+
+    def test_answers_that_cannot_be_written(self):
+        self.assert_fault(self.live(answers="/dev/full"), "write")
+
+    def test_a_serial_line_that_cannot_be_written(self):
+        """The radio bytes are written before the answer, so an order that is not sent has no answer."""
+        self.answers.write_text(EARLIER)
+        self.assert_fault(self.live(line="/dev/full"), "write")
+        self.assert_content(self.answers, "")
+
+
+class CommandLine(LiveTest):
+    """Help on `live`, and messages on usage."""
+
+    def test_help(self):
+        text = "Usage: enogate live [OPTIONS] --base <ID> --serial <PATH> --desk <PATH> --out <PATH> --turns <N>"
+        self.assert_help(self.run_program("live", "--help"), text)
+
+    def test_turns_that_are_refused(self):
+        for turns, text in (
+            ("0", "0 is not in 1..=4294967295"),
+            ("4294967296", "4294967296 is not in 1..=4294967295"),
+            ("1x", "invalid value '1x' for '--turns <N>'"),
+        ):
+            with self.subTest(turns=turns):
+                self.assert_usage(self.live(turns=turns), text)
+                self.assertFalse(self.answers.exists())
+
+    def test_turns_twice(self):
+        self.assert_usage(self.live("--turns", "2"), "cannot be used multiple times")
+        self.assertFalse(self.answers.exists())
+
+    def test_each_option_is_needed(self):
+        options = {"--base": "FF800000", "--serial": self.line, "--desk": self.desk, "--out": self.answers}
+        options["--turns"] = "1"
+        for name, text in (
+            ("--base", "  --base <ID>"),
+            ("--serial", "  --serial <PATH>"),
+            ("--desk", "  --desk <PATH>"),
+            ("--out", "  --out <PATH>"),
+            ("--turns", "  --turns <N>"),
+        ):
+            with self.subTest(without=name):
+                words = [word for option, value in options.items() if option != name for word in (option, value)]
+                self.assert_usage(self.run_program("live", *words), text)
+
+    def test_a_serial_line_for_a_replay(self):
+        self.assert_usage(self.replay("--serial", self.line), "unexpected argument '--serial' found")
+
+
+if __name__ == "__main__":
+    unittest.main()

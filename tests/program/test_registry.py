@@ -1,0 +1,183 @@
+"""The registry of the built program in a file: over several starts, after a kill, while another start uses it, and in
+databases that another program made."""
+import subprocess
+import threading
+import unittest
+
+from runs import ACCEPTED, ADD, PROGRAM, READING, ROOT
+from tables import FIRST, META, SECOND
+from testcase import HANGS, NOTHING, ProgramTest
+
+CONTACT = ROOT / "examples/contact.txt"
+PACKET = "S 55000707017AD50901800ABC0001FFFFFFFF2D001F\n"
+LISTED = '{"eep":"D5-00-01","id":"01800ABC","label":"","maker":null,"type":"device"}\n{"count":1,"type":"list"}\n'
+# SQL after which rows can be inserted that break the checks of a table, and such rows.
+UNCHECKED = f"PRAGMA ignore_check_constraints = ON; {META};"
+BAD_ROWS = ("4294967295, 1, -1", "-1, 1, -1", "5, -5, -1", "5, 16777216, -1", "5, 1, 2048", "5, 1, -2")
+
+
+def sqlite3(database, *texts):
+    """What the stock sqlite3 prints for these texts."""
+    command = ["sqlite3", "-bail", database, *texts]
+    return subprocess.run(command, stdin=subprocess.DEVNULL, stdout=subprocess.PIPE, check=True).stdout.decode()
+
+
+def backup(database, copy):
+    """Runs scripts/backup, and returns its status and what it prints to standard error."""
+    run = subprocess.run([ROOT / "scripts/backup", database, copy], capture_output=True)
+    return run.returncode, run.stderr.decode()
+
+
+class RegistryTest(ProgramTest):
+    def setUp(self):
+        super().setUp()
+        self.database = self.work / "registry.db"
+
+    def replay_on(self, database, script=NOTHING, **settings):
+        """Replays this script with the registry in this file."""
+        return self.replay("--db", database, script=script, **settings)
+
+
+class Starts(RegistryTest):
+    """What one start learns, the next one knows."""
+
+    def test_a_second_start_knows_the_devices_of_the_first(self):
+        self.assert_ended(self.replay_on(self.database, CONTACT), ACCEPTED + READING)
+        self.assert_ended(self.replay_on(self.database, "list\n" + PACKET), LISTED + READING)
+
+    def test_a_closed_registry_has_at_most_two_files(self):
+        self.assert_ended(self.replay_on(self.database, CONTACT), ACCEPTED + READING)
+        self.assertLessEqual(len(list(self.work.glob("registry.db*"))), 2)
+
+    def test_a_registry_in_memory_opens_no_file(self):
+        opens = self.work / "opens"
+        env = self.preloading("record_opens.c", RECORD_OPENS=opens)
+        self.assert_ended(self.replay(script=CONTACT, env=env), ACCEPTED + READING)
+        self.assertFalse(opens.exists())
+
+    def test_a_registry_in_a_file_opens_that_file(self):
+        opens = self.work / "opens"
+        self.assert_ended(self.replay_on(self.database, CONTACT), ACCEPTED + READING)
+        env = self.preloading("record_opens.c", RECORD_OPENS=opens)
+        self.assert_ended(self.replay_on(self.database, CONTACT, env=env), ACCEPTED + READING)
+        self.assertIn(f"{self.database} read-write", opens.read_text())
+
+
+class Kills(RegistryTest):
+    """A run learned a device, and goes on until the test kills it."""
+
+    def setUp(self):
+        super().setUp()
+        self.copy = self.work / "copy.db"
+        command = [PROGRAM, "replay", "--base", "FF800000", "--db", self.database]
+        pipes = {"stdin": subprocess.PIPE, "stdout": subprocess.PIPE, "stderr": subprocess.DEVNULL}
+        self.running = self.enterContext(subprocess.Popen(command, **pipes))
+        self.addCleanup(self.running.kill)
+        guard = threading.Timer(HANGS, self.running.kill)
+        self.addCleanup(guard.cancel)
+        guard.start()
+        self.running.stdin.write(ADD.encode())
+        self.running.stdin.flush()
+        self.assertEqual(self.running.stdout.readline().decode(), ACCEPTED)
+
+    def kill(self):
+        self.running.kill()
+        self.running.wait()
+
+    def test_a_registry_that_another_start_uses(self):
+        self.assert_fault(self.replay_on(self.database), "store")
+
+    def test_a_registry_in_use_is_not_copied(self):
+        self.assertNotEqual(backup(self.database, self.copy)[0], 0)
+        self.assertFalse(self.copy.exists())
+
+    def test_a_start_after_a_kill_knows_what_was_answered(self):
+        self.kill()
+        self.assert_ended(self.replay_on(self.database, "list\n"), LISTED)
+
+    def test_a_copy_after_a_kill_has_what_was_answered(self):
+        self.kill()
+        self.assertEqual(backup(self.database, self.copy), (0, ""))
+        self.assert_ended(self.replay_on(self.copy, "list\n"), LISTED)
+        self.assert_ended(self.replay_on(self.database, "list\n"), LISTED)
+
+
+class Paths(RegistryTest):
+    def test_paths_that_are_no_registry(self):
+        for path in (self.work / "no/folder.db", ":memory:", ""):
+            with self.subTest(path=path):
+                self.assert_fault(self.replay_on(path), "store")
+
+    def test_a_file_that_is_no_database(self):
+        text = self.file("text.db", (ROOT / "docs/guide/orders.md").read_bytes()[:5000])
+        self.assert_fault(self.replay_on(text), "store")
+
+
+class OtherDatabases(RegistryTest):
+    """Databases that another program made."""
+
+    def assert_refused(self, fault, statements):
+        """The database that these statements make is refused, and its file keeps each byte."""
+        self.database.unlink(missing_ok=True)
+        sqlite3(self.database, statements)
+        before = self.database.read_bytes()
+        self.assert_fault(self.replay_on(self.database), fault)
+        self.assertEqual(self.database.read_bytes(), before)
+
+    def test_missing_tables_and_a_later_version(self):
+        """Each is refused before the paths of `live` are opened, and left as it is."""
+        none, new = self.work / "none", self.work / "new"
+        paths = ["--base", "FF800000", "--serial", none, "--desk", none, "--out", new, "--turns", "1"]
+        for name, statements in (
+            ("one", f"{META}; INSERT INTO enogate_meta VALUES (1, 2);"),
+            ("nine", f"{META}; {SECOND}; INSERT INTO enogate_meta VALUES (1, 9);"),
+        ):
+            with self.subTest(database=name):
+                database = self.work / f"{name}.db"
+                sqlite3(database, statements)
+                before = sqlite3(database, ".dump")
+                self.assert_fault(self.replay_on(database), "not a registry")
+                self.assert_fault(self.run_program("live", *paths, "--db", database), "not a registry")
+                self.assertEqual(sqlite3(database, ".dump"), before)
+
+    def test_rows_of_version_2_that_break_the_checks(self):
+        """The store itself opens no file with such rows."""
+        rest = f"{SECOND}; INSERT INTO enogate_meta VALUES (1, 2); INSERT INTO enogate_device_v2"
+        for row in BAD_ROWS:
+            with self.subTest(row=row):
+                self.assert_refused("store", f"{UNCHECKED} {rest} VALUES ({row}, '');")
+
+    def test_rows_of_version_1_that_break_the_checks(self):
+        rest = f"{FIRST}; INSERT INTO enogate_meta VALUES (1, 1); INSERT INTO enogate_device"
+        for row in BAD_ROWS:
+            with self.subTest(row=row):
+                self.assert_refused("store", f"{UNCHECKED} {rest} VALUES ({row});")
+
+    def test_wrong_version_rows(self):
+        for rows in ("(2, 2)", "(1, 2), (2, 2)"):
+            with self.subTest(rows=rows):
+                self.assert_refused("store", f"{UNCHECKED} {SECOND}; INSERT INTO enogate_meta VALUES {rows};")
+
+    def test_a_trigger_on_a_table_of_a_registry(self):
+        trigger = "CREATE TRIGGER by_device AFTER INSERT ON enogate_device_v2 BEGIN DELETE FROM enogate_meta; END;"
+        self.assert_refused("not a registry", f"{META}; {SECOND}; INSERT INTO enogate_meta VALUES (1, 2); {trigger}")
+
+    def test_the_stock_sqlite3_reads_a_closed_registry(self):
+        """It finds exactly the two tables. One device was learned, and got a label. The second one was removed by
+        another start."""
+        first = 'add 01800ABC D5-00-01\nadd 00000001 D5-00-01\nlabel 00000001 Door "A"\n'
+        self.replay_on(self.database, first)
+        self.replay_on(self.database, "remove 01800ABC\n")
+        shown = sqlite3(
+            self.database,
+            "SELECT type, name, sql FROM sqlite_schema ORDER BY rowid",
+            "SELECT k, version FROM enogate_meta",
+            "SELECT id, eep, maker, label FROM enogate_device_v2 ORDER BY id",
+            "PRAGMA integrity_check",
+        )
+        tables = f"table|enogate_meta|{META}\ntable|enogate_device_v2|{SECOND}\n"
+        self.assertEqual(shown, tables + '1|2\n1|13959169|-1|Door "A"\nok\n')
+
+
+if __name__ == "__main__":
+    unittest.main()

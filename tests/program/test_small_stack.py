@@ -1,0 +1,107 @@
+"""The built program on a stack of 128 KiB; the default is 8 MiB. Measured, it needs some 90 KiB, for an empty script as
+for the packets below, so there is no space for calls that nest once per byte of a packet. And the program with 20 MiB
+of addresses. Measured, it needs some 6, and some 14 with a registry in a file."""
+import unittest
+
+from runs import ACCEPTED, OK, READING, counts, in_little_memory, on_small_stack
+from testcase import ProgramTest
+
+from oracle import session
+from oracle.esp3 import packet, pieces, telegram
+from oracle.lines import device_lines
+
+
+def packets_of_each_type():
+    """A packet of each type with the data of a contact's telegram. In the first five types, the longest packet comes
+    after it, which is all zeros. The longest packet with a wrong check comes first: all its bytes are skipped at
+    once."""
+    contact = telegram(0xD5, b"\x09", 0x01800ABC)
+    longest = [packet(kind, bytes(65535), bytes(255)) for kind in range(5)]
+    stream = longest[0][:-1] + b"\x01"
+    for kind in range(256):
+        stream += packet(kind, contact[6:13], contact[13:20]) + b"".join(longest[kind : kind + 1])
+    return f"add 01800ABC D5-00-01\n{pieces(stream)}status\n"
+
+
+# The telegram is read in type 1, and zeros are none. Type 2 is a response, whose code is the first byte of the data.
+# All others are ignored: 254 of the short packets, and four of the longest.
+RESPONSES = (
+    '{"code":213,"data":"0901800ABC00","name":null,"type":"response"}\n'
+    + '{"code":0,"data":"' + 131068 * "0" + '","name":"OK","type":"response"}\n'
+)
+ANSWERS = ACCEPTED + READING + RESPONSES + counts(258, 1, responses=2)
+
+
+class SmallStack(ProgramTest):
+    def setUp(self):
+        super().setUp()
+        self.in_file = ["--db", self.work / "registry.db"]
+
+    def test_packets_of_each_type_on_a_small_stack(self):
+        run = self.replay(script=packets_of_each_type(), preexec_fn=on_small_stack)
+        self.assert_ended(run, ANSWERS)
+
+    def test_packets_of_each_type_on_a_small_stack_with_a_registry_in_a_file(self):
+        run = self.replay(*self.in_file, script=packets_of_each_type(), preexec_fn=on_small_stack)
+        self.assert_ended(run, ANSWERS)
+
+    def test_packets_of_each_type_in_little_memory(self):
+        run = self.replay(script=packets_of_each_type(), preexec_fn=in_little_memory)
+        self.assert_ended(run, ANSWERS)
+
+    def test_packets_of_each_type_in_little_memory_with_a_registry_in_a_file(self):
+        run = self.replay(*self.in_file, script=packets_of_each_type(), preexec_fn=in_little_memory)
+        self.assert_ended(run, ANSWERS)
+
+    def assert_row(self, name, part, *options, limit):
+        """The program writes this part of the worked row."""
+        row = session.read(name)
+        run = self.replay(*options, script=self.file("row", session.part(row, "script")), preexec_fn=limit)
+        self.assert_ended(run, session.part(row, part).decode())
+
+    def test_every_teach_in_telegram_in_every_mode(self):
+        self.assert_row("verdicts", "plain", limit=on_small_stack)
+        self.assert_row("verdicts", "plain", *self.in_file, limit=in_little_memory)
+
+    def test_every_teach_in_telegram_in_every_mode_with_explanations(self):
+        self.assert_row("verdicts", "explained", "--explain", limit=on_small_stack)
+        self.assert_row("verdicts", "explained", "--explain", *self.in_file, limit=in_little_memory)
+
+    def test_every_teach_in_telegram_in_every_mode_with_1000_devices(self):
+        self.assert_row("verdicts-full", "plain", limit=on_small_stack)
+        self.assert_row("verdicts-full", "plain", *self.in_file, limit=in_little_memory)
+
+    def test_every_teach_in_telegram_in_every_mode_with_1000_devices_and_explanations(self):
+        self.assert_row("verdicts-full", "explained", "--explain", limit=on_small_stack)
+        self.assert_row("verdicts-full", "explained", "--explain", *self.in_file, limit=in_little_memory)
+
+
+class ThousandDevices(ProgramTest):
+    """1,000 devices, learned and listed."""
+
+    SENDERS = [f"{sender:08X}" for sender in range(1000)]
+    SCRIPT = "".join(f"add {sender} D5-00-01\n" for sender in SENDERS) + "list\n"
+    ANSWERS = (
+        "".join(f'{{"eep":"D5-00-01","id":"{id}","maker":null,"result":"accepted","type":"teach"}}\n' for id in SENDERS)
+        + "".join(f'{{"eep":"D5-00-01","id":"{id}","label":"","maker":null,"type":"device"}}\n' for id in SENDERS)
+        + '{"count":1000,"type":"list"}\n'
+    )
+
+    def test_1000_devices_in_little_memory(self):
+        run = self.replay(script=self.SCRIPT, preexec_fn=in_little_memory)
+        self.assert_ended(run, self.ANSWERS)
+
+    def test_1000_devices_and_their_longest_labels_in_little_memory_with_a_registry_in_a_file(self):
+        """Each byte of these labels is printed as two."""
+        in_file = ["--db", self.work / "registry.db"]
+        run = self.replay(*in_file, script=self.SCRIPT, preexec_fn=in_little_memory)
+        self.assert_ended(run, self.ANSWERS)
+        labels = {sender: 32 * "\\" for sender in range(1000)}
+        script = "".join(f"label {sender:08X} {label}\n" for sender, label in labels.items()) + "list\n"
+        listed = device_lines(dict.fromkeys(labels, ("D5-00-01", None)), labels)
+        run = self.replay(*in_file, script=script, preexec_fn=in_little_memory)
+        self.assert_ended(run, 1000 * OK + listed)
+
+
+if __name__ == "__main__":
+    unittest.main()

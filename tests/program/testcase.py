@@ -1,0 +1,90 @@
+"""The base class of the unit tests of the built program."""
+import os
+import pathlib
+import subprocess
+import tempfile
+import unittest
+
+from runs import PROGRAM, preloading
+
+# In seconds. Only a run that hangs is stopped by this limit.
+HANGS = 300
+NOTHING = pathlib.Path(os.devnull)
+
+
+def text_of(content):
+    """Bytes as a text that has each of them, also where they are no UTF-8."""
+    return (content or b"").decode(errors="surrogateescape")
+
+
+class ProgramTest(unittest.TestCase):
+    """Each test has a new folder, `work`, and runs the program in it."""
+
+    maxDiff = None
+
+    @classmethod
+    def setUpClass(cls):
+        cls.libraries = pathlib.Path(cls.enterClassContext(tempfile.TemporaryDirectory()))
+
+    def shortDescription(self):
+        """Only the names of failed tests are printed, without their docstrings."""
+
+    def setUp(self):
+        self.work = pathlib.Path(self.enterContext(tempfile.TemporaryDirectory()))
+
+    def file(self, name, content=""):
+        """Writes a file to the folder, and returns its path."""
+        path = self.work / name
+        path.write_bytes(content if isinstance(content, bytes) else content.encode())
+        return path
+
+    def preloading(self, source, **variables):
+        """The environment of a run that preloads the library of this source in tests/preload."""
+        return preloading(self.libraries, source, **variables)
+
+    def run_program(self, *words, script=NOTHING, program=PROGRAM, **settings):
+        """Runs the program, or a copy of it. Its standard input is the file `script`, or a new file with this text. The
+        settings are those of `subprocess.run`."""
+        script = script if isinstance(script, pathlib.Path) else self.file("script", script)
+        with script.open("rb") as stdin:
+            defaults = {"stdin": stdin, "stdout": subprocess.PIPE, "stderr": subprocess.PIPE, "timeout": HANGS}
+            return subprocess.run([program, *words], **{**defaults, **settings})
+
+    def replay(self, *options, base="FF800000", script=NOTHING, **settings):
+        return self.run_program("replay", "--base", base, *options, script=script, **settings)
+
+    def assert_text(self, found, wanted):
+        """The texts are equal. If they are not, the message shows a few lines, from the one before the first
+        difference."""
+        if found != wanted:
+            lines, wanted_lines = found.splitlines(keepends=True), wanted.splitlines(keepends=True)
+            start = max(len(os.path.commonprefix([lines, wanted_lines])) - 1, 0)
+            shown, wanted_shown = ("".join(some[start : start + 10]) for some in (lines, wanted_lines))
+            self.assertEqual(shown, wanted_shown, f"from line {start + 1}")
+
+    def assert_ended(self, run, output="", error="", status=0):
+        """The run printed exactly these texts to standard output and standard error, and ended with this status."""
+        with self.subTest(of="standard output"):
+            self.assert_text(text_of(run.stdout), output)
+        with self.subTest(of="standard error"):
+            self.assert_text(text_of(run.stderr), error)
+        with self.subTest(of="status"):
+            self.assertEqual(run.returncode, status)
+
+    def assert_fault(self, run, fault, status=1):
+        """The run ended with this status, and printed only the line of this fault, to standard error."""
+        self.assert_ended(run, error=f"enogate: {fault}\n", status=status)
+
+    def assert_usage(self, run, text):
+        """The run ended with status 2, and printed a message with this text, to standard error only."""
+        self.assertIn(text, text_of(run.stderr))
+        self.assertEqual((text_of(run.stdout), run.returncode), ("", 2))
+
+    def assert_help(self, run, text):
+        """The run ended with status 0, and printed a help page with this text, to standard output only."""
+        self.assertIn(text, text_of(run.stdout))
+        self.assertEqual((text_of(run.stderr), run.returncode), ("", 0))
+
+    def assert_content(self, path, text):
+        """The file has exactly this text."""
+        self.assert_text(text_of(path.read_bytes()), text)
