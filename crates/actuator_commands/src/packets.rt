@@ -9,19 +9,19 @@ ghost use Rattle.actuator_commands.specs.Packets.{metered, order_telegram, sends
 ghost use Rattle.actuator_commands.specs.Packets.{telegram_to_one};
 
 use crate::orders::{Order, OrderFault, Quantity};
-use erp1_telegrams::{BROADCAST, Eep, Telegram};
+use erp1_telegrams::{BROADCAST, Eep, Telegram, rorg};
 use learned_devices::Device;
 
 fn is_switch(eep: Eep) -> bool
     ensures { result ≡ is_switch eep }
 {
-    eep.rorg == 0xD2 && eep.func == 0x01
+    eep.rorg == rorg::VLD && eep.func == 0x01
 }
 
 fn is_blind(eep: Eep) -> bool
     ensures { result ≡ is_blind eep }
 {
-    eep.rorg == 0xD2 && eep.func == 0x05 && eep.typ == 0x00
+    eep.rorg == rorg::VLD && eep.func == 0x05 && eep.typ == 0x00
 }
 
 // A VLD telegram from the base ID to a device.
@@ -29,7 +29,7 @@ fn to_one(id: u32, payload: &[u8], base: u32) -> Telegram
     requires { IsTrue (fits 0xD2 (length payload.now)) }
     ensures { Ok result ≡ telegram_to_one base id (Some payload.now) }
 {
-    match Telegram::new(0xD2, payload, base, 0, id, None) {
+    match Telegram::new(rorg::VLD, payload, base, 0, id, None) {
         Ok(telegram) => telegram,
         Err(_) => unreachable!(),
     }
@@ -104,7 +104,7 @@ fn to_all(offset: u32, payload: [u8; 4], base: u32) -> Result<Telegram, OrderFau
     if sender == BROADCAST {
         return Err(OrderFault::Range);
     }
-    match Telegram::new(0xA5, &payload, sender, 0, BROADCAST, None) {
+    match Telegram::new(rorg::FOUR_BS, &payload, sender, 0, BROADCAST, None) {
         Ok(telegram) => Ok(telegram),
         Err(_) => unreachable!(),
     }

@@ -62,7 +62,7 @@ pub(crate) fn eep_of(text: &[u8]) -> Option<Eep>
     let rorg = byte_of(&[*a, *b])?;
     let func = byte_of(&[*c, *d])?;
     let typ = byte_of(&[*e, *f])?;
-    Some(Eep { rorg, func, typ })
+    Some(Eep::new(rorg, func, typ))
 }
 
 // Whether a text begins as a number may: with no zero before another digit.

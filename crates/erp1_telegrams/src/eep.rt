@@ -1,4 +1,5 @@
 //! Equipment profiles.
+ghost use Rattle.std.specs.Prelude.{◌≡◌};
 
 /// The name of an equipment profile (EnOcean Equipment Profiles, "Structure"): the kind of its telegrams, its
 /// function and its type.
@@ -10,4 +11,18 @@ pub struct Eep {
     pub func: u8,
     /// The type within the function, 0 to 7F.
     pub typ: u8,
+}
+
+impl Eep {
+    /// The profile with this RORG, function and type. In a constant, write a struct literal: a constant of Rattle calls
+    /// no function.
+    pub const fn new(rorg: u8, func: u8, typ: u8) -> Eep
+        ensures { result ≡ record {
+          rorg = rorg;
+          func = func;
+          typ = typ;
+        } }
+    {
+        Eep { rorg, func, typ }
+    }
 }

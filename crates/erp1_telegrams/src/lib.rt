@@ -5,6 +5,8 @@
 mod address;
 mod eep;
 pub mod laws;
+pub mod lrn_bit;
+pub mod rorg;
 mod serial;
 mod telegram;
 

@@ -8,10 +8,8 @@ ghost use Rattle.erp1_telegrams.specs.Telegram.{telegram_of, destination, streng
 
 use crate::telegram::{BROADCAST, Telegram, TelegramFault, is_kind};
 use arrayvec::ArrayVec;
+use esp3_frames::packet_type::RADIO_ERP1;
 use esp3_frames::{PacketFault, PacketRef, write_packet};
-
-/// The packet type RADIO_ERP1 (EnOcean Serial Protocol 3, "Packet types").
-const RADIO_ERP1: u8 = 1;
 
 /// Reads the telegram that a packet carries (EnOcean Serial Protocol 3, "Packet type 1: RADIO_ERP1"). A fault is the
 /// first one: `NotRadio`, `BadLength` where there is no data, `OtherKind`, and `BadLength` where the payload has not

@@ -2,24 +2,10 @@
 ghost use Rattle.std.specs.Prelude.{◌≡◌, ◌≢◌, ◌↔◌, length, true, false, IsTrue, IfOk, Err};
 ghost use Rattle.erp1_telegrams.specs.Telegram.{fits, is_kind};
 
+use crate::rorg;
 use arrayvec::ArrayVec;
 use std::marker::Model;
 use thiserror::Error;
-
-/// Repeated switch communication.
-const RPS: u8 = 0xF6;
-
-/// One byte of payload.
-const BS1: u8 = 0xD5;
-
-/// Four bytes of payload.
-const BS4: u8 = 0xA5;
-
-/// A payload of variable length.
-const VLD: u8 = 0xD2;
-
-/// Universal teach-in.
-const UTE: u8 = 0xD4;
 
 /// The destination of a telegram that is for everyone (EnOcean Serial Protocol 3, "Packet type 1: RADIO_ERP1").
 pub const BROADCAST: u32 = 0xFFFF_FFFF;
@@ -162,7 +148,10 @@ impl Telegram {
 pub(crate) fn is_kind(rorg: u8) -> bool
     ensures { result ≡ is_kind rorg }
 {
-    matches!(rorg, RPS | BS1 | BS4 | VLD | UTE)
+    matches!(
+        rorg,
+        rorg::RPS | rorg::ONE_BS | rorg::FOUR_BS | rorg::VLD | rorg::UTE
+    )
 }
 
 /// Whether a telegram of this kind may have this many bytes of payload.
@@ -170,10 +159,10 @@ fn fits(rorg: u8, len: usize) -> bool
     ensures { result ≡ fits rorg len }
 {
     match rorg {
-        RPS | BS1 => len == 1,
-        BS4 => len == 4,
-        VLD => 1 <= len && len <= 14,
-        UTE => len == 7,
+        rorg::RPS | rorg::ONE_BS => len == 1,
+        rorg::FOUR_BS => len == 4,
+        rorg::VLD => 1 <= len && len <= 14,
+        rorg::UTE => len == 7,
         _ => false,
     }
 }

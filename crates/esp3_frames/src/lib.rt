@@ -6,6 +6,7 @@
 mod check;
 pub mod laws;
 mod packet;
+pub mod packet_type;
 
 pub use check::{check8, check8_between, check8_next};
 pub use packet::{

@@ -6,16 +6,11 @@ ghost use Rattle.gateway_core.specs.Accounts.{because, eep_told, maker_told};
 
 use erp1_telegrams::{BROADCAST, Eep, Telegram};
 use esp3_frames::PacketRef;
+use esp3_frames::packet_type::{RADIO_ERP1, RESPONSE};
 use json_lines::Count;
 use learned_devices::Device;
 use profiles_rps::Unreadable;
 use teach_in::{Mode, Teach, Why};
-
-/// The packet type RADIO_ERP1 (EnOcean Serial Protocol 3, "Packet types").
-const RADIO_ERP1: u8 = 1;
-
-/// The packet type RESPONSE (EnOcean Serial Protocol 3, "Packet types").
-const RESPONSE: u8 = 2;
 
 /// Why what was done with a packet was done, and what is known of its sender: the profile and the maker of the device
 /// that it is.

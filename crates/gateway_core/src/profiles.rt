@@ -3,7 +3,7 @@ ghost use Rattle.std.specs.Prelude.{◌≡◌};
 ghost use Rattle.gateway_core.specs.Profiles;
 ghost use Rattle.profiles_rps.specs.Answer.{told};
 
-use erp1_telegrams::{Eep, Telegram};
+use erp1_telegrams::{Eep, Telegram, rorg};
 use profiles_rps::{Readings, Unreadable};
 
 /// Sets `readings` to what the telegram of a sender with this profile says, or returns why the profile does not read
@@ -12,8 +12,8 @@ pub fn read(eep: Eep, telegram: &Telegram, readings: &mut Readings) -> Result<()
     ensures { told result readings.new.items ≡ Profiles.read_by eep telegram.now }
 {
     match eep.rorg {
-        0xA5 => profiles_4bs::read(eep, telegram, readings),
-        0xD2 => profiles_vld::read(eep, telegram, readings),
+        rorg::FOUR_BS => profiles_4bs::read(eep, telegram, readings),
+        rorg::VLD => profiles_vld::read(eep, telegram, readings),
         _ => profiles_rps::read(eep, telegram, readings),
     }
 }

@@ -5,9 +5,7 @@ ghost use Rattle.esp3_frames.specs.Outcome.{packet_of};
 ghost use Rattle.gateway_core.specs.Responses;
 
 use esp3_frames::PacketRef;
-
-/// The type of a packet that answers a command.
-const RESPONSE: u8 = 2;
+use esp3_frames::packet_type::RESPONSE;
 
 /// A response of the radio module: a return code, and the bytes behind it.
 #[derive(Clone, Copy)]

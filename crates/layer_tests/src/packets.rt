@@ -33,7 +33,7 @@ fn telegram(
     }
     let device = profile.map(|(rorg, func, typ)| Device {
         id: DEVICE,
-        eep: Eep { rorg, func, typ },
+        eep: Eep::new(rorg, func, typ),
         maker: None,
         label: Label::empty(),
     });

@@ -68,7 +68,7 @@ fn two_types(rt: HostRuntime) {
         ((0xD2, 0x12, 0x03), false),
     ];
     for ((rorg, func, typ), wanted) in cases {
-        let eep = Eep { rorg, func, typ };
+        let eep = Eep::new(rorg, func, typ);
         assert_eq!(rt;
             is_one_of(eep, 0xA5, 0x12, &[0x02, 0x03]),
             wanted,

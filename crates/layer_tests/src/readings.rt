@@ -154,7 +154,7 @@ fn supported_profiles(rt: HostRuntime) {
     for rorg in [0xF6, 0xD5, 0xA5, 0xD2, 0xD4] {
         for func in 0..=0xFFu8 {
             for typ in 0..=0xFFu8 {
-                let eep = Eep { rorg, func, typ };
+                let eep = Eep::new(rorg, func, typ);
                 let found = (
                     profiles_rps::supports(eep),
                     profiles_4bs::supports(eep),

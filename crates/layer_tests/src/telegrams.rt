@@ -1,7 +1,7 @@
 //! Telegrams whose packets are known, each fault, the room that a packet needs, and the IDs of a gateway.
 use arrayvec::ArrayVec;
 use erp1_telegrams::{
-    BROADCAST, Telegram, TelegramFault, is_base, is_own, is_passed_over, read, write,
+    BROADCAST, Eep, Telegram, TelegramFault, is_base, is_own, is_passed_over, read, write,
 };
 use esp3_frames::{PacketFault, PacketRef, read_packet};
 use std::test::Fail;
@@ -392,6 +392,13 @@ const ASKED: [Asked; 25] = [
         wanted: true,
     },
 ];
+
+// The profile D2-01-12 is of the RORG D2, the function 01 and the type 12 (EnOcean Equipment Profiles 2.6, "D2-01").
+#[test]
+fn profile_of_its_numbers(rt: HostRuntime) {
+    let switch = Eep::new(0xD2, 0x01, 0x12);
+    assert_eq!(rt; (switch.rorg, switch.func, switch.typ), (0xD2, 0x01, 0x12));
+}
 
 #[test]
 fn questions(rt: HostRuntime) -> Result<(), Fail> {

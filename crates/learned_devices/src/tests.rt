@@ -61,11 +61,7 @@ fn copies_are_equal(rt: HostRuntime) -> Result<(), Fail> {
     let label = Label::new("Door").unwrap_or(Label::empty());
     let door = Device {
         id: 0x0180_0ABC,
-        eep: Eep {
-            rorg: 0xD5,
-            func: 0x00,
-            typ: 0x01,
-        },
+        eep: Eep::new(0xD5, 0x00, 0x01),
         maker: None,
         label: label.copied(),
     };

@@ -11,7 +11,7 @@ use crate::{
     temperature,
 };
 use bit_fields::get;
-use erp1_telegrams::{Eep, Telegram};
+use erp1_telegrams::{Eep, Telegram, lrn_bit};
 use profiles_rps::{Readings, Unreadable};
 
 /// Sets `readings` to what the rows of a profile read in a payload, and returns whether the profile has rows. Each
@@ -55,7 +55,7 @@ fn data_of(rorg: u8, telegram: &Telegram) -> Result<&[u8; 4], Unreadable>
     let Ok(bytes) = <&[u8; 4]>::try_from(telegram.payload()) else {
         return Err(Unreadable::WrongLength);
     };
-    if get::<4, 28, 1>(bytes) == 0 {
+    if get::<4, { lrn_bit::FOUR_BS }, 1>(bytes) == 0 {
         return Err(Unreadable::OtherMessage);
     }
     Ok(bytes)

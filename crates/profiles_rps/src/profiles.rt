@@ -8,7 +8,7 @@ ghost use Rattle.profiles_rps.specs.Profiles.{rows_of, supported, read_by, readi
 
 use crate::{Readings, Unreadable, read_profiles};
 use bit_fields::get;
-use erp1_telegrams::{Eep, Telegram};
+use erp1_telegrams::{Eep, Telegram, lrn_bit, rorg};
 
 const RELEASED_OR_PRESSED: [(u32, &str); 2] = [(0, "released"), (1, "pressed")];
 
@@ -74,7 +74,7 @@ fn data_of(rorg: u8, telegram: &Telegram) -> Result<&[u8; 1], Unreadable>
     let Ok(bytes) = <&[u8; 1]>::try_from(telegram.payload()) else {
         return Err(Unreadable::WrongLength);
     };
-    if rorg == 0xD5 && get::<1, 4, 1>(bytes) == 0 {
+    if rorg == rorg::ONE_BS && get::<1, { lrn_bit::ONE_BS }, 1>(bytes) == 0 {
         return Err(Unreadable::OtherMessage);
     }
     Ok(bytes)

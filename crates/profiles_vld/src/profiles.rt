@@ -5,7 +5,7 @@ ghost use Rattle.profiles_rps.specs.Answer.{told};
 ghost use Rattle.profiles_vld.specs.Profiles.{profile_says, supported, readings_of};
 
 use crate::{blinds_control, electronic_switches};
-use erp1_telegrams::{Eep, Telegram};
+use erp1_telegrams::{Eep, Telegram, rorg};
 use profiles_rps::{Readings, Unreadable};
 
 /// Sets `readings` to what a payload says by a profile, or returns the first refusal; None if the profile is not read.
@@ -16,8 +16,8 @@ fn read_into(eep: Eep, payload: &[u8], readings: &mut Readings) -> Option<Result
     ensures err { IfSome result (λ answer. OnErr answer (readings.new ≡ readings.old)) }
 {
     match (eep.rorg, eep.func, eep.typ) {
-        (0xD2, 0x01, 0x00..=0x12) => Some(electronic_switches::read_into(payload, readings)),
-        (0xD2, 0x05, 0x00) => Some(blinds_control::read_into(payload, readings)),
+        (rorg::VLD, 0x01, 0x00..=0x12) => Some(electronic_switches::read_into(payload, readings)),
+        (rorg::VLD, 0x05, 0x00) => Some(blinds_control::read_into(payload, readings)),
         _ => None,
     }
 }

@@ -7,7 +7,7 @@ use crate::outcome::Outcome;
 use crate::reply::reply;
 use crate::verdict::Verdict;
 use bit_fields::get;
-use erp1_telegrams::{Eep, Telegram, is_base};
+use erp1_telegrams::{Eep, Telegram, is_base, rorg};
 
 /// A 4BS telegram of teach-in that tells its sender's profile and maker.
 ///
@@ -30,11 +30,9 @@ impl FourByteQuery {
     pub fn eep(&self) -> Eep
         ensures { result ≡ eep_in self.now }
     {
-        Eep {
-            rorg: 0xA5,
-            func: get::<4, 0, 6>(&self.payload) as u8,
-            typ: get::<4, 6, 7>(&self.payload) as u8,
-        }
+        let func = get::<4, 0, 6>(&self.payload) as u8;
+        let typ = get::<4, 6, 7>(&self.payload) as u8;
+        Eep::new(rorg::FOUR_BS, func, typ)
     }
 
     /// The number of its maker, 0 to 2047.
@@ -71,5 +69,5 @@ pub fn four_byte_reply(query: &FourByteQuery, verdict: &Verdict, base: u32) -> T
     prove!(verdict.id() == query.id() && is_base(base));
     let [db3, db2, db1, _] = query.payload;
     let payload = [db3, db2, db1, four_byte_code(verdict.outcome())];
-    reply(0xA5, &payload, query.id(), base)
+    reply(rorg::FOUR_BS, &payload, query.id(), base)
 }

@@ -10,12 +10,12 @@ use crate::profiles::supported;
 use crate::telegrams::{Teach, bytes_of, classify};
 use crate::ute::{DELETION, NOT_USED, UteQuery};
 use bit_fields::get;
-use erp1_telegrams::{Eep, Telegram};
+use erp1_telegrams::{Eep, Telegram, rorg};
 use learned_devices::{Device, Label};
 
 /// The profile of a contact, which its teach-in does not tell (EnOcean Equipment Profiles 2.6, "1BS Telegram").
 const CONTACT: Eep = Eep {
-    rorg: 0xD5,
+    rorg: rorg::ONE_BS,
     func: 0x00,
     typ: 0x01,
 };
@@ -72,8 +72,8 @@ fn is_learned_by(telegram: &Telegram) -> bool
     ensures { result ≡ is_learned_by telegram.now }
 {
     match telegram.rorg() {
-        0xF6 => get::<1, 3, 1>(bytes_of(telegram.payload())) == 1,
-        0xD2 => true,
+        rorg::RPS => get::<1, 3, 1>(bytes_of(telegram.payload())) == 1,
+        rorg::VLD => true,
         _ => false,
     }
 }
@@ -83,8 +83,8 @@ fn plan_as(telegram: &Telegram, teach: &Teach, eep: Eep, known: bool) -> Plan
     ensures { result ≡ (row_of telegram.now known teach.now).given eep }
 {
     match (teach, eep.rorg) {
-        (Teach::Contact, 0xD5) | (Teach::Bare, 0xA5) => add(telegram, eep, None),
-        (Teach::FourByte(query), 0xA5) => add(telegram, eep, Some(query.maker())),
+        (Teach::Contact, rorg::ONE_BS) | (Teach::Bare, rorg::FOUR_BS) => add(telegram, eep, None),
+        (Teach::FourByte(query), rorg::FOUR_BS) => add(telegram, eep, Some(query.maker())),
         (Teach::Plain, rorg) if !known && rorg == telegram.rorg() && is_learned_by(telegram) => {
             add(telegram, eep, None)
         }

@@ -5,7 +5,7 @@ ghost use Rattle.teach_in.specs.Telegrams.{four_byte_kind, one_byte_kind, teach_
 use crate::four_byte::FourByteQuery;
 use crate::ute::UteQuery;
 use bit_fields::get;
-use erp1_telegrams::Telegram;
+use erp1_telegrams::{Telegram, lrn_bit, rorg};
 
 /// What a telegram is at teach-in.
 ///
@@ -41,7 +41,7 @@ pub(crate) fn bytes_of<const N: usize>(payload: &[u8]) -> &[u8; N]
 fn one_byte_kind(bytes: &[u8; 1]) -> Teach
     ensures { result ≡ one_byte_kind bytes.now }
 {
-    match get::<1, 4, 1>(bytes) {
+    match get::<1, { lrn_bit::ONE_BS }, 1>(bytes) {
         0 => Teach::Contact,
         _ => Teach::Plain,
     }
@@ -52,7 +52,7 @@ fn four_byte_kind(id: u32, bytes: &[u8; 4]) -> Teach
     ensures { result ≡ four_byte_kind id bytes.now }
 {
     match (
-        get::<4, 28, 1>(bytes),
+        get::<4, { lrn_bit::FOUR_BS }, 1>(bytes),
         get::<4, 24, 1>(bytes),
         get::<4, 27, 1>(bytes),
     ) {
@@ -85,9 +85,9 @@ pub fn classify(telegram: &Telegram) -> Teach
 {
     let payload = telegram.payload();
     match telegram.rorg() {
-        0xD5 => one_byte_kind(bytes_of(payload)),
-        0xA5 => four_byte_kind(telegram.sender(), bytes_of(payload)),
-        0xD4 => ute_kind(telegram.sender(), bytes_of(payload)),
+        rorg::ONE_BS => one_byte_kind(bytes_of(payload)),
+        rorg::FOUR_BS => four_byte_kind(telegram.sender(), bytes_of(payload)),
+        rorg::UTE => ute_kind(telegram.sender(), bytes_of(payload)),
         _ => Teach::Plain,
     }
 }

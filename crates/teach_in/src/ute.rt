@@ -7,7 +7,7 @@ use crate::outcome::Outcome;
 use crate::reply::reply;
 use crate::verdict::Verdict;
 use bit_fields::get;
-use erp1_telegrams::{Eep, Telegram, is_base};
+use erp1_telegrams::{Eep, Telegram, is_base, rorg};
 
 /// A query of universal teach-in, which tells its sender's profile and maker, and what is asked for.
 ///
@@ -36,11 +36,10 @@ impl UteQuery {
     pub fn eep(&self) -> Eep
         ensures { result ≡ eep_in self.now }
     {
-        Eep {
-            rorg: get::<7, 48, 8>(&self.payload) as u8,
-            func: get::<7, 40, 8>(&self.payload) as u8,
-            typ: get::<7, 32, 8>(&self.payload) as u8,
-        }
+        let rorg = get::<7, 48, 8>(&self.payload) as u8;
+        let func = get::<7, 40, 8>(&self.payload) as u8;
+        let typ = get::<7, 32, 8>(&self.payload) as u8;
+        Eep::new(rorg, func, typ)
     }
 
     /// The number of its maker, 0 to 2047.
@@ -105,5 +104,5 @@ pub fn ute_reply(query: &UteQuery, verdict: &Verdict, base: u32) -> Telegram
     let [_, db5, db4, db3, db2, db1, db0] = query.payload;
     let db6 = reply_first_byte(query, ute_code(verdict.outcome()));
     let payload = [db6, db5, db4, db3, db2, db1, db0];
-    reply(0xD4, &payload, query.id(), base)
+    reply(rorg::UTE, &payload, query.id(), base)
 }

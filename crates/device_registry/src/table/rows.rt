@@ -54,11 +54,11 @@ fn read_label(row: &Row, at: usize) -> Option<Label>
 fn eep_of_number(number: u32) -> Eep
     ensures { result ≡ eep_of number }
 {
-    Eep {
-        rorg: (number / 65536 % 256) as u8,
-        func: (number / 256 % 256) as u8,
-        typ: (number % 256) as u8,
-    }
+    Eep::new(
+        (number / 65536 % 256) as u8,
+        (number / 256 % 256) as u8,
+        (number % 256) as u8,
+    )
 }
 
 /// The device that a row shows, where each of its numbers is in its range and its label is one.

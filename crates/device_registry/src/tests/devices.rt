@@ -78,21 +78,13 @@ fn a_label_goes_with_its_sender(rt: HostRuntime) -> Result<(), Fail> {
 fn numbers_at_their_ends(rt: HostRuntime) -> Result<(), Fail> {
     let least = Known {
         id: 0,
-        eep: Eep {
-            rorg: 0,
-            func: 0,
-            typ: 0,
-        },
+        eep: Eep::new(0, 0, 0),
         maker: Some(0),
         label: "",
     };
     let greatest = Known {
         id: 0xFFFF_FFFE,
-        eep: Eep {
-            rorg: 0xFF,
-            func: 0xFF,
-            typ: 0xFF,
-        },
+        eep: Eep::new(0xFF, 0xFF, 0xFF),
         maker: Some(2047),
         label: "",
     };

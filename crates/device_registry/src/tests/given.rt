@@ -108,11 +108,7 @@ pub fn varied(id: u32) -> Known {
     let at = id % 1000;
     Known {
         id,
-        eep: Eep {
-            rorg: 0xD5,
-            func: (at / 256) as u8,
-            typ: (at % 256) as u8,
-        },
+        eep: Eep::new(0xD5, (at / 256) as u8, (at % 256) as u8),
         maker: (0 < at).then_some(at as u16),
         label: "",
     }

@@ -16,12 +16,10 @@ use crate::refusal::Refusal;
 use actuator_commands::{Order, OrderFault, packet_of};
 use arrayvec::ArrayVec;
 use erp1_telegrams::{Telegram, write};
+use esp3_frames::packet_type::COMMON_COMMAND;
 use esp3_frames::write_packet;
 use json_lines::ErrorName;
 use learned_devices::{Device, DeviceStore};
-
-/// The packet type COMMON_COMMAND (EnOcean Serial Protocol 3, "Packet types").
-const COMMON_COMMAND: u8 = 5;
 
 /// The command CO_RD_IDBASE (EnOcean Serial Protocol 3, "CO_RD_IDBASE").
 const READ_BASE_ID: u8 = 8;

@@ -72,7 +72,7 @@ pub(crate) fn is_wanted(plan: &Plan, wanted: Wanted) -> bool {
                 maker,
             },
         ) => {
-            let eep = Eep { rorg, func, typ };
+            let eep = Eep::new(rorg, func, typ);
             device.id == SENDER
                 && device.eep == eep
                 && device.maker == maker

@@ -1,5 +1,5 @@
 use Rattle.std.proofs.Common.{rules}
 use Rattle.actuator_commands.proofs.packets.is_switch.Goals as goal
 
-pub returns-then-eep-eq210 : goal.returns-then-eep-eq210
-returns-then-eep-eq210 c = search rules
+pub returns-then-eep-eq-VLD : goal.returns-then-eep-eq-VLD
+returns-then-eep-eq-VLD c = search rules
