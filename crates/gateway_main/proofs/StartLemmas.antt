@@ -10,9 +10,9 @@ use Rattle.device_registry.specs.Opening.{RefusesToOpen}
 use Rattle.device_registry.specs.declared.fault.OpenFault.{OpenFault}
 use Rattle.device_registry.specs.declared.fault.OpenFault.TheVariants.{NotARegistry, Refused}
 use Rattle.gateway_core.specs.Calls.{Value, new_value}
-use Rattle.engines.specs.Played.{IsIdle}
+use Rattle.gateway_loop.specs.Played.{IsIdle}
 use Rattle.gateway_main.specs.Faults.{fault_of_open}
-use Rattle.engines.specs.Headline.{IsNew}
+use Rattle.gateway_loop.specs.Headline.{IsNew}
 use Rattle.gateway_main.specs.Started.{RefusesToStart, Starts}
 use Rattle.gateway_main.specs.declared.fault.Fault.TheVariants.{Store, Memory}
 

@@ -7,14 +7,14 @@ use Rattle.clap.specs.declared.error.Error.{Error}
 use Rattle.clap.specs.declared.error.ErrorKind.{ErrorKind}
 use Rattle.clap.specs.declared.error.ErrorKind.TheVariants.{DisplayHelp, DisplayVersion, OutOfMemory}
 use Rattle.sqlite.specs.declared.error.Error.{Error as StoreError}
-use Rattle.arguments.specs.declared.Refused.{Refused}
-use Rattle.arguments.specs.declared.Refused.TheVariants as refused
+use Rattle.gateway_cli.specs.declared.Refused.{Refused}
+use Rattle.gateway_cli.specs.declared.Refused.TheVariants as refused
 use Rattle.gateway_main.specs.declared.ending.Ending.{Ending}
 use Rattle.gateway_main.specs.declared.ending.Ending.TheVariants.{Failed, NotText, BadBase, Said}
 use Rattle.gateway_main.specs.declared.fault.Fault.{Fault}
 use Rattle.gateway_main.specs.declared.fault.Fault.TheVariants.{Memory}
-use Rattle.engines.specs.declared.runs.RunFault.{RunFault}
-use Rattle.engines.specs.declared.runs.Summary.{Summary}
+use Rattle.gateway_loop.specs.declared.runs.RunFault.{RunFault}
+use Rattle.gateway_loop.specs.declared.runs.Summary.{Summary}
 use Rattle.gateway_main.specs.Faults.{fault_of_run, fault_of_store}
 
 -- where the arguments of the process cannot be had: there is no memory for them, or one is not text

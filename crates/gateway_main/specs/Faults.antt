@@ -7,8 +7,8 @@ use Rattle.sqlite.specs.declared.error.Error.TheVariants.{SqliteFailure}
 use Rattle.sqlite.specs.declared.error.ErrorCode.TheVariants.{OutOfMemory}
 use Rattle.gateway_main.specs.declared.fault.Fault.{Fault}
 use Rattle.gateway_main.specs.declared.fault.Fault.TheVariants as fault
-use Rattle.engines.specs.declared.runs.RunFault.{RunFault}
-use Rattle.engines.specs.declared.runs.RunFault.TheVariants.{Read, Write, TooManyTurns}
+use Rattle.gateway_loop.specs.declared.runs.RunFault.{RunFault}
+use Rattle.gateway_loop.specs.declared.runs.RunFault.TheVariants.{Read, Write, TooManyTurns}
 
 abbrev pub fault_of_store : Error → Fault
 fault_of_store (SqliteFailure OutOfMemory) = fault.Memory

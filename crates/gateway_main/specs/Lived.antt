@@ -8,7 +8,7 @@ use Rattle.gateway_core.specs.Calls.{Value}
 use Rattle.gateway_core.specs.Handling.{HandlerValue, Handles}
 use Rattle.gateway_core.specs.Events.{Event, items_of}
 use Rattle.gateway_core.specs.Step.{Item, Answer}
-use Rattle.engines.specs.Played.{Plays, Breaks}
+use Rattle.gateway_loop.specs.Played.{Plays, Breaks}
 use Rattle.gateway_main.specs.Started.{Starts}
 
 -- in whatever a crash leaves, the next open finds devices; a life that found these and handled these items may leave

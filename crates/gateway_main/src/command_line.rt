@@ -1,2 +1,2 @@
 //! The words of the command line, and the plan of a run that they give.
-pub use arguments::{Access, LiveOptions, Opened, Options, Plan, Refused, Service, Task, read};
+pub use gateway_cli::{Access, LiveOptions, Opened, Options, Plan, Refused, Service, Task, read};

@@ -4,9 +4,9 @@ ghost use Rattle.std.specs.IoError.{error_kind};
 ghost use Rattle.gateway_main.specs.Endings.{done_of, ending_of_arguments, status_of};
 
 use crate::fault::Fault;
-use arguments::Refused;
 use clap::error::ErrorKind;
-use engines::{RunFault, Summary};
+use gateway_cli::Refused;
+use gateway_loop::{RunFault, Summary};
 use std::io;
 
 /// Why the program ends without having done to its end what it was asked.

@@ -2,7 +2,7 @@
 ghost use Rattle.std.specs.Prelude.{◌≡◌};
 
 use device_registry::OpenFault;
-use engines::RunFault;
+use gateway_loop::RunFault;
 use sqlite::ErrorCode;
 use std::alloc::AllocError;
 use thiserror::Error;

@@ -5,8 +5,8 @@ ghost use Rattle.erp1_telegrams.specs.Address;
 ghost use Rattle.learned_devices.specs.Devices.{Devices};
 ghost use Rattle.device_registry.specs.Holding.{Finds, kept_by};
 ghost use Rattle.gateway_core.specs.Calls.{new_value};
-ghost use Rattle.engines.specs.Headline.{IsNew};
-ghost use Rattle.engines.specs.Played.{IsIdle};
+ghost use Rattle.gateway_loop.specs.Headline.{IsNew};
+ghost use Rattle.gateway_loop.specs.Played.{IsIdle};
 ghost use Rattle.gateway_main.specs.Started.{RefusesToStart, Starts};
 
 use crate::fault::Fault;

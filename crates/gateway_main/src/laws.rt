@@ -3,17 +3,17 @@
 ghost use Rattle.std.specs.Prelude.{Bool, List, Option, ℕ};
 ghost use Rattle.device_registry.specs.Holding.{kept_by};
 ghost use Rattle.gateway_core.specs.Handling.{KnowsState};
-ghost use Rattle.engines.specs.Streams.{sink_value};
-ghost use Rattle.engines.specs.Wires.{wires};
-ghost use Rattle.engines.specs.Written.{WritesAll, WritesPart};
+ghost use Rattle.gateway_loop.specs.Streams.{sink_value};
+ghost use Rattle.gateway_loop.specs.Wires.{wires};
+ghost use Rattle.gateway_loop.specs.Written.{WritesAll, WritesPart};
 ghost use Rattle.gateway_main.specs.Lived.{BrokenClosedPlaysAreLives, BrokenPlaysAreLives, ClosedPlaysAreLives};
 ghost use Rattle.gateway_main.specs.Lived.{ClosesLeaveALife, PlaysAreLives};
 
-use byte_streams::Sink;
+use byte_io::Sink;
 use device_registry::laws::devices_are_held;
 use device_registry::{RegistryOver, SqlConnection};
-pub use engines::laws::explanations_stand_apart;
 use gateway_core::GatewayOver;
+pub use gateway_loop::laws::explanations_stand_apart;
 
 /// Whatever gateway over a registry there is knows a state, while the disk has returned what was written and the
 /// connection is open.

@@ -8,7 +8,7 @@ mod gateway_start;
 pub mod laws;
 mod program_run;
 
-pub use byte_streams::{Failed, OverRead, OverWrite, Sink, Source};
-pub use engines::{LONGEST_READ, RunFault, Summary, live, replay};
+pub use byte_io::{Failed, OverRead, OverWrite, Sink, Source};
+pub use gateway_loop::{LONGEST_READ, RunFault, Summary, live, replay};
 pub use gateway_start::start;
 pub use program_run::program;

@@ -1,17 +1,17 @@
 //! The program.
 ghost use Rattle.std.specs.Prelude.{◌≡◌, ◌≤◌, false, true};
 ghost use Rattle.erp1_telegrams.specs.Address;
-ghost use Rattle.engines.specs.Played.{IsIdle};
+ghost use Rattle.gateway_loop.specs.Played.{IsIdle};
 
 use crate::command_line;
 use crate::ending::{Ending, Served, done, status, without_arguments};
 use crate::fault::Fault;
 use crate::gateway_start::start;
-use arguments::{Access, Opened, Plan, Service};
-use byte_streams::{OverRead, OverWrite};
+use byte_io::{OverRead, OverWrite};
 use device_registry::SqlConnection;
-use engines::{RunFault, Summary, live, replay};
+use gateway_cli::{Access, Opened, Plan, Service};
 use gateway_core::{DeviceStore, GatewayOver};
+use gateway_loop::{RunFault, Summary, live, replay};
 use sqlite::Connection;
 use std::fs::{File, OpenOptions};
 use std::process::ExitCode;

@@ -1,6 +1,6 @@
 //! Command lines that are taken and that are refused, and what help and the version tell.
-use arguments::{Access, LiveOptions, Opened, Options, Plan, Refused, Service, Task, read};
 use clap::error::ErrorKind;
+use gateway_cli::{Access, LiveOptions, Opened, Options, Plan, Refused, Service, Task, read};
 use std::test::Fail;
 
 fn words_of(rt: &HostRuntime, line: &str) -> Result<Vec<String>, Fail> {

@@ -1,9 +1,9 @@
 //! What the faults below the registry say.
 use actuator_commands::OrderFault;
-use arguments::Refused;
-use byte_streams::Failed;
+use byte_io::Failed;
 use erp1_telegrams::TelegramFault;
 use esp3_frames::{HeaderFault, PacketFault};
+use gateway_cli::Refused;
 use profiles_rps::Unreadable;
 use std::error::Error;
 use std::test::Fail;

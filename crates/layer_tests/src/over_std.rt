@@ -2,7 +2,7 @@
 //! it fails.
 ghost use Rattle.std.specs.Prelude.{◌≡◌, IfOk};
 
-use byte_streams::{OverRead, OverWrite, Sink, Source};
+use byte_io::{OverRead, OverWrite, Sink, Source};
 use std::io;
 use std::io::{Read, Write};
 

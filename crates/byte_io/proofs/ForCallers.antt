@@ -1,0 +1,2 @@
+-- The facts about the definitions that the crates above cite.
+pub use Rattle.byte_io.proofs.CountLemmas.{went_well}

@@ -1,0 +1,57 @@
+//! Where bytes go.
+ghost use Rattle.std.specs.Prelude.{◌≡◌, ◌≤◌, ◌<◌, ℕ, List, Option, IfOk, length};
+ghost use Rattle.std.specs.Io.KnownBytes.{WriteAppends};
+ghost use Rattle.byte_io.specs.Counts.{Counts, counted, none_yet};
+
+use crate::tally::{Failed, Tally};
+use std::io::Write;
+
+/// Where bytes go.
+pub trait Sink {
+    /// The bytes that it holds, where they are known.
+    ghost held: { Self → Option (List ℕ) };
+
+    /// How the writes so far went.
+    ghost counts: { Self → Counts };
+
+    /// Takes some first bytes of the text, which is not empty, perhaps none, and says how many. After `Failed` it holds
+    /// what it held before.
+    fn write(&mut self, text: &[u8]) -> Result<usize, Failed>
+        requires { 0 < length text.now }
+        ensures within { IfOk result (λ n. n ≤ length text.now) }
+        ensures bytes { WriteAppends (held self.old) (held self.new) result text.now }
+        ensures told { counts self.new ≡ counted (counts self.old) result };
+}
+
+/// A sink over a writer of `std`. It counts its writes, those that failed, and those that took 0 bytes; each count
+/// stays at its greatest value.
+#[derive(Drop)]
+pub struct OverWrite<W> {
+    writer: W,
+    tally: Tally,
+}
+
+impl<W: Write> OverWrite<W> {
+    /// A sink that has made no write to this writer.
+    pub fn new(writer: W) -> OverWrite<W>
+        ensures bytes { ⟦<OverWrite<W> as Sink>⟧.held result ≡ W.contents writer }
+        ensures told { ⟦<OverWrite<W> as Sink>⟧.counts result ≡ none_yet }
+    {
+        OverWrite {
+            writer,
+            tally: Tally::new(),
+        }
+    }
+}
+
+impl<W: Write> Sink for OverWrite<W> {
+    ghost held = { λ sink. W.contents sink.writer };
+
+    ghost counts = { λ sink. sink.tally };
+
+    fn write(&mut self, text: &[u8]) -> Result<usize, Failed> {
+        let answer = self.writer.write(text).map_err(|_| Failed);
+        self.tally.count(answer);
+        answer
+    }
+}

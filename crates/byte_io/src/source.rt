@@ -1,0 +1,59 @@
+//! Where bytes come from.
+ghost use Rattle.std.specs.Prelude.{◌≡◌, ◌≤◌, ◌<◌, ℕ, List, Option, IfOk, length};
+ghost use Rattle.std.specs.Io.KnownBytes.{ReadConsumes};
+ghost use Rattle.byte_io.specs.Counts.{Counts, counted, none_yet};
+ghost use Rattle.byte_io.specs.Reads.{longest_read};
+
+use crate::tally::{Failed, Tally};
+use std::io::Read;
+
+/// Where bytes come from.
+pub trait Source {
+    /// The bytes that reads will give from here on, where they are known.
+    ghost left: { Self → Option (List ℕ) };
+
+    /// How the reads so far went.
+    ghost counts: { Self → Counts };
+
+    /// Reads some bytes into the front of the buffer, which has room for 1 to 256, and says how many. 0
+    /// bytes say that none is left; of a terminal, which may bring more later, that none came in time. After `Failed`
+    /// nothing is lost: no byte was taken from the source.
+    fn read(&mut self, buffer: &mut [u8]) -> Result<usize, Failed>
+        requires { (0 < length buffer.old) × (length buffer.old ≤ longest_read) }
+        ensures within { IfOk result (λ n. n ≤ length buffer.new) }
+        ensures bytes { ReadConsumes (left self.old) (left self.new) result buffer.new }
+        ensures told { counts self.new ≡ counted (counts self.old) result };
+}
+
+/// A source over a reader of `std`. It counts its reads, those that failed, and those that gave 0 bytes; each count
+/// stays at its greatest value.
+#[derive(Drop)]
+pub struct OverRead<R> {
+    reader: R,
+    tally: Tally,
+}
+
+impl<R: Read> OverRead<R> {
+    /// A source that has made no read of this reader.
+    pub fn new(reader: R) -> OverRead<R>
+        ensures bytes { ⟦<OverRead<R> as Source>⟧.left result ≡ R.remaining reader }
+        ensures told { ⟦<OverRead<R> as Source>⟧.counts result ≡ none_yet }
+    {
+        OverRead {
+            reader,
+            tally: Tally::new(),
+        }
+    }
+}
+
+impl<R: Read> Source for OverRead<R> {
+    ghost left = { λ source. R.remaining source.reader };
+
+    ghost counts = { λ source. source.tally };
+
+    fn read(&mut self, buffer: &mut [u8]) -> Result<usize, Failed> {
+        let answer = self.reader.read(buffer).map_err(|_| Failed);
+        self.tally.count(answer);
+        answer
+    }
+}

@@ -1,0 +1,51 @@
+//! How the calls of a reader or of a writer went.
+ghost use Rattle.std.specs.Prelude.{◌≡◌};
+ghost use Rattle.byte_io.specs.Counts.{counted, none_yet};
+
+use std::marker::Model;
+use thiserror::Error;
+
+/// A read or a write that failed.
+#[derive(Clone, Copy, Debug, PartialEq, Eq, Error)]
+#[error("a read or a write failed")]
+pub struct Failed;
+
+/// How many calls were made, how many failed, and how many answered 0 bytes. Each count stays at its greatest value.
+#[derive(Drop)]
+pub(crate) struct Tally {
+    calls: u64,
+    failed: u64,
+    empty: u64,
+}
+
+impl Model for Tally {
+    ghost use Rattle.byte_io.specs.Counts.{Counts};
+
+    ghost Value = { Counts };
+
+    ghost view = { λ tally. record { calls = tally.calls; failed = tally.failed; empty = tally.empty } };
+}
+
+impl Tally {
+    pub(crate) fn new() -> Tally
+        ensures { result ≡ none_yet }
+    {
+        Tally {
+            calls: 0,
+            failed: 0,
+            empty: 0,
+        }
+    }
+
+    /// Counts a call with this answer.
+    pub(crate) fn count(&mut self, answer: Result<usize, Failed>)
+        ensures { self.new ≡ counted self.old answer }
+    {
+        self.calls = self.calls.saturating_add(1);
+        match answer {
+            Ok(0) => self.empty = self.empty.saturating_add(1),
+            Ok(_) => {}
+            Err(Failed) => self.failed = self.failed.saturating_add(1),
+        }
+    }
+}

@@ -1,0 +1,313 @@
+-- What `clap` found on a command line that it takes.
+use Rattle.std.proofs.Common.{◌≡◌, ◌⊎◌, ◌∙◌, ◌||◌, ◌&&◌, ◌<◌, ℕ, Bool, cond}
+use Rattle.std.proofs.Common.{true, false, not, refl, sym, ap, ap₂, subst}
+use Rattle.std.proofs.Common.{arith, inl, inr}
+use Rattle.std.proofs.Common.{List, [], ◌∷◌, Option, Some, None, Result, Ok, Err, is_some, codes, slice_index_or}
+use Rattle.std.proofs.Common.{slice_get}
+use Rattle.std.specs.Prelude.{find, option_and_then, option_map, unwrap_or}
+use Rattle.std.specs.List.{All}
+use Rattle.std.specs.Option.{option_map_or}
+use Rattle.std.specs.Str.{bytes_eq}
+use Rattle.std.specs.Str.Parse.{ParsesUnsigned, digits_value, without_leading_plus}
+use Rattle.std.proofs.lemmas.List.Elements.{All-from_recursion}
+use Rattle.std.proofs.lemmas.Slice.Eq.{bytes_eq-Decides}
+use Rattle.clap.specs.Built.{AddsArg, AddsSubcommand}
+use Rattle.clap.specs.Faults.{entered_fault, fault_of, is_simple_and_free, level_fault, walk_fault}
+use Rattle.clap.specs.Kinds.{HasKind}
+use Rattle.clap.specs.Matches.{ReadsOne}
+use Rattle.clap.specs.Simple.{App, HasMatchesOf, Shape, app_of, argument_words, built, entered, filled, label_of}
+use Rattle.clap.specs.Simple.{names_of}
+use Rattle.clap.specs.Simple.{rows_at}
+use Rattle.clap.specs.Simple.{subcommand_of, subcommand_rows_of, with_rule, with_subcommand}
+use Rattle.clap.specs.Takes.{is_given}
+use Rattle.clap.specs.Values.{IsUnsignedIn, read_as}
+use Rattle.clap.specs.Walk.{Row, Rule, Text, answers_to, arg_by_id, first_of, nothing_held, one_of, row_text}
+use Rattle.clap.specs.Walk.{rows_after}
+use Rattle.clap.specs.Walk.{rule_of, walk, walk_from}
+use Rattle.clap.specs.declared.builder.Arg.{Arg}
+use Rattle.clap.specs.declared.builder.Command.{Command}
+use Rattle.clap.specs.declared.builder.value_parser.Reading.TheVariants.{AsWritten}
+use Rattle.clap.specs.declared.builder.value_parser.ValueParser.TheVariants.{Unsigned}
+use Rattle.clap.specs.declared.error.Error.{Error}
+use Rattle.clap.specs.declared.parser.matches.ArgMatches.{ArgMatches}
+use Rattle.clap.proofs.SimpleLemmas.{plain_fields}
+use Rattle.clap.proofs.ValueTestLemmas.{accepts-Accepts}
+use Rattle.gateway_cli.specs.Bases.{base_in}
+use Rattle.gateway_cli.specs.CommandLine.{HasExplain, IsComplete, IsTaken, IsWhole, base_rule, enogate_app}
+use Rattle.gateway_cli.specs.CommandLine.{explain_rule, given_to, text_found}
+use Rattle.gateway_cli.proofs.RequiredLemmas.{DefaultFits, HasOne, RowFits, RuleFits, default_one, found_in, given_one}
+use Rattle.gateway_cli.proofs.RequiredLemmas.{level_fits, none_missing, or_else_none}
+
+-- ---- the making of the commands
+
+pub more_rules : (old new : Command) (arg : Arg) (app : App) (rule : Rule) → AddsArg old arg new → arg.global ≡ false
+    → app_of old ≡ app → rule_of arg ≡ rule → app_of new ≡ with_rule app rule
+more_rules old new arg app rule added local above is = added.shape local ∙ ap₂ with_rule above is
+
+pub more_commands : (old sub new : Command) (app below : App) → AddsSubcommand old sub new → app_of old ≡ app
+    → app_of sub ≡ below → below.top.is_plain ≡ true → app_of new ≡ with_subcommand app below.top
+more_commands old sub new app below added above is plain =
+    let own : (app_of sub).top.is_plain ≡ true = ap (λ (a : App). a.top.is_plain) is ∙ plain in
+    added.shape (plain_fields sub own).globals ∙ ap₂ with_subcommand above (ap (λ (a : App). a.top) is)
+
+-- ---- what was taken
+
+-- the parse of the command `enogate` takes the words
+pub taken_so : (words : List Text) (command : Command) → app_of command ≡ enogate_app
+    → (is_simple_and_free (app_of command) ≡ true → fault_of (app_of command) words ≡ []) → IsTaken words
+taken_so words command is none =
+    let P : App → Type 0 = λ app. is_simple_and_free app ≡ true → fault_of app words ≡ [] in subst P is none refl
+
+-- or it refuses them for a cause that it has of them
+pub refused_so : (words : List Text) (command : Command) (error : Error) → app_of command ≡ enogate_app
+    → (is_simple_and_free (app_of command) ≡ true → HasKind (fault_of (app_of command) words) error)
+    → HasKind (fault_of enogate_app words) error
+refused_so words command error is has =
+    let P : App → Type 0 = λ app. is_simple_and_free app ≡ true → HasKind (fault_of app words) error in
+    subst P is has refl
+
+-- and it found what `enogate_app` says
+pub found_so : (words : List Text) (command : Command) (m : ArgMatches) → app_of command ≡ enogate_app
+    → HasMatchesOf (app_of command) words m → subcommand_rows_of m ≡ subcommand_of enogate_app words
+found_so words command m is found =
+    let P : App → Type 0 = λ app. HasMatchesOf app words m in (subst P is found refl).1
+
+-- ---- the subcommands `replay` and `live`, as building leaves them
+
+abbrev replay_shape : Shape
+replay_shape = slice_index_or (built enogate_app).subs 0 enogate_app.top
+
+abbrev live_shape : Shape
+live_shape = slice_index_or (built enogate_app).subs 1 enogate_app.top
+
+replay_rules_fit : All (RuleFits replay_shape.rules) replay_shape.rules
+replay_rules_fit = All-from_recursion (RuleFits replay_shape.rules) replay_shape.rules (
+  (refl, inl (refl, refl, refl)),
+  (
+    (refl, inl (refl, refl, refl)),
+    ((refl, inr (inl (refl, refl, refl, codes "true", refl))), ((refl, inr (inr refl)), tt)),
+  ),
+)
+
+replay_defaults_fit : All DefaultFits replay_shape.rules
+replay_defaults_fit = All-from_recursion DefaultFits replay_shape.rules
+    (inl refl, (inl refl, (inr (codes "false", refl), (inl refl, tt))))
+
+live_rules_fit : All (RuleFits live_shape.rules) live_shape.rules
+live_rules_fit = All-from_recursion (RuleFits live_shape.rules) live_shape.rules (
+  (refl, inl (refl, refl, refl)),
+  (
+    (refl, inl (refl, refl, refl)),
+    (
+      (refl, inl (refl, refl, refl)),
+      (
+        (refl, inl (refl, refl, refl)),
+        (
+          (refl, inl (refl, refl, refl)),
+          (
+            (refl, inl (refl, refl, refl)),
+            ((refl, inr (inl (refl, refl, refl, codes "true", refl))), ((refl, inr (inr refl)), tt)),
+          ),
+        ),
+      ),
+    ),
+  ),
+)
+
+live_defaults_fit : All DefaultFits live_shape.rules
+live_defaults_fit = All-from_recursion DefaultFits live_shape.rules (
+  inl refl,
+  (inl refl, (inl refl, (inl refl, (inl refl, (inl refl, (inr (codes "false", refl), (inl refl, tt))))))),
+)
+
+was_given : (b : Bool) → not b ≡ false → b ≡ true
+was_given true e = refl
+was_given false e = cc
+
+first_text : (id : Text) (rows : List Row) (r : Row) (text : Text) → find (λ x. bytes_eq x.id id) rows ≡ Some r
+    → r.values ≡ text ∷ [] → first_of id rows ≡ Some text
+first_text id rows r text found values =
+    ap (option_and_then (λ (x : Row). slice_get x.values 0)) found ∙ ap (λ (vs : List Text). slice_get vs 0) values
+
+read_text : (id : Text) (rows : List Row) (r : Row) (text : Text) → find (λ x. bytes_eq x.id id) rows ≡ Some r
+    → r.values ≡ text ∷ [] → r.reading ≡ AsWritten → one_of id rows ≡ Some text
+read_text id rows r text found values reading =
+    ap (option_and_then row_text) found
+    ∙ ap₂ (λ how (vs : List Text). option_map (read_as how) (slice_get vs 0)) reading values
+
+-- the flag `--explain`, as building leaves it
+abbrev built_explain : Rule
+built_explain = filled explain_rule
+
+-- its text is there, given or not
+explain_found : (s : Shape) (words : List Text) → All (RowFits s.rules) (rows_after s.rules [] words)
+    → arg_by_id s.rules (codes "explain") ≡ Some built_explain → HasExplain (rows_after s.rules [] words)
+explain_found s words fits own =
+    let rows = rows_after s.rules [] words in
+    let got = default_one s words built_explain (codes "false") fits own refl in
+    let text = got.2.0 in
+    let is : (bytes_eq text (codes "true") || bytes_eq text (codes "false")) ≡ true = got.2.2 in
+    record {
+      text = text;
+      found = first_text (codes "explain") rows got.0 text got.1 got.2.1;
+      read = read_text (codes "explain") rows got.0 text got.1 got.2.1 got.2.3;
+      is = go text (bytes_eq text (codes "true")) refl is;
+    }
+  where
+    go : (text : Text) (b : Bool) → bytes_eq text (codes "true") ≡ b → (b || bytes_eq text (codes "false")) ≡ true
+        → (text ≡ codes "true") ⊎ (text ≡ codes "false")
+    go text true is either = inl ((bytes_eq-Decides text (codes "true")).0 is)
+    go text false is either = inr ((bytes_eq-Decides text (codes "false")).0 either)
+
+replay_passes : (words : List Text) → level_fault replay_shape [] nothing_held words false [] ≡ []
+    → HasExplain (rows_after replay_shape.rules [] words)
+replay_passes words e =
+    let level = level_fits replay_shape refl replay_rules_fit (λ n. refl) replay_defaults_fit words e in
+    explain_found replay_shape words level.0 refl
+
+-- what is required of `live` is there, where its words pass
+live_passes : (words : List Text) → level_fault live_shape [] nothing_held words false [] ≡ []
+    → HasExplain (rows_after live_shape.rules [] words) × IsWhole (rows_after live_shape.rules [] words)
+live_passes words e =
+    let rows = rows_after live_shape.rules [] words in
+    let level = level_fits live_shape refl live_rules_fit (λ n. refl) live_defaults_fit words e in
+    let each = none_missing live_shape rows level.1 in
+    let rule : ℕ → Rule = λ k. slice_index_or live_shape.rules k base_rule in
+    let one : (k : ℕ) → k < 8 → (rule k).required ≡ true → arg_by_id live_shape.rules (rule k).id ≡ Some (rule k)
+    → (r : Row) × (find (λ x. bytes_eq x.id (rule k).id) rows ≡ Some r) × HasOne (rule k) r =
+    λ k low required own. given_one live_shape.rules rows (rule k) level.0 own
+    (was_given _ (ap (λ b. b && not (is_given (rule k).id rows)) (sym required) ∙ each k base_rule low)) in
+    let text : (k : ℕ) → k < 8 → (rule k).required ≡ true → arg_by_id live_shape.rules (rule k).id ≡ Some (rule k)
+    → is_some (first_of (rule k).id rows) ≡ true =
+    λ k low required own. let got = one k low required own in
+    ap (λ o. is_some o) (first_text (rule k).id rows got.0 got.2.0 got.1 got.2.1) in
+    let turns = one 4 (omega arith) refl refl in
+    let whole : IsWhole rows = record {
+      serial = text 1 (omega arith) refl refl;
+      desk = text 2 (omega arith) refl refl;
+      out = text 3 (omega arith) refl refl;
+      turns = record {
+        text = turns.2.0;
+        given = first_text (codes "turns") rows turns.0 turns.2.0 turns.1 turns.2.1;
+        read = read_text (codes "turns") rows turns.0 turns.2.0 turns.1 turns.2.1 turns.2.3;
+        passes = accepts-Accepts false (Unsigned 1 4294967295) turns.2.0 turns.2.2;
+      };
+    } in
+    (explain_found live_shape words level.0 refl, whole)
+
+-- the name of a subcommand that serves
+abbrev Serves : Text → Type 0
+Serves name = (name ≡ codes "replay") ⊎ (name ≡ codes "live")
+
+abbrev CompleteIfServing : Shape → Type 0
+CompleteIfServing s = Serves s.name → (words : List Text) → level_fault s [] nothing_held words false [] ≡ []
+    → IsComplete (Some (rows_at s words))
+
+subcommands_complete : All CompleteIfServing (built enogate_app).subs
+subcommands_complete =
+    let first : Text → ℕ = λ t. slice_index_or t 0 0 in
+    All-from_recursion CompleteIfServing (built enogate_app).subs (
+      λ named words e. (replay_passes words e, inl refl),
+      (
+        λ named words e. let passes = live_passes words e in (passes.0, inr (refl, passes.1)),
+        (
+          λ named words e. elim named [
+            | inl replay ↦ let bad : 104 ≡ 114 = ap first replay in absurd (omega arith)
+            | inr live ↦ let bad : 104 ≡ 108 = ap first live in absurd (omega arith)
+          ],
+          tt,
+        ),
+      ),
+    )
+
+entered_complete : (stop : Option (Text × List Text)) (found : Text × List Row)
+    → entered_fault (built enogate_app) stop ≡ [] → entered (built enogate_app) stop ≡ Some found → Serves found.0
+    → IsComplete (Some found)
+entered_complete None found e is named = cc
+entered_complete (Some p) found e is named =
+    go (find (λ s. answers_to p.0 (label_of s)) (built enogate_app).subs) refl e is
+  where
+    go : (o : Option Shape) → find (λ s. answers_to p.0 (label_of s)) (built enogate_app).subs ≡ o
+        → option_map_or (λ s. level_fault s [] nothing_held p.1 false []) o [] ≡ []
+        → option_map (λ s. rows_at s p.1) o ≡ Some found → IsComplete (Some found)
+    go None at e is = cc
+    go (Some s) at e is =
+        let same : rows_at s p.1 ≡ found = ap (λ (o : Option (Text × List Row)). unwrap_or o found) is in
+        let complete = (found_in CompleteIfServing (λ x. answers_to p.0 (label_of x)) (built enogate_app).subs s
+        subcommands_complete at).0 in
+        subst (λ (x : Text × List Row). IsComplete (Some x)) same
+        (complete (subst (λ (x : Text × List Row). Serves x.0) (sym same) named) p.1 e)
+
+-- where a base was found, the subcommand is one that serves, with all that it has to have
+complete : (words : List Text) (found : Option (Text × List Row)) (base : ℕ) → IsTaken words
+    → found ≡ subcommand_of enogate_app words → option_and_then base_in (text_found (codes "base") found) ≡ Some base
+    → IsComplete found
+complete words None base taken is read = cc
+complete words (Some found) base taken is read =
+    go (bytes_eq found.0 (codes "replay")) (bytes_eq found.0 (codes "live")) refl refl read
+  where
+    serves : Serves found.0 → IsComplete (Some found)
+    serves named =
+        let app = built enogate_app in
+        let rest = argument_words enogate_app words in
+        let stop = (walk app.top.rules (names_of app) nothing_held rest).stopped in
+        let parts = or_else_none (walk_fault app.top (names_of app) (walk_from nothing_held) rest) _ taken in
+        let below = (or_else_none (entered_fault app stop) _ parts.1).0 in
+        entered_complete stop found below (sym is) named
+
+    go : (r l : Bool) → bytes_eq found.0 (codes "replay") ≡ r → bytes_eq found.0 (codes "live") ≡ l
+        → option_and_then base_in (option_and_then (first_of (codes "base")) (cond (r || l) (Some found.1) None))
+        ≡ Some base → IsComplete (Some found)
+    go true l replay live read = serves (inl ((bytes_eq-Decides found.0 (codes "replay")).0 replay))
+    go false true replay live read = serves (inr ((bytes_eq-Decides found.0 (codes "live")).0 live))
+    go false false replay live read = cc
+
+-- and so it is of the parse of the command `enogate`
+pub complete_so : (words : List Text) (command : Command) (m : ArgMatches) (base : ℕ) → app_of command ≡ enogate_app
+    → (is_simple_and_free (app_of command) ≡ true → fault_of (app_of command) words ≡ [])
+    → HasMatchesOf (app_of command) words m
+    → option_and_then base_in (text_found (codes "base") (subcommand_rows_of m)) ≡ Some base
+    → IsComplete (subcommand_rows_of m)
+complete_so words command m base is none found read =
+    complete words (subcommand_rows_of m) base (taken_so words command is none) (found_so words command m is found) read
+
+-- ---- the flag
+
+-- what was given to a complete subcommand has the text of `--explain`
+pub has_explain : (found : Option (Text × List Row)) (rows : List Row) → IsComplete found
+    → Some rows ≡ option_and_then given_to found → HasExplain rows
+has_explain None rows complete is = cc
+has_explain (Some found) rows complete is =
+    go (bytes_eq found.0 (codes "replay") || bytes_eq found.0 (codes "live")) is
+  where
+    go : (b : Bool) → Some rows ≡ cond b (Some found.1) None → HasExplain rows
+    go true is =
+        let same : rows ≡ found.1 = ap (λ (o : Option (List Row)). unwrap_or o rows) is in
+        subst HasExplain (sym same) complete.0
+    go false is = cc
+
+-- what `get_flag` reads from it
+pub flag_read : (rows : List Row) (b : Bool) → HasExplain rows
+    → (one_of (codes "explain") rows ≡ Some (codes "true") → b ≡ true)
+    → (one_of (codes "explain") rows ≡ Some (codes "false") → b ≡ false)
+    → b ≡ option_map_or (λ text. bytes_eq text (codes "true")) (first_of (codes "explain") rows) false
+flag_read rows b has if_true if_false =
+    let is_true : Option Text → Bool = λ o. option_map_or (λ text. bytes_eq text (codes "true")) o false in
+    elim has.is [
+      | inl given ↦
+          let text = ap (λ t. Some t) given in
+          if_true (has.read ∙ text) ∙ sym (ap is_true (has.found ∙ text))
+      | inr not_given ↦
+          let text = ap (λ t. Some t) not_given in
+          if_false (has.read ∙ text) ∙ sym (ap is_true (has.found ∙ text))
+    ]
+
+-- ---- the number of turns
+
+-- the number that `get_one` reads from a text that passed
+pub turns_read : (E : Type 0) (G : List ℕ → Result ℕ E → Type 0) (text : Text) (r : Option ℕ) → ReadsOne G text r
+    → ((u : List ℕ) (x : Result ℕ E) → G u x → ParsesUnsigned 32 10 u x) → IsUnsignedIn 1 4294967295 text
+    → r ≡ Some (digits_value 10 (without_leading_plus text))
+turns_read E G text (Some n) read only passes = ap (λ k. Some k) (only text (Ok n) read).1
+turns_read E G text None read only passes =
+    absurd (only text (Err read.0) read.1 (passes.0, omega (arith, passes.3)))

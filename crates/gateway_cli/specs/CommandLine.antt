@@ -1,0 +1,161 @@
+-- What the words of the command line say, in the words of `clap`. Own choice.
+use Rattle.std.specs.Prelude.{◌≡◌, ◌≤◌, ◌⊎◌, ◌||◌, ℕ, Bool, List, [], codes, true, false, if◌then◌else◌}
+use Rattle.std.specs.Prelude.{Option, Some, None, is_some, option_and_then}
+use Rattle.std.specs.Option.{option_map_or}
+use Rattle.std.specs.Str.{bytes_eq}
+use Rattle.std.specs.Str.Parse.{IsNumeral, digits_value, without_leading_plus}
+use Rattle.clap.specs.Values.{IsUnsignedIn}
+use Rattle.clap.specs.Words.{App, HasKind, Row, Rule, Text, fault_of, first_of, kind_of, new_app, new_rule, one_of}
+use Rattle.clap.specs.Words.{subcommand_of, with_rule, with_subcommand}
+use Rattle.clap.specs.declared.builder.ArgAction.TheVariants.{Set, SetTrue}
+use Rattle.clap.specs.declared.builder.value_parser.ValueParser.TheVariants.{Unsigned}
+use Rattle.clap.specs.declared.error.ErrorKind.TheVariants.{OutOfMemory}
+use Rattle.gateway_cli.specs.Bases.{base_in}
+use Rattle.gateway_cli.specs.declared.LiveOptions.{LiveOptions}
+use Rattle.gateway_cli.specs.declared.Refused.{Refused}
+use Rattle.gateway_cli.specs.declared.Refused.TheVariants.{Words, BadBase}
+use Rattle.gateway_cli.specs.declared.Task.{Task}
+use Rattle.gateway_cli.specs.declared.Task.TheVariants.{Replay, Live}
+
+-- `--NAME VALUE`, which is required
+abbrev pub required_rule : Text → Rule
+required_rule name = record (new_rule name) { long = Some name; action = Some Set; value_names = 1; required = true }
+
+-- `--base ID`
+abbrev pub base_rule : Rule
+base_rule = required_rule (codes "base")
+
+-- `--turns N`, where N is 1 to 4294967295
+abbrev pub turns_rule : Rule
+turns_rule = record (required_rule (codes "turns")) { parser = Some (Unsigned 1 4294967295) }
+
+-- `--db PATH`
+abbrev pub db_rule : Rule
+db_rule = record (new_rule (codes "db")) { long = Some (codes "db"); action = Some Set; value_names = 1 }
+
+-- `--explain`, a flag, which has no value
+abbrev pub explain_rule : Rule
+explain_rule = record (new_rule (codes "explain")) { long = Some (codes "explain"); action = Some SetTrue }
+
+abbrev pub replay_app : App
+replay_app = with_rule (with_rule (with_rule (new_app (codes "replay")) base_rule) db_rule) explain_rule
+
+-- `live` with its base, and with the paths too
+abbrev pub live_app_of_base : App
+live_app_of_base = with_rule (new_app (codes "live")) base_rule
+
+abbrev pub live_app_of_paths : App
+live_app_of_paths =
+    with_rule (with_rule (with_rule live_app_of_base (required_rule (codes "serial"))) (required_rule (codes "desk")))
+    (required_rule (codes "out"))
+
+abbrev pub live_app : App
+live_app = with_rule (with_rule (with_rule live_app_of_paths turns_rule) db_rule) explain_rule
+
+-- a command that tells its version
+abbrev pub with_version : App → App
+with_version app = record app { top = record app.top { has_version = true } }
+
+-- a command that wants a subcommand
+abbrev pub with_subcommand_required : App → App
+with_subcommand_required app = record app { top = record app.top { subcommand_required = true } }
+
+-- `enogate`, with the subcommands `replay` and `live`
+abbrev pub enogate_app : App
+enogate_app =
+    with_subcommand
+    (with_subcommand (with_subcommand_required (with_version (new_app (codes "enogate")))) replay_app.top) live_app.top
+
+-- what was given to the subcommand, where it is `replay` or `live`
+abbrev pub given_to : Text × List Row → Option (List Row)
+given_to (name, rows) = if bytes_eq name (codes "replay") || bytes_eq name (codes "live") then Some rows else None
+
+-- the text that stands for its option of this name
+abbrev pub text_found : Text → Option (Text × List Row) → Option Text
+text_found name found = option_and_then (first_of name) (option_and_then given_to found)
+
+-- its flag of this name was given: `clap` then finds the text `true` for it, and else `false`
+abbrev pub flag_found : Text → Option (Text × List Row) → Bool
+flag_found name found = option_map_or (λ text. bytes_eq text (codes "true")) (text_found name found) false
+
+-- the base ID of a command line that `clap` takes
+abbrev pub base_of_line : List Text → Option ℕ
+base_of_line words = option_and_then base_in (text_found (codes "base") (subcommand_of enogate_app words))
+
+-- the path of its registry, if it names one
+abbrev pub db_of_line : List Text → Option Text
+db_of_line words = text_found (codes "db") (subcommand_of enogate_app words)
+
+-- whether it asks for explanations
+abbrev pub explain_of_line : List Text → Bool
+explain_of_line words = flag_found (codes "explain") (subcommand_of enogate_app words)
+
+-- the text spells this number in decimal digits, before which one `+` may stand
+abbrev pub Spells : Text → ℕ → Type 0
+Spells text n = IsNumeral 10 (without_leading_plus text) × (n ≡ digits_value 10 (without_leading_plus text))
+
+-- the turns are the number, 1 to 4294967295, that the text of `--turns` spells
+pub record AreTurns (rows : List Row) (turns : ℕ) : Type 0 where
+  pub text : Text
+  pub given : first_of (codes "turns") rows ≡ Some text
+  pub spelled : Spells text turns
+  pub least : 1 ≤ turns
+  pub most : turns ≤ 4294967295
+
+-- the options of `live` as they were given
+pub record AreLive (rows : List Row) (options : LiveOptions) : Type 0 where
+  pub serial : first_of (codes "serial") rows ≡ Some options.serial.now
+  pub desk : first_of (codes "desk") rows ≡ Some options.desk.now
+  pub out : first_of (codes "out") rows ≡ Some options.out.now
+  pub turns : AreTurns rows options.turns
+
+-- what a subcommand asks for, by its name and what was given to it
+abbrev pub Asks : Option (Text × List Row) → Task → Type 0
+Asks None task = ⊥
+Asks (Some (name, rows)) Replay = name ≡ codes "replay"
+Asks (Some (name, rows)) (Live options) = (name ≡ codes "live") × AreLive rows options
+
+-- what a command line that `clap` takes asks for
+abbrev pub AsksFor : List Text → Task → Type 0
+AsksFor words task = Asks (subcommand_of enogate_app words) task
+
+-- a text was given for `--turns` that a number of 1 to 4294967295 reads from
+pub record HasTurns (rows : List Row) : Type 0 where
+  pub text : Text
+  pub given : first_of (codes "turns") rows ≡ Some text
+  pub read : one_of (codes "turns") rows ≡ Some text
+  pub passes : IsUnsignedIn 1 4294967295 text
+
+-- `true` or `false` was found for `--explain`
+pub record HasExplain (rows : List Row) : Type 0 where
+  pub text : Text
+  pub found : first_of (codes "explain") rows ≡ Some text
+  pub read : one_of (codes "explain") rows ≡ Some text
+  pub is : (text ≡ codes "true") ⊎ (text ≡ codes "false")
+
+-- each option that `live` has to have was given
+pub record IsWhole (rows : List Row) : Type 0 where
+  pub serial : is_some (first_of (codes "serial") rows) ≡ true
+  pub desk : is_some (first_of (codes "desk") rows) ≡ true
+  pub out : is_some (first_of (codes "out") rows) ≡ true
+  pub turns : HasTurns rows
+
+-- a subcommand is `replay`, or `live` with all that it has to have, and `--explain` was given or not
+abbrev pub IsComplete : Option (Text × List Row) → Type 0
+IsComplete None = ⊥
+IsComplete (Some (name, rows)) =
+    HasExplain rows × ((name ≡ codes "replay") ⊎ ((name ≡ codes "live") × IsWhole rows))
+
+-- it was refused for want of memory
+abbrev pub IsMemory : Refused → Type 0
+IsMemory BadBase = ⊥
+IsMemory (Words error) = kind_of error ≡ OutOfMemory
+
+-- `clap` takes the line
+abbrev pub IsTaken : List Text → Type 0
+IsTaken words = fault_of enogate_app words ≡ []
+
+-- `clap` refuses the line for a cause that it has of it, or there was no memory; or it takes it, and the base is none
+abbrev pub RefusesLine : List Text → Refused → Type 0
+RefusesLine words (Words error) = HasKind (fault_of enogate_app words) error
+RefusesLine words BadBase = IsTaken words × (base_of_line words ≡ None)

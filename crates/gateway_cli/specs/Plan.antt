@@ -1,0 +1,33 @@
+-- What a run opens, in which way, and how long it goes on. Own choice.
+use Rattle.std.specs.Prelude.{ℕ, List}
+use Rattle.std.specs.Borrow.{Bor}
+use Rattle.gateway_cli.specs.declared.Options.{Options}
+use Rattle.gateway_cli.specs.declared.Task.{Task}
+use Rattle.gateway_cli.specs.declared.Task.TheVariants as task
+use Rattle.gateway_cli.specs.declared.plan.Plan.{Plan}
+use Rattle.gateway_cli.specs.declared.plan.Service.{Service}
+use Rattle.gateway_cli.specs.declared.plan.Service.TheVariants.{Replay, Live}
+use Rattle.gateway_cli.specs.declared.plan.Opened.{Opened}
+use Rattle.gateway_cli.specs.declared.plan.Access.{Access}
+use Rattle.gateway_cli.specs.declared.plan.Access.TheVariants.{Read, ReadAndWrite, WriteAnew}
+
+-- a file, and what it is opened for
+abbrev pub opened : Bor (List ℕ) → Access → Opened
+opened path access = record { path = path; access = access }
+
+-- What a run is for. A replay makes 4,000,000,000 reads at most; a live gateway reads and writes the serial line, reads
+-- the desk, and writes its answers anew.
+abbrev pub service_of : Task → Service
+service_of task.Replay = Replay 4000000000
+service_of (task.Live options) =
+    Live (opened options.serial ReadAndWrite) (opened options.desk Read) (opened options.out WriteAnew) options.turns
+
+-- as many senders are remembered as devices can be learned, and 24 more
+abbrev pub plan_of : Options → Plan
+plan_of options = record {
+  db = options.db;
+  remembered = 1024;
+  base = options.base;
+  explain = options.explain;
+  service = service_of options.task;
+}

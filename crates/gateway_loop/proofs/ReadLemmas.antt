@@ -1,0 +1,101 @@
+-- How the reads of a source go on.
+use Rattle.std.proofs.Common.{◌≡◌, ℕ, ◌+◌, ◌≤◌, List, [], ◌∷◌}
+use Rattle.std.proofs.Common.{◌++◌, length, take, Option, refl, ap, sym, ◌∙◌}
+use Rattle.std.proofs.Common.{append-nil, append_assoc, arith, inl, length-append, subst, None, Some, ◌<◌}
+use Rattle.std.specs.Prelude.{IfSome, Ok, Err}
+use Rattle.std.specs.Io.KnownBytes.{Consumes, IsAtEnd, Keeps, ReadConsumes}
+use Rattle.std.specs.List.{concat, flat_map}
+use Rattle.std.proofs.KnownBytes.{Consumes-nil, Consumes-trans, Consumes-kept}
+use Rattle.std.proofs.lemmas.List.{length-take}
+use Rattle.std.proofs.lemmas.List.Concat.{concat_is, flat_map-append}
+use Rattle.byte_io.specs.declared.tally.Failed.{Failed}
+use Rattle.byte_io.specs.Counts.{counted, one_more}
+use Rattle.gateway_loop.specs.Reads.{AreReads, IsRead, MakesReads, ReadsFail, ReadsWell}
+use Rattle.byte_io.specs.Reads.{longest_read}
+use Rattle.gateway_loop.specs.Streams.{SourceValue}
+use Rattle.gateway_loop.proofs.CallCountLemmas.{made_at, made_more, made_none}
+
+-- one read more behind others
+reads_and : (left : Option (List ℕ)) (before : List ℕ) (reads : List (List ℕ)) (bytes : List ℕ)
+    → AreReads left before reads → IsRead left (before ++ concat reads) bytes
+    → AreReads left before (reads ++ bytes ∷ [])
+reads_and left before [] bytes each read = (subst (λ b. IsRead left b bytes) (append-nil before) read, tt)
+reads_and left before (first ∷ reads) bytes each read = (
+  each.0,
+  reads_and left (before ++ first) reads bytes each.1
+      (subst (λ b. IsRead left b bytes) (sym (append_assoc before first (concat reads))) read),
+)
+
+-- a read that gives nothing comes where all was read
+all_read : (a b c : Option (List ℕ)) (before bytes : List ℕ) → Consumes a b before → Consumes b c bytes → bytes ≡ []
+    → IsAtEnd c → IfSome a (λ all. all ≡ before)
+all_read None b c before bytes p q none end = tt
+all_read (Some xs) None c before bytes p q none end = absurd p
+all_read (Some xs) (Some ys) None before bytes p q none end = absurd q
+all_read (Some xs) (Some ys) (Some zs) before bytes p q none end =
+    p ∙ ap (λ (s : List ℕ). before ++ s) (q ∙ ap (λ (s : List ℕ). s ++ zs) none ∙ end) ∙ append-nil before
+
+concat-more : (reads : List (List ℕ)) (bytes : List ℕ) → concat (reads ++ bytes ∷ []) ≡ concat reads ++ bytes
+concat-more reads bytes =
+    concat_is (reads ++ bytes ∷ []) ∙ flat_map-append (λ (x : List ℕ). x) reads (bytes ∷ [])
+    ∙ ap (λ s. flat_map (λ (x : List ℕ). x) reads ++ s) (append-nil bytes)
+    ∙ ap (λ s. s ++ bytes) (sym (concat_is reads))
+
+empty_take : (n : ℕ) (buffer : List ℕ) → n ≤ length buffer → take n buffer ≡ [] → n ≡ 0
+empty_take n buffer within none = let e = ap length none in omega (arith, within, e, length-take n buffer)
+
+pub reads_none : (source : SourceValue) → ReadsWell source source []
+reads_none source = record {
+  gave = record { all = Consumes-nil source.left; each = tt };
+  made = made_none source.counts;
+  well = refl;
+}
+
+-- a read more
+pub reads_more : (old mid new : SourceValue) (reads : List (List ℕ)) (n : ℕ) (buffer : List ℕ) → ReadsWell old mid reads
+    → n ≤ length buffer → length buffer ≡ longest_read → ReadConsumes {E = Failed} mid.left new.left (Ok n) buffer
+    → new.counts ≡ counted {E = Failed} mid.counts (Ok n) → ReadsWell old new (reads ++ take n buffer ∷ [])
+reads_more old mid new reads n buffer p within room (some, end) told =
+    let bytes = take n buffer in
+    let read : IsRead old.left (concat reads) bytes = record {
+      short = omega (arith, room, length-take n buffer);
+      empty = λ none. all_read old.left mid.left new.left (concat reads) bytes p.gave.all some none
+          (end (empty_take n buffer within none) (omega (arith, room)));
+    } in
+    record {
+      gave = record {
+        all =
+            subst (Consumes old.left new.left) (sym (concat-more reads bytes))
+            (Consumes-trans old.left mid.left new.left (concat reads) bytes p.gave.all some);
+        each = reads_and old.left [] reads bytes p.gave.each read;
+      };
+      made =
+          made_at old.counts new.counts (length reads + 1) _ (sym (length-append reads (bytes ∷ [])))
+          (made_more old.counts mid.counts new.counts (length reads) p.made (ap (λ t. t.calls) told));
+      well = ap (λ t. t.failed) told ∙ p.well;
+    }
+
+-- a read more, of those that may be made
+pub one_read_more : (old mid new : SourceValue) (reads : List (List ℕ)) (n turn turns : ℕ) (buffer : List ℕ)
+    → ReadsWell old mid reads → length reads ≡ turn → turn < turns → n ≤ length buffer → length buffer ≡ longest_read
+    → ReadConsumes {E = Failed} mid.left new.left (Ok n) buffer → new.counts ≡ counted {E = Failed} mid.counts (Ok n)
+    → MakesReads old new turns
+one_read_more old mid new reads n turn turns buffer p count below within room bytes told = (
+  reads ++ take n buffer ∷ [],
+  inl (
+    reads_more old mid new reads n buffer p within room bytes told,
+    omega (arith, count, below, length-append reads (take n buffer ∷ [])),
+  ),
+)
+
+-- a read that fails
+pub reads_fail : (old mid new : SourceValue) (reads : List (List ℕ)) (error : Failed) → ReadsWell old mid reads
+    → Keeps mid.left new.left → new.counts ≡ counted {E = Failed} mid.counts (Err error) → ReadsFail old new reads
+reads_fail old mid new reads error p kept told = record {
+  gave = record {
+    all = Consumes-kept old.left mid.left new.left (concat reads) p.gave.all kept;
+    each = p.gave.each;
+  };
+  made = made_more old.counts mid.counts new.counts (length reads) p.made (ap (λ t. t.calls) told);
+  failed = ap (λ t. t.failed) told ∙ ap one_more p.well;
+}

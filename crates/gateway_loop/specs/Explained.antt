@@ -1,0 +1,39 @@
+-- What the lines that explain packets add to what is written.
+use Rattle.std.specs.Prelude.{◌≡◌, ℕ, true, false, List, [], ◌∷◌, ◌++◌, Some}
+use Rattle.gateway_core.specs.Step.{Answer}
+use Rattle.gateway_loop.specs.Streams.{SinkValue}
+use Rattle.gateway_loop.specs.Wires.{wires}
+use Rattle.gateway_loop.specs.Written.{WritesAll, radio_text}
+
+-- Both texts are those of the answers, each with some text before what the desk is told; the second has the line that
+-- explains the packet between the two.
+abbrev pub IsExplained : (Answer → List ℕ) → List Answer → List ℕ → List ℕ → Type 0
+IsExplained before [] plain explained = (plain ≡ []) × (explained ≡ [])
+IsExplained before (answer ∷ answers) plain explained =
+    (rest more : List ℕ) × (plain ≡ before answer ++ (answer.desk ++ rest))
+    × (explained ≡ before answer ++ (answer.explained ++ (answer.desk ++ more)))
+    × IsExplained before answers rest more
+
+-- So it is of what was written behind what a sink held.
+pub record IsExplainedBehind (before : Answer → List ℕ) (answers : List Answer) (held plain explained : List ℕ)
+    : Type 0 where
+  pub added : List ℕ
+  pub more : List ℕ
+  pub plain_is : plain ≡ held ++ added
+  pub explained_is : explained ≡ held ++ more
+  pub lines : IsExplained before answers added more
+
+-- A replay that explains packets writes what one that does not writes for the same answers, but for the lines that
+-- explain them, each directly before what else the desk is told. So it is of what a live gateway writes to the desk,
+-- and what it writes to the serial line is the same.
+pub record ExplanationsStandApart : Type 0 where
+  pub replay : (answers : List Answer) (held plain explained : List ℕ)
+      → WritesAll false (Some held) (Some plain) answers → WritesAll true (Some held) (Some explained) answers
+      → IsExplainedBehind (λ answer. radio_text answer.radio) answers held plain explained
+  pub desk : (answers : List Answer) (old new other : SinkValue × SinkValue) (held plain explained : List ℕ)
+      → (wires false).puts old new answers → (wires true).puts old other answers
+      → old.1.held ≡ Some held → new.1.held ≡ Some plain → other.1.held ≡ Some explained
+      → IsExplainedBehind (λ answer. []) answers held plain explained
+  pub serial : (answers : List Answer) (old new other : SinkValue × SinkValue) (held plain explained : List ℕ)
+      → (wires false).puts old new answers → (wires true).puts old other answers
+      → old.0.held ≡ Some held → new.0.held ≡ Some plain → other.0.held ≡ Some explained → plain ≡ explained

@@ -1,0 +1,135 @@
+-- The headline: what a gateway writes by `replay` and by `live`, what it knows afterwards, and what a crash leaves of
+-- it. The contracts of the two functions say it, for every answer; that of `start` says how a gateway begins.
+use Rattle.std.specs.Prelude.{◌≡◌, ℕ, Bool, List, [], ◌++◌, length, Some, Result, MatchResult}
+use Rattle.std.specs.List.{concat, flat_map}
+use Rattle.learned_devices.specs.Kept.{Kept}
+use Rattle.learned_devices.specs.Devices.{Devices}
+use Rattle.gateway_core.specs.Step.{Item, Answer, State}
+use Rattle.gateway_core.specs.Run.{Fate, Run}
+use Rattle.gateway_core.specs.Lives.{begun}
+use Rattle.gateway_core.specs.Prefixes.{AfterPrefix}
+use Rattle.gateway_core.specs.Handling.{HandlerValue, IsAt}
+use Rattle.gateway_core.specs.Calls.{Value, new_value}
+use Rattle.gateway_core.specs.Events.{items_of}
+use Rattle.byte_io.specs.declared.sink.Sink as sinks
+use Rattle.byte_io.specs.declared.source.Source as sources
+use Rattle.gateway_loop.specs.declared.runs.RunFault.{RunFault}
+use Rattle.gateway_loop.specs.declared.runs.Summary.{Summary}
+use Rattle.gateway_loop.specs.Reads.{ReadsWell}
+use Rattle.gateway_loop.specs.Script.{script}
+use Rattle.gateway_loop.specs.Streams.{source_value}
+use Rattle.gateway_loop.specs.Turns.{Turn, desks, events_of_turns, pieces}
+use Rattle.gateway_loop.specs.Wires.{radio_bytes}
+use Rattle.gateway_loop.specs.Written.{desk_text, written}
+
+-- the bytes are the first of these, or all of them
+pub record IsPrefix (bytes all : List ℕ) : Type 0 where
+  pub rest : List ℕ
+  pub whole : all ≡ bytes ++ rest
+
+-- the turns read these bytes of the two sources, and left the rest
+pub record ReadInTurns (turns : List Turn) (serial serial_rest desk desk_rest : List ℕ) : Type 0 where
+  pub serial_is : serial ≡ concat (pieces turns) ++ serial_rest
+  pub desk_is : desk ≡ concat (desks turns) ++ desk_rest
+
+-- the radio bytes of the answers, and their lines for the desk
+abbrev pub radio_of : List Answer → List ℕ
+radio_of answers = flat_map (λ answer. radio_bytes answer.radio) answers
+
+abbrev pub lines_of : Bool → List Answer → List ℕ
+lines_of explains answers = flat_map (desk_text explains) answers
+
+-- `S` is the store of a gateway's devices, and `stored` what it keeps.
+module _ {S : Type 0} (stored : S → Kept) where
+  -- A new gateway over a registry of these devices. It learns from nobody, has counted nothing, and no byte has come. A
+  -- crash leaves these devices and nothing else.
+  pub record IsNew (base : ℕ) (found : Devices) (gateway : Value S) : Type 0 where
+    pub value : gateway ≡ new_value base gateway.handler.registry
+    pub known : (stored gateway.handler.registry).holds found
+    pub registries : (stored gateway.handler.registry).sound
+    pub left : (left : Devices) → (stored gateway.handler.registry).may_recover left → left ≡ found
+
+  -- From the devices found, the items were handled in turn. Each took the step of the definitions, or it was refused.
+  -- Only an item that needs memory or the store can be refused; then only the count of refused items changed. The
+  -- answers are out. The gateway knows what the last step left; while the connection is open, the registry holds its
+  -- devices. Any crash state is a registry, of what was known after some prefix of the items. The prefix has every
+  -- acknowledged item. The change of the next item may be there too, if its write was refused.
+  pub record AsSpecified (base : ℕ) (found : Devices) (items : List Item) (out : List Answer → Type 0)
+      (new : HandlerValue S) : Type 0 where
+    pub fates : List Fate
+    pub answers : List Answer
+    pub last : State
+    pub run : Run (begun base found) items fates answers last
+    pub are_out : out answers
+    pub known : IsAt stored new last
+    pub registries : (stored new.registry).sound
+    pub left : (left : Devices) → (stored new.registry).may_recover left → AfterPrefix (begun base found) items fates left
+
+  -- so it was with some prefix of the items, and no other item was handled
+  pub record BrokenOff (base : ℕ) (found : Devices) (items : List Item) (out : List Answer → Type 0)
+      (new : HandlerValue S) : Type 0 where
+    pub handled : List Item
+    pub later : List Item
+    pub whole : items ≡ handled ++ later
+    pub specified : AsSpecified base found handled out new
+
+  -- `replay`, of a new gateway, a reader that has this input left, and a writer that holds these bytes. At `Ok` the
+  -- input was read to its end, and the writer was given the text of the answers to the items of the script, and nothing
+  -- else. At a fault it was given a prefix of the text of the answers to some prefix of the items. (The clauses `err`,
+  -- `read`, `write` and `too_many` of `replay` say which prefix, and when it is that fault.)
+  pub record ReplaySpecified {R W : Type 0} (source : sources.Ghosts R) (sink : sinks.Ghosts W) (explains : Bool)
+      (result : Result Summary RunFault) (base : ℕ) (found : Devices) (input held : List ℕ) (new : Value S × R × W)
+      : Type 0 where
+    pub text : List ℕ
+    pub is_held : sink.held new.2 ≡ Some (held ++ text)
+    pub specified : MatchResult result
+        (λ _. (source.left new.1 ≡ Some [])
+        × AsSpecified base found (items_of [] (script input)) (λ answers. text ≡ written explains answers)
+        new.0.handler)
+        (λ _. BrokenOff base found (items_of [] (script input)) (λ answers. IsPrefix text (written explains answers))
+        new.0.handler)
+
+  abbrev pub ReplaysAsSpecified : {R W : Type 0} → sources.Ghosts R → sinks.Ghosts W → Bool → Result Summary RunFault
+      → Value S × R × W → Value S × R × W → Type 0
+  ReplaysAsSpecified source sink explains result old new =
+      (base : ℕ) (found : Devices) (input held : List ℕ) → IsNew base found old.0 → source.left old.1 ≡ Some input
+      → sink.held old.2 ≡ Some held → (stored new.0.handler.registry).honest
+      → ReplaySpecified source sink explains result base found input held new
+
+  -- `live`, of a new gateway, two readers that have these bytes left, and two writers that hold these. At `Ok` all
+  -- turns were made, each of one read of the serial line and one of the desk, and the writers were given the radio
+  -- bytes and the lines of the answers to the items of the turns, and nothing else. At a fault they were given prefixes
+  -- of these, for some prefix of the items. (The clauses `err` and `reads` of `live` say which.)
+  pub record LiveSpecified {P Q R D : Type 0} (serial_in : sources.Ghosts P) (desk_in : sources.Ghosts Q)
+      (serial_out : sinks.Ghosts R) (desk_out : sinks.Ghosts D) (explains : Bool) (result : Result Summary RunFault)
+      (count base : ℕ) (found : Devices) (serial desk sent printed : List ℕ) (old new : Value S × P × Q × R × D)
+      : Type 0 where
+    pub turns : List Turn
+    pub serial_rest : List ℕ
+    pub desk_rest : List ℕ
+    pub read : ReadInTurns turns serial serial_rest desk desk_rest
+    pub serial_left : serial_in.left new.1 ≡ Some serial_rest
+    pub desk_left : desk_in.left new.2 ≡ Some desk_rest
+    pub radio : List ℕ
+    pub lines : List ℕ
+    pub radio_held : serial_out.held new.3 ≡ Some (sent ++ radio)
+    pub lines_held : desk_out.held new.4 ≡ Some (printed ++ lines)
+    pub specified : MatchResult result
+        (λ _. (length turns ≡ count)
+        × ReadsWell (source_value serial_in old.1) (source_value serial_in new.1) (pieces turns)
+        × ReadsWell (source_value desk_in old.2) (source_value desk_in new.2) (desks turns)
+        × AsSpecified base found (items_of [] (events_of_turns turns))
+        (λ answers. (radio ≡ radio_of answers) × (lines ≡ lines_of explains answers)) new.0.handler)
+        (λ _. BrokenOff base found (items_of [] (events_of_turns turns))
+        (λ answers. IsPrefix radio (radio_of answers) × IsPrefix lines (lines_of explains answers)) new.0.handler)
+
+  abbrev pub ServesAsSpecified : {P Q R D : Type 0} → sources.Ghosts P → sources.Ghosts Q → sinks.Ghosts R
+      → sinks.Ghosts D → Bool → Result Summary RunFault → Value S × P × Q × R × D → Value S × P × Q × R × D → ℕ
+      → Type 0
+  ServesAsSpecified serial_in desk_in serial_out desk_out explains result old new count =
+      (base : ℕ) (found : Devices) (serial desk sent printed : List ℕ) → IsNew base found old.0
+      → serial_in.left old.1 ≡ Some serial → desk_in.left old.2 ≡ Some desk
+      → serial_out.held old.3 ≡ Some sent → desk_out.held old.4 ≡ Some printed
+      → (stored new.0.handler.registry).honest
+      → LiveSpecified serial_in desk_in serial_out desk_out explains result count base found serial desk sent printed
+      old new

@@ -1,0 +1,33 @@
+-- What a player does with bytes, of which it takes the lines as they come.
+use Rattle.std.specs.Prelude.{◌≡◌, ℕ, List, ◌∷◌, ◌++◌, All}
+use Rattle.std.specs.List.{flat_map}
+use Rattle.std.specs.Str.Lines.{strip_carriage_return}
+use Rattle.learned_devices.specs.Kept.{Kept}
+use Rattle.gateway_loop.specs.declared.line_loop.Lines.{Lines}
+use Rattle.gateway_loop.specs.declared.line_loop.Player.{Player}
+use Rattle.gateway_loop.specs.Lines.{Keeps, event_by, events_by}
+use Rattle.gateway_loop.specs.Outlets.{Way}
+use Rattle.gateway_loop.specs.EngineSteps.{EngineBreaks, Takes}
+use Rattle.gateway_loop.specs.Script.{IsOneLine, with_end}
+
+-- Below, `bytes` are those of the line that was not ended at first, and those that came behind them.
+module _ {O S : Type 0} (stored : S → Kept) (way : Way O) (lines : Lines) where
+  -- the lines that LF ends in the bytes were taken, and of the line behind these the first bytes are kept
+  pub record TakesBytes (old new : Player O S) (bytes : List ℕ) : Type 0 where
+    pub ended : List (List ℕ)
+    pub rest : List ℕ
+    pub whole : bytes ≡ flat_map with_end ended ++ rest
+    pub each : All IsOneLine ended
+    pub keeps : Keeps rest new.unended
+    pub taken : Takes stored way old.engine new.engine (events_by lines ended)
+
+  -- an answer did not get out at one of the lines that LF ends in the bytes
+  pub record StopsAtLine (old new : Player O S) (bytes : List ℕ) : Type 0 where
+    pub ended : List (List ℕ)
+    pub line : List ℕ
+    pub more : List ℕ
+    pub whole : bytes ≡ flat_map with_end ended ++ (line ++ 10 ∷ more)
+    pub each : All IsOneLine ended
+    pub one : IsOneLine line
+    pub broken : EngineBreaks stored way old.engine new.engine (events_by lines ended)
+        (event_by lines (strip_carriage_return line))

@@ -1,0 +1,128 @@
+-- What a live gateway reads, handles and writes.
+use Rattle.std.specs.Prelude.{◌≡◌, ◌↔◌, ◌+◌, ◌-◌, ◌^◌, min, ℕ, Bool, List, [], ◌∷◌, ◌++◌, length}
+use Rattle.std.specs.Prelude.{Option, None, Some, Result, IsOk}
+use Rattle.learned_devices.specs.Kept.{Kept}
+use Rattle.gateway_core.specs.Step.{Answer}
+use Rattle.gateway_core.specs.Calls.{Value}
+use Rattle.gateway_core.specs.Events.{Event, Piece, items_of}
+use Rattle.byte_io.specs.Counts.{HasRoom, NoneFailed, WentWell}
+use Rattle.byte_io.specs.declared.sink.Sink as sinks
+use Rattle.byte_io.specs.declared.source.Source as sources
+use Rattle.gateway_loop.specs.declared.runs.RunFault.{RunFault}
+use Rattle.gateway_loop.specs.declared.runs.RunFault.TheVariants.{Read, Write, TooManyTurns}
+use Rattle.gateway_loop.specs.declared.runs.Summary.{Summary}
+use Rattle.gateway_loop.specs.Played.{Breaks, Plays}
+use Rattle.gateway_loop.specs.Reads.{ReadsFail, ReadsWell}
+use Rattle.gateway_loop.specs.Streams.{SinkValue, SourceValue, sink_value, source_value}
+use Rattle.gateway_loop.specs.Turns.{Turn, desks, events_of_turns, pieces}
+use Rattle.gateway_loop.specs.Wires.{wires}
+
+-- What is known of a live gateway at a moment. The sinks are that of the serial line and that of the desk.
+pub record LiveValue (S : Type 0) : Type 0 where
+  pub gateway : Value S
+  pub serial : SourceValue
+  pub desk : SourceValue
+  pub sinks : SinkValue × SinkValue
+
+abbrev pub live_at : {P Q R D S : Type 0} → sources.Ghosts P → sources.Ghosts Q → sinks.Ghosts R → sinks.Ghosts D
+    → Value S × P × Q × R × D → LiveValue S
+live_at serial_in desk_in serial_out desk_out now = record {
+  gateway = now.0;
+  serial = source_value serial_in now.1;
+  desk = source_value desk_in now.2;
+  sinks = (sink_value serial_out now.3, sink_value desk_out now.4);
+}
+
+-- The reads of the serial line, and the events, where behind some turns a piece was read, or nothing yet.
+abbrev pub pieces_with : List Turn → Option (List ℕ) → List (List ℕ)
+pieces_with turns None = pieces turns
+pieces_with turns (Some piece) = pieces turns ++ piece ∷ []
+
+abbrev pub events_with : List Turn → Option (List ℕ) → List Event
+events_with turns None = events_of_turns turns
+events_with turns (Some piece) = events_of_turns turns ++ Piece piece ∷ []
+
+module _ {S : Type 0} (old new : LiveValue S) where
+  -- Behind the turns the next read failed: of the serial line, or behind a piece that of the desk.
+  abbrev pub NextReadFails : List Turn → Option (List ℕ) → Type 0
+  NextReadFails turns None = ReadsFail old.serial new.serial (pieces turns) × ReadsWell old.desk new.desk (desks turns)
+  NextReadFails turns (Some piece) =
+      ReadsWell old.serial new.serial (pieces turns ++ piece ∷ []) × ReadsFail old.desk new.desk (desks turns)
+
+  -- so many reads were made of both sources, no read failed, and all writes went well
+  pub record AllWent (turns : ℕ) : Type 0 where
+    pub serial_read : new.serial.counts.calls ≡ old.serial.counts.calls + turns
+    pub desk_read : new.desk.counts.calls ≡ old.desk.counts.calls + turns
+    pub serial_written : WentWell old.sinks.0.counts new.sinks.0.counts
+    pub desk_written : WentWell old.sinks.1.counts new.sinks.1.counts
+    pub serial_well : NoneFailed old.serial.counts new.serial.counts
+    pub desk_well : NoneFailed old.desk.counts new.desk.counts
+
+-- so many reads can be counted of both sources, and of all four one more call that fails and one more that answers 0
+-- bytes
+pub record HasRoomForTurns {S : Type 0} (now : LiveValue S) (turns : ℕ) : Type 0 where
+  pub serial_in : HasRoom now.serial.counts turns
+  pub desk_in : HasRoom now.desk.counts turns
+  pub serial_out : HasRoom now.sinks.0.counts 0
+  pub desk_out : HasRoom now.sinks.1.counts 0
+
+module _ {S : Type 0} (stored : S → Kept) where
+  -- an answer to an order of the last turn did not get out
+  pub record BreaksAtOrder (old new : Value S) (turns : List Turn) (breaks : List Answer → Answer → Type 0)
+      : Type 0 where
+    pub before : List Turn
+    pub last : Turn
+    pub is_last : turns ≡ before ++ last ∷ []
+    pub done : List Event
+    pub order : Event
+    pub later : List Event
+    pub whole : events_of_turns turns ≡ (events_with before (Some last.piece) ++ done) ++ order ∷ later
+    pub broken : Breaks stored old new (events_with before (Some last.piece) ++ done) order breaks
+
+  -- An answer did not get out: to a packet of the piece behind the turns, or else to an order of the last turn.
+  abbrev pub BreaksTurn : Value S → Value S → List Turn → Option (List ℕ) → (List Answer → Answer → Type 0) → Type 0
+  BreaksTurn old new turns (Some piece) breaks = Breaks stored old new (events_of_turns turns) (Piece piece) breaks
+  BreaksTurn old new turns None breaks = BreaksAtOrder old new turns breaks
+
+-- Below, `at` says what is known of the live gateway before the call and behind it, and `explains` whether each packet
+-- is explained.
+module _ {S T : Type 0} (stored : S → Kept) (at : T → LiveValue S) (explains : Bool) where
+  -- so many turns were read, the items of their events, and nothing else, were handled and counted, and what their
+  -- answers send and tell was written
+  pub record Serves (old new : T) (turns : ℕ) (summary : Summary) : Type 0 where
+    pub read : List Turn
+    pub count : length read ≡ turns
+    pub serial : ReadsWell (at old).serial (at new).serial (pieces read)
+    pub desk : ReadsWell (at old).desk (at new).desk (desks read)
+    pub played : Plays stored (at old).gateway (at new).gateway (events_of_turns read)
+        ((wires explains).puts (at old).sinks (at new).sinks)
+    pub counted : summary.items ≡ min (length (items_of (at old).gateway.rest (events_of_turns read))) (2 ^ 64 - 1)
+
+  -- a read failed, and all that was read before it was handled and answered
+  pub record ServesUntilRead (old new : T) : Type 0 where
+    pub read : List Turn
+    pub piece : Option (List ℕ)
+    pub fails : NextReadFails (at old) (at new) read piece
+    pub played : Plays stored (at old).gateway (at new).gateway (events_with read piece)
+        ((wires explains).puts (at old).sinks (at new).sinks)
+
+  -- no read failed, and an answer did not get out
+  pub record ServesUntilWrite (old new : T) : Type 0 where
+    pub read : List Turn
+    pub piece : Option (List ℕ)
+    pub serial : ReadsWell (at old).serial (at new).serial (pieces_with read piece)
+    pub desk : ReadsWell (at old).desk (at new).desk (desks read)
+    pub broken : BreaksTurn stored (at old).gateway (at new).gateway read piece
+        ((wires explains).breaks (at old).sinks (at new).sinks)
+
+  -- what is done before a fault; `TooManyTurns` never comes
+  abbrev pub ServesUntil : T → T → RunFault → Type 0
+  ServesUntil old new Read = ServesUntilRead old new
+  ServesUntil old new Write = ServesUntilWrite old new
+  ServesUntil old new TooManyTurns = ⊥
+
+module _ {S T : Type 0} (at : T → LiveValue S) where
+  -- where the calls can be counted, `Ok` comes just where all turns were made and all calls went well
+  abbrev pub TellsAllTurns : {A E : Type 0} → Result A E → T → T → ℕ → Type 0
+  TellsAllTurns result old new turns =
+      HasRoomForTurns (at old) turns → (IsOk result ↔ AllWent (at old) (at new) turns)

@@ -1,0 +1,82 @@
+-- What an engine handles and puts out, whatever its outlet is.
+use Rattle.std.specs.Prelude.{◌≡◌, ◌<◌, List, [], ◌∷◌, ◌++◌, length, map, ℕ}
+use Rattle.learned_devices.specs.Kept.{Kept}
+use Rattle.esp3_frames.specs.Framing.{MayBecomePacket}
+use Rattle.esp3_frames.specs.Frames.{rest_of}
+use Rattle.gateway_core.specs.Step.{Item, Received, Answer}
+use Rattle.gateway_core.specs.Handling.{HandlerValue, Handles}
+use Rattle.gateway_core.specs.Calls.{Value}
+use Rattle.gateway_core.specs.Events.{Event, Piece, Line, items_of, bytes_in}
+use Rattle.gateway_loop.specs.Script.{HasEnded, script, with_end}
+
+-- no packet waits, and of the bytes behind the last one more may come
+pub record IsIdle {S : Type 0} (gateway : Value S) : Type 0 where
+  pub ready : gateway.ready ≡ []
+  pub rest : MayBecomePacket gateway.rest
+
+-- a line, or some first bytes of a piece
+abbrev pub IsBegun : Event → Event → Type 0
+IsBegun (Piece bytes) (Piece some) = (more : List ℕ) × (bytes ≡ some ++ more)
+IsBegun (Line line) (Line other) = other ≡ line
+IsBegun event other = ⊥
+
+-- Below `puts` says of answers that just they were put out, and `breaks` that they were, but not all of one more.
+module _ {S : Type 0} (stored : S → Kept) where
+  -- the items were handled, and their answers put out
+  pub record Answers (old new : HandlerValue S) (items : List Item) (puts : List Answer → Type 0) : Type 0 where
+    pub answers : List Answer
+    pub handled : Handles stored old items answers new
+    pub out : puts answers
+
+  -- the items were handled, but the last answer is not out, or not all of it
+  pub record AnswersPart (old new : HandlerValue S) (items : List Item) (breaks : List Answer → Answer → Type 0)
+      : Type 0 where
+    pub answers : List Answer
+    pub last : Answer
+    pub handled : Handles stored old items (answers ++ last ∷ []) new
+    pub out : breaks answers last
+
+  -- the events' items, and nothing else, were handled and answered
+  pub record Plays (old new : Value S) (events : List Event) (puts : List Answer → Type 0) : Type 0 where
+    pub answered : Answers old.handler new.handler (items_of old.rest events) puts
+    pub rest : new.rest ≡ rest_of (old.rest ++ bytes_in events)
+    pub idle : IsIdle new
+
+  -- behind these events one event was begun, and an answer to an item of its own did not get out: the items so far were
+  -- handled, and the packets that its bytes brought behind them wait
+  pub record Breaks (old new : Value S) (events : List Event) (event : Event) (breaks : List Answer → Answer → Type 0)
+      : Type 0 where
+    pub begun : Event
+    pub begins : IsBegun event begun
+    pub items : List Item
+    pub own : List Item
+    pub behind : items ≡ items_of old.rest events ++ own
+    pub some : 0 < length own
+    pub stand : items_of old.rest (events ++ begun ∷ []) ≡ items ++ map Received new.ready
+    pub rest : new.rest ≡ rest_of (old.rest ++ bytes_in (events ++ begun ∷ []))
+    pub answered : AnswersPart old.handler new.handler items breaks
+
+  -- the lines of the input that LF ends were played
+  pub record PlaysEnded (old new : Value S) (input : List ℕ) (puts : List Answer → Type 0) : Type 0 where
+    pub ended : List ℕ
+    pub is : HasEnded input ended
+    pub played : Plays old new (script ended) puts
+
+  -- an answer did not get out at the last event of a first part of the input, which LF ends
+  pub record PlaysPartAtLine (old new : Value S) (input : List ℕ) (breaks : List Answer → Answer → Type 0)
+      : Type 0 where
+    pub part : List ℕ
+    pub more : List ℕ
+    pub whole : input ≡ with_end part ++ more
+    pub events : List Event
+    pub event : Event
+    pub is : script (with_end part) ≡ events ++ event ∷ []
+    pub broken : Breaks old new events event breaks
+
+  -- an answer did not get out at the last of these events
+  pub record PlaysPartAtEnd (old new : Value S) (all : List Event) (breaks : List Answer → Answer → Type 0)
+      : Type 0 where
+    pub events : List Event
+    pub event : Event
+    pub whole : all ≡ events ++ event ∷ []
+    pub broken : Breaks old new events event breaks

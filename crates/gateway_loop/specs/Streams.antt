@@ -1,0 +1,21 @@
+-- What is known of a source and of a sink at a moment.
+use Rattle.std.specs.Prelude.{ℕ, List, Option}
+use Rattle.byte_io.specs.Counts.{Counts}
+use Rattle.byte_io.specs.declared.sink.Sink as sinks
+use Rattle.byte_io.specs.declared.source.Source as sources
+
+-- the bytes that it has left, where they are known, and how its reads so far went
+pub record SourceValue : Type 0 where
+  pub left : Option (List ℕ)
+  pub counts : Counts
+
+-- the bytes that it holds, where they are known, and how its writes so far went
+pub record SinkValue : Type 0 where
+  pub held : Option (List ℕ)
+  pub counts : Counts
+
+abbrev pub source_value : {P : Type 0} → sources.Ghosts P → P → SourceValue
+source_value members now = record { left = members.left now; counts = members.counts now }
+
+abbrev pub sink_value : {W : Type 0} → sinks.Ghosts W → W → SinkValue
+sink_value members now = record { held = members.held now; counts = members.counts now }

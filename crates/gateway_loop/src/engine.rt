@@ -1,0 +1,167 @@
+//! An engine: it takes pieces of the serial stream, orders of the desk and lines of a script, and puts out what a
+//! gateway answers.
+ghost use Rattle.std.specs.Prelude.{◌≡◌, ◌<◌, ◌≤◌, [], ◌∷◌, length, take, drop, IfOk, OnOk, OnErr, MatchResult};
+ghost use Rattle.hex.specs.Hex.{decode_of};
+ghost use Rattle.json_lines.specs.Counts.{one_more};
+ghost use Rattle.gateway_core.specs.Events.{Line as LineEvent, Piece as PieceEvent};
+ghost use Rattle.gateway_core.specs.Replies.{answer_of};
+ghost use Rattle.gateway_core.specs.Step.{explained_by, longest_line};
+ghost use Rattle.gateway_loop.specs.EngineSteps.{Drains, DrainsPart, EngineBreaks, Takes, TakesOrBreaks};
+ghost use Rattle.gateway_loop.specs.Outlets.{Puts};
+ghost use Rattle.gateway_loop.specs.Played.{IsIdle};
+ghost use Rattle.gateway_loop.specs.Script.{event_of, spelled};
+
+use crate::digits::decode;
+use crate::outlet::Outlet;
+use byte_io::Failed;
+use gateway_core::{DeviceStore, GatewayOver, LONGEST_LINE, Reply};
+
+/// How many bytes the longest line spells: two digits each, behind `S` and a space.
+const LONGEST_PIECE: usize = (LONGEST_LINE - 2) / 2;
+
+/// A gateway, and the outlet for its replies.
+#[derive(Drop)]
+pub struct Engine<'g, O, S: DeviceStore> {
+    pub outlet: O,
+    pub gateway: &'g mut GatewayOver<S>,
+    /// How many packets were handled and orders taken. The count stays at its greatest value.
+    pub items: u64,
+}
+
+impl<O: Outlet, S: DeviceStore> Engine<'_, O, S> {
+    /// Takes a piece of the serial stream, and answers each packet that it brings.
+    pub fn take_piece(&mut self, piece: &[u8]) -> Result<(), Failed>
+        requires { IsIdle self.old.gateway.now }
+        ensures gateway { self.new.gateway.ghost_name ≡ self.old.gateway.ghost_name }
+        ensures loans { O.loans self.new.outlet ≡ O.loans self.old.outlet }
+        ensures taken { TakesOrBreaks S.kept O.way result self.old self.new (PieceEvent piece.now) }
+    {
+        // The proof needs that the count is a `u64`.
+        let _start = self.items;
+        let mut count = 0;
+        while count < piece.len() {
+            count += self.take_run(&piece[count..])?;
+        }
+        Ok(())
+    }
+
+    /// Takes the whole packet with which these bytes begin, or, if none does, the bytes up to the one that makes
+    /// packets ready. It answers the packets that they bring, and returns how many bytes it took.
+    fn take_run(&mut self, bytes: &[u8]) -> Result<usize, Failed>
+        requires idle { IsIdle self.old.gateway.now }
+        requires some { 0 < length bytes.now }
+        ensures gateway { self.new.gateway.ghost_name ≡ self.old.gateway.ghost_name }
+        ensures loans { O.loans self.new.outlet ≡ O.loans self.old.outlet }
+        ensures within { IfOk result (λ count. (0 < count) × (count ≤ length bytes.now)) }
+        ensures taken { MatchResult result
+            (λ count. Takes S.kept O.way self.old self.new (PieceEvent (take count bytes.now) ∷ []))
+            (λ _. EngineBreaks S.kept O.way self.old self.new [] (PieceEvent bytes.now)) }
+    {
+        // The proof needs that the count is a `u64`.
+        let _start = self.items;
+        if let Some((reply, count)) = self.gateway.handle_first(bytes) {
+            self.answer_packet(&reply)?;
+            return Ok(count);
+        }
+        let count = self.gateway.bytes(bytes);
+        if self.gateway.is_ready() {
+            self.drain()?;
+        }
+        Ok(count)
+    }
+
+    /// Answers the packets that wait.
+    fn drain(&mut self) -> Result<(), Failed>
+        ensures gateway { self.new.gateway.ghost_name ≡ self.old.gateway.ghost_name }
+        ensures loans { O.loans self.new.outlet ≡ O.loans self.old.outlet }
+        ensures ready { OnOk result (self.new.gateway.now.ready ≡ []) }
+        ensures drained { OnOk result (Drains S.kept self.old.gateway.now self.new.gateway.now
+            (O.way.puts self.old.outlet self.new.outlet) self.old.items self.new.items) }
+        ensures broken { OnErr result (DrainsPart S.kept self.old.gateway.now self.new.gateway.now
+            (O.way.breaks self.old.outlet self.new.outlet)) }
+    {
+        // The proof needs that the count is a `u64`.
+        let _start = self.items;
+        while let Some(reply) = self.gateway.next() {
+            self.answer_packet(&reply)?;
+        }
+        Ok(())
+    }
+
+    /// Takes an order of the desk, without its line end, and answers it.
+    pub fn take_order(&mut self, line: &[u8]) -> Result<(), Failed>
+        requires { IsIdle self.old.gateway.now }
+        ensures gateway { self.new.gateway.ghost_name ≡ self.old.gateway.ghost_name }
+        ensures loans { O.loans self.new.outlet ≡ O.loans self.old.outlet }
+        ensures taken { TakesOrBreaks S.kept O.way result self.old self.new (LineEvent line.now) }
+    {
+        let reply = self.gateway.order(line);
+        self.answer_order(&reply)
+    }
+
+    /// Takes a line of a script, without its end.
+    pub fn take_script_line(&mut self, line: &[u8]) -> Result<(), Failed>
+        requires { IsIdle self.old.gateway.now }
+        ensures gateway { self.new.gateway.ghost_name ≡ self.old.gateway.ghost_name }
+        ensures loans { O.loans self.new.outlet ≡ O.loans self.old.outlet }
+        ensures taken { TakesOrBreaks S.kept O.way result self.old self.new (event_of line.now) }
+    {
+        if line.len() <= LONGEST_LINE && line.starts_with(b"S ".as_slice()) {
+            self.take_digits(line)
+        } else {
+            self.take_order(line)
+        }
+    }
+
+    /// Takes a line that begins with `S` and a space: a piece if digits stand behind them, and else an order.
+    fn take_digits(&mut self, line: &[u8]) -> Result<(), Failed>
+        requires idle { IsIdle self.old.gateway.now }
+        requires long { 2 ≤ length line.now }
+        requires short { length line.now ≤ longest_line }
+        ensures gateway { self.new.gateway.ghost_name ≡ self.old.gateway.ghost_name }
+        ensures loans { O.loans self.new.outlet ≡ O.loans self.old.outlet }
+        ensures taken { TakesOrBreaks S.kept O.way result self.old self.new
+            (spelled line.now (decode_of (drop 2 line.now))) }
+    {
+        let digits = &line[2..];
+        let mut bytes = [0u8; LONGEST_PIECE];
+        let piece = &mut bytes[..digits.len() / 2];
+        if decode(digits, piece) {
+            self.take_piece(piece)
+        } else {
+            self.take_order(line)
+        }
+    }
+
+    /// Counts an item that was handled.
+    fn count_item(&mut self)
+        ensures { self.new ≡ record self.old { items = one_more self.old.items } }
+    {
+        self.items = self.items.saturating_add(1);
+    }
+
+    /// Counts the packet that was handled last, and puts out its reply, with the line that explains it.
+    fn answer_packet(&mut self, reply: &Reply) -> Result<(), Failed>
+        ensures gateway { self.new.gateway.ghost_name ≡ self.old.gateway.ghost_name }
+        ensures kept { self.new.gateway.now ≡ self.old.gateway.now }
+        ensures loans { O.loans self.new.outlet ≡ O.loans self.old.outlet }
+        ensures counted { self.new.items ≡ one_more self.old.items }
+        ensures put { Puts O.way result self.old.outlet self.new.outlet
+            (explained_by self.old.gateway.now.explained (answer_of reply.now)) }
+    {
+        self.count_item();
+        self.outlet.put(self.gateway.last_packet(), reply)
+    }
+
+    /// Counts an order that was handled, and puts out its reply.
+    fn answer_order(&mut self, reply: &Reply) -> Result<(), Failed>
+        ensures gateway { self.new.gateway.ghost_name ≡ self.old.gateway.ghost_name }
+        ensures kept { self.new.gateway.now ≡ self.old.gateway.now }
+        ensures loans { O.loans self.new.outlet ≡ O.loans self.old.outlet }
+        ensures counted { self.new.items ≡ one_more self.old.items }
+        ensures put { Puts O.way result self.old.outlet self.new.outlet (answer_of reply.now) }
+    {
+        self.count_item();
+        self.outlet.put(None, reply)
+    }
+}

@@ -1,0 +1,19 @@
+//! The loops that run a gateway: `replay` over a script, `live` over a serial line and a desk.
+#![tactic(auto)]
+
+mod desk_text;
+mod digits;
+mod engine;
+pub mod laws;
+mod line_loop;
+mod live_gateway;
+mod outlet;
+mod replay_text;
+mod runs;
+mod script_replay;
+mod unended_line;
+mod wires;
+
+pub use live_gateway::live;
+pub use runs::{LONGEST_READ, RunFault, Summary};
+pub use script_replay::replay;

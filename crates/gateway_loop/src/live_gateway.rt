@@ -1,0 +1,89 @@
+//! A gateway serves a serial line and a desk.
+ghost use Rattle.std.specs.Prelude.{◌≡◌, ◌+◌, ◌≤◌, ℕ, [], IfErr, IfOk};
+ghost use Rattle.byte_io.specs.Counts.{Made};
+ghost use Rattle.gateway_loop.specs.Headline.{ServesAsSpecified};
+ghost use Rattle.gateway_loop.specs.LiveGateway.{Serves, ServesUntil, TellsAllTurns, live_at};
+
+use crate::engine::Engine;
+use crate::line_loop::{Lines, Player};
+use crate::runs::{LONGEST_READ, RunFault, Summary};
+use crate::unended_line::UnendedLine;
+use crate::wires::Wires;
+use byte_io::{Sink, Source};
+use gateway_core::{DeviceStore, GatewayOver};
+
+/// Serves a serial line and a desk: handles what comes from both by the gateway, and writes what it answers.
+///
+/// A turn is one read of at most `LONGEST_READ` bytes from the serial line, which are a piece of its stream, and then
+/// one of the desk. Each line that LF ends in the desk's bytes is an order, and one CR before LF is dropped. A read of
+/// 0 bytes brings nothing. For each packet and each order the radio bytes go to `serial_out`, and then the desk's text
+/// to `desk_out`. Where packets are explained, the line that explains a packet stands before that text.
+///
+/// It ends well after `turns` turns. A line of the desk that is not ended then is dropped. After `Read` all packets and
+/// lines that came are done. After `Write` no read was made any more, and the output breaks off within what one packet
+/// or order puts out: of all before it nothing is lost, and packets may still wait in the gateway. `TooManyTurns` never
+/// comes.
+pub fn live<P: Source, Q: Source, R: Sink, D: Sink, S: DeviceStore>(
+    serial_in: &mut P,
+    desk_in: &mut Q,
+    serial_out: &mut R,
+    desk_out: &mut D,
+    gateway: &mut GatewayOver<S>,
+    explains: bool,
+    turns: u64,
+) -> Result<Summary, RunFault>
+    requires { gateway.old.ready ≡ [] }
+    // The headline, of a new gateway, and of readers and writers whose bytes are known.
+    ensures as_specified { ServesAsSpecified S.kept P.Source Q.Source R.Sink D.Sink explains result
+        (gateway.old, serial_in.old, desk_in.old, serial_out.old, desk_out.old)
+        (gateway.new, serial_in.new, desk_in.new, serial_out.new, desk_out.new) turns }
+
+    // What is read, handled and written.
+    ensures ok { IfOk result (Serves S.kept (live_at P.Source Q.Source R.Sink D.Sink) explains
+        (gateway.old, serial_in.old, desk_in.old, serial_out.old, desk_out.old)
+        (gateway.new, serial_in.new, desk_in.new, serial_out.new, desk_out.new) turns) }
+    ensures err { IfErr result (ServesUntil S.kept (live_at P.Source Q.Source R.Sink D.Sink) explains
+        (gateway.old, serial_in.old, desk_in.old, serial_out.old, desk_out.old)
+        (gateway.new, serial_in.new, desk_in.new, serial_out.new, desk_out.new)) }
+
+    // How many reads are made, and when all turns are.
+    ensures reads { (n m : ℕ) × (n ≤ turns) × (m ≤ n) × (n ≤ m + 1)
+        × Made (P.counts serial_in.old) (P.counts serial_in.new) n
+        × Made (Q.counts desk_in.old) (Q.counts desk_in.new) m }
+    ensures whole { TellsAllTurns (live_at P.Source Q.Source R.Sink D.Sink) result
+        (gateway.old, serial_in.old, desk_in.old, serial_out.old, desk_out.old)
+        (gateway.new, serial_in.new, desk_in.new, serial_out.new, desk_out.new) turns }
+{
+    let is_ready = gateway.is_ready();
+    prove!(!is_ready);
+    let mut player = Player {
+        engine: Engine {
+            outlet: Wires {
+                serial: serial_out,
+                desk: desk_out,
+                explains,
+            },
+            gateway,
+            items: 0,
+        },
+        unended: UnendedLine::new(),
+    };
+    for _turn in 0..turns {
+        let mut buffer = [0u8; LONGEST_READ];
+        let Ok(length) = serial_in.read(&mut buffer) else {
+            return Err(RunFault::Read);
+        };
+        let Ok(()) = player.engine.take_piece(&buffer[..length]) else {
+            return Err(RunFault::Write);
+        };
+        let Ok(length) = desk_in.read(&mut buffer) else {
+            return Err(RunFault::Read);
+        };
+        let Ok(()) = player.take_bytes(Lines::OfDesk, &buffer[..length]) else {
+            return Err(RunFault::Write);
+        };
+    }
+    Ok(Summary {
+        items: player.engine.items,
+    })
+}

@@ -1,0 +1,46 @@
+//! Replies are written to a sink, as the text of a replay.
+ghost use Rattle.std.specs.Prelude.{[], ◌∷◌, ◌≤◌, Some, length};
+ghost use Rattle.byte_io.specs.Counts.{Went};
+ghost use Rattle.byte_io.specs.Writes.{Writes};
+ghost use Rattle.gateway_loop.specs.Written.{radio_text, way_of_text};
+
+use crate::desk_text::write_desk_text;
+use crate::outlet::Outlet;
+use byte_io::{Failed, Sink, write_text};
+use gateway_core::{HandledPacket, Reply};
+
+/// The text of a replay: of each reply its radio bytes as a serial piece, if there are any, and then the desk's text,
+/// behind the line that explains its packet where that is wanted.
+#[derive(Drop)]
+pub struct ReplayText<'w, W> {
+    pub sink: &'w mut W,
+    /// Whether each packet is explained.
+    pub explains: bool,
+}
+
+impl<W: Sink> Outlet for ReplayText<'_, W> {
+    ghost way = { way_of_text W.Sink };
+
+    ghost loans = { λ text. text.sink.ghost_name ∷ [] };
+
+    fn put(&mut self, packet: Option<&HandledPacket>, reply: &Reply) -> Result<(), Failed> {
+        if let Some(bytes) = &reply.radio {
+            write_piece(self.sink, bytes.as_slice())?;
+        }
+        write_desk_text(self.sink, self.explains, packet, reply)
+    }
+}
+
+/// Writes bytes as a serial piece: behind `S` and a space, as hexadecimal digits, and with LF.
+fn write_piece<W: Sink>(writer: &mut W, bytes: &[u8]) -> Result<(), Failed>
+    requires { length bytes.now ≤ 64 }
+    ensures written { Writes (W.held writer.old) (W.held writer.new) result (radio_text (Some bytes.now)) }
+    ensures told { Went result (W.counts writer.old) (W.counts writer.new) }
+{
+    let mut buffer = [0u8; 128];
+    let digits = &mut buffer[..2 * bytes.len()];
+    let _ = hex::encode_to_slice(bytes, digits);
+    write_text(writer, b"S ")?;
+    write_text(writer, digits)?;
+    write_text(writer, b"\n")
+}

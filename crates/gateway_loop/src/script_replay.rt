@@ -1,0 +1,91 @@
+//! A script is replayed.
+ghost use Rattle.std.specs.Prelude.{◌≡◌, Err, [], IfErr, IfOk, OnOk};
+ghost use Rattle.byte_io.specs.Counts.{OneEmpty, OneFailed, WentWell};
+ghost use Rattle.gateway_loop.specs.CallCounts.{OneWrong, WellOrEnded};
+ghost use Rattle.gateway_loop.specs.Headline.{ReplaysAsSpecified};
+ghost use Rattle.gateway_loop.specs.Reads.{MakesReads};
+ghost use Rattle.gateway_loop.specs.ScriptReplay.{Replays, ReplaysUntil, TellsTooManyTurns, replay_at};
+ghost use Rattle.gateway_loop.specs.Streams.{source_value};
+
+use crate::engine::Engine;
+use crate::line_loop::{Lines, Player};
+use crate::replay_text::ReplayText;
+use crate::runs::{LONGEST_READ, RunFault, Summary};
+use crate::unended_line::UnendedLine;
+use byte_io::{Sink, Source};
+use gateway_core::{DeviceStore, GatewayOver};
+
+/// Replays a script: reads its lines, handles them by the gateway, and writes what the gateway answers.
+///
+/// A line ends with LF or with the end of the input, and one CR before LF is dropped; behind the last LF stands no line
+/// where nothing follows. A line of at most `LONGEST_LINE` bytes that is `S`, one space and an even number of
+/// hexadecimal digits is a piece of the serial stream. Each other line is an order of the desk. For each packet and
+/// each order the radio bytes are written as such a piece, in lower case and with LF, and then the desk's text. Where
+/// packets are explained, the line that explains a packet stands before the desk's text of it.
+///
+/// A turn is one read of at most `LONGEST_READ` bytes, and `turns` reads are made at most. A read of 0 bytes ends the
+/// input. After `Read` and `TooManyTurns` the lines that LF ended are done, and of a line that did not end nothing.
+/// After `Write` the output breaks off within the text of one packet or order, and packets may still wait in the
+/// gateway.
+pub fn replay<R: Source, W: Sink, S: DeviceStore>(
+    reader: &mut R,
+    writer: &mut W,
+    gateway: &mut GatewayOver<S>,
+    explains: bool,
+    turns: u64,
+) -> Result<Summary, RunFault>
+    requires { gateway.old.ready ≡ [] }
+    // The headline, of a new gateway, and of a reader and a writer whose bytes are known.
+    ensures as_specified { ReplaysAsSpecified S.kept R.Source W.Sink explains result
+        (gateway.old, reader.old, writer.old) (gateway.new, reader.new, writer.new) }
+
+    // What is read, handled and written.
+    ensures ok { IfOk result (Replays S.kept (replay_at R.Source W.Sink) explains
+        (gateway.old, reader.old, writer.old) (gateway.new, reader.new, writer.new)) }
+    ensures err { IfErr result (ReplaysUntil S.kept (replay_at R.Source W.Sink) explains
+        (gateway.old, reader.old, writer.old) (gateway.new, reader.new, writer.new)) }
+
+    // How the reads and the writes went.
+    ensures reads { MakesReads (source_value R.Source reader.old) (source_value R.Source reader.new) turns }
+    ensures ended { OnOk result (OneEmpty (R.counts reader.old) (R.counts reader.new)
+        × WentWell (W.counts writer.old) (W.counts writer.new)) }
+    ensures read { result ≡ Err RunFault.Read → OneFailed (R.counts reader.old) (R.counts reader.new)
+        × WentWell (W.counts writer.old) (W.counts writer.new) }
+    ensures write { result ≡ Err RunFault.Write → WellOrEnded (R.counts reader.old) (R.counts reader.new)
+        × OneWrong (W.counts writer.old) (W.counts writer.new) }
+    ensures too_many { TellsTooManyTurns (replay_at R.Source W.Sink) result (gateway.old, reader.old, writer.old)
+        (gateway.new, reader.new, writer.new) turns }
+{
+    let is_ready = gateway.is_ready();
+    prove!(!is_ready);
+    let mut player = Player {
+        engine: Engine {
+            outlet: ReplayText {
+                sink: writer,
+                explains,
+            },
+            gateway,
+            items: 0,
+        },
+        unended: UnendedLine::new(),
+    };
+    for _turn in 0..turns {
+        let mut buffer = [0u8; LONGEST_READ];
+        let length = match reader.read(&mut buffer) {
+            Ok(length) => length,
+            Err(_) => return Err(RunFault::Read),
+        };
+        if length == 0 {
+            let Ok(()) = player.take_last() else {
+                return Err(RunFault::Write);
+            };
+            return Ok(Summary {
+                items: player.engine.items,
+            });
+        }
+        let Ok(()) = player.take_bytes(Lines::OfScript, &buffer[..length]) else {
+            return Err(RunFault::Write);
+        };
+    }
+    Err(RunFault::TooManyTurns)
+}
