@@ -14,7 +14,7 @@ use Rattle.learned_devices.specs.Devices.{Devices, Learned, Change, changed, aft
 use Rattle.learned_devices.specs.Kept.{Keeps, Commits}
 use Rattle.device_registry.specs.Holding.{HasDevices, kept}
 use Rattle.device_registry.specs.Ready.{IsReady}
-use Rattle.device_registry.specs.Cached.{EntryAgrees, CacheAgrees}
+use Rattle.device_registry.specs.private.Cached.{EntryAgrees, CacheAgrees}
 use Rattle.device_registry.proofs.DevicesHeld.{registers_once}
 use Rattle.device_registry.proofs.RegistryCalls.{shows_them}
 

@@ -9,9 +9,9 @@ use Rattle.sqlite.specs.Held.{Held, state}
 use Rattle.sqlite_trees.specs.declared.store.Store.{Ghosts}
 use Rattle.device_registry.specs.declared.table.Version.{Version}
 use Rattle.device_registry.specs.Table.{list_objects_text}
-use Rattle.device_registry.specs.Listing.{are_ours}
+use Rattle.device_registry.specs.private.Listing.{are_ours}
 use Rattle.device_registry.specs.Stored.{AreListed}
-use Rattle.device_registry.specs.Transaction.{IsUncommitted, IsInside, IsListedInside}
+use Rattle.device_registry.specs.private.Transaction.{IsUncommitted, IsInside, IsListedInside}
 use Rattle.device_registry.proofs.ListObjectsAnswer.{listing_plain}
 use Rattle.device_registry.proofs.RefusalKeeps.{spared_commit}
 use Rattle.device_registry.proofs.StatementSteps.{not_shown, shown_same}

@@ -31,7 +31,7 @@ use Rattle.learned_devices.specs.Devices.{Devices, most_devices}
 use Rattle.device_registry.specs.Stored.{IsClear}
 use Rattle.device_registry.specs.Opening.{Remains}
 use Rattle.device_registry.specs.Places.{is_clear}
-use Rattle.device_registry.specs.Transaction.{IsInside, IsListedInside}
+use Rattle.device_registry.specs.private.Transaction.{IsInside, IsListedInside}
 use Rattle.device_registry.proofs.TableTexts.{meta_is, device_is}
 use Rattle.device_registry.proofs.RowWrites.{went, same_value}
 use Rattle.device_registry.proofs.CreateTablesMeaning.{meta_makes, device_makes}

@@ -18,7 +18,7 @@ use Rattle.sqlite_schema.specs.Names.{same_name}
 use Rattle.sqlite_rules.proofs.ListLemmas.{all_has}
 use Rattle.device_registry.specs.Ready.{Shows, KeepsOthers}
 use Rattle.device_registry.specs.Opening.{Remains}
-use Rattle.device_registry.specs.Transaction.{IsUncommitted, IsInside, IsListedInside}
+use Rattle.device_registry.specs.private.Transaction.{IsUncommitted, IsInside, IsListedInside}
 use Rattle.device_registry.proofs.DevicesHeld.{registers_by}
 use Rattle.device_registry.proofs.MakeEffect.{Commits, shows_committed, ok_committed}
 use Rattle.device_registry.proofs.MigrateEffect.{migrates, others_kept}

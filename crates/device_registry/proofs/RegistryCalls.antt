@@ -21,7 +21,7 @@ use Rattle.learned_devices.specs.Devices.{relabelled, kept_label, known_of, devi
 use Rattle.learned_devices.specs.Kept.{Keeps, Commits, Pends}
 use Rattle.learned_devices.specs.StoreCalls.{RefusesToLearn, LooksUp, Updates, Learns, Relabels, ListsAll}
 use Rattle.device_registry.specs.Holding.{HasDevices, HoldsSome, AreRegistries, HandsOn, IsRenewed, WritesRow, kept}
-use Rattle.device_registry.specs.TableCalls.{Adds}
+use Rattle.device_registry.specs.private.TableCalls.{Adds}
 use Rattle.device_registry.specs.Ready.{Shows, IsReady, StaysReady, GoesOn, Stays, Turns}
 use Rattle.device_registry.specs.Table.Rows.{listed}
 use Rattle.device_registry.proofs.DevicesHeld.{held_once, registers_once, room_for_known}

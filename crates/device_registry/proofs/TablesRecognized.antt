@@ -46,7 +46,7 @@ use Rattle.device_registry.specs.Table.{device_text, meta_table, device_table}
 use Rattle.device_registry.specs.Stored.{Stands, KeepsTree, HasTables, IsRegistry, listing, IsListedAs, AreListed}
 use Rattle.device_registry.specs.Stored.{IsFree, IsClear}
 use Rattle.device_registry.specs.Opening.{IsOwn, IsAtRest}
-use Rattle.device_registry.specs.Listing.{has_text, is_line, are_ours}
+use Rattle.device_registry.specs.private.Listing.{has_text, is_line, are_ours}
 use Rattle.device_registry.specs.Places.{is_clear, trees_in}
 use Rattle.sqlite_catalog.proofs.ReadLemmas.{lists_once}
 use Rattle.device_registry.proofs.TableTexts.{meta_is, device_is}

@@ -11,7 +11,7 @@ use Rattle.sqlite.proofs.Callers.{survives_begin}
 use Rattle.sqlite_trees.specs.Tree.{Trees}
 use Rattle.sqlite_trees.specs.declared.store.Store.{Ghosts}
 use Rattle.device_registry.specs.Opening.{Remains}
-use Rattle.device_registry.specs.Transaction.{IsUncommitted, IsInside, Ran}
+use Rattle.device_registry.specs.private.Transaction.{IsUncommitted, IsInside, Ran}
 use Rattle.device_registry.proofs.RefusalKeeps.{back_at, inside_commit, made_commit, then_commit}
 
 -- ---- what is not committed

@@ -1,12 +1,9 @@
 pub mod Table
-pub mod Transaction
 pub mod Stored
 pub mod Faults
 pub mod Holding
-pub mod TableCalls
 pub mod Ready
 pub mod Opening
 pub mod Places
-pub mod Listing
-pub mod Cached
 pub mod Ranges
+pub mod private

@@ -5,7 +5,7 @@ ghost use Rattle.sqlite.specs.State.{HasCleanDisk};
 ghost use Rattle.learned_devices.specs.Devices.{Devices, Learn, Relabel, after, known_of, learned, relabelled};
 ghost use Rattle.learned_devices.specs.StoreCalls.{LooksUp, Updates, Forgets, ListsAll};
 ghost use Rattle.device_registry.specs.Holding.{HasDevices, HandsOn, IsRenewed, WritesRow, kept};
-ghost use Rattle.device_registry.specs.TableCalls.{Adds};
+ghost use Rattle.device_registry.specs.private.TableCalls.{Adds};
 ghost use Rattle.device_registry.specs.Ready.{IsReady, AreReady};
 
 use crate::sql_connection::SqlConnection;

@@ -2,7 +2,7 @@
 ghost use Rattle.std.specs.Prelude.{◌≡◌};
 ghost use Rattle.std.specs.List.{list_any};
 ghost use Rattle.sqlite.specs.Order.{column};
-ghost use Rattle.device_registry.specs.Listing.{has_text, is_line, are_ours};
+ghost use Rattle.device_registry.specs.private.Listing.{has_text, is_line, are_ours};
 
 use crate::table::statements::CREATE_META;
 use crate::table::{META, Version};

@@ -32,7 +32,7 @@ pub type Registry<S> = RegistryOver<Connection<S>>;
 impl<C: SqlConnection> Model for RegistryOver<C> {
     ghost use Rattle.sqlite.specs.State.{HasCleanDisk};
     ghost use Rattle.device_registry.specs.Holding.{AreRegistries};
-    ghost use Rattle.device_registry.specs.Cached.{CacheAgrees};
+    ghost use Rattle.device_registry.specs.private.Cached.{CacheAgrees};
 
     ghost Value = { C };
 

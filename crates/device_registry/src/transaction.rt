@@ -3,7 +3,7 @@ ghost use Rattle.std.specs.Prelude.{◌≡◌, map, IsTrue, MatchResult};
 ghost use Rattle.sqlite.specs.Effect.{IsDatabase};
 ghost use Rattle.sqlite.specs.State.{HasCleanDisk};
 ghost use Rattle.sqlite.specs.Held.{state};
-ghost use Rattle.device_registry.specs.Transaction.{IsInside, IsListedInside, IsUncommitted};
+ghost use Rattle.device_registry.specs.private.Transaction.{IsInside, IsListedInside, IsUncommitted};
 
 use crate::listing::are_ours;
 use crate::table::Version;

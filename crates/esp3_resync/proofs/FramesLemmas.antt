@@ -15,7 +15,7 @@ use Rattle.esp3_frames.specs.Frames.Front.{Never, Partial, Whole}
 use Rattle.esp3_frames.proofs.ForCallers.{whole_length, only_framing, empty_may_become, framing_in_parts, cases_front}
 use Rattle.esp3_frames.proofs.ForCallers.{frames_of-may_become, frames-never, frames-skipped, frames-partial}
 use Rattle.esp3_frames.proofs.ForCallers.{frames-whole}
-use Rattle.esp3_resync.specs.Settled.{ReachesSync}
+use Rattle.esp3_resync.specs.private.Settled.{ReachesSync}
 
 -- where no packet is ready, a text whose front may become one is its own rest
 pub unready : (s : List ℕ) → front_of s ≢ Never → length (frames_of s).ready ≡ 0

@@ -12,7 +12,7 @@ use Rattle.esp3_frames.specs.Outcome.{header_of}
 use Rattle.esp3_frames.specs.declared.packet.Header.{Header}
 use Rattle.esp3_frames.proofs.ForCallers.{front-short, front-good, front_behind-partial, front_behind-whole}
 use Rattle.esp3_frames.proofs.ForCallers.{front_behind-never, whole_length}
-use Rattle.esp3_resync.specs.Settled.{HasHeader, packet_at}
+use Rattle.esp3_resync.specs.private.Settled.{HasHeader, packet_at}
 
 -- less than six bytes that are not to be skipped
 chosen : (b : Bool) (f : Front) → f ≡ cond b Partial Never → f ≢ Never → f ≡ Partial

@@ -9,7 +9,7 @@ use Rattle.std.proofs.lemmas.Bool.{cases_lt}
 use Rattle.std.proofs.lemmas.List.{take_all, take-append-le, take_more, get_or-set_same, get_or-set_other}
 use Rattle.esp3_frames.specs.Check.{check}
 use Rattle.esp3_frames.proofs.ForCallers.{check_next}
-use Rattle.esp3_resync.specs.Running.{Noted}
+use Rattle.esp3_resync.specs.private.Running.{Noted}
 
 -- after the last byte is the check byte of all
 pub noted_last : (g w c : List ℕ) (n : ℕ) → n ≡ length w → Noted g w c → get_or c n 0 ≡ check (g ++ w)

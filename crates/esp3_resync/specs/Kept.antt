@@ -1,9 +1,12 @@
 -- What a buffer keeps of a packet that was handed out.
-use Rattle.std.specs.Prelude.{◌≡◌, ℕ, ◌+◌, ◌≤◌, List, length, vec_capacity, Option, Some, None, IfSome}
+use Rattle.std.specs.Prelude.{◌≡◌, ℕ, ◌+◌, ◌≤◌, List, length, take, drop, vec_capacity, Option, Some, None, IfSome}
 use Rattle.std.specs.Global.{Vec}
 use Rattle.esp3_frames.specs.Packet.{Packet, longest_packet}
 use Rattle.esp3_frames.specs.declared.packet.Header.{Header}
-use Rattle.esp3_resync.specs.Settled.{packet_with}
+
+-- the packet with the header h whose data, and behind it the optional data, are v
+abbrev pub packet_with : Header → List ℕ → Packet
+packet_with h v = record { kind = h.kind; body = take h.data_len v; opt = drop h.data_len v }
 
 -- what a buffer keeps: nothing yet, or a packet
 abbrev pub kept : Option Header → List ℕ → Option Packet

@@ -1,3 +1,2 @@
-pub mod Running
-pub mod Settled
 pub mod Kept
+pub mod private

@@ -78,7 +78,7 @@ pub struct Framer {
 
 impl Model for Framer {
     ghost use Rattle.esp3_frames.specs.Frames.{Frames, frames_of};
-    ghost use Rattle.esp3_resync.specs.Settled.{Settled};
+    ghost use Rattle.esp3_resync.specs.private.Settled.{Settled};
 
     ghost Value = { Frames };
 

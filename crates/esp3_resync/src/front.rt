@@ -4,7 +4,7 @@ ghost use Rattle.std.specs.Bool.{OnTrue, OnFalse};
 ghost use Rattle.esp3_frames.specs.Frames.{front_of, frames_of};
 ghost use Rattle.esp3_frames.specs.Frames;
 ghost use Rattle.esp3_frames.specs.Frames.Front.{Never, Partial, Whole};
-ghost use Rattle.esp3_resync.specs.Settled.{HasHeader, IsFound, Settled, packet_at};
+ghost use Rattle.esp3_resync.specs.private.Settled.{HasHeader, IsFound, Settled, packet_at};
 
 use crate::window::Window;
 use esp3_frames::{Header, SYNC_BYTE, lengths_fit, read_header};

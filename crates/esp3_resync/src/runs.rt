@@ -2,7 +2,7 @@
 ghost use Rattle.std.specs.Prelude.{◌≡◌, ◌≢◌, ℕ, ◌<◌, ◌≤◌, ◌++◌, length, take, slice_index, Some};
 ghost use Rattle.esp3_frames.specs.Frames.{front_of};
 ghost use Rattle.esp3_frames.specs.Frames.Front.{Partial};
-ghost use Rattle.esp3_resync.specs.Settled.{HasHeader};
+ghost use Rattle.esp3_resync.specs.private.Settled.{HasHeader};
 
 use crate::front::announced_len;
 use crate::window::Window;

@@ -3,8 +3,8 @@ ghost use Rattle.std.specs.Prelude.{◌≡◌, ℕ, ◌+◌, ◌<◌, ◌≤◌,
 ghost use Rattle.std.specs.Prelude.{slice_index, slice_index_or, vec_capacity, ◌==◌, IfOk};
 ghost use Rattle.esp3_frames.specs.Check.{check};
 ghost use Rattle.esp3_frames.specs.Packet.{longest_packet};
-ghost use Rattle.esp3_resync.specs.Running.{Noted, Running, room};
-ghost use Rattle.esp3_resync.specs.Settled.{ReachesSync};
+ghost use Rattle.esp3_resync.specs.private.Running.{Noted, Running, room};
+ghost use Rattle.esp3_resync.specs.private.Settled.{ReachesSync};
 
 use esp3_frames::{LONGEST_PACKET, SYNC_BYTE, check8_between, check8_next};
 use memchr::memchr;
@@ -80,7 +80,7 @@ pub struct Window {
 
 impl Model for Window {
     ghost use Rattle.std.specs.Prelude.{ℕ, List, drop};
-    ghost use Rattle.esp3_resync.specs.Running.{Running};
+    ghost use Rattle.esp3_resync.specs.private.Running.{Running};
 
     ghost Value = { List ℕ };
 

@@ -46,14 +46,14 @@ use Rattle.gateway_core.specs.Step.{answer_by, telegram_sent}
 use Rattle.gateway_core.specs.Accounts.{eep_told, maker_told}
 use Rattle.gateway_core.specs.Profiles.{read_by}
 use Rattle.gateway_core.specs.Replies.{answer_of}
-use Rattle.gateway_core.specs.Refusals.{cause_of}
+use Rattle.gateway_core.specs.private.Refusals.{cause_of}
 use Rattle.gateway_core.specs.Step.{Cause, Memory, Need, NeedsMemory, NeedsStore, Permits}
 use Rattle.gateway_core.specs.Run.{refusal_of, Taken, Refused, RefusedAtWrite, refused}
 use Rattle.gateway_core.specs.Stops.{nothing_left, told, pending, Safe}
 use Rattle.gateway_core.specs.Handling.{HandlerValue, Went, Handles}
-use Rattle.gateway_core.specs.Tries.{state_of, Gives, IsMade, IsPending, Comes, Tries, counts_from}
-use Rattle.gateway_core.specs.Tries.{answered, mode_from}
-use Rattle.gateway_core.specs.Tries.{IsRefused, RegistryAlone, Learns, Forgets}
+use Rattle.gateway_core.specs.private.Tries.{state_of, Gives, IsMade, IsPending, Comes, Tries, counts_from}
+use Rattle.gateway_core.specs.private.Tries.{answered, mode_from}
+use Rattle.gateway_core.specs.private.Tries.{IsRefused, RegistryAlone, Learns, Forgets}
 
 -- what is known, of its parts
 abbrev pub known_with : ℕ → Mode → Counts → Devices → State

@@ -4,9 +4,7 @@ pub mod Step
 pub mod Run
 pub mod Stops
 pub mod Handling
-pub mod Refusals
 pub mod Handled
-pub mod Tries
 pub mod Promises
 pub mod Lives
 pub mod Prefixes
@@ -17,9 +15,9 @@ pub mod Accounts
 pub mod Beginnings
 pub mod Events
 pub mod Calls
-pub mod Codes
 pub mod Desks
 pub mod Replies
 pub mod Counting
 pub mod Explaining
 pub mod Windows
+pub mod private

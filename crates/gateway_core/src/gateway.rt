@@ -57,7 +57,7 @@ pub struct GatewayOver<S> {
 impl<S> Model for GatewayOver<S> {
     ghost use Rattle.gateway_core.specs.Calls.{Value as GatewayValue};
     ghost use Rattle.gateway_core.specs.Accounts.{explanation};
-    ghost use Rattle.gateway_core.specs.Codes.{value_code};
+    ghost use Rattle.gateway_core.specs.private.Codes.{value_code};
 
     ghost Value = { GatewayValue S };
 

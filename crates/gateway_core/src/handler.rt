@@ -7,7 +7,7 @@ ghost use Rattle.gateway_core.specs.Calls.{new_handler};
 ghost use Rattle.gateway_core.specs.Handling.{Handles};
 ghost use Rattle.gateway_core.specs.Replies.{answer_of};
 ghost use Rattle.gateway_core.specs.Step.{Ordered, Received, explaining};
-ghost use Rattle.gateway_core.specs.Tries.{account_from, answer_from, counts_from, mode_from};
+ghost use Rattle.gateway_core.specs.private.Tries.{account_from, answer_from, counts_from, mode_from};
 
 mod changes;
 mod done;
@@ -43,7 +43,7 @@ pub struct Handler<S> {
 impl<S> Model for Handler<S> {
     ghost use Rattle.std.specs.Prelude.{◌≡◌, true};
     ghost use Rattle.erp1_telegrams.specs.Address.{is_base};
-    ghost use Rattle.gateway_core.specs.Codes.{handler_code};
+    ghost use Rattle.gateway_core.specs.private.Codes.{handler_code};
     ghost use Rattle.gateway_core.specs.Handling.{HandlerValue};
 
     ghost Value = { HandlerValue S };

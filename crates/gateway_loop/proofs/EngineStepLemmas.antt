@@ -16,7 +16,7 @@ use Rattle.json_lines.specs.Counts.{count_with}
 use Rattle.gateway_loop.specs.Outlets.{Way}
 use Rattle.gateway_loop.specs.declared.engine.Engine.{Engine}
 use Rattle.gateway_loop.specs.Played.{IsIdle, IsBegun, Answers, AnswersPart}
-use Rattle.gateway_loop.specs.EngineSteps.{Drains, DrainsPart, EngineBreaks, Takes}
+use Rattle.gateway_loop.specs.private.EngineSteps.{Drains, DrainsPart, EngineBreaks, Takes}
 use Rattle.gateway_core.proofs.ForCallers.{count_on}
 use Rattle.gateway_loop.proofs.AnswerLemmas.{answers_nothing, answers_one, answers-append, part_one, answers-part}
 use Rattle.gateway_loop.proofs.PlayLemmas.{plays_nothing, plays-append}

@@ -9,7 +9,7 @@ use Rattle.std.proofs.lemmas.Bool.{ne_eqb}
 use Rattle.std.proofs.lemmas.Bool.Decides.{eqb_tells}
 use Rattle.gateway_core.specs.Events.{Event}
 use Rattle.gateway_loop.specs.Script.{IsOneLine, event_of, script, with_end}
-use Rattle.gateway_loop.specs.Lines.{events_by}
+use Rattle.gateway_loop.specs.private.Lines.{events_by}
 use Rattle.gateway_loop.specs.declared.line_loop.Lines.TheVariants.{OfScript}
 
 lines_of_parts-cons : (x : List ℕ) (parts : List (List ℕ)) → 0 < length parts

@@ -17,9 +17,9 @@ use Rattle.gateway_loop.specs.declared.line_loop.Player.{Player}
 use Rattle.gateway_loop.specs.Outlets.{Way}
 use Rattle.gateway_loop.specs.Script.{IsOneLine, event_of, script, with_end}
 use Rattle.gateway_loop.specs.Played.{IsIdle}
-use Rattle.gateway_loop.specs.EngineSteps.{EngineBreaks, Takes, TakesOrBreaks, TakesOrStops}
-use Rattle.gateway_loop.specs.LineLoop.{TakesBytes, StopsAtLine}
-use Rattle.gateway_loop.specs.Lines.{longest_kept, Keeps, event_by, events_by}
+use Rattle.gateway_loop.specs.private.EngineSteps.{EngineBreaks, Takes, TakesOrBreaks, TakesOrStops}
+use Rattle.gateway_loop.specs.private.LineLoop.{TakesBytes, StopsAtLine}
+use Rattle.gateway_loop.specs.private.Lines.{longest_kept, Keeps, event_by, events_by}
 use Rattle.gateway_loop.proofs.ListLemmas.{take_take}
 use Rattle.gateway_loop.proofs.LongLineLemmas.{kept_last_line_alike}
 use Rattle.gateway_loop.proofs.PlayLemmas.{takes_none, takes-append, plays-break}

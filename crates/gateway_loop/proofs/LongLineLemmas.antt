@@ -20,8 +20,8 @@ use Rattle.gateway_loop.specs.Script.{event_of, spelled}
 use Rattle.gateway_loop.specs.declared.engine.Engine.{Engine}
 use Rattle.gateway_loop.specs.Outlets.{Way}
 use Rattle.gateway_loop.specs.Played.{AnswersPart, Breaks, IsBegun}
-use Rattle.gateway_loop.specs.EngineSteps.{Takes, TakesOrBreaks}
-use Rattle.gateway_loop.specs.Lines.{longest_kept, event_by}
+use Rattle.gateway_loop.specs.private.EngineSteps.{Takes, TakesOrBreaks}
+use Rattle.gateway_loop.specs.private.Lines.{longest_kept, event_by}
 use Rattle.gateway_loop.specs.declared.line_loop.Lines.{Lines}
 use Rattle.gateway_loop.specs.declared.line_loop.Lines.TheVariants.{OfScript, OfDesk}
 

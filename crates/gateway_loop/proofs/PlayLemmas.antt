@@ -11,7 +11,7 @@ use Rattle.gateway_core.proofs.ForCallers.{count_on, items_behind, rest_behind}
 use Rattle.gateway_loop.specs.declared.engine.Engine.{Engine}
 use Rattle.gateway_loop.specs.Outlets.{Way}
 use Rattle.gateway_loop.specs.Played.{IsIdle}
-use Rattle.gateway_loop.specs.EngineSteps.{EngineBreaks, EnginePlays, Takes}
+use Rattle.gateway_loop.specs.private.EngineSteps.{EngineBreaks, EnginePlays, Takes}
 use Rattle.gateway_loop.proofs.AnswerLemmas.{answers_nothing, answers-append, answers-part}
 
 module _ {O S : Type 0} (stored : S → Kept) (way : Way O) where

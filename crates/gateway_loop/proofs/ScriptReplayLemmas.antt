@@ -10,12 +10,12 @@ use Rattle.gateway_loop.specs.declared.engine.Engine.{Engine}
 use Rattle.gateway_loop.specs.declared.line_loop.Lines.TheVariants.{OfScript}
 use Rattle.gateway_loop.specs.declared.line_loop.Player.{Player}
 use Rattle.gateway_loop.specs.declared.replay_text.ReplayText.{ReplayText}
-use Rattle.gateway_loop.specs.LineLoop.{StopsAtLine, TakesBytes}
-use Rattle.gateway_loop.specs.Lines.{event_by, events_by}
+use Rattle.gateway_loop.specs.private.LineLoop.{StopsAtLine, TakesBytes}
+use Rattle.gateway_loop.specs.private.Lines.{event_by, events_by}
 use Rattle.gateway_loop.specs.Outlets.{Way}
 use Rattle.gateway_loop.specs.Played.{Breaks, Plays, PlaysEnded, PlaysPartAtEnd, PlaysPartAtLine}
 use Rattle.gateway_loop.specs.Script.{script, with_end}
-use Rattle.gateway_loop.specs.EngineSteps.{EngineBreaks, EnginePlays, Takes}
+use Rattle.gateway_loop.specs.private.EngineSteps.{EngineBreaks, EnginePlays, Takes}
 use Rattle.gateway_loop.specs.Written.{WritesAll, WritesPart, way_of_text}
 use Rattle.gateway_loop.proofs.LineLemmas.{ended_of_lines, script-ended, script-first}
 use Rattle.gateway_loop.proofs.PlayLemmas.{plays-break, takes-append}

@@ -19,9 +19,9 @@ use Rattle.gateway_loop.specs.declared.line_loop.Player.{Player}
 use Rattle.gateway_loop.specs.Outlets.{Way}
 use Rattle.gateway_loop.specs.Played.{IsIdle}
 use Rattle.gateway_loop.specs.LiveGateway.{BreaksAtOrder}
-use Rattle.gateway_loop.specs.EngineSteps.{EngineBreaks, Takes}
-use Rattle.gateway_loop.specs.LineLoop.{TakesBytes, StopsAtLine}
-use Rattle.gateway_loop.specs.Lines.{Keeps, event_by, events_by}
+use Rattle.gateway_loop.specs.private.EngineSteps.{EngineBreaks, Takes}
+use Rattle.gateway_loop.specs.private.LineLoop.{TakesBytes, StopsAtLine}
+use Rattle.gateway_loop.specs.private.Lines.{Keeps, event_by, events_by}
 use Rattle.gateway_loop.specs.Turns.{Turn, desks, ended_lines, events_behind, events_of_turns, orders, pieces}
 use Rattle.gateway_loop.proofs.LineLoopLemmas.{keeps_none, whole_behind}
 use Rattle.gateway_loop.proofs.LineLemmas.{test_of_one_line}

@@ -12,7 +12,7 @@ use Rattle.gateway_loop.specs.Outlets.{Way}
 use Rattle.gateway_loop.specs.Played.{Breaks, Plays}
 use Rattle.gateway_loop.specs.LiveGateway.{BreaksAtOrder}
 use Rattle.gateway_loop.specs.Streams.{SinkValue, sink_value}
-use Rattle.gateway_loop.specs.EngineSteps.{EngineBreaks, EnginePlays}
+use Rattle.gateway_loop.specs.private.EngineSteps.{EngineBreaks, EnginePlays}
 use Rattle.gateway_loop.specs.Turns.{Turn}
 use Rattle.gateway_loop.specs.Wires.{way_of_wires, wires}
 use Rattle.gateway_loop.proofs.CallCountLemmas.{not_well}

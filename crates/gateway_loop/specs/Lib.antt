@@ -9,9 +9,7 @@ pub mod Explained
 pub mod Played
 pub mod Reads
 pub mod ScriptReplay
-pub mod EngineSteps
-pub mod Lines
-pub mod LineLoop
 pub mod Turns
 pub mod LiveGateway
 pub mod Headline
+pub mod private

@@ -6,7 +6,7 @@ ghost use Rattle.json_lines.specs.Counts.{one_more};
 ghost use Rattle.gateway_core.specs.Events.{Line as LineEvent, Piece as PieceEvent};
 ghost use Rattle.gateway_core.specs.Replies.{answer_of};
 ghost use Rattle.gateway_core.specs.Step.{explained_by, longest_line};
-ghost use Rattle.gateway_loop.specs.EngineSteps.{Drains, DrainsPart, EngineBreaks, Takes, TakesOrBreaks};
+ghost use Rattle.gateway_loop.specs.private.EngineSteps.{Drains, DrainsPart, EngineBreaks, Takes, TakesOrBreaks};
 ghost use Rattle.gateway_loop.specs.Outlets.{Puts};
 ghost use Rattle.gateway_loop.specs.Played.{IsIdle};
 ghost use Rattle.gateway_loop.specs.Script.{event_of, spelled};

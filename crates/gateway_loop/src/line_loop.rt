@@ -1,9 +1,9 @@
 //! The loop over the lines of a script or of the desk, as their bytes come.
 ghost use Rattle.std.specs.Prelude.{◌≡◌, [], ◌++◌, ℕ, List, OnOk, OnErr};
 ghost use Rattle.std.specs.Str.Lines.{strip_carriage_return};
-ghost use Rattle.gateway_loop.specs.EngineSteps.{TakesOrBreaks, TakesOrStops};
-ghost use Rattle.gateway_loop.specs.LineLoop.{StopsAtLine, TakesBytes};
-ghost use Rattle.gateway_loop.specs.Lines.{Keeps, event_by};
+ghost use Rattle.gateway_loop.specs.private.EngineSteps.{TakesOrBreaks, TakesOrStops};
+ghost use Rattle.gateway_loop.specs.private.LineLoop.{StopsAtLine, TakesBytes};
+ghost use Rattle.gateway_loop.specs.private.Lines.{Keeps, event_by};
 ghost use Rattle.gateway_loop.specs.Played.{IsIdle};
 ghost use Rattle.gateway_loop.specs.Script.{script};
 

@@ -1,6 +1,6 @@
 //! A line of which the end has not come.
 ghost use Rattle.std.specs.Prelude.{◌≡◌, [], ◌++◌, take};
-ghost use Rattle.gateway_loop.specs.Lines.{longest_kept};
+ghost use Rattle.gateway_loop.specs.private.Lines.{longest_kept};
 
 use arrayvec::ArrayVec;
 use gateway_core::LONGEST_LINE;
@@ -18,7 +18,7 @@ pub struct UnendedLine {
 
 impl Model for UnendedLine {
     ghost use Rattle.std.specs.Prelude.{◌≤◌, List, ℕ, length};
-    ghost use Rattle.gateway_loop.specs.Lines.{longest_kept};
+    ghost use Rattle.gateway_loop.specs.private.Lines.{longest_kept};
 
     ghost Value = { List ℕ };
 

@@ -14,7 +14,7 @@ use Rattle.hex.specs.Hex.{upper_digits, encode_with, encode_upper, IsBytes}
 use Rattle.hex.proofs.HexLemmas.{IsAscii-encode_with}
 use Rattle.erp1_telegrams.specs.declared.eep.Eep.{Eep}
 use Rattle.json_lines.specs.Lines.{byte_text, id_text, eep_text, as_text}
-use Rattle.json_lines.specs.LineData.{IsPlain}
+use Rattle.json_lines.specs.private.LineData.{IsPlain}
 
 -- ---- one digit
 

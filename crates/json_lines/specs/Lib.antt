@@ -1,5 +1,5 @@
 pub mod Lines
-pub mod LineData
 pub mod Counts
 pub mod ToldTelegram
 pub mod PacketLines
+pub mod private

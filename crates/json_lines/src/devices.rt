@@ -3,7 +3,7 @@
 ghost use Rattle.std.specs.Prelude.{◌≡◌, IfOk};
 ghost use Rattle.serde_json.specs.Events.{SendsValue};
 ghost use Rattle.json_lines.specs.Lines.{DeviceLine, ListEnd, listing, text, texts};
-ghost use Rattle.json_lines.specs.LineData.{device_members, list_members, object_of};
+ghost use Rattle.json_lines.specs.private.LineData.{device_members, list_members, object_of};
 
 use crate::line::{Line, line_of};
 use crate::parts::{put_id, put_maker, put_profile};

@@ -1,7 +1,7 @@
 //! A line of text.
 
 ghost use Rattle.std.specs.Prelude.{◌≡◌, ◌++◌, [], IfOk, OnOk};
-ghost use Rattle.json_lines.specs.LineData.{IsLineOf};
+ghost use Rattle.json_lines.specs.private.LineData.{IsLineOf};
 
 use serde::Serialize;
 use std::alloc::{AllocError, Global};

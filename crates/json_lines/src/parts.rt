@@ -2,7 +2,7 @@
 
 ghost use Rattle.std.specs.Prelude.{OnOk};
 ghost use Rattle.serde_json.specs.Events.{SendsValue};
-ghost use Rattle.json_lines.specs.LineData.{id_data, number_data, or_null, profile_data};
+ghost use Rattle.json_lines.specs.private.LineData.{id_data, number_data, or_null, profile_data};
 
 use crate::digits::{eep_digits, id_digits, text_of};
 use erp1_telegrams::Eep;

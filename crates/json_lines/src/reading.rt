@@ -10,7 +10,7 @@ ghost use Rattle.exact_values.specs.Fraction.{ratio};
 ghost use Rattle.json_lines.specs.Lines as lines;
 ghost use Rattle.json_lines.specs.Lines.{dbm_text, entry_text, id_text, in_quotes, member_text, named_text, or_null};
 ghost use Rattle.json_lines.specs.Lines.{profile_text};
-ghost use Rattle.json_lines.specs.LineData.{IsPlain};
+ghost use Rattle.json_lines.specs.private.LineData.{IsPlain};
 
 use crate::digits::{eep_digits, id_digits};
 use crate::line::Line;

@@ -4,7 +4,7 @@ ghost use Rattle.std.specs.Prelude.{◌≡◌, IfOk, OnOk, slice_get};
 ghost use Rattle.serde_json.specs.Data.{string};
 ghost use Rattle.serde_json.specs.Events.{SendsValue};
 ghost use Rattle.json_lines.specs.Lines.{ResponseLine, code_names, text};
-ghost use Rattle.json_lines.specs.LineData.{object_of, or_null, response_members};
+ghost use Rattle.json_lines.specs.private.LineData.{object_of, or_null, response_members};
 
 use crate::line::{Line, line_of};
 use serde::{Described, Serialize, Serializer};

@@ -4,7 +4,7 @@ ghost use Rattle.std.specs.Prelude.{◌≡◌, IfOk, OnOk};
 ghost use Rattle.serde_json.specs.Data.{string};
 ghost use Rattle.serde_json.specs.Events.{SendsValue};
 ghost use Rattle.json_lines.specs.Lines.{StatusLine, mode_word, text};
-ghost use Rattle.json_lines.specs.LineData.{object_of, status_members};
+ghost use Rattle.json_lines.specs.private.LineData.{object_of, status_members};
 
 use crate::counts::Counts;
 use crate::digits::{as_digits, text_of};

@@ -3,7 +3,7 @@
 ghost use Rattle.std.specs.Prelude.{◌≡◌, IfOk, OnOk};
 ghost use Rattle.serde_json.specs.Events.{SendsValue};
 ghost use Rattle.json_lines.specs.Lines.{Teach, outcome_word, text};
-ghost use Rattle.json_lines.specs.LineData.{object_of, or_null, profile_data, teach_members};
+ghost use Rattle.json_lines.specs.private.LineData.{object_of, or_null, profile_data, teach_members};
 
 use crate::line::{Line, line_of};
 use crate::parts::{put_id, put_maker, put_profile};

@@ -4,7 +4,7 @@ ghost use Rattle.std.specs.Prelude.{◌≡◌, [], ◌∷◌};
 ghost use Rattle.json_lines.specs.Lines.{Error};
 ghost use Rattle.json_lines.specs.declared.fixed.ErrorName.{ErrorName};
 ghost use Rattle.gateway_core.specs.Step.{NeedsStore, addition, forgets, learns, tells};
-ghost use Rattle.gateway_core.specs.Tries.{Learns, Forgets, Tries};
+ghost use Rattle.gateway_core.specs.private.Tries.{Learns, Forgets, Tries};
 
 use crate::handler::Handler;
 use crate::handler::done::{Done, denied, told};

@@ -2,12 +2,12 @@
 ghost use Rattle.std.specs.Prelude.{◌≡◌, ℕ, Bool, List, None, Some};
 ghost use Rattle.gateway_core.specs.Accounts.{because};
 ghost use Rattle.gateway_core.specs.Desks.{desk_bytes};
-ghost use Rattle.gateway_core.specs.Refusals.{cause_in};
+ghost use Rattle.gateway_core.specs.private.Refusals.{cause_in};
 ghost use Rattle.gateway_core.specs.Replies.{answer_of};
 ghost use Rattle.gateway_core.specs.Run.{cause_text};
 ghost use Rattle.gateway_core.specs.Step;
 ghost use Rattle.gateway_core.specs.Step.{said};
-ghost use Rattle.gateway_core.specs.Tries.{Gives};
+ghost use Rattle.gateway_core.specs.private.Tries.{Gives};
 
 use crate::account::Account;
 use crate::refusal::Refusal;

@@ -3,7 +3,7 @@ ghost use Rattle.std.specs.Prelude.{◌≡◌, Ok};
 ghost use Rattle.teach_in.specs.declared.mode.Mode.TheVariants.{LearnAs};
 ghost use Rattle.actuator_commands.specs.Orders.{IsInRange};
 ghost use Rattle.gateway_core.specs.Step.{if_supported, line_effect, order_effect, sets};
-ghost use Rattle.gateway_core.specs.Tries.{Gives, Tries};
+ghost use Rattle.gateway_core.specs.private.Tries.{Gives, Tries};
 
 use crate::handler::Handler;
 use crate::handler::done::{Done, denied, labelled, sets, told};

@@ -6,7 +6,7 @@ ghost use Rattle.teach_in.specs.Telegrams.{teach_in_of};
 ghost use Rattle.gateway_core.specs.Profiles.{read_by};
 ghost use Rattle.gateway_core.specs.Responses;
 ghost use Rattle.gateway_core.specs.Step.{case_effect, data_case, reading_effect, telegram_effect, other_effect};
-ghost use Rattle.gateway_core.specs.Tries.{Gives, Tries};
+ghost use Rattle.gateway_core.specs.private.Tries.{Gives, Tries};
 
 use crate::account::{Account, why_other, why_passed_over, why_unread};
 use crate::handler::Handler;

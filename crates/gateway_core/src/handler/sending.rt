@@ -8,7 +8,7 @@ ghost use Rattle.actuator_commands.specs.Orders.{IsInRange};
 ghost use Rattle.actuator_commands.specs.Packets.{order_telegram, sends};
 ghost use Rattle.gateway_core.specs.Step;
 ghost use Rattle.gateway_core.specs.Step.{order_effect, telegram_sent};
-ghost use Rattle.gateway_core.specs.Tries.{Gives, Tries};
+ghost use Rattle.gateway_core.specs.private.Tries.{Gives, Tries};
 
 use crate::handler::Handler;
 use crate::handler::done::{Done, denied, sends_packet};

@@ -11,7 +11,7 @@ ghost use Rattle.gateway_core.specs.Accounts.{because};
 ghost use Rattle.gateway_core.specs.Step;
 ghost use Rattle.gateway_core.specs.Step.{accepts, addition, deletes, line_with, plan_effect, radio_of, reply_of};
 ghost use Rattle.gateway_core.specs.Step.{told_of};
-ghost use Rattle.gateway_core.specs.Tries.{Gives, MayReply, Tries, state_of};
+ghost use Rattle.gateway_core.specs.private.Tries.{Gives, MayReply, Tries, state_of};
 
 use crate::account::{Account, told_by, why_silent};
 use crate::handler::Handler;

@@ -1,6 +1,6 @@
 use Rattle.std.proofs.Common.{◌≡◌, ◌&&◌, true, ap, sym, ◌∙◌}
 use Rattle.std.specs.List.{list_any}
-use Rattle.device_registry.specs.Listing.{is_line}
+use Rattle.device_registry.specs.private.Listing.{is_line}
 use Rattle.device_registry.specs.Table.{meta_name, device_name, meta_text, device_text}
 use Rattle.device_registry.proofs.listing.are_ours.Goals as goal
 

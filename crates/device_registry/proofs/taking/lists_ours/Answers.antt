@@ -1,6 +1,6 @@
 use Rattle.std.proofs.Common.{rules, arith, ◌≡◌, true}
 use Rattle.sqlite.specs.State.{HasCleanDisk}
-use Rattle.device_registry.specs.Listing.{are_ours}
+use Rattle.device_registry.specs.private.Listing.{are_ours}
 use Rattle.device_registry.proofs.ListObjectsAnswer.{listing_plain}
 use Rattle.device_registry.proofs.TablesRecognized.{ours_told, ours_shown}
 use Rattle.device_registry.proofs.taking.lists_ours.Goals as goal

@@ -1,6 +1,6 @@
 use Rattle.std.proofs.Common.{rules, ◌∙◌, ◌<◌, map, take, length, subst, sym}
 use Rattle.std.proofs.lemmas.List.{map_more}
-use Rattle.device_registry.specs.Transaction.{IsInside}
+use Rattle.device_registry.specs.private.Transaction.{IsInside}
 use Rattle.device_registry.proofs.TransactionSteps.{uncommitted, one_more, if_refused}
 use Rattle.device_registry.proofs.transaction.run_all.Goals as goal
 

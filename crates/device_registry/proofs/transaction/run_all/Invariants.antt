@@ -1,5 +1,5 @@
 use Rattle.std.proofs.Common.{◌≡◌, map, take}
-use Rattle.device_registry.specs.Transaction.{IsInside}
+use Rattle.device_registry.specs.private.Transaction.{IsInside}
 use Rattle.device_registry.proofs.transaction.run_all.Given as goal
 
 abbrev pub invariant-loop-text : goal.invariant-loop-text

@@ -1,7 +1,7 @@
 use Rattle.std.proofs.Common.{rules, ◌≡◌, map, true}
 use Rattle.sqlite.specs.State.{HasCleanDisk}
 use Rattle.sqlite.specs.Held.{state}
-use Rattle.device_registry.specs.Listing.{are_ours}
+use Rattle.device_registry.specs.private.Listing.{are_ours}
 use Rattle.device_registry.proofs.ListedInside.{seen_uncommitted, listed_inside}
 use Rattle.device_registry.proofs.TransactionSteps.{if_refused}
 use Rattle.device_registry.proofs.transaction.run_listed.Goals as goal

@@ -3,7 +3,7 @@ use Rattle.std.proofs.Common.{sym, subst, ap, ◌∙◌, arith}
 use Rattle.std.proofs.Common.{length-drop}
 use Rattle.std.proofs.Math.Seq.{paste, take-paste}
 use Rattle.std.proofs.lemmas.List.{take_all}
-use Rattle.esp3_resync.specs.Running.{Noted}
+use Rattle.esp3_resync.specs.private.Running.{Noted}
 use Rattle.esp3_resync.proofs.RunningLemmas.{noted_moved}
 use Rattle.esp3_resync.proofs.window.make_room.Goals as goal
 

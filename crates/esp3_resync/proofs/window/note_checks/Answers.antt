@@ -1,7 +1,7 @@
 use Rattle.std.proofs.Common.{◌≡◌, ℕ, ◌+◌, List, ◌++◌, length, refl, sym, subst, ap, ◌∙◌, arith}
 use Rattle.std.proofs.lemmas.List.{append-nil, length-set, take_all}
 use Rattle.esp3_frames.specs.Check.{check}
-use Rattle.esp3_resync.specs.Running.{Noted}
+use Rattle.esp3_resync.specs.private.Running.{Noted}
 use Rattle.esp3_resync.proofs.RunningLemmas.{noted_last, noted_more}
 use Rattle.esp3_resync.proofs.window.note_checks.Goals as goal
 

@@ -1,6 +1,6 @@
 use Rattle.std.proofs.Common.{◌≡◌, ℕ, List, ◌++◌, length, take}
 use Rattle.esp3_frames.specs.Check.{check}
-use Rattle.esp3_resync.specs.Running.{Noted}
+use Rattle.esp3_resync.specs.private.Running.{Noted}
 use Rattle.esp3_resync.proofs.window.note_checks.Given as goal
 
 -- the bytes so far are noted

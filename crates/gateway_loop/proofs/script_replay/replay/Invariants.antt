@@ -2,7 +2,7 @@ use Rattle.std.proofs.Common.{◌≡◌, List, ℕ, length}
 use Rattle.std.specs.Io.KnownBytes.{Consumes}
 use Rattle.byte_io.specs.Counts.{WentWell}
 use Rattle.gateway_loop.specs.Played.{IsIdle}
-use Rattle.gateway_loop.specs.LineLoop.{TakesBytes}
+use Rattle.gateway_loop.specs.private.LineLoop.{TakesBytes}
 use Rattle.gateway_loop.specs.Reads.{ReadsWell}
 use Rattle.gateway_loop.specs.declared.line_loop.Lines.TheVariants.{OfScript}
 use Rattle.gateway_loop.specs.Streams.{source_value}

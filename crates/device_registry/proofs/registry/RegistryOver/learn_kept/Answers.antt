@@ -1,7 +1,7 @@
 use Rattle.std.proofs.Common.{◌≡◌, ◌∙◌, true, false, Some, Ok, option_map, ap, sym, subst}
 use Rattle.learned_devices.specs.Devices.{device, learned}
 use Rattle.device_registry.specs.Holding.{kept}
-use Rattle.device_registry.specs.TableCalls.{Adds}
+use Rattle.device_registry.specs.private.TableCalls.{Adds}
 use Rattle.device_registry.proofs.CacheAgreement.{changed_recalled, full_recalled, cleared_recalled}
 use Rattle.device_registry.proofs.registry.RegistryOver.learn_kept.Goals as goal
 

@@ -3,7 +3,7 @@ use Rattle.std.specs.Prelude.{IsTrue}
 use Rattle.esp3_frames.specs.Framing.{MayBecomePacket}
 use Rattle.esp3_frames.specs.Frames.{Frames}
 use Rattle.esp3_frames.proofs.ForCallers.{framing_of, rest_may_become}
-use Rattle.esp3_resync.specs.Settled.{HasHeader, packet_at}
+use Rattle.esp3_resync.specs.private.Settled.{HasHeader, packet_at}
 use Rattle.esp3_resync.proofs.FramesLemmas.{ready_by_front, unready_partial}
 use Rattle.esp3_resync.proofs.HeaderLemmas.{short_partial}
 use Rattle.esp3_resync.proofs.framer.Framer.is_ready.Goals as goal

@@ -8,7 +8,8 @@ use Rattle.esp3_frames.specs.Frames.{front_of, frames_of, Frames}
 use Rattle.esp3_frames.specs.Frames.Front.{Partial}
 use Rattle.esp3_frames.specs.declared.packet.Header.{Header}
 use Rattle.esp3_frames.proofs.ForCallers.{frames-whole}
-use Rattle.esp3_resync.specs.Settled.{Settled, packet_with, packet_at}
+use Rattle.esp3_resync.specs.Kept.{packet_with}
+use Rattle.esp3_resync.specs.private.Settled.{Settled, packet_at}
 use Rattle.esp3_resync.proofs.FramesLemmas.{ready_whole, unready_partial}
 use Rattle.esp3_resync.proofs.HeaderLemmas.{short_partial, whole_sum, whole_parts}
 use Rattle.esp3_resync.proofs.framer.Framer.take.Goals as goal

@@ -3,7 +3,7 @@ use Rattle.std.proofs.Common.{length-append, length-drop}
 use Rattle.std.proofs.Math.Seq.{take_at}
 use Rattle.std.specs.Result.{is_ok}
 use Rattle.std.proofs.lemmas.Bool.{cond-true}
-use Rattle.esp3_resync.specs.Running.{Noted}
+use Rattle.esp3_resync.specs.private.Running.{Noted}
 use Rattle.esp3_resync.proofs.window.Window.extend.Goals as goal
 
 pub invariant_of-self : goal.invariant_of-self

@@ -3,7 +3,7 @@ use Rattle.std.proofs.lemmas.Result.{err_from_is_err_and}
 use Rattle.json_lines.specs.Lines.{Error}
 use Rattle.json_lines.specs.declared.fixed.ErrorName.TheVariants as name
 use Rattle.gateway_core.specs.Step.{said, learns, tells, NeedsStore}
-use Rattle.gateway_core.specs.Tries.{Learns}
+use Rattle.gateway_core.specs.private.Tries.{Learns}
 use Rattle.gateway_core.proofs.TryLemmas.{by-desk, tries-learned, tries-full, tries-refused}
 use Rattle.gateway_core.proofs.handler.Handler.learn_named.Goals as goal
 

@@ -2,7 +2,7 @@ use Rattle.std.proofs.Common.{refl, sym, ap, ◌∙◌}
 use Rattle.esp3_frames.specs.Outcome.{packet_of}
 use Rattle.gateway_core.specs.Replies.{answer_of}
 use Rattle.gateway_core.specs.Step.{Received, explaining, line_for}
-use Rattle.gateway_core.specs.Tries.{account_from}
+use Rattle.gateway_core.specs.private.Tries.{account_from}
 use Rattle.gateway_core.proofs.TryLemmas.{tries-handles, tries-same}
 use Rattle.gateway_core.proofs.handler.Handler.packet.Goals as goal
 

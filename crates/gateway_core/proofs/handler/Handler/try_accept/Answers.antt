@@ -4,7 +4,7 @@ use Rattle.teach_in.specs.declared.outcome.Outcome.TheVariants.{Accepted, Full}
 use Rattle.gateway_core.specs.declared.handler.changes.Committed.{Committed}
 use Rattle.gateway_core.specs.Handling.{HandlerValue}
 use Rattle.gateway_core.specs.Step.{accepts, mode_after_one, tells_sender, told_of}
-use Rattle.gateway_core.specs.Tries.{Learns, state_of}
+use Rattle.gateway_core.specs.private.Tries.{Learns, state_of}
 use Rattle.gateway_core.proofs.TryLemmas.{by-radio, taught-answer, tries-learned, tries-full, tries-refused}
 use Rattle.gateway_core.proofs.TryLemmas.{tries-untold}
 use Rattle.gateway_core.proofs.handler.Handler.try_accept.Goals as goal

@@ -5,7 +5,7 @@ use Rattle.teach_in.specs.declared.why.Why.TheVariants.{Told}
 use Rattle.json_lines.specs.Lines.{Teach, TeachLine, text}
 use Rattle.gateway_core.specs.Accounts.{because}
 use Rattle.gateway_core.specs.Step.{deletes, line_with}
-use Rattle.gateway_core.specs.Tries.{state_of}
+use Rattle.gateway_core.specs.private.Tries.{state_of}
 use Rattle.gateway_core.proofs.TryLemmas.{line_told, taught-answer, tries-forgotten, tries-unforgotten}
 use Rattle.gateway_core.proofs.handler.Handler.try_forget.Goals as goal
 

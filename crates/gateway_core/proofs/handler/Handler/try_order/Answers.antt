@@ -3,7 +3,7 @@ use Rattle.actuator_commands.specs.declared.orders.Order.TheVariants.{Add, Remov
 use Rattle.teach_in.specs.declared.mode.Mode.TheVariants.{Closed, Learn, LearnAnswer, LearnAs}
 use Rattle.esp3_frames.specs.Packet.{spelling}
 use Rattle.gateway_core.specs.Step.{base_query, if_supported, order_effect, sends_packet, sets}
-use Rattle.gateway_core.specs.Tries.{state_of}
+use Rattle.gateway_core.specs.private.Tries.{state_of}
 use Rattle.gateway_core.proofs.TryLemmas.{opens-comes, tries-alone, tries-same}
 use Rattle.gateway_core.proofs.handler.Handler.try_order.Goals as goal
 

@@ -2,7 +2,7 @@ use Rattle.std.proofs.Common.{◌≡◌, false, refl, sym, subst, ◌∙◌}
 use Rattle.std.proofs.lemmas.Result.{err_from_is_err_and}
 use Rattle.teach_in.specs.declared.plans.Plan.TheVariants.{Add, Forget, Refuse}
 use Rattle.teach_in.specs.Plans.{plan_of}
-use Rattle.gateway_core.specs.Tries.{MayReply, state_of}
+use Rattle.gateway_core.specs.private.Tries.{MayReply, state_of}
 use Rattle.gateway_core.proofs.QueryLemmas.{can_reply}
 use Rattle.gateway_core.proofs.TryLemmas.{line_told, permits-memory, refused-gives, tries-alone, tries-same}
 use Rattle.gateway_core.proofs.handler.Handler.try_plan.Goals as goal

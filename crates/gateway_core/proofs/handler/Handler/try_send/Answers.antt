@@ -5,7 +5,7 @@ use Rattle.actuator_commands.specs.Packets.{order_telegram, recipient}
 use Rattle.std.specs.Option.{option_copied}
 use Rattle.learned_devices.specs.Devices.{device_of}
 use Rattle.gateway_core.specs.Step.{Effect, NeedsStore, known_of, telegram_sent}
-use Rattle.gateway_core.specs.Tries.{Comes, Gives, state_of}
+use Rattle.gateway_core.specs.private.Tries.{Comes, Gives, state_of}
 use Rattle.gateway_core.proofs.EffectLemmas.{sends-effect}
 use Rattle.gateway_core.proofs.TryLemmas.{known_with, permitted, telegram-comes, telegram-need, tries-alone, tries}
 use Rattle.gateway_core.proofs.handler.Handler.try_send.Goals as goal

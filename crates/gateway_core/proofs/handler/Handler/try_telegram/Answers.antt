@@ -2,7 +2,7 @@ use Rattle.std.proofs.Common.{◌≡◌, false, refl, sym, ap, ◌∙◌}
 use Rattle.erp1_telegrams.specs.Address.{is_passed_over}
 use Rattle.learned_devices.specs.Devices.{device_of}
 use Rattle.gateway_core.specs.Step.{kind_case, plan_effect}
-use Rattle.gateway_core.specs.Tries.{state_of}
+use Rattle.gateway_core.specs.private.Tries.{state_of}
 use Rattle.gateway_core.proofs.EffectLemmas.{not-data, teaches}
 use Rattle.teach_in.proofs.ForCallers.{plan-unasked}
 use Rattle.gateway_core.proofs.TryLemmas.{tries-alone, tries-same}

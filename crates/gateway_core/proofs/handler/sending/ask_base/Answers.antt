@@ -1,7 +1,7 @@
 use Rattle.std.proofs.Common.{◌++◌, ap, subst, ◌∙◌}
 use Rattle.esp3_frames.specs.Packet.{spelling}
 use Rattle.gateway_core.specs.Step.{base_query, sends_packet}
-use Rattle.gateway_core.specs.Tries.{Gives}
+use Rattle.gateway_core.specs.private.Tries.{Gives}
 use Rattle.gateway_core.proofs.handler.sending.ask_base.Goals as goal
 
 pub returns : goal.returns

@@ -1,6 +1,6 @@
 use Rattle.std.proofs.Common.{Some, sym, ap, subst, ◌∙◌}
 use Rattle.gateway_core.specs.Step.{sends_packet, telegram_sent}
-use Rattle.gateway_core.specs.Tries.{Gives}
+use Rattle.gateway_core.specs.private.Tries.{Gives}
 use Rattle.gateway_core.proofs.handler.sending.send.Goals as goal
 
 pub returns-in-Ok : goal.returns-in-Ok

@@ -6,7 +6,7 @@ use Rattle.gateway_core.specs.Replies.{answer_of}
 use Rattle.gateway_core.specs.Step.{explained_by}
 use Rattle.json_lines.specs.Counts.{count_with}
 use Rattle.gateway_loop.specs.declared.engine.Engine.{Engine}
-use Rattle.gateway_loop.specs.EngineSteps.{Drains}
+use Rattle.gateway_loop.specs.private.EngineSteps.{Drains}
 use Rattle.gateway_loop.proofs.EngineStepLemmas.{drains_nothing, drains_one, drains_part}
 use Rattle.gateway_loop.proofs.engine.Engine.drain.Given.{Over}
 use Rattle.gateway_loop.proofs.engine.Engine.drain.Goals as goal

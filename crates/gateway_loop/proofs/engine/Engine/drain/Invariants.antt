@@ -1,5 +1,5 @@
 use Rattle.std.proofs.Common.{◌≡◌, length}
-use Rattle.gateway_loop.specs.EngineSteps.{Drains}
+use Rattle.gateway_loop.specs.private.EngineSteps.{Drains}
 use Rattle.gateway_loop.proofs.engine.Engine.drain.Given as goal
 
 abbrev pub invariant-loop-reply : goal.invariant-loop-reply

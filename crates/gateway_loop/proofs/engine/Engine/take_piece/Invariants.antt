@@ -1,6 +1,6 @@
 use Rattle.std.proofs.Common.{◌≡◌, ◌≤◌, ◌-◌, take, length, [], ◌∷◌}
 use Rattle.gateway_core.specs.Events.{Piece}
-use Rattle.gateway_loop.specs.EngineSteps.{Takes}
+use Rattle.gateway_loop.specs.private.EngineSteps.{Takes}
 use Rattle.gateway_loop.proofs.engine.Engine.take_piece.Given as goal
 
 -- the packets of the bytes so far are answered

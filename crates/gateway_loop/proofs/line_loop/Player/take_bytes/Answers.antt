@@ -2,7 +2,7 @@ use Rattle.std.proofs.Common.{◌≡◌, ◌++◌, ◌∷◌, [], ◌+◌, ◌-�
 use Rattle.std.proofs.Common.{arith, subst, rules, sym, ◌∙◌, length-drop}
 use Rattle.std.proofs.Math.Seq.{take-length}
 use Rattle.std.proofs.lemmas.Result.{err_from_is_err_and}
-use Rattle.gateway_loop.specs.LineLoop.{StopsAtLine, TakesBytes}
+use Rattle.gateway_loop.specs.private.LineLoop.{StopsAtLine, TakesBytes}
 use Rattle.gateway_loop.proofs.LineLoopLemmas.{bytes_none, bytes_behind, bytes_without_end, line_stops, line_taken}
 use Rattle.gateway_loop.proofs.LineLoopLemmas.{stops_behind}
 use Rattle.gateway_loop.proofs.ListLemmas.{split_round}

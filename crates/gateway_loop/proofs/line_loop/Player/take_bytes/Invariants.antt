@@ -1,6 +1,6 @@
 use Rattle.std.proofs.Common.{◌≡◌, ◌++◌, List, ℕ, length}
-use Rattle.gateway_loop.specs.LineLoop.{TakesBytes}
-use Rattle.gateway_loop.specs.Lines.{Keeps}
+use Rattle.gateway_loop.specs.private.LineLoop.{TakesBytes}
+use Rattle.gateway_loop.specs.private.Lines.{Keeps}
 use Rattle.gateway_loop.specs.Played.{IsIdle}
 use Rattle.gateway_loop.proofs.line_loop.Player.take_bytes.Given as goal
 

@@ -2,8 +2,8 @@ use Rattle.std.proofs.Common.{Ok, Err, ◌++◌, length, take, sym, subst, ◌�
 use Rattle.std.specs.Str.Lines.{strip_carriage_return}
 use Rattle.std.proofs.lemmas.Bool.{eqb-true}
 use Rattle.std.proofs.lemmas.Result.{err_from_is_err_and}
-use Rattle.gateway_loop.specs.Lines.{event_by, longest_kept}
-use Rattle.gateway_loop.specs.EngineSteps.{TakesOrBreaks}
+use Rattle.gateway_loop.specs.private.Lines.{event_by, longest_kept}
+use Rattle.gateway_loop.specs.private.EngineSteps.{TakesOrBreaks}
 use Rattle.gateway_loop.proofs.LineLoopLemmas.{kept_more, none_came}
 use Rattle.gateway_loop.proofs.LongLineLemmas.{kept_line_alike}
 use Rattle.gateway_loop.proofs.line_loop.Player.take_ended.Goals as goal

@@ -1,7 +1,7 @@
 use Rattle.std.proofs.Common.{rules, length, sym, subst, ◌∙◌}
 use Rattle.std.proofs.lemmas.Bool.{eqb-true, eqb-false}
 use Rattle.gateway_loop.specs.Script.{script}
-use Rattle.gateway_loop.specs.EngineSteps.{Takes}
+use Rattle.gateway_loop.specs.private.EngineSteps.{Takes}
 use Rattle.gateway_loop.proofs.LineLoopLemmas.{last_line, none_came}
 use Rattle.gateway_loop.proofs.PlayLemmas.{takes_none}
 use Rattle.gateway_loop.proofs.line_loop.Player.take_last.Goals as goal

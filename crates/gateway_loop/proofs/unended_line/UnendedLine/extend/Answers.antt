@@ -1,6 +1,6 @@
 use Rattle.std.proofs.Common.{◌≡◌, arith, min, length, ◌≤◌, ◌+◌, ◌-◌, sym, ◌∙◌, ap, take, ◌++◌}
 use Rattle.std.proofs.lemmas.List.{length-take}
-use Rattle.gateway_loop.specs.Lines.{longest_kept}
+use Rattle.gateway_loop.specs.private.Lines.{longest_kept}
 use Rattle.gateway_loop.proofs.ListLemmas.{take-append}
 use Rattle.gateway_loop.proofs.ResultLemmas.{OnOk-where_ok}
 use Rattle.gateway_loop.proofs.unended_line.UnendedLine.extend.Goals as goal

@@ -5,9 +5,9 @@ use Rattle.std.specs.Str.Lines.{strip_carriage_return}
 use Rattle.learned_devices.specs.Kept.{Kept}
 use Rattle.gateway_loop.specs.declared.line_loop.Lines.{Lines}
 use Rattle.gateway_loop.specs.declared.line_loop.Player.{Player}
-use Rattle.gateway_loop.specs.Lines.{Keeps, event_by, events_by}
+use Rattle.gateway_loop.specs.private.Lines.{Keeps, event_by, events_by}
 use Rattle.gateway_loop.specs.Outlets.{Way}
-use Rattle.gateway_loop.specs.EngineSteps.{EngineBreaks, Takes}
+use Rattle.gateway_loop.specs.private.EngineSteps.{EngineBreaks, Takes}
 use Rattle.gateway_loop.specs.Script.{IsOneLine, with_end}
 
 -- Below, `bytes` are those of the line that was not ended at first, and those that came behind them.

@@ -6,6 +6,7 @@ use Rattle.esp3_frames.specs.Frames.{front_of}
 use Rattle.esp3_frames.specs.Frames.Front.{Never}
 use Rattle.esp3_frames.specs.Outcome.{header_of}
 use Rattle.esp3_frames.specs.declared.packet.Header.{Header}
+use Rattle.esp3_resync.specs.Kept.{packet_with}
 use Rattle.esp3_resync.specs.declared.front.Found.{Found}
 use Rattle.esp3_resync.specs.declared.front.Found.TheVariants as found
 
@@ -24,10 +25,6 @@ abbrev pub IsFound : Found → List ℕ → Type 0
 IsFound found.Refused w = front_of w ≡ Never
 IsFound found.Begun w = Settled w None
 IsFound (found.Announced h) w = Settled w (Some h)
-
--- the packet with the header h whose data, and behind it the optional data, are v
-abbrev pub packet_with : Header → List ℕ → Packet
-packet_with h v = record { kind = h.kind; body = take h.data_len v; opt = drop h.data_len v }
 
 -- the packet whose header h stands at the front of w
 abbrev pub packet_at : Header → List ℕ → Packet

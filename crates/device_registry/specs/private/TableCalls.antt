@@ -1,4 +1,4 @@
--- For private clauses: what a call of the table without its cache does.
+-- What a call of the table without its cache does.
 use Rattle.std.specs.Prelude.{◌≡◌, Bool, not, MatchBool, MatchResult, Result}
 use Rattle.learned_devices.specs.declared.Device.{Device}
 use Rattle.learned_devices.specs.Devices.{Devices, is_full, learned}

@@ -1,4 +1,4 @@
--- For private clauses: what comes of an item that is tried.
+-- What comes of an item that is tried.
 use Rattle.std.specs.Prelude.{◌≡◌, ℕ, true, false, MatchBool, IsSome, Option, Some, None, Result, Ok, Err}
 use Rattle.learned_devices.specs.Kept.{Kept, Keeps, Commits, Pends}
 use Rattle.learned_devices.specs.declared.Device.{Device}
@@ -23,7 +23,7 @@ use Rattle.gateway_core.specs.declared.account.Account.{Account}
 use Rattle.gateway_core.specs.Accounts.{because}
 use Rattle.gateway_core.specs.Step.{State, Item, Answer, explaining, line_for, said, Effect, answer_by, count_in}
 use Rattle.gateway_core.specs.Step.{told_of, with_mode, Cause, Need, Permits}
-use Rattle.gateway_core.specs.Refusals.{cause_in, cause_of}
+use Rattle.gateway_core.specs.private.Refusals.{cause_in, cause_of}
 use Rattle.gateway_core.specs.Run.{cause_text}
 use Rattle.gateway_core.specs.Replies.{answer_of}
 use Rattle.gateway_core.specs.Handling.{HandlerValue}

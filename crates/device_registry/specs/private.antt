@@ -1,0 +1,5 @@
+-- For private clauses: no public contract depends on these.
+pub mod Cached
+pub mod Listing
+pub mod TableCalls
+pub mod Transaction

@@ -1,0 +1,2 @@
+-- For private clauses and views: no public contract depends on these.
+pub mod Fraction
