@@ -1,3 +1,0 @@
--- For private clauses and views: no public contract depends on these.
-pub mod Tenths
-pub mod OccupancyButton

@@ -1,2 +1,0 @@
--- For private clauses and views: no public contract depends on these.
-pub mod Payload
