@@ -52,7 +52,7 @@ for row in ORDERS:
 # The numbers, each with the greatest that is in its range; the least is 0. An ID is in its range unless it is FFFFFFFF,
 # and a text if it has at most 32 bytes.
 GREATEST = {"CH": 30, "OFF": 127, "VAL": 100, "RAMP": 255}
-LONGEST_LABEL = 32
+MAX_LABEL = 32
 
 # How the values are written. A text has characters from space to `~`, of which neither the first nor the last is a
 # space.
@@ -93,7 +93,7 @@ def fitting(text):
 
 
 def is_in_range(values):
-    if values.get("ID") == ALL or len(values.get("TEXT", "")) > LONGEST_LABEL:
+    if values.get("ID") == ALL or len(values.get("TEXT", "")) > MAX_LABEL:
         return False
     return all(values.get(word, 0) <= greatest for word, greatest in GREATEST.items())
 

@@ -7,7 +7,7 @@ use Rattle.std.specs.Borrow.{Bor}
 use Rattle.std.specs.List.{AllZip, join_with_byte}
 use Rattle.std.specs.Result.{result_ok}
 use Rattle.std.specs.Str.{IsUtf8}
-use Rattle.learned_devices.specs.Labels.{longest_label, is_label, is_name}
+use Rattle.learned_devices.specs.Labels.{max_label, is_label, is_name}
 use Rattle.learned_devices.proofs.LabelLemmas.{name-utf8}
 use Rattle.actuator_commands.specs.Words.{Says, Id, Text, SpellsWord, id_in, is_text, label_in, of_two, text_in}
 use Rattle.actuator_commands.specs.declared.orders.Order.TheVariants.{Label}
@@ -48,7 +48,7 @@ and_false true = refl
 and_false false = refl
 
 -- a text that is too long is out of range
-too_long : (id : ℕ) (text : List ℕ) → nat_le (length text) longest_label ≡ false
+too_long : (id : ℕ) (text : List ℕ) → nat_le (length text) max_label ≡ false
     → is_in_range (Label id text) ≡ false
 too_long id [] long = absurd cc
 too_long id (first ∷ more) long =
@@ -56,11 +56,11 @@ too_long id (first ∷ more) long =
 
 not_taken : (id : ℕ) (more : List (List ℕ)) (text : List ℕ) → label_in more ≡ Some text
     → (is_label text ≡ true → ⊥) → result_of (Some (Label id text)) ≡ Err Range
-not_taken id more text e none = by_test (nat_le (length text) longest_label) refl
+not_taken id more text e none = by_test (nat_le (length text) max_label) refl
   where
-    by_test : (b : Bool) → nat_le (length text) longest_label ≡ b → result_of (Some (Label id text)) ≡ Err Range
+    by_test : (b : Bool) → nat_le (length text) max_label ≡ b → result_of (Some (Label id text)) ≡ Err Range
     by_test true short =
-        absurd (none (ap (λ b. b && nat_le (length text) longest_label) (label_named more text e) ∙ short))
+        absurd (none (ap (λ b. b && nat_le (length text) max_label) (label_named more text e) ∙ short))
     by_test false long = ap (λ b. cond b (Ok (Label id text)) (Err Range)) (too_long id text long)
 
 -- and so is one that is no label

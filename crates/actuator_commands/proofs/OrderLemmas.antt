@@ -8,7 +8,7 @@ use Rattle.std.proofs.lemmas.List.Splits.{join_with_byte-slice_split}
 use Rattle.actuator_commands.specs.Words.{words, Word, Says, Id, Profile, Number, Text, SpellsWord, IsWordInRange}
 use Rattle.actuator_commands.specs.Words.{is_word_in_range, id_in, eep_in, number_in, state_in, quantity_in}
 use Rattle.actuator_commands.specs.Words.{of_two, of_three, text_in, label_in}
-use Rattle.learned_devices.specs.Labels.{longest_label}
+use Rattle.learned_devices.specs.Labels.{max_label}
 use Rattle.actuator_commands.specs.declared.orders.Order.{Order}
 use Rattle.actuator_commands.specs.declared.orders.Order.TheVariants.{LearnOn, LearnOnAnswer, LearnAs, LearnOff}
 use Rattle.actuator_commands.specs.declared.orders.Order.TheVariants.{Add, Remove, Label, List as ListAll, Status, Base}
@@ -349,8 +349,8 @@ in_range (Number most n ∷ some) is =
     let parts = and_parts (nat_le n most) (list_all is_word_in_range some) is in
     (leb-true n most parts.0, in_range some parts.1)
 in_range (Text name ∷ some) is =
-    let parts = and_parts (nat_le (length name) longest_label) (list_all is_word_in_range some) is in
-    (leb-true (length name) longest_label parts.0, in_range some parts.1)
+    let parts = and_parts (nat_le (length name) max_label) (list_all is_word_in_range some) is in
+    (leb-true (length name) max_label parts.0, in_range some parts.1)
 
 all_tested : (some : List Word) → AllByRecursion IsWordInRange some → list_all is_word_in_range some ≡ true
 all_tested [] is = refl
@@ -358,7 +358,7 @@ all_tested (Says name ∷ some) is = all_tested some is.1
 all_tested (Id id ∷ some) is = rw (ne_eqb id 0xFFFF_FFFF is.0) (all_tested some is.1)
 all_tested (Profile eep ∷ some) is = all_tested some is.1
 all_tested (Number most n ∷ some) is = rw (le-leb n most is.0) (all_tested some is.1)
-all_tested (Text name ∷ some) is = rw (le-leb (length name) longest_label is.0) (all_tested some is.1)
+all_tested (Text name ∷ some) is = rw (le-leb (length name) max_label is.0) (all_tested some is.1)
 
 -- ---- both
 

@@ -12,7 +12,7 @@ use Rattle.std.specs.Str.Parse.{digits_value}
 use Rattle.hex.specs.Hex.{decode_of, decode_sized}
 use Rattle.hex.specs.declared.error.FromHexError.{FromHexError}
 use Rattle.erp1_telegrams.specs.declared.eep.Eep.{Eep}
-use Rattle.learned_devices.specs.Labels.{longest_label, is_name}
+use Rattle.learned_devices.specs.Labels.{max_label, is_name}
 use Rattle.actuator_commands.specs.declared.orders.Quantity.{Quantity}
 use Rattle.actuator_commands.specs.declared.orders.Quantity.TheVariants.{Energy, Power}
 
@@ -75,7 +75,7 @@ IsWordInRange (Says name) = Unit {0}
 IsWordInRange (Id id) = id ≢ 0xFFFF_FFFF
 IsWordInRange (Profile eep) = Unit {0}
 IsWordInRange (Number most n) = n ≤ most
-IsWordInRange (Text name) = length name ≤ longest_label
+IsWordInRange (Text name) = length name ≤ max_label
 
 -- ---- the same, computed. That it is the same are the laws `ids_are_spelled` and `orders_are_spelled`.
 
@@ -94,7 +94,7 @@ is_word_in_range (Says name) = true
 is_word_in_range (Id id) = not (id == 0xFFFF_FFFF)
 is_word_in_range (Profile eep) = true
 is_word_in_range (Number most n) = nat_le n most
-is_word_in_range (Text name) = nat_le (length name) longest_label
+is_word_in_range (Text name) = nat_le (length name) max_label
 
 -- the number of two hexadecimal digits
 abbrev pub byte_from : Result (List ℕ) FromHexError → Option ℕ

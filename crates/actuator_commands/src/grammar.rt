@@ -150,7 +150,7 @@ fn label_order(mut left: Option<&[u8]>) -> Result<Order, OrderFault>
 /// space between two of them, and nothing before or behind. `line` comes without its line end. An ID is what `id_of`
 /// reads, from `00000000` to `FFFFFFFE`, a profile three pairs of hexadecimal digits of either case with `-` between
 /// them, and a number `0` or up to five decimal digits that do not begin with 0. The text of a label is all that stands
-/// behind the ID and one space, with the spaces in it: at least one byte and at most `LONGEST_LABEL`, from space to `~`
+/// behind the ID and one space, with the spaces in it: at least one byte and at most `MAX_LABEL`, from space to `~`
 /// of ASCII, of which neither the first nor the last is a space.
 ///
 /// A line that is no order is refused as `Range` where it has the shape of one, and else as `Syntax`.

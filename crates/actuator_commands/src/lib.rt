@@ -4,6 +4,7 @@
 
 mod grammar;
 pub mod laws;
+mod limits;
 mod orders;
 mod packets;
 mod words;

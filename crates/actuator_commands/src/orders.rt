@@ -3,22 +3,10 @@ ghost use Rattle.std.specs.Prelude.{◌≡◌};
 ghost use Rattle.actuator_commands.specs.Orders.{is_in_range};
 ghost use Rattle.actuator_commands.specs.Packets.{recipient, sends};
 
+use crate::limits::{MAX_CHANNEL, MAX_OFFSET, MAX_RAMP, MAX_VALUE};
 use erp1_telegrams::{BROADCAST, Eep};
-use learned_devices::{LONGEST_LABEL, Label};
+use learned_devices::{Label, MAX_LABEL};
 use thiserror::Error;
-
-/// The greatest number of a channel: 30 is all channels of a device (EnOcean Equipment Profiles 2.6, "D2-01", "I/O
-/// channel").
-const LAST_CHANNEL: u32 = 30;
-
-/// The greatest offset from the base ID (EnOcean Serial Protocol 3, "CO_WR_IDBASE").
-const LAST_OFFSET: u32 = 127;
-
-/// The greatest value, in percent.
-const MOST_VALUE: u32 = 100;
-
-/// The longest time of a ramp, in seconds (EnOcean Equipment Profiles 2.6, "A5-38-08", command 2).
-const MOST_RAMP: u32 = 255;
 
 /// An order of the desk. An ID is that of a device, 0 to FFFFFFFE. A channel is 0 to 29, or 30 for all channels of the
 /// device. A value is 0 to 100 percent, and a ramp 0 to 255 seconds. An offset is 0 to 127: the order goes out from the
@@ -176,19 +164,19 @@ pub(crate) fn is_in_range(order: &Order) -> bool
         | Order::Status
         | Order::Base => true,
         Order::Add(id, _) | Order::Remove(id) | Order::Stop { id } => *id != BROADCAST,
-        Order::Label { id, label } => *id != BROADCAST && label.as_str().len() <= LONGEST_LABEL,
+        Order::Label { id, label } => *id != BROADCAST && label.as_str().len() <= MAX_LABEL,
         Order::Switch { id, channel, .. }
         | Order::Query { id, channel }
-        | Order::Meter { id, channel, .. } => *id != BROADCAST && *channel <= LAST_CHANNEL,
+        | Order::Meter { id, channel, .. } => *id != BROADCAST && *channel <= MAX_CHANNEL,
         Order::Dim { id, channel, value } => {
-            *id != BROADCAST && *channel <= LAST_CHANNEL && *value <= MOST_VALUE
+            *id != BROADCAST && *channel <= MAX_CHANNEL && *value <= MAX_VALUE
         }
-        Order::Blind { id, value } => *id != BROADCAST && *value <= MOST_VALUE,
-        Order::Central { offset, .. } | Order::Teach { offset } => *offset <= LAST_OFFSET,
+        Order::Blind { id, value } => *id != BROADCAST && *value <= MAX_VALUE,
+        Order::Central { offset, .. } | Order::Teach { offset } => *offset <= MAX_OFFSET,
         Order::Level {
             offset,
             value,
             ramp,
-        } => *offset <= LAST_OFFSET && *value <= MOST_VALUE && *ramp <= MOST_RAMP,
+        } => *offset <= MAX_OFFSET && *value <= MAX_VALUE && *ramp <= MAX_RAMP,
     }
 }

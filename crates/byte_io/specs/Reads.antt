@@ -2,5 +2,5 @@
 use Rattle.std.specs.Prelude.{ℕ}
 
 -- how many bytes one read gives at most
-abbrev pub longest_read : ℕ
-longest_read = 256
+abbrev pub max_read : ℕ
+max_read = 256

@@ -2,7 +2,7 @@
 ghost use Rattle.std.specs.Prelude.{◌≡◌, ◌≤◌, ◌<◌, ℕ, List, Option, IfOk, length};
 ghost use Rattle.std.specs.Io.KnownBytes.{ReadConsumes};
 ghost use Rattle.byte_io.specs.Counts.{Counts, counted, none_yet};
-ghost use Rattle.byte_io.specs.Reads.{longest_read};
+ghost use Rattle.byte_io.specs.Reads.{max_read};
 
 use crate::tally::{Failed, Tally};
 use std::io::Read;
@@ -19,7 +19,7 @@ pub trait Source {
     /// bytes say that none is left; of a terminal, which may bring more later, that none came in time. After `Failed`
     /// nothing is lost: no byte was taken from the source.
     fn read(&mut self, buffer: &mut [u8]) -> Result<usize, Failed>
-        requires { (0 < length buffer.old) × (length buffer.old ≤ longest_read) }
+        requires { (0 < length buffer.old) × (length buffer.old ≤ max_read) }
         ensures within { IfOk result (λ n. n ≤ length buffer.new) }
         ensures bytes { ReadConsumes (left self.old) (left self.new) result buffer.new }
         ensures told { counts self.new ≡ counted (counts self.old) result };

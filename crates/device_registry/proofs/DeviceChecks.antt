@@ -13,7 +13,7 @@ use Rattle.sqlite_sql.specs.declared.ops.BinaryOp.TheVariants.{Compare, And}
 use Rattle.sqlite_sql.specs.declared.ops.CompareOp.TheVariants.{Le, Ge}
 use Rattle.learned_devices.specs.Labels.{is_label}
 use Rattle.device_registry.specs.declared.table.Version.TheVariants.{Second}
-use Rattle.device_registry.specs.Table.{device_table, last_sender, last_profile, last_maker}
+use Rattle.device_registry.specs.Table.{device_table, max_sender, max_profile, max_maker}
 use Rattle.learned_devices.specs.Devices.{Learned}
 use Rattle.device_registry.specs.Table.Rows.{IsDevice, stored, eep_number, maker_number}
 use Rattle.device_registry.proofs.TestSteps.{both}
@@ -49,11 +49,11 @@ pub checked : (d id : ℕ) (it : Learned) → is_label it.label ≡ true
     → passes_checks (device_table Second d) (stored id it) ≡ true → IsDevice (stored id it)
 unfolding between
 checked d id it label h =
-    let sender = both (between (pos 0) (pos last_sender) (pos id)) _ h in
-    let profile = both (between (pos 0) (pos last_profile) (pos (eep_number it.eep))) _ sender.1 in
-    let maker = both (between (negsuc 0) (pos last_maker) (maker_number it.maker)) true profile.1 in
-    let id_lies = lies_between (pos 0) (pos last_sender) (pos id) sender.0 in
-    let eep_lies = lies_between (pos 0) (pos last_profile) (pos (eep_number it.eep)) profile.0 in
+    let sender = both (between (pos 0) (pos max_sender) (pos id)) _ h in
+    let profile = both (between (pos 0) (pos max_profile) (pos (eep_number it.eep))) _ sender.1 in
+    let maker = both (between (negsuc 0) (pos max_maker) (maker_number it.maker)) true profile.1 in
+    let id_lies = lies_between (pos 0) (pos max_sender) (pos id) sender.0 in
+    let eep_lies = lies_between (pos 0) (pos max_profile) (pos (eep_number it.eep)) profile.0 in
     record {
       id = id;
       id_is = refl;
@@ -63,7 +63,7 @@ checked d id it label h =
       is_profile = omega (arith, ints, eep_lies.1);
       maker = maker_number it.maker;
       maker_is = refl;
-      is_maker = lies_between (negsuc 0) (pos last_maker) (maker_number it.maker) maker.0;
+      is_maker = lies_between (negsuc 0) (pos max_maker) (maker_number it.maker) maker.0;
       label = it.label;
       label_is = refl;
       is_label = label;

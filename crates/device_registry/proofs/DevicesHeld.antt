@@ -23,7 +23,7 @@ use Rattle.sqlite_catalog.proofs.ReadLemmas.{lists_once}
 use Rattle.device_registry.specs.declared.table.Version.{Version}
 use Rattle.device_registry.specs.declared.table.Version.TheVariants.{Second}
 use Rattle.device_registry.specs.Table.{device_name, device_text, device_table, meta_name, meta_text, meta_table}
-use Rattle.learned_devices.specs.Devices.{Devices, Learned, is_full, most_devices}
+use Rattle.learned_devices.specs.Devices.{Devices, Learned, is_full, max_devices}
 use Rattle.device_registry.specs.Stored.{IsRegistry, RegistersAs, HoldsAs, Registers, Holds, Stands}
 use Rattle.device_registry.specs.Stored.{AreListed, IsListedAs}
 use Rattle.device_registry.specs.Table.Rows.{RowidsDiffer, IsDevice, IsVersion, devices_in, rows_of, stored}
@@ -113,7 +113,7 @@ module _ (before : Database) (registry : IsRegistry Second before) where
       → after.trees catalog_tree ≡ before.trees catalog_tree → (row : Row)
       → after.trees registry.tables.meta ≡ row ∷ [] → IsVersion Second row
       → AllByRecursion IsDevice (after.trees registry.tables.devices)
-      → RowidsDiffer (after.trees registry.tables.devices) → length (after.trees registry.tables.devices) ≤ most_devices
+      → RowidsDiffer (after.trees registry.tables.devices) → length (after.trees registry.tables.devices) ≤ max_devices
       → devices_in (after.trees registry.tables.devices) ≡ devices
       → Registers after devices
   registers_after after devices schema objects row one version rows once few is =
@@ -226,4 +226,4 @@ module _ (before after : Database) (devices : Devices) (had : Registers before d
         (others.objects meta_beside (no_index_there before.schema before.trees sound)) version_row version
         (record { key = refl; number = refl })
         (subst (AllByRecursion IsDevice) (sym same) r.whole.rows) (subst RowidsDiffer (sym same) r.whole.once)
-        (subst (λ rows. length rows ≤ most_devices) (sym same) r.whole.few) (ap devices_in same ∙ had.is)
+        (subst (λ rows. length rows ≤ max_devices) (sym same) r.whole.few) (ap devices_in same ∙ had.is)

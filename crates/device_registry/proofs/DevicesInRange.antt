@@ -17,13 +17,13 @@ use Rattle.device_registry.specs.Holding.{Finds}
 use Rattle.learned_devices.specs.Devices.{Learned, Devices, device}
 use Rattle.device_registry.specs.Stored.{RegistersAs}
 use Rattle.device_registry.specs.declared.table.Version.{Version}
-use Rattle.device_registry.specs.Table.{last_maker}
+use Rattle.device_registry.specs.Table.{max_maker}
 use Rattle.device_registry.specs.Table.Rows.{IsDevice, natural, maker_in, entry_of, devices_in}
 use Rattle.learned_devices.specs.Ranges.{IsMakerInRange, IsDeviceInRange, AreInRange}
 use Rattle.learned_devices.proofs.ForCallers.{empty-in, entered-in}
 use Rattle.device_registry.specs.Ranges.{RegistriesAreInRange}
 
-maker-in : (maker : ℤ) → maker ≤ℤ pos last_maker → IsMakerInRange (maker_in (Int maker))
+maker-in : (maker : ℤ) → maker ≤ℤ pos max_maker → IsMakerInRange (maker_in (Int maker))
 maker-in (pos n) below = grind (arith, ints, nat_tests)
 maker-in (negsuc n) below = tt
 

@@ -27,7 +27,7 @@ use Rattle.device_registry.specs.Table.{device_name, meta_table, device_table}
 use Rattle.device_registry.specs.Stored.{HasTables, AreListed, Registers, Holds}
 use Rattle.device_registry.specs.Table.Rows.{RowidsDiffer, IsDevice, devices_in}
 use Rattle.device_registry.specs.Ready.{Shows, KeepsOthers}
-use Rattle.learned_devices.specs.Devices.{Devices, most_devices}
+use Rattle.learned_devices.specs.Devices.{Devices, max_devices}
 use Rattle.device_registry.specs.Stored.{IsClear}
 use Rattle.device_registry.specs.Opening.{Remains}
 use Rattle.device_registry.specs.Places.{is_clear}
@@ -87,7 +87,7 @@ registers db t one none listed = record {
       numbered = record { key = refl; number = refl };
       rows = subst (AllByRecursion IsDevice) (sym none) tt;
       once = subst RowidsDiffer (sym none) tt;
-      few = subst (λ rows. length rows ≤ most_devices) (sym none) (omega arith);
+      few = subst (λ rows. length rows ≤ max_devices) (sym none) (omega arith);
     };
     listed = listed;
   };

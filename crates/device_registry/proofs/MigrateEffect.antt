@@ -21,7 +21,7 @@ use Rattle.sqlite.specs.Listing.{understood}
 use Rattle.sqlite.specs.State.{State, ExecutesInside, mode_of}
 use Rattle.sqlite.proofs.Callers.{runs_as, statement_of}
 use Rattle.device_registry.specs.declared.table.Version.TheVariants.{First, Second}
-use Rattle.learned_devices.specs.Devices.{most_devices}
+use Rattle.learned_devices.specs.Devices.{max_devices}
 use Rattle.device_registry.specs.Table.{device_text, copy_text, drop_text, renew_text, device_name, meta_name}
 use Rattle.device_registry.specs.Table.{device_table, meta_table}
 use Rattle.device_registry.specs.Table.Rows.{IsDevice, RowidsDiffer, devices_in, rows_of}
@@ -49,7 +49,7 @@ use Rattle.device_registry.proofs.RowWrites.{SparesOthers}
 -- rows that are put into an empty table in some order, beside the row of the version, are a registry of their devices
 registers : (db : Database) (t : HasTables Second db.schema) (devices rows : List Row)
     → db.trees t.meta ≡ version_row ∷ [] → db.trees t.devices ≡ put_all [] rows → IsPermutation devices rows
-    → AllByRecursion IsDevice devices → RowidsDiffer devices → length devices ≤ most_devices
+    → AllByRecursion IsDevice devices → RowidsDiffer devices → length devices ≤ max_devices
     → AreListed Second db.trees → Registers db (devices_in devices)
 registers db t devices rows version put turned all once few listed =
     let same : IsPermutation devices (put_all [] rows) =

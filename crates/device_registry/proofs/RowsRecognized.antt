@@ -17,10 +17,10 @@ use Rattle.sqlite.proofs.Callers.{IsPlain, reads_as, one_permutation}
 use Rattle.learned_devices.specs.Labels.{is_label}
 use Rattle.device_registry.specs.declared.table.Version.{Version}
 use Rattle.device_registry.specs.Table.{number_of, find_all_text, read_version_text}
-use Rattle.device_registry.specs.Table.{last_sender, last_profile, last_maker}
+use Rattle.device_registry.specs.Table.{max_sender, max_profile, max_maker}
 use Rattle.device_registry.specs.Stored.{HasTables, IsWhole}
 use Rattle.device_registry.specs.Table.Rows.{RowidsDiffer, IsDevice, rows_of}
-use Rattle.learned_devices.specs.Devices.{most_devices}
+use Rattle.learned_devices.specs.Devices.{max_devices}
 use Rattle.device_registry.specs.Table.Rows.{ShowsVersion, natural, is_number, is_maker, is_label_text}
 use Rattle.device_registry.specs.Table.Rows.{shows_device, devices_rise}
 use Rattle.device_registry.proofs.DistinctRows.{ranked, ranked_all, ranked_rises, apart_turned}
@@ -107,11 +107,11 @@ numbered last (Blob b) h = absurd cc
 
 -- a maker's number, or that of none
 abbrev IsMaker : ℤ → Type 0
-IsMaker n = (negsuc 0 ≤ℤ n) × (n ≤ℤ pos last_maker)
+IsMaker n = (negsuc 0 ≤ℤ n) × (n ≤ℤ pos max_maker)
 
 maker_numbered : (v : Value) → is_maker v ≡ true → (n : ℤ) × (v ≡ Int n) × IsMaker n
 maker_numbered (Int (pos n)) h =
-    let low = at_most n last_maker h in (pos n, refl, (omega (arith, ints), omega (arith, ints, low)))
+    let low = at_most n max_maker h in (pos n, refl, (omega (arith, ints), omega (arith, ints, low)))
 maker_numbered (Int (negsuc n)) h =
     let none : n ≡ 0 = grind (arith, nat_tests, h) in
     (negsuc n, refl, (omega (arith, ints, none), omega (arith, ints)))
@@ -121,7 +121,7 @@ maker_numbered (Text t) h = absurd cc
 maker_numbered (Blob b) h = absurd cc
 
 maker_passes : (n : ℤ) → IsMaker n → is_maker (Int n) ≡ true
-maker_passes (pos n) it = passes n last_maker (omega (arith, ints, it.1))
+maker_passes (pos n) it = passes n max_maker (omega (arith, ints, it.1))
 maker_passes (negsuc n) it = let none : n ≡ 0 = omega (arith, ints, it.0) in rw none refl
 
 labelled : (v : Value) → is_label_text v ≡ true → (label : List ℕ) × (v ≡ Text label) × (is_label label ≡ true)
@@ -137,8 +137,8 @@ device_is row h =
     let all = both _ _ h in
     let three = both _ _ all.0 in
     let two = both _ _ three.0 in
-    let id = numbered last_sender (column row 0) two.0 in
-    let eep = numbered last_profile (column row 2) two.1 in
+    let id = numbered max_sender (column row 0) two.0 in
+    let eep = numbered max_profile (column row 2) two.1 in
     let maker = maker_numbered (column row 3) three.1 in
     let label = labelled (column row 4) all.1 in
     record {
@@ -159,8 +159,8 @@ device_is row h =
 -- and a device is shown as one
 device_shows : (row : Row) → IsDevice row → shows_device (shown row) ≡ true
 device_shows row it =
-    let id = ap (is_number last_sender) it.id_is ∙ passes it.id last_sender it.is_sender in
-    let eep = ap (is_number last_profile) it.eep_is ∙ passes it.eep last_profile it.is_profile in
+    let id = ap (is_number max_sender) it.id_is ∙ passes it.id max_sender it.is_sender in
+    let eep = ap (is_number max_profile) it.eep_is ∙ passes it.eep max_profile it.is_profile in
     let maker = ap is_maker it.maker_is ∙ maker_passes it.maker it.is_maker in
     let label = ap is_label_text it.label_is ∙ it.is_label in
     rw (id, eep, maker, label) refl
@@ -245,7 +245,7 @@ module _ (version : Version) where
 
   pub whole : (old mid new : State) (versions devices : List Row) (t : HasTables version old.now.schema)
       → ShowsVersion version versions → Shown read_version_text [] old mid versions → IsUnchanged old mid
-      → Shown (find_all_text version) [] mid new devices → length devices ≤ most_devices
+      → Shown (find_all_text version) [] mid new devices → length devices ≤ max_devices
       → devices_rise 0 devices ≡ true → IsWhole version old.now.trees t.meta t.devices
   whole old mid new versions devices t shows first same second few rise =
       let it = version_shown t.meta old.now.trees versions shows (version_reads old mid versions t first) in

@@ -15,7 +15,7 @@ use Rattle.sqlite_trees.specs.Tree.{Trees}
 use Rattle.device_registry.specs.declared.fault.OpenFault.{OpenFault}
 use Rattle.device_registry.specs.declared.fault.OpenFault.TheVariants.{NotARegistry}
 use Rattle.device_registry.specs.declared.table.Version.{Version}
-use Rattle.learned_devices.specs.Devices.{Devices, most_devices}
+use Rattle.learned_devices.specs.Devices.{Devices, max_devices}
 use Rattle.device_registry.specs.Stored.{IsRegistry, Holds, IsHeld}
 use Rattle.device_registry.specs.Ready.{Shows}
 use Rattle.device_registry.specs.Holding.{AreRegistries, HasDevices, IsCommitted, MayFind, Finds, Opens}
@@ -68,7 +68,7 @@ pub record RefusesToOpen (old new : State) (fault : OpenFault) : Type 0 where
 
 -- a registry has at most 1,000 devices
 abbrev pub FewAreHeld : Type 0
-FewAreHeld = (trees : Trees) (devices : Devices) → Holds trees devices → len devices ≤ most_devices
+FewAreHeld = (trees : Trees) (devices : Devices) → Holds trees devices → len devices ≤ max_devices
 
 -- what an open finds in what a stop left is one thing, however often it is opened
 abbrev pub FoundAgain : Type 0

@@ -17,7 +17,7 @@ use Rattle.sqlite_trees.specs.Tree.{Trees}
 use Rattle.sqlite_typing.specs.Types.{table_classes, row_classes}
 use Rattle.device_registry.specs.declared.table.Version.{Version}
 use Rattle.device_registry.specs.declared.table.Version.TheVariants.{First, Second}
-use Rattle.learned_devices.specs.Devices.{Devices, most_devices}
+use Rattle.learned_devices.specs.Devices.{Devices, max_devices}
 use Rattle.device_registry.specs.Table.{meta_name, device_name, meta_text, device_text, meta_table, device_table}
 use Rattle.device_registry.specs.Table.Rows.{IsDevice, IsVersion, RowidsDiffer, devices_in, rows_of}
 
@@ -80,7 +80,7 @@ pub record IsWhole (version : Version) (trees : Trees) (meta devices : ℕ) : Ty
   pub numbered : IsVersion version row
   pub rows : AllByRecursion IsDevice (rows_of version (trees devices))
   pub once : RowidsDiffer (rows_of version (trees devices))
-  pub few : length (rows_of version (trees devices)) ≤ most_devices
+  pub few : length (rows_of version (trees devices)) ≤ max_devices
 
 -- the list of the database's objects, as SQLite shows it
 abbrev pub listing : Trees → List Row

@@ -21,16 +21,16 @@ number_of First = 1
 number_of Second = 2
 
 -- FFFFFFFF is no sender
-abbrev pub last_sender : ℕ
-last_sender = 4294967294
+abbrev pub max_sender : ℕ
+max_sender = 4294967294
 
 -- a profile has three bytes
-abbrev pub last_profile : ℕ
-last_profile = 16777215
+abbrev pub max_profile : ℕ
+max_profile = 16777215
 
 -- a maker's number has 11 bits
-abbrev pub last_maker : ℕ
-last_maker = 2047
+abbrev pub max_maker : ℕ
+max_maker = 2047
 
 -- ---- the texts
 
@@ -135,5 +135,5 @@ device_columns Second = key_column (codes "id") ∷ filled_column Integer (codes
 abbrev pub device_table : Version → ℕ → Table
 device_table version tree =
     keyed_table (device_name version) tree (device_columns version)
-    (between 0 (lit (Int (pos 0))) (lit (Int (pos last_sender))) ∷ between 2 (lit (Int (pos 0)))
-    (lit (Int (pos last_profile))) ∷ between 3 (lit (Int (negsuc 0))) (lit (Int (pos last_maker))) ∷ [])
+    (between 0 (lit (Int (pos 0))) (lit (Int (pos max_sender))) ∷ between 2 (lit (Int (pos 0)))
+    (lit (Int (pos max_profile))) ∷ between 3 (lit (Int (negsuc 0))) (lit (Int (pos max_maker))) ∷ [])

@@ -1,4 +1,8 @@
 //! Laws of the definitions, and of every registry. Each function does nothing: its contract is the law.
+ghost use Rattle.std.specs.Prelude.{◌≡◌};
+ghost use Rattle.learned_devices.specs.Devices.{max_devices};
+ghost use Rattle.device_registry.specs.declared.limits.TheConstants.{MAX_CACHED, MAX_DEVICES};
+ghost use Rattle.device_registry.specs.private.Cached.{max_cached};
 ghost use Rattle.device_registry.specs.Holding.{HoldsSome};
 ghost use Rattle.device_registry.specs.Opening.{ClosedFilesAreFound, FewAreHeld, FoundAgain, HandedOn};
 ghost use Rattle.device_registry.specs.Opening.{CrashedFilesAreFound};
@@ -8,6 +12,12 @@ ghost use Rattle.device_registry.specs.Ranges.{RegistriesAreInRange};
 use crate::registry::RegistryOver;
 use crate::sql_connection::SqlConnection;
 use sqlite_disk::Disk;
+
+/// The limits of the code are those of the definitions.
+pub fn limits()
+    ensures devices { MAX_DEVICES ≡ max_devices }
+    ensures cached { MAX_CACHED ≡ max_cached }
+{}
 
 /// A registry has at most 1,000 devices.
 pub fn few_are_held()

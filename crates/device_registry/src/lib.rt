@@ -26,10 +26,8 @@ mod tests;
 mod transaction;
 
 pub use fault::OpenFault;
-pub use learned_devices::{
-    Device, DeviceStore, LONGEST_LABEL, Label, LearnFault, Receipt, StoreFault,
-};
-pub use limits::MOST_DEVICES;
+pub use learned_devices::{Device, DeviceStore, Label, LearnFault, MAX_LABEL, Receipt, StoreFault};
+pub use limits::{DEFAULT_CACHED, MAX_CACHED, MAX_DEVICES};
 pub use opening::prepare;
 pub use registry::{Registry, RegistryOver};
 pub use sql_connection::SqlConnection;

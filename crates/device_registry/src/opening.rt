@@ -3,6 +3,7 @@ ghost use Rattle.std.specs.Prelude.{◌≡◌, ◌≤◌, false, IsTrue, IfOk, I
 ghost use Rattle.sqlite.specs.State.{HasCleanDisk, Survives, IsUnchanged};
 ghost use Rattle.sqlite_trees.specs.Tree.{Trees};
 ghost use Rattle.learned_devices.specs.Devices.{Devices};
+ghost use Rattle.device_registry.specs.private.Cached.{max_cached};
 ghost use Rattle.device_registry.specs.Holding.{AreRegistries, IsRenewed, Opens};
 ghost use Rattle.device_registry.specs.Stored.{IsHeld};
 ghost use Rattle.device_registry.specs.Ready.{IsReady, KeepsOthers, KeepsRows};
@@ -12,6 +13,7 @@ ghost use Rattle.device_registry.specs.Opening.{RefusesToOpen};
 use crate::cache::new_cache;
 use crate::device_table::DeviceTable;
 use crate::fault::OpenFault;
+use crate::limits::DEFAULT_CACHED;
 use crate::places::is_clear;
 use crate::registry::RegistryOver;
 use crate::sql_connection::SqlConnection;
@@ -20,9 +22,6 @@ use crate::table::Version;
 use crate::taking::version_of;
 use sqlite::Error;
 use std::alloc::Global;
-
-/// How many senders `open` remembers. Own choice.
-const REMEMBERED_BY_OPEN: usize = 64;
 
 /// Whether the connection is open: a text is compiled, which writes nothing.
 fn check_open<C: SqlConnection>(conn: &mut C) -> Result<(), Error>
@@ -111,7 +110,7 @@ pub fn prepare<C: SqlConnection>(conn: &mut C) -> Result<(), OpenFault>
 }
 
 impl<C: SqlConnection + Drop> RegistryOver<C> {
-    /// `open_with` a cache of 64 senders.
+    /// `open_with` a cache of `DEFAULT_CACHED` senders.
     pub fn open(alloc: Global, conn: C) -> Result<RegistryOver<C>, OpenFault>
         requires idle { (C.state conn).in_transaction ≡ false }
         ensures registries { IfOk result (λ r. HasCleanDisk (C.state r) → AreRegistries
@@ -124,15 +123,15 @@ impl<C: SqlConnection + Drop> RegistryOver<C> {
         ensures refused { IfErr result (λ fault. fault ≡ OpenFault.NotARegistry → (last : C) ×
             RefusesToOpen (C.state conn) (C.state last) fault) }
     {
-        RegistryOver::open_with(alloc, conn, REMEMBERED_BY_OPEN)
+        RegistryOver::open_with(alloc, conn, DEFAULT_CACHED)
     }
 
     /// Prepares the database, as `prepare` does, and holds the connection from then on. So many senders that were
-    /// looked up are remembered, 1 to 1,024. On a refusal the connection is dropped: as it was, where there is no
-    /// memory for the cache, and else as `prepare` left it.
+    /// looked up are remembered, 1 to `MAX_CACHED`. On a refusal the connection is dropped: as it was, where there is
+    /// no memory for the cache, and else as `prepare` left it.
     pub fn open_with(alloc: Global, conn: C, cache: usize) -> Result<RegistryOver<C>, OpenFault>
         requires idle { (C.state conn).in_transaction ≡ false }
-        requires cached { (1 ≤ cache) × (cache ≤ 1024) }
+        requires cached { (1 ≤ cache) × (cache ≤ max_cached) }
         ensures registries { IfOk result (λ r. HasCleanDisk (C.state r) → AreRegistries
             (C.state r).may_leave) }
         ensures opens { IfOk result (λ r. HasCleanDisk (C.state r) → (devices : Devices) × Opens

@@ -13,7 +13,7 @@ ghost use Rattle.device_registry.specs.Opening.{Remains};
 ghost use Rattle.device_registry.specs.Ready.{Shows, IsReady, StaysReady, Stays, Turns, KeepsRows};
 ghost use Rattle.device_registry.specs.Table.Rows.{AreFound, listed, put_params};
 
-use crate::limits::MOST_DEVICES;
+use crate::limits::MAX_DEVICES;
 use crate::sql_connection::SqlConnection;
 use crate::table::rows::{number, number_of, number_of_maker};
 use crate::table::statements::{COUNT_OTHERS, FIND, FIND_ALL, FORGET, PUT, RENEW};
@@ -72,7 +72,7 @@ pub(crate) fn has_no_room<C: SqlConnection>(conn: &mut C, id: u32) -> Result<boo
 {
     let others = compiled(conn, COUNT_OTHERS)?;
     let rows = rows_for(conn, &others, id)?;
-    Ok(number(&rows)? >= MOST_DEVICES as u64)
+    Ok(number(&rows)? >= MAX_DEVICES as u64)
 }
 
 /// All devices, by rising ID.

@@ -72,15 +72,6 @@ impl Version {
 /// The key of the version's row.
 pub const KEY: i64 = 1;
 
-/// The last ID of a sender: FFFFFFFF is none.
-pub const LAST_SENDER: u32 = 4_294_967_294;
-
-/// The last number of a profile, which has three bytes.
-pub const LAST_PROFILE: u32 = 16_777_215;
-
-/// The last number of a maker, which has 11 bits.
-pub const LAST_MAKER: u32 = 2047;
-
 /// What stands for no maker.
 pub const NO_MAKER: i64 = -1;
 

@@ -7,7 +7,7 @@ ghost use Rattle.sqlite.specs.Effect.{IsDatabase};
 ghost use Rattle.device_registry.specs.Stored.{HasTables, IsWhole, IsRegistry, AreListed};
 ghost use Rattle.device_registry.specs.Opening.{IsAtRest, Remains, IsOwn};
 
-use crate::limits::MOST_DEVICES;
+use crate::limits::MAX_DEVICES;
 use crate::listing::are_ours;
 use crate::places::trees_in;
 use crate::sql_connection::SqlConnection;
@@ -65,7 +65,7 @@ fn is_whole<C: SqlConnection>(conn: &mut C, version: Version) -> Result<bool, Er
         return Ok(false);
     }
     let devices = shown_by(conn, version.find_all())?;
-    if devices.len() > MOST_DEVICES {
+    if devices.len() > MAX_DEVICES {
         return Ok(false);
     }
     Ok(devices_rise(&devices))

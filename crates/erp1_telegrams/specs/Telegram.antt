@@ -88,5 +88,5 @@ sent t = record {
 
 -- the longest packet that a telegram is sent in: 20 bytes of data and 7 of optional data, with a header of 6 bytes and
 -- one check byte
-abbrev pub longest_sent : ℕ
-longest_sent = 34
+abbrev pub max_sent : ℕ
+max_sent = 34

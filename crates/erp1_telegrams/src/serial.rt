@@ -4,7 +4,7 @@ ghost use Rattle.std.specs.Prelude.{Ok, Err, OnOk, OnErr};
 ghost use Rattle.arrayvec.specs.ArrayVec.{array_vec_len};
 ghost use Rattle.esp3_frames.specs.Packet.{IsPacket, spelling};
 ghost use Rattle.esp3_frames.specs.Outcome.{packet_of};
-ghost use Rattle.erp1_telegrams.specs.Telegram.{telegram_of, destination, strength, sent, longest_sent};
+ghost use Rattle.erp1_telegrams.specs.Telegram.{telegram_of, destination, strength, sent, max_sent};
 
 use crate::telegram::{BROADCAST, Telegram, TelegramFault, is_kind};
 use arrayvec::ArrayVec;
@@ -54,7 +54,7 @@ pub fn write(t: &Telegram, out: &mut ArrayVec<u8, 64>) -> Result<(), PacketFault
         then Err PacketFault.NoRoom else Ok tt) }
     ensures ok { OnOk result (out.new.items ≡ out.old.items ++ spelling (sent t.now)) }
     ensures packet { IsPacket (sent t.now) (spelling (sent t.now)) }
-    ensures room { array_vec_len out.old + longest_sent ≤ 64 → result ≡ Ok tt }
+    ensures room { array_vec_len out.old + max_sent ≤ 64 → result ≡ Ok tt }
     ensures err { OnErr result (out.new ≡ out.old) }
 {
     let mut body = ArrayVec::<u8, 20>::new();

@@ -5,7 +5,7 @@ use Rattle.std.proofs.Common.{arith, length-append, ◌⊎◌, inl, inr}
 use Rattle.std.proofs.Math.Seq.{take-append_seam}
 use Rattle.std.proofs.lemmas.List.{append-nil, take-append-drop}
 use Rattle.std.proofs.lemmas.Bool.{ne_eqb}
-use Rattle.esp3_frames.specs.Packet.{longest_packet, Packet, IsPacket}
+use Rattle.esp3_frames.specs.Packet.{max_packet, Packet, IsPacket}
 use Rattle.esp3_frames.specs.Framing.{BeginsWithPacket}
 use Rattle.esp3_frames.specs.Framing.Framing.{ends, finds}
 use Rattle.esp3_frames.specs.Frames.{Front, front_of, Frames, frames_after, frames_of, packets_in}
@@ -71,7 +71,7 @@ frames-whole (b ∷ s) p e =
     let onto : Frames → Frames = λ c. record { ready = p ∷ c.ready; rest = c.rest } in
     ap (stepped b s) e ∙ ap onto (after_drop n s ∙ ap (λ (i : ℕ). frames_of (drop i (b ∷ s))) (sym m))
 
-pub partial_short : (s : List ℕ) → front_of s ≡ Partial → length s < longest_packet
+pub partial_short : (s : List ℕ) → front_of s ≡ Partial → length s < max_packet
 partial_short s e =
     let l = front_partial s e in
     let n = packet_length l.packet (s ++ l.more) l.whole in
@@ -79,7 +79,7 @@ partial_short s e =
     omega (arith, length-append s l.more)
 
 pub whole_length : (s : List ℕ) (p : Packet) → front_of s ≡ Whole p
-    → (length p.body + length p.opt + 7 ≤ length s) × (length p.body + length p.opt + 7 ≤ longest_packet)
+    → (length p.body + length p.opt + 7 ≤ length s) × (length p.body + length p.opt + 7 ≤ max_packet)
     × IsPacket p (take (length p.body + length p.opt + 7) s)
 whole_length s p e =
     let h = front_whole s p e in

@@ -2,7 +2,7 @@
 use Rattle.std.specs.Prelude.{ℕ, ◌+◌, ◌*◌, List, length, not, nat_lt, ◌==◌, ◌||◌, slice_index, slice_range}
 use Rattle.std.specs.Prelude.{if◌then◌else◌, Result, Ok, Err}
 use Rattle.esp3_frames.specs.Check.{check}
-use Rattle.esp3_frames.specs.Packet.{longest_data, longest_optional_data, lengths_fit, Packet, spelling}
+use Rattle.esp3_frames.specs.Packet.{max_data, max_optional_data, lengths_fit, Packet, spelling}
 use Rattle.esp3_frames.specs.declared.packet.PacketRef.{PacketRef}
 use Rattle.esp3_frames.specs.declared.packet.Header.{Header}
 use Rattle.esp3_frames.specs.declared.packet.HeaderFault.{HeaderFault}
@@ -31,6 +31,6 @@ header_of b =
 abbrev pub write_outcome : Packet → ℕ → Result (Unit {0}) PacketFault
 write_outcome p room =
     if length p.body + length p.opt == 0 then Err packet.EmptyPacket
-    else if nat_lt longest_data (length p.body) || nat_lt longest_optional_data (length p.opt) then Err packet.TooLong
+    else if nat_lt max_data (length p.body) || nat_lt max_optional_data (length p.opt) then Err packet.TooLong
     else if nat_lt room (length (spelling p)) then Err packet.NoRoom
     else Ok tt

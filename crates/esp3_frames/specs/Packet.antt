@@ -4,16 +4,16 @@ use Rattle.std.specs.Prelude.{Bool, ◌&&◌, nat_lt}
 use Rattle.esp3_frames.specs.Check.{check}
 
 -- the longest data, in bytes: its length is two bytes
-abbrev pub longest_data : ℕ
-longest_data = 65535
+abbrev pub max_data : ℕ
+max_data = 65535
 
 -- the longest optional data, whose length is one byte
-abbrev pub longest_optional_data : ℕ
-longest_optional_data = 255
+abbrev pub max_optional_data : ℕ
+max_optional_data = 255
 
 -- the longest packet: six bytes up to the check of the header, the data, the optional data and their check
-abbrev pub longest_packet : ℕ
-longest_packet = 6 + longest_data + longest_optional_data + 1
+abbrev pub max_packet : ℕ
+max_packet = 6 + max_data + max_optional_data + 1
 
 -- what a header may announce: the length of the data in two bytes, high first, and that of the optional data in one.
 -- Own choice: a packet is not empty
@@ -37,8 +37,8 @@ spelling p = (0x55 ∷ header p ++ check (header p) ∷ []) ++ (p.body ++ p.opt 
 -- w is the packet p, whole. Own choice: a packet is not empty
 pub record IsPacket (p : Packet) (w : List ℕ) : Type 0 where
   pub some : 0 < length p.body + length p.opt
-  pub body : length p.body ≤ longest_data
-  pub opt : length p.opt ≤ longest_optional_data
+  pub body : length p.body ≤ max_data
+  pub opt : length p.opt ≤ max_optional_data
   pub bytes : w ≡ spelling p
 
 -- a text is at most one packet, which has no other text, and no packet begins another

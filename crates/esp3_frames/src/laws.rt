@@ -2,21 +2,21 @@
 ghost use Rattle.std.specs.Prelude.{◌≡◌, ◌≢◌, ℕ, ◌+◌, ◌<◌, ◌≤◌, List, [], ◌∷◌, ◌++◌, ◌⊎◌};
 ghost use Rattle.std.specs.Prelude.{length, take, drop, slice_index, bit_xor, replicate, if◌then◌else◌, Ok, Err};
 ghost use Rattle.esp3_frames.specs.Check.{check, after_zeros};
-ghost use Rattle.esp3_frames.specs.Packet.{longest_data, longest_optional_data, longest_packet, Packet, IsPacket};
+ghost use Rattle.esp3_frames.specs.Packet.{max_data, max_optional_data, max_packet, Packet, IsPacket};
 ghost use Rattle.esp3_frames.specs.Packet.{OneReading};
 ghost use Rattle.esp3_frames.specs.Framing.{Framing, BeginsWithPacket, MayBecomePacket, NeverPacket};
 ghost use Rattle.esp3_frames.specs.Frames.{front_of, front_behind, may_begin, frames_of, packets_in, rest_of};
 ghost use Rattle.esp3_frames.specs.Frames.Front.{Never, Partial, Whole};
 ghost use Rattle.esp3_frames.specs.Outcome.{header_of};
-ghost use Rattle.esp3_frames.specs.declared.packet.TheConstants.{LONGEST_DATA, LONGEST_OPTIONAL_DATA, LONGEST_PACKET};
+ghost use Rattle.esp3_frames.specs.declared.limits.TheConstants.{MAX_DATA, MAX_OPTIONAL_DATA, MAX_PACKET};
 ghost use Rattle.esp3_frames.specs.declared.packet.Header.{Header};
 ghost use Rattle.esp3_frames.specs.declared.packet.HeaderFault.{HeaderFault};
 
 /// The limits of the code are those of the definitions.
 pub fn limits()
-    ensures data { LONGEST_DATA ≡ longest_data }
-    ensures optional_data { LONGEST_OPTIONAL_DATA ≡ longest_optional_data }
-    ensures packet { LONGEST_PACKET ≡ longest_packet }
+    ensures data { MAX_DATA ≡ max_data }
+    ensures optional_data { MAX_OPTIONAL_DATA ≡ max_optional_data }
+    ensures packet { MAX_PACKET ≡ max_packet }
 {}
 
 /// The check byte of a message that is one byte longer.
@@ -64,12 +64,12 @@ pub fn framing_in_parts()
 {}
 
 /// What stands at the front of a text, computed, is what it is by its definition. No packet is longer than
-/// `longest_packet` bytes, and what may become one is shorter.
+/// `max_packet` bytes, and what may become one is shorter.
 pub fn fronts()
     ensures never { (w : List ℕ) → front_of w ≡ Never → NeverPacket w }
-    ensures partial { (w : List ℕ) → front_of w ≡ Partial → MayBecomePacket w × (length w < longest_packet) }
+    ensures partial { (w : List ℕ) → front_of w ≡ Partial → MayBecomePacket w × (length w < max_packet) }
     ensures whole { (w : List ℕ) (p : Packet) → front_of w ≡ Whole p → let n = length p.body + length p.opt + 7 in
-        (n ≤ length w) × (n ≤ longest_packet) × IsPacket p (take n w) }
+        (n ≤ length w) × (n ≤ max_packet) × IsPacket p (take n w) }
     ensures empty { front_of [] ≡ Partial }
 {}
 

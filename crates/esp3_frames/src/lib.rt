@@ -5,11 +5,13 @@
 
 mod check;
 pub mod laws;
+mod limits;
 mod packet;
 pub mod packet_type;
 
 pub use check::{check8, check8_between, check8_next};
+pub use limits::{MAX_DATA, MAX_OPTIONAL_DATA, MAX_PACKET};
 pub use packet::{
-    Header, HeaderFault, LONGEST_DATA, LONGEST_OPTIONAL_DATA, LONGEST_PACKET, PacketFault,
-    PacketRef, SYNC_BYTE, first_packet, lengths_fit, read_header, read_packet, write_packet,
+    Header, HeaderFault, PacketFault, PacketRef, SYNC_BYTE, first_packet, lengths_fit, read_header,
+    read_packet, write_packet,
 };

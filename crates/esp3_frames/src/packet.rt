@@ -8,20 +8,12 @@ ghost use Rattle.esp3_frames.specs.Outcome.{packet_of, header_of, write_outcome}
 ghost use Rattle.arrayvec.specs.ArrayVec.{array_vec_len};
 
 use crate::check8;
+use crate::limits::{MAX_DATA, MAX_OPTIONAL_DATA};
 use arrayvec::ArrayVec;
 use thiserror::Error;
 
 /// The first byte of each packet.
 pub const SYNC_BYTE: u8 = 0x55;
-
-/// The longest data of a packet, in bytes: its length is two bytes.
-pub const LONGEST_DATA: u16 = 65535;
-
-/// The longest optional data of a packet, in bytes: its length is one byte.
-pub const LONGEST_OPTIONAL_DATA: u8 = 255;
-
-/// The longest packet, in bytes: six up to the check of the header, the data, the optional data and their check.
-pub const LONGEST_PACKET: usize = 6 + LONGEST_DATA as usize + LONGEST_OPTIONAL_DATA as usize + 1;
 
 /// What the first six bytes of a packet announce.
 #[derive(Clone, Copy, Debug, PartialEq, Eq)]
@@ -84,9 +76,9 @@ pub fn read_header(b: &[u8; 6]) -> Result<Header, HeaderFault>
 pub struct PacketRef<'a> {
     /// The packet type.
     pub kind: u8,
-    /// The data: at most `LONGEST_DATA` bytes.
+    /// The data: at most `MAX_DATA` bytes.
     pub body: &'a [u8],
-    /// The optional data: at most `LONGEST_OPTIONAL_DATA` bytes.
+    /// The optional data: at most `MAX_OPTIONAL_DATA` bytes.
     pub opt: &'a [u8],
 }
 
@@ -134,7 +126,7 @@ pub enum PacketFault {
     /// There is neither data nor optional data.
     #[error("empty packet")]
     EmptyPacket,
-    /// The data is longer than `LONGEST_DATA`, or the optional data longer than `LONGEST_OPTIONAL_DATA`.
+    /// The data is longer than `MAX_DATA`, or the optional data longer than `MAX_OPTIONAL_DATA`.
     #[error("packet too long")]
     TooLong,
     /// The packet does not fit behind what the buffer holds.
@@ -162,7 +154,7 @@ pub fn write_packet<const CAP: usize>(
     if body.is_empty() && opt.is_empty() {
         return Err(PacketFault::EmptyPacket);
     }
-    if body.len() > LONGEST_DATA as usize || opt.len() > LONGEST_OPTIONAL_DATA as usize {
+    if body.len() > MAX_DATA as usize || opt.len() > MAX_OPTIONAL_DATA as usize {
         return Err(PacketFault::TooLong);
     }
     if out.remaining_capacity() < body.len() + opt.len() + 7 {

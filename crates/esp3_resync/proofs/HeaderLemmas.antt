@@ -5,7 +5,7 @@ use Rattle.std.specs.Prelude.{Some}
 use Rattle.std.proofs.lemmas.List.{get_or-drop, take-append-le, take-take}
 use Rattle.std.proofs.lemmas.Bool.{cases_eq, cases_lt}
 use Rattle.esp3_frames.specs.Check.{check}
-use Rattle.esp3_frames.specs.Packet.{longest_packet}
+use Rattle.esp3_frames.specs.Packet.{max_packet}
 use Rattle.esp3_frames.specs.Frames.{Front, front_of, front_behind, may_begin}
 use Rattle.esp3_frames.specs.Frames.Front.{Never, Partial, Whole}
 use Rattle.esp3_frames.specs.Outcome.{header_of}
@@ -90,7 +90,7 @@ module _ (w : List ℕ) (h : Header) (is : front_of w ≡ Whole (packet_at h w))
         length-drop 6 w,
       )
 
-  pub whole_parts : (announced_len h + 7 ≤ length w) × (announced_len h + 7 ≤ longest_packet)
+  pub whole_parts : (announced_len h + 7 ≤ length w) × (announced_len h + 7 ≤ max_packet)
   whole_parts =
       let n = whole_length w (packet_at h w) is in (omega (arith, n.0, whole_sum), omega (arith, n.1, whole_sum))
 

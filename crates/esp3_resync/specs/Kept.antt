@@ -1,7 +1,7 @@
 -- What a buffer keeps of a packet that was handed out.
 use Rattle.std.specs.Prelude.{◌≡◌, ℕ, ◌+◌, ◌≤◌, List, length, take, drop, vec_capacity, Option, Some, None, IfSome}
 use Rattle.std.specs.Global.{Vec}
-use Rattle.esp3_frames.specs.Packet.{Packet, longest_packet}
+use Rattle.esp3_frames.specs.Packet.{Packet, max_packet}
 use Rattle.esp3_frames.specs.declared.packet.Header.{Header}
 
 -- the packet with the header h whose data, and behind it the optional data, are v
@@ -15,5 +15,5 @@ kept (Some h) v = Some (packet_with h v)
 
 -- there is room for every packet, and what is kept has the lengths that its header announced
 pub record Buffered (v : Vec ℕ) (h : Option Header) : Type 0 where
-  pub room : longest_packet ≤ vec_capacity v
+  pub room : max_packet ≤ vec_capacity v
   pub lengths : IfSome h (λ x. x.data_len + x.opt_len ≡ length v.items)

@@ -8,12 +8,12 @@ ghost use Rattle.esp3_frames.specs.Framing.{MayBecomePacket};
 ghost use Rattle.esp3_frames.specs.Frames.{front_of, frames_of};
 ghost use Rattle.esp3_frames.specs.Frames.Front.{Whole};
 ghost use Rattle.esp3_frames.specs.Outcome.{packet_of};
-ghost use Rattle.esp3_frames.specs.Packet.{Packet, longest_data};
+ghost use Rattle.esp3_frames.specs.Packet.{Packet, max_data};
 
 use crate::front::{announced_len, is_refused, is_whole, settle, settle_behind};
 use crate::runs::{noise_len, push_announced, push_first};
 use crate::window::Window;
-use esp3_frames::{Header, LONGEST_PACKET, PacketRef, first_packet};
+use esp3_frames::{Header, MAX_PACKET, PacketRef, first_packet};
 use std::alloc::{AllocError, Global};
 use std::marker::Model;
 
@@ -44,7 +44,7 @@ impl PacketBuf {
         ensures { IfOk result (λ b. b ≡ None) }
     {
         Ok(PacketBuf {
-            bytes: Vec::with_capacity(alloc, LONGEST_PACKET)?,
+            bytes: Vec::with_capacity(alloc, MAX_PACKET)?,
             header: None,
         })
     }
@@ -52,7 +52,7 @@ impl PacketBuf {
     /// The packet that was handed out last, of which the data has a length of two bytes. It takes no memory.
     pub fn packet(&self) -> Option<PacketRef<'_>>
         ensures packet { option_map packet_of result ≡ self.now }
-        ensures short { IfSome result (λ packet. length packet.body.now ≤ longest_data) }
+        ensures short { IfSome result (λ packet. length packet.body.now ≤ max_data) }
     {
         let header = self.header?;
         let (body, opt) = self.bytes.split_at(header.data_len as usize);
@@ -174,7 +174,7 @@ impl Framer {
     pub fn lend<'b>(&self, bytes: &'b [u8]) -> Option<(PacketRef<'b>, usize)>
         requires { length self.now.ready ≡ 0 }
         ensures within { IfSome result (λ r. (0 < r.1) × (r.1 ≤ length bytes.now)) }
-        ensures short { IfSome result (λ r. length r.0.body.now ≤ longest_data) }
+        ensures short { IfSome result (λ r. length r.0.body.now ≤ max_data) }
         ensures taken { IfSome result (λ r. frames_of (self.now.rest ++ take r.1 bytes.now)
             ≡ record { ready = packet_of r.0 ∷ []; rest = self.now.rest }) }
         ensures before { IfSome result (λ r. (k : ℕ) → k < r.1 →

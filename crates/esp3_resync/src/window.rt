@@ -2,11 +2,11 @@
 ghost use Rattle.std.specs.Prelude.{◌≡◌, ℕ, ◌+◌, ◌<◌, ◌≤◌, List, [], ◌++◌, length, take, drop};
 ghost use Rattle.std.specs.Prelude.{slice_index, slice_index_or, vec_capacity, ◌==◌, IfOk};
 ghost use Rattle.esp3_frames.specs.Check.{check};
-ghost use Rattle.esp3_frames.specs.Packet.{longest_packet};
+ghost use Rattle.esp3_frames.specs.Packet.{max_packet};
 ghost use Rattle.esp3_resync.specs.private.Running.{Noted, Running, room};
 ghost use Rattle.esp3_resync.specs.private.Settled.{ReachesSync};
 
-use esp3_frames::{LONGEST_PACKET, SYNC_BYTE, check8_between, check8_next};
+use esp3_frames::{MAX_PACKET, SYNC_BYTE, check8_between, check8_next};
 use memchr::memchr;
 use std::alloc::{AllocError, Global};
 use std::marker::Model;
@@ -15,7 +15,7 @@ use std::marker::Model;
 const SLACK: usize = 8192;
 
 // The number of bytes for which there is memory.
-const ROOM: usize = LONGEST_PACKET + SLACK;
+const ROOM: usize = MAX_PACKET + SLACK;
 
 // Goes on with a running check over some bytes: `checks` has the check byte of all bytes before them at `at`. It gets
 // the check byte of all up to each of them.
@@ -36,7 +36,7 @@ fn note_checks(checks: &mut [u8], at: usize, bytes: &[u8])
 // they begin then.
 fn make_room(bytes: &mut Vec<u8>, start: usize, checks: &mut Vec<u8>, count: usize) -> usize
     requires running { Running bytes.old start checks.old }
-    requires few { length bytes.old.items + count ≤ start + longest_packet }
+    requires few { length bytes.old.items + count ≤ start + max_packet }
     ensures running { Running bytes.new result checks.new }
     ensures same { drop result bytes.new.items ≡ drop start bytes.old.items }
     ensures room { length bytes.new.items + count ≤ room }
@@ -114,7 +114,7 @@ impl Window {
     /// How many bytes it holds.
     pub fn len(&self) -> usize
         ensures len { result ≡ length self.now }
-        ensures within { result ≤ longest_packet }
+        ensures within { result ≤ max_packet }
     {
         self.bytes.len() - self.start
     }
@@ -144,7 +144,7 @@ impl Window {
 
     /// Appends some bytes.
     pub fn extend(&mut self, bytes: &[u8])
-        requires { length self.old + length bytes.now ≤ longest_packet }
+        requires { length self.old + length bytes.now ≤ max_packet }
         ensures { self.new ≡ self.old ++ bytes.now }
     {
         self.start = make_room(&mut self.bytes, self.start, &mut self.checks, bytes.len());

@@ -22,11 +22,9 @@ service_of task.Replay = Replay 4000000000
 service_of (task.Live options) =
     Live (opened options.serial ReadAndWrite) (opened options.desk Read) (opened options.out WriteAnew) options.turns
 
--- as many senders are remembered as devices can be learned, and 24 more
 abbrev pub plan_of : Options → Plan
 plan_of options = record {
   db = options.db;
-  remembered = 1024;
   base = options.base;
   explain = options.explain;
   service = service_of options.task;

@@ -4,15 +4,13 @@ ghost use Rattle.clap.specs.Words.{app_of, rule_of};
 ghost use Rattle.gateway_cli.specs.CommandLine.{base_rule, db_rule, enogate_app, explain_rule, live_app, replay_app};
 ghost use Rattle.gateway_cli.specs.CommandLine.{required_rule, turns_rule};
 
+use crate::limits::MAX_TURNS;
 use clap::builder::ValueParser;
 use clap::{Arg, ArgAction, Command};
 use std::alloc::{AllocError, Global};
 
 /// The version that `--version` prints after the program's name.
 const VERSION: &str = "0.2.0";
-
-/// The largest number of turns of a gateway.
-const MOST_TURNS: u64 = 4_294_967_295;
 
 /// The command `enogate` with its subcommands.
 pub(super) fn command<'a>(alloc: Global) -> Result<Command<'a>, AllocError>
@@ -88,7 +86,7 @@ fn turns_option<'a>(alloc: Global) -> Arg<'a>
     ensures rule { rule_of result ≡ turns_rule }
     ensures local { result.global ≡ false }
 {
-    let turns = ValueParser::unsigned(1, MOST_TURNS);
+    let turns = ValueParser::unsigned(1, MAX_TURNS);
     required_option(
         alloc,
         "turns",

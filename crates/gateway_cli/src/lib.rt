@@ -4,6 +4,7 @@
 
 mod commands;
 mod given;
+mod limits;
 mod plan;
 
 ghost use Rattle.std.specs.Prelude.{◌≡◌, ◌⊎◌, IfOk, IfErr, OnOk, Some, map, option_map, true};

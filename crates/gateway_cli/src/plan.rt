@@ -1,22 +1,15 @@
 //! What a run opens, in which way, and how long it goes on.
-ghost use Rattle.std.specs.Prelude.{◌≡◌, ◌≤◌};
+ghost use Rattle.std.specs.Prelude.{◌≡◌};
 ghost use Rattle.gateway_cli.specs.Plan.{plan_of, service_of};
 
 use super::{Options, Task};
-
-/// How many reads a replay makes at most.
-const MOST_READS: u64 = 4_000_000_000;
-
-/// How many looked-up senders the registry remembers: room for every device that can be learned, and some others.
-const REMEMBERED: usize = 1024;
+use crate::limits::MAX_READS;
 
 /// What a run is: the gateway that it makes, and what that is for.
 #[derive(Clone, Copy, Debug, PartialEq, Eq)]
 pub struct Plan<'a> {
     /// The path of the database with the learned devices, or none where they stay in memory alone.
     pub db: Option<&'a str>,
-    /// How many looked-up senders the registry remembers, 1 to 1,024.
-    pub remembered: usize,
     /// The base ID of the radio module.
     pub base: u32,
     /// Whether the desk is told of each packet what it was, what became of it, and why.
@@ -65,12 +58,10 @@ pub enum Access {
 impl<'a> Options<'a> {
     /// What is opened for these options, in which way, and how long it goes on.
     pub fn plan(&self) -> Plan<'a>
-        ensures planned { result ≡ plan_of self.now }
-        ensures room { (1 ≤ result.remembered) × (result.remembered ≤ 1024) }
+        ensures { result ≡ plan_of self.now }
     {
         Plan {
             db: self.db,
-            remembered: REMEMBERED,
             base: self.base,
             explain: self.explain,
             service: service_of(self.task),
@@ -82,7 +73,7 @@ fn service_of<'a>(task: Task<'a>) -> Service<'a>
     ensures { result ≡ service_of task.entry }
 {
     match task {
-        Task::Replay => Service::Replay { reads: MOST_READS },
+        Task::Replay => Service::Replay { reads: MAX_READS },
         Task::Live(options) => Service::Live {
             serial: Opened {
                 path: options.serial,

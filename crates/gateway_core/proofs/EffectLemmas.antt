@@ -51,7 +51,7 @@ use Rattle.gateway_core.specs.Step.{tells, sets, learns, forgets, labels, tells_
 use Rattle.gateway_core.specs.Step.{plan_effect}
 use Rattle.gateway_core.specs.Step.{PassedOver, Teaches, data_case, kind_case, reading_effect, case_effect}
 use Rattle.gateway_core.specs.Step.{telegram_effect, packet_effect, line_effect}
-use Rattle.gateway_core.specs.Step.{packet_by, other_effect, if_known, if_supported, order_effect, longest_line}
+use Rattle.gateway_core.specs.Step.{packet_by, other_effect, if_known, if_supported, order_effect, max_line}
 use Rattle.gateway_core.specs.Step.{effect}
 use Rattle.gateway_core.proofs.DeviceLemmas.{device_of-known}
 
@@ -266,7 +266,7 @@ module _ (P : Effect → Type 0) (state : State) where
   -- of every line
   pub of_line : (line : List ℕ) → OfLine P state (order_of line) → P (line_effect state line)
   of_line line each =
-      either P (nat_lt longest_line (length line)) _ _ (each.denies error.TooLong) (of-order (order_of line) each)
+      either P (nat_lt max_line (length line)) _ _ (each.denies error.TooLong) (of-order (order_of line) each)
 
   -- and of every item
   pub of_effect : ((packet : Packet) → OfPacket P state packet) → ((line : List ℕ) → OfLine P state (order_of line))

@@ -6,17 +6,17 @@ use Rattle.learned_devices.specs.Kept.{Kept}
 use Rattle.json_lines.specs.Counts.{raised}
 use Rattle.json_lines.specs.declared.fixed.ErrorName.TheVariants.{TooLong}
 use Rattle.actuator_commands.specs.Orders.{order_of}
-use Rattle.gateway_core.specs.Step.{State, Item, Ordered, Answer, said, Effect, denied, order_effect, longest_line}
+use Rattle.gateway_core.specs.Step.{State, Item, Ordered, Answer, said, Effect, denied, order_effect, max_line}
 use Rattle.gateway_core.specs.Step.{Permits, line_effect, effect, answer_by, count_in, with_change, with_mode}
 use Rattle.gateway_core.specs.Run.{Fate, Taken, Refused, RefusedAtWrite, Run, cause_text, refused}
 use Rattle.gateway_core.specs.Stops.{Left, nothing_left, told, pending, left_by, Safe}
 use Rattle.gateway_core.specs.Handling.{HandlerValue, Went, Handles}
 
-effect-long : (start : State) (line : List ℕ) → longest_line < length line
+effect-long : (start : State) (line : List ℕ) → max_line < length line
     → line_effect start line ≡ denied TooLong
 effect-long start line h =
     ap (λ b. if b then denied TooLong else order_effect start (order_of line))
-    (lt-ltb longest_line (length line) h)
+    (lt-ltb max_line (length line) h)
 
 -- a run on one line hangs on its effect alone
 run_alike : (old new : State) (line other : List ℕ) (fates : List Fate) (answers : List Answer)
@@ -64,8 +64,8 @@ module _ {S : Type 0} (stored : S → Kept) where
 
   -- two lines that are too long are handled alike
   pub handles_alike : (old new : HandlerValue S) (short long : List ℕ) (answers : List Answer)
-      → longest_line < length short
-      → longest_line < length long → Handles stored old (Ordered short ∷ []) answers new
+      → max_line < length short
+      → max_line < length long → Handles stored old (Ordered short ∷ []) answers new
       → Handles stored old (Ordered long ∷ []) answers new
   handles_alike old new short long answers a b handled = record {
     base = handled.base;

@@ -30,7 +30,7 @@ use Rattle.gateway_core.specs.Run.{Taken, Refused, RefusedAtWrite}
 use Rattle.gateway_core.specs.Step.{State, Received, Ordered, Effect, told_of, radio_of, reply_of, line_with}
 use Rattle.gateway_core.specs.Step.{packet_effect, line_effect}
 use Rattle.gateway_core.specs.Step.{order_effect, sending_effect, telegram_sent, forgets, labels, if_known}
-use Rattle.gateway_core.specs.Step.{base_query, known_of, if_supported, longest_line}
+use Rattle.gateway_core.specs.Step.{base_query, known_of, if_supported, max_line}
 use Rattle.gateway_core.specs.Telling.{IsReply, IsPacketOf, RadioIsTold}
 use Rattle.gateway_core.proofs.EffectLemmas.{of_packet, of_line}
 
@@ -176,7 +176,7 @@ line-orders : (state : State) (line : List ℕ) (bytes : List ℕ) → (line_eff
     → Sends state (order_of line) bytes
 line-orders state line bytes =
     either (λ (x : Effect). x.radio ≡ Some bytes → Sends state (order_of line) bytes)
-    (nat_lt longest_line (length line)) _ _ (λ e. absurd cc) (order-sends state (order_of line) bytes)
+    (nat_lt max_line (length line)) _ _ (λ e. absurd cc) (order-sends state (order_of line) bytes)
 
 pub radio_is_told : RadioIsTold
 radio_is_told state (Received packet) Taken bytes e =

@@ -27,7 +27,7 @@ use Rattle.json_lines.specs.Lines.{TeachLine, text, texts, listing}
 use Rattle.json_lines.proofs.ForCallers.{of_teach_lines}
 use Rattle.gateway_core.specs.Step.{State, Received, Ordered, Effect, told_of, tells_sender, accepts, deletes}
 use Rattle.gateway_core.specs.Step.{line_with, learns, forgets, labels, if_known, denied, packet_effect, line_effect}
-use Rattle.gateway_core.specs.Step.{order_effect, longest_line, change_of, Cause, Memory, Store}
+use Rattle.gateway_core.specs.Step.{order_effect, max_line, change_of, Cause, Memory, Store}
 use Rattle.gateway_core.specs.Run.{Fate, Taken, Refused, RefusedAtWrite, cause_text, answer_with}
 use Rattle.gateway_core.specs.Telling.{IsDeleted, Tells, ChangesAreTold, LabelsAreTold, TeachLinesAreTold}
 use Rattle.gateway_core.proofs.EffectLemmas.{IsRefusal, of_packet, of_line}
@@ -273,12 +273,12 @@ labels_are_told state line id label is = record {
       let e : Effect = if long then denied error.TooLong else order_effect state order in
       (texts e.desk ≡ text Done) ⊎ (texts e.desk ≡ text (Error error.UnknownDevice)) in
       let at : At false (Ok (Label id label)) = label-answers id label (device_of state.devices id) in
-      subst (λ b. At b (order_of line)) (sym (le-ltb longest_line (length line) short))
+      subst (λ b. At b (order_of line)) (sym (le-ltb max_line (length line) short))
       (subst (At false) (sym is) at);
 }
   where
     long : Bool
-    long = nat_lt longest_line (length line)
+    long = nat_lt max_line (length line)
 
     done : (fate : Fate) → (answer_with state (Ordered line) fate).desk ≡ text Done
         → (fate ≡ Taken) × IsSome (device_of state.devices id)

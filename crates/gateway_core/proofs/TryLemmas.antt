@@ -38,7 +38,7 @@ use Rattle.gateway_core.specs.Step.{addition, if_known, labels}
 use Rattle.actuator_commands.specs.declared.orders.Order.{Order}
 use Rattle.actuator_commands.specs.declared.orders.OrderFault.{OrderFault}
 use Rattle.actuator_commands.specs.Orders.{order_of}
-use Rattle.gateway_core.specs.Step.{order_effect, line_effect, longest_line}
+use Rattle.gateway_core.specs.Step.{order_effect, line_effect, max_line}
 use Rattle.gateway_core.specs.Step.{reading_effect, case_effect, data_case, effect, change_of, needs, with_change}
 use Rattle.gateway_core.specs.Step.{state_after, with_mode, plan_effect, tells_sender, radio_of, reply_of, line_with}
 use Rattle.gateway_core.specs.Step.{if_supported, sets, denied, accepts, told_of}
@@ -482,12 +482,12 @@ module _ {S : Type 0} (stored : S → Kept) where
 
   -- an order behind a line
   pub tries-order : (old new : HandlerValue S) (line : List ℕ) (r : Result Done Refusal)
-      (order : Result Order OrderFault) → length line ≤ longest_line → order_of line ≡ order
+      (order : Result Order OrderFault) → length line ≤ max_line → order_of line ≡ order
       → Tries stored old (λ state. order_effect state order) r new
       → Tries stored old (λ state. line_effect state line) r new
   tries-order old new line r order short is tried =
       tries-same old new (λ state. line_effect state line) (λ state. order_effect state order) r
-      (λ devices. rw (le-ltb longest_line (length line) short, is) refl) tried
+      (λ devices. rw (le-ltb max_line (length line) short, is) refl) tried
 
   -- ---- an item that was tried is handled
 

@@ -320,12 +320,12 @@ order_effect state (Ok Base) = sends_packet false (spelling base_query)
 order_effect state (Ok order) = sending_effect state order
 
 -- the longest line of the desk, in bytes. Own choice
-abbrev pub longest_line : ℕ
-longest_line = 200
+abbrev pub max_line : ℕ
+max_line = 200
 
 abbrev pub line_effect : State → List ℕ → Effect
 line_effect state line =
-    if nat_lt longest_line (length line) then denied error.TooLong else order_effect state (order_of line)
+    if nat_lt max_line (length line) then denied error.TooLong else order_effect state (order_of line)
 
 -- ---- an item
 

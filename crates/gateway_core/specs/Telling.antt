@@ -20,7 +20,7 @@ use Rattle.actuator_commands.specs.Packets.{order_telegram, recipient}
 use Rattle.json_lines.specs.declared.fixed.ErrorName.TheVariants.{UnknownDevice}
 use Rattle.json_lines.specs.Lines.{TeachLine, Teach, Done, Error, text}
 use Rattle.gateway_core.specs.Step.{State, Item, Received, Ordered, Effect, effect, told_of, answer_to, change_of}
-use Rattle.gateway_core.specs.Step.{base_query, known_of, longest_line}
+use Rattle.gateway_core.specs.Step.{base_query, known_of, max_line}
 use Rattle.gateway_core.specs.Run.{Fate, Taken, answer_with}
 
 -- A device that is told deleted: as it stands where the desk has ordered so, and by radio as its query tells it,
@@ -82,7 +82,7 @@ pub record LabelIsTold (state : State) (line : List ℕ) (id : ℕ) (label : Lis
       × (change_of state (Ordered line) ≡ Some (relabelled id label))
   pub unknown : (fate : Fate) → (answer_with state (Ordered line) fate).desk ≡ text (Error UnknownDevice)
       → (fate ≡ Taken) × (device_of state.devices id ≡ None) × (change_of state (Ordered line) ≡ None)
-  pub answers : length line ≤ longest_line
+  pub answers : length line ≤ max_line
       → ((answer_to state (Ordered line)).desk ≡ text Done)
       ⊎ ((answer_to state (Ordered line)).desk ≡ text (Error UnknownDevice))
 

@@ -2,7 +2,7 @@
 ghost use Rattle.std.specs.Prelude.{◌≡◌, ◌≤◌, length, Ok, Err};
 ghost use Rattle.std.specs.Option.{option_map};
 ghost use Rattle.esp3_frames.specs.Outcome.{packet_of};
-ghost use Rattle.esp3_frames.specs.Packet.{Packet, longest_data};
+ghost use Rattle.esp3_frames.specs.Packet.{Packet, max_data};
 ghost use Rattle.erp1_telegrams.specs.Telegram.{telegram_of};
 ghost use Rattle.erp1_telegrams.specs.declared.telegram.TelegramFault.{TelegramFault};
 ghost use Rattle.teach_in.specs.Telegrams.{teach_in_of};
@@ -84,7 +84,7 @@ impl HandledPacket {
         packet: &PacketRef<'_>,
         account: Option<Account>,
     ) -> Option<HandledPacket>
-        requires { length packet.now.body.now ≤ longest_data }
+        requires { length packet.now.body.now ≤ max_data }
         ensures { (fault : TelegramFault) → telegram_of (packet_of packet.now) ≡ Err fault
             → result ≡ line_for (Received (packet_of packet.now)) account }
     {

@@ -2,7 +2,7 @@
 ghost use Rattle.std.specs.Prelude.{◌≡◌, ◌≤◌, true, [], ◌∷◌, length};
 ghost use Rattle.erp1_telegrams.specs.Address.{is_base};
 ghost use Rattle.esp3_frames.specs.Outcome.{packet_of};
-ghost use Rattle.esp3_frames.specs.Packet.{longest_data};
+ghost use Rattle.esp3_frames.specs.Packet.{max_data};
 ghost use Rattle.gateway_core.specs.Calls.{new_handler};
 ghost use Rattle.gateway_core.specs.Handling.{Handles};
 ghost use Rattle.gateway_core.specs.Replies.{answer_of};
@@ -117,7 +117,7 @@ impl<S: DeviceStore> Handler<S> {
 
     /// Handles a packet of the serial line, and stores in `last` what explains it.
     pub fn packet(&mut self, packet: &PacketRef<'_>, last: &mut Option<HandledPacket>) -> Reply
-        requires { length packet.now.body.now ≤ longest_data }
+        requires { length packet.now.body.now ≤ max_data }
         ensures { Handles S.kept self.old (Received (packet_of packet.now) ∷ [])
             (explaining last.new (answer_of result) ∷ []) self.new }
     {

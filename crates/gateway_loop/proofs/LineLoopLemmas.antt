@@ -19,7 +19,7 @@ use Rattle.gateway_loop.specs.Script.{IsOneLine, event_of, script, with_end}
 use Rattle.gateway_loop.specs.Played.{IsIdle}
 use Rattle.gateway_loop.specs.private.EngineSteps.{EngineBreaks, Takes, TakesOrBreaks, TakesOrStops}
 use Rattle.gateway_loop.specs.private.LineLoop.{TakesBytes, StopsAtLine}
-use Rattle.gateway_loop.specs.private.Lines.{longest_kept, Keeps, event_by, events_by}
+use Rattle.gateway_loop.specs.private.Lines.{max_kept, Keeps, event_by, events_by}
 use Rattle.gateway_loop.proofs.ListLemmas.{take_take}
 use Rattle.gateway_loop.proofs.LongLineLemmas.{kept_last_line_alike}
 use Rattle.gateway_loop.proofs.PlayLemmas.{takes_none, takes-append, plays-break}
@@ -30,18 +30,18 @@ pub keeps_none : Keeps [] []
 keeps_none = record { one = All-nil (λ byte. byte ≢ 10); is = refl }
 
 -- what is kept of more bytes
-pub kept_more : (tail kept bytes : List ℕ) → kept ≡ take longest_kept tail
-    → take longest_kept (kept ++ bytes) ≡ take longest_kept (tail ++ bytes)
-kept_more tail kept bytes is = ap (λ s. take longest_kept (s ++ bytes)) is ∙ take_take longest_kept tail bytes
+pub kept_more : (tail kept bytes : List ℕ) → kept ≡ take max_kept tail
+    → take max_kept (kept ++ bytes) ≡ take max_kept (tail ++ bytes)
+kept_more tail kept bytes is = ap (λ s. take max_kept (s ++ bytes)) is ∙ take_take max_kept tail bytes
 
 -- where nothing is kept, nothing came
 pub none_came : (tail kept : List ℕ) → Keeps tail kept → length kept ≡ 0 → tail ≡ []
 none_came tail kept keeps none =
-    nil_from_length tail (omega (arith, none, ap length keeps.is, length-take longest_kept tail))
+    nil_from_length tail (omega (arith, none, ap length keeps.is, length-take max_kept tail))
 
 -- bytes that end no line
 keeps_more : (tail kept bytes : List ℕ) → IsOneLine bytes → Keeps tail kept
-    → Keeps (tail ++ bytes) (take longest_kept (kept ++ bytes))
+    → Keeps (tail ++ bytes) (take max_kept (kept ++ bytes))
 keeps_more tail kept bytes none keeps = record {
   one = All-append (λ byte. byte ≢ 10) tail bytes keeps.one none;
   is = kept_more tail kept bytes keeps.is;
@@ -110,7 +110,7 @@ module _ {O S : Type 0} (stored : S → Kept) (way : Way O) (lines : Lines) wher
 
   -- bytes that end no line
   pub bytes_without_end : (old mid new : Player O S) (bytes more : List ℕ) → IsOneLine more
-      → new.engine ≡ mid.engine → new.unended ≡ take longest_kept (mid.unended ++ more)
+      → new.engine ≡ mid.engine → new.unended ≡ take max_kept (mid.unended ++ more)
       → TakesBytes stored way lines old mid bytes → TakesBytes stored way lines old new (bytes ++ more)
   bytes_without_end old mid new bytes more none same kept p = record {
     ended = p.ended;
@@ -156,7 +156,7 @@ module _ {O S : Type 0} (stored : S → Kept) (way : Way O) where
       → TakesOrStops stored way r old new (script tail)
   last_line r old new tail kept keeps some given =
       let there : (length tail == 0) ≡ false =
-      ne_eqb (length tail) 0 (λ h. some (omega (arith, h, ap length keeps.is, length-take longest_kept tail))) in
+      ne_eqb (length tail) 0 (λ h. some (omega (arith, h, ap length keeps.is, length-take max_kept tail))) in
       let is : script tail ≡ event_of tail ∷ [] =
       script-last tail keeps.one ∙ ap (λ b. if b then [] else event_of tail ∷ []) there in
       MatchResult-weaker r (kept_last_line_alike stored way r old new kept tail keeps.is given)

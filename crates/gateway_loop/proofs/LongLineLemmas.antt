@@ -1,6 +1,6 @@
 -- All lines that are too long are treated alike.
 use Rattle.learned_devices.specs.Kept.{Kept}
-use Rattle.gateway_core.specs.Step.{longest_line}
+use Rattle.gateway_core.specs.Step.{max_line}
 use Rattle.std.proofs.Common.{◌≡◌, ℕ, ◌+◌, ◌-◌, ◌<◌, ◌≤◌, List, [], ◌∷◌, ◌++◌, length, take, drop, refl}
 use Rattle.std.proofs.Common.{ap, sym, subst, ◌∙◌, arith, true, false, inl, inr, map}
 use Rattle.std.specs.Prelude.{Result, ◌==◌, ◌&&◌, if◌then◌else◌, nat_eq, codes, slice_index}
@@ -21,7 +21,7 @@ use Rattle.gateway_loop.specs.declared.engine.Engine.{Engine}
 use Rattle.gateway_loop.specs.Outlets.{Way}
 use Rattle.gateway_loop.specs.Played.{AnswersPart, Breaks, IsBegun}
 use Rattle.gateway_loop.specs.private.EngineSteps.{Takes, TakesOrBreaks}
-use Rattle.gateway_loop.specs.private.Lines.{longest_kept, event_by}
+use Rattle.gateway_loop.specs.private.Lines.{max_kept, event_by}
 use Rattle.gateway_loop.specs.declared.line_loop.Lines.{Lines}
 use Rattle.gateway_loop.specs.declared.line_loop.Lines.TheVariants.{OfScript, OfDesk}
 
@@ -42,13 +42,13 @@ one_item line item packets e = record { same = cc; none = cc }
 two_items : (line : List ℕ) (item other : Item) (items : List Item) → (Ordered line ∷ []) ≡ item ∷ other ∷ items → ⊥
 two_items line item other items e = cc
 
-event_of-long : (line : List ℕ) → longest_line < length line → event_of line ≡ Line line
+event_of-long : (line : List ℕ) → max_line < length line → event_of line ≡ Line line
 event_of-long line h =
     ap (λ b. if b && starts_with nat_eq line (codes "S ") then spelled line (decode_of (drop 2 line)) else Line line)
-    (lt-leb (length line) longest_line h)
+    (lt-leb (length line) max_line h)
 
 -- whoever's line it is
-event_by-long : (lines : Lines) (line : List ℕ) → longest_line < length line → event_by lines line ≡ Line line
+event_by-long : (lines : Lines) (line : List ℕ) → max_line < length line → event_by lines line ≡ Line line
 event_by-long OfScript line h = event_of-long line h
 event_by-long OfDesk line h = refl
 
@@ -78,7 +78,7 @@ module _ {S : Type 0} (stored : S → Kept) where
       absurd (two_items line item other (items ++ map Received new.ready) e)
 
   breaks_long : (old new : Value S) (short long : List ℕ) (breaks : List Answer → Answer → Type 0) (begun : Event)
-      (items : List Item) → longest_line < length short → longest_line < length long
+      (items : List Item) → max_line < length short → max_line < length long
       → IsBegun (Line short) begun → items_of old.rest (begun ∷ []) ≡ items ++ map Received new.ready
       → new.rest ≡ rest_of (old.rest ++ bytes_in (begun ∷ [])) → AnswersPart stored old.handler new.handler items breaks
       → Breaks stored old new [] (Line long) breaks
@@ -106,7 +106,7 @@ module _ {S : Type 0} (stored : S → Kept) where
       }
 
 module _ {O S : Type 0} (stored : S → Kept) (way : Way O) {A E : Type 0} (r : Result A E) (old new : Engine O S) where
-  takes_long : (short long : List ℕ) → longest_line < length short → longest_line < length long
+  takes_long : (short long : List ℕ) → max_line < length short → max_line < length long
       → Takes stored way old new (Line short ∷ []) → Takes stored way old new (Line long ∷ [])
   takes_long short long a b takes =
       let done = takes.played.answered in
@@ -125,7 +125,7 @@ module _ {O S : Type 0} (stored : S → Kept) (way : Way O) {A E : Type 0} (r : 
         counted = takes.counted;
       }
 
-  long_lines_alike : (lines : Lines) (short long : List ℕ) → longest_line < length short → longest_line < length long
+  long_lines_alike : (lines : Lines) (short long : List ℕ) → max_line < length short → max_line < length long
       → TakesOrBreaks stored way r old new (event_by lines short)
       → TakesOrBreaks stored way r old new (event_by lines long)
   long_lines_alike lines short long a b given =
@@ -137,29 +137,29 @@ module _ {O S : Type 0} (stored : S → Kept) (way : Way O) {A E : Type 0} (r : 
       broken.begun broken.items a b broken.begins broken.stand broken.rest broken.answered))
 
   -- what is kept of a line that LF ends stands for the line
-  pub kept_line_alike : (lines : Lines) (kept line : List ℕ) → kept ≡ take longest_kept line
+  pub kept_line_alike : (lines : Lines) (kept line : List ℕ) → kept ≡ take max_kept line
       → TakesOrBreaks stored way r old new (event_by lines (strip_carriage_return kept))
       → TakesOrBreaks stored way r old new (event_by lines (strip_carriage_return line))
   kept_line_alike lines kept line e given =
-      elim (cases_lt longest_kept (length line)) [
+      elim (cases_lt max_kept (length line)) [
         | inl far ↦ long_lines_alike lines (strip_carriage_return kept) (strip_carriage_return line)
-            (omega (arith, far, length-strip kept, ap length e, length-take longest_kept line))
+            (omega (arith, far, length-strip kept, ap length e, length-take max_kept line))
             (omega (arith, far, length-strip line)) given
         | inr near ↦
             let P : List ℕ → Type 0 =
             λ l. TakesOrBreaks stored way r old new (event_by lines (strip_carriage_return l)) in
-            subst P (e ∙ take_all longest_kept line near) given
+            subst P (e ∙ take_all max_kept line near) given
       ]
 
   -- and so does what is kept of a line that the end of the input ends
-  pub kept_last_line_alike : (kept line : List ℕ) → kept ≡ take longest_kept line
+  pub kept_last_line_alike : (kept line : List ℕ) → kept ≡ take max_kept line
       → TakesOrBreaks stored way r old new (event_of kept) → TakesOrBreaks stored way r old new (event_of line)
   kept_last_line_alike kept line e given =
-      elim (cases_lt longest_kept (length line)) [
+      elim (cases_lt max_kept (length line)) [
         | inl far ↦
-            long_lines_alike OfScript kept line (omega (arith, far, ap length e, length-take longest_kept line))
+            long_lines_alike OfScript kept line (omega (arith, far, ap length e, length-take max_kept line))
             (omega (arith, far)) given
         | inr near ↦
             let P : List ℕ → Type 0 = λ l. TakesOrBreaks stored way r old new (event_of l) in
-            subst P (e ∙ take_all longest_kept line near) given
+            subst P (e ∙ take_all max_kept line near) given
       ]

@@ -11,7 +11,7 @@ use Rattle.std.proofs.lemmas.List.Concat.{concat_is, flat_map-append}
 use Rattle.byte_io.specs.declared.tally.Failed.{Failed}
 use Rattle.byte_io.specs.Counts.{counted, one_more}
 use Rattle.gateway_loop.specs.Reads.{AreReads, IsRead, MakesReads, ReadsFail, ReadsWell}
-use Rattle.byte_io.specs.Reads.{longest_read}
+use Rattle.byte_io.specs.Reads.{max_read}
 use Rattle.gateway_loop.specs.Streams.{SourceValue}
 use Rattle.gateway_loop.proofs.CallCountLemmas.{made_at, made_more, made_none}
 
@@ -53,7 +53,7 @@ reads_none source = record {
 
 -- a read more
 pub reads_more : (old mid new : SourceValue) (reads : List (List ℕ)) (n : ℕ) (buffer : List ℕ) → ReadsWell old mid reads
-    → n ≤ length buffer → length buffer ≡ longest_read → ReadConsumes {E = Failed} mid.left new.left (Ok n) buffer
+    → n ≤ length buffer → length buffer ≡ max_read → ReadConsumes {E = Failed} mid.left new.left (Ok n) buffer
     → new.counts ≡ counted {E = Failed} mid.counts (Ok n) → ReadsWell old new (reads ++ take n buffer ∷ [])
 reads_more old mid new reads n buffer p within room (some, end) told =
     let bytes = take n buffer in
@@ -77,7 +77,7 @@ reads_more old mid new reads n buffer p within room (some, end) told =
 
 -- a read more, of those that may be made
 pub one_read_more : (old mid new : SourceValue) (reads : List (List ℕ)) (n turn turns : ℕ) (buffer : List ℕ)
-    → ReadsWell old mid reads → length reads ≡ turn → turn < turns → n ≤ length buffer → length buffer ≡ longest_read
+    → ReadsWell old mid reads → length reads ≡ turn → turn < turns → n ≤ length buffer → length buffer ≡ max_read
     → ReadConsumes {E = Failed} mid.left new.left (Ok n) buffer → new.counts ≡ counted {E = Failed} mid.counts (Ok n)
     → MakesReads old new turns
 one_read_more old mid new reads n turn turns buffer p count below within room bytes told = (

@@ -3,13 +3,13 @@ use Rattle.std.specs.Prelude.{◌≡◌, ◌≤◌, ◌+◌, ◌⊎◌, ⊤, IfS
 use Rattle.std.specs.Io.KnownBytes.{Consumes}
 use Rattle.std.specs.List.{concat}
 use Rattle.byte_io.specs.Counts.{Made, NoneFailed, OneMoreFailed}
-use Rattle.byte_io.specs.Reads.{longest_read}
+use Rattle.byte_io.specs.Reads.{max_read}
 use Rattle.gateway_loop.specs.Streams.{SourceValue}
 
 -- The bytes of one read: `left` is what the source had left before all reads, where that is known, and `before` what
 -- the reads before this one gave. A read gives nothing only where they gave all.
 pub record IsRead (left : Option (List ℕ)) (before bytes : List ℕ) : Type 0 where
-  pub short : length bytes ≤ longest_read
+  pub short : length bytes ≤ max_read
   pub empty : bytes ≡ [] → IfSome left (λ all. all ≡ before)
 
 -- each of these is a read behind those before it

@@ -7,7 +7,7 @@ use Rattle.std.specs.Str.Lines.{lines}
 use Rattle.hex.specs.Hex.{decode_of}
 use Rattle.hex.specs.declared.error.FromHexError.{FromHexError}
 use Rattle.gateway_core.specs.Events.{Event, Piece, Line}
-use Rattle.gateway_core.specs.Step.{longest_line}
+use Rattle.gateway_core.specs.Step.{max_line}
 
 -- the bytes that the digits of a line spell, or else the line
 abbrev pub spelled : List ℕ → Result (List ℕ) FromHexError → Event
@@ -17,7 +17,7 @@ spelled line (Err fault) = Line line
 -- `S`, one space and an even number of hexadecimal digits are a serial piece, unless the line is too long
 abbrev pub event_of : List ℕ → Event
 event_of line =
-    if nat_le (length line) longest_line && starts_with nat_eq line (codes "S ") then spelled line
+    if nat_le (length line) max_line && starts_with nat_eq line (codes "S ") then spelled line
     (decode_of (drop 2 line))
     else Line line
 

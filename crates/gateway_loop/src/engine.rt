@@ -5,19 +5,17 @@ ghost use Rattle.hex.specs.Hex.{decode_of};
 ghost use Rattle.json_lines.specs.Counts.{one_more};
 ghost use Rattle.gateway_core.specs.Events.{Line as LineEvent, Piece as PieceEvent};
 ghost use Rattle.gateway_core.specs.Replies.{answer_of};
-ghost use Rattle.gateway_core.specs.Step.{explained_by, longest_line};
+ghost use Rattle.gateway_core.specs.Step.{explained_by, max_line};
 ghost use Rattle.gateway_loop.specs.private.EngineSteps.{Drains, DrainsPart, EngineBreaks, Takes, TakesOrBreaks};
 ghost use Rattle.gateway_loop.specs.Outlets.{Puts};
 ghost use Rattle.gateway_loop.specs.Played.{IsIdle};
 ghost use Rattle.gateway_loop.specs.Script.{event_of, spelled};
 
 use crate::digits::decode;
+use crate::limits::MAX_PIECE;
 use crate::outlet::Outlet;
 use byte_io::Failed;
-use gateway_core::{DeviceStore, GatewayOver, LONGEST_LINE, Reply};
-
-/// How many bytes the longest line spells: two digits each, behind `S` and a space.
-const LONGEST_PIECE: usize = (LONGEST_LINE - 2) / 2;
+use gateway_core::{DeviceStore, GatewayOver, MAX_LINE, Reply};
 
 /// A gateway, and the outlet for its replies.
 #[derive(Drop)]
@@ -106,7 +104,7 @@ impl<O: Outlet, S: DeviceStore> Engine<'_, O, S> {
         ensures loans { O.loans self.new.outlet ≡ O.loans self.old.outlet }
         ensures taken { TakesOrBreaks S.kept O.way result self.old self.new (event_of line.now) }
     {
-        if line.len() <= LONGEST_LINE && line.starts_with(b"S ".as_slice()) {
+        if line.len() <= MAX_LINE && line.starts_with(b"S ".as_slice()) {
             self.take_digits(line)
         } else {
             self.take_order(line)
@@ -117,14 +115,14 @@ impl<O: Outlet, S: DeviceStore> Engine<'_, O, S> {
     fn take_digits(&mut self, line: &[u8]) -> Result<(), Failed>
         requires idle { IsIdle self.old.gateway.now }
         requires long { 2 ≤ length line.now }
-        requires short { length line.now ≤ longest_line }
+        requires short { length line.now ≤ max_line }
         ensures gateway { self.new.gateway.ghost_name ≡ self.old.gateway.ghost_name }
         ensures loans { O.loans self.new.outlet ≡ O.loans self.old.outlet }
         ensures taken { TakesOrBreaks S.kept O.way result self.old self.new
             (spelled line.now (decode_of (drop 2 line.now))) }
     {
         let digits = &line[2..];
-        let mut bytes = [0u8; LONGEST_PIECE];
+        let mut bytes = [0u8; MAX_PIECE];
         let piece = &mut bytes[..digits.len() / 2];
         if decode(digits, piece) {
             self.take_piece(piece)

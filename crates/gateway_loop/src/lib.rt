@@ -5,6 +5,7 @@ mod desk_text;
 mod digits;
 mod engine;
 pub mod laws;
+mod limits;
 mod line_loop;
 mod live_gateway;
 mod outlet;
@@ -14,6 +15,7 @@ mod script_replay;
 mod unended_line;
 mod wires;
 
+pub use limits::MAX_READ;
 pub use live_gateway::live;
-pub use runs::{LONGEST_READ, RunFault, Summary};
+pub use runs::{RunFault, Summary};
 pub use script_replay::replay;

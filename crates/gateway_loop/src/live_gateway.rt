@@ -5,8 +5,9 @@ ghost use Rattle.gateway_loop.specs.Headline.{ServesAsSpecified};
 ghost use Rattle.gateway_loop.specs.LiveGateway.{Serves, ServesUntil, TellsAllTurns, live_at};
 
 use crate::engine::Engine;
+use crate::limits::MAX_READ;
 use crate::line_loop::{Lines, Player};
-use crate::runs::{LONGEST_READ, RunFault, Summary};
+use crate::runs::{RunFault, Summary};
 use crate::unended_line::UnendedLine;
 use crate::wires::Wires;
 use byte_io::{Sink, Source};
@@ -14,7 +15,7 @@ use gateway_core::{DeviceStore, GatewayOver};
 
 /// Serves a serial line and a desk: handles what comes from both by the gateway, and writes what it answers.
 ///
-/// A turn is one read of at most `LONGEST_READ` bytes from the serial line, which are a piece of its stream, and then
+/// A turn is one read of at most `MAX_READ` bytes from the serial line, which are a piece of its stream, and then
 /// one of the desk. Each line that LF ends in the desk's bytes is an order, and one CR before LF is dropped. A read of
 /// 0 bytes brings nothing. For each packet and each order the radio bytes go to `serial_out`, and then the desk's text
 /// to `desk_out`. Where packets are explained, the line that explains a packet stands before that text.
@@ -69,7 +70,7 @@ pub fn live<P: Source, Q: Source, R: Sink, D: Sink, S: DeviceStore>(
         unended: UnendedLine::new(),
     };
     for _turn in 0..turns {
-        let mut buffer = [0u8; LONGEST_READ];
+        let mut buffer = [0u8; MAX_READ];
         let Ok(length) = serial_in.read(&mut buffer) else {
             return Err(RunFault::Read);
         };

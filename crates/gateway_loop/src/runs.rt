@@ -1,8 +1,5 @@
-//! What a replay and a live gateway have in common: how much one read brings, and what they come to.
+//! What a replay and a live gateway come to.
 use thiserror::Error;
-
-/// How many bytes one read brings at most. Own choice.
-pub const LONGEST_READ: usize = 256;
 
 /// What a replay or a live gateway did.
 #[derive(Clone, Copy, Debug, PartialEq, Eq)]

@@ -8,9 +8,10 @@ ghost use Rattle.gateway_loop.specs.ScriptReplay.{Replays, ReplaysUntil, TellsTo
 ghost use Rattle.gateway_loop.specs.Streams.{source_value};
 
 use crate::engine::Engine;
+use crate::limits::MAX_READ;
 use crate::line_loop::{Lines, Player};
 use crate::replay_text::ReplayText;
-use crate::runs::{LONGEST_READ, RunFault, Summary};
+use crate::runs::{RunFault, Summary};
 use crate::unended_line::UnendedLine;
 use byte_io::{Sink, Source};
 use gateway_core::{DeviceStore, GatewayOver};
@@ -18,12 +19,12 @@ use gateway_core::{DeviceStore, GatewayOver};
 /// Replays a script: reads its lines, handles them by the gateway, and writes what the gateway answers.
 ///
 /// A line ends with LF or with the end of the input, and one CR before LF is dropped; behind the last LF stands no line
-/// where nothing follows. A line of at most `LONGEST_LINE` bytes that is `S`, one space and an even number of
+/// where nothing follows. A line of at most `MAX_LINE` bytes that is `S`, one space and an even number of
 /// hexadecimal digits is a piece of the serial stream. Each other line is an order of the desk. For each packet and
 /// each order the radio bytes are written as such a piece, in lower case and with LF, and then the desk's text. Where
 /// packets are explained, the line that explains a packet stands before the desk's text of it.
 ///
-/// A turn is one read of at most `LONGEST_READ` bytes, and `turns` reads are made at most. A read of 0 bytes ends the
+/// A turn is one read of at most `MAX_READ` bytes, and `turns` reads are made at most. A read of 0 bytes ends the
 /// input. After `Read` and `TooManyTurns` the lines that LF ended are done, and of a line that did not end nothing.
 /// After `Write` the output breaks off within the text of one packet or order, and packets may still wait in the
 /// gateway.
@@ -70,7 +71,7 @@ pub fn replay<R: Source, W: Sink, S: DeviceStore>(
         unended: UnendedLine::new(),
     };
     for _turn in 0..turns {
-        let mut buffer = [0u8; LONGEST_READ];
+        let mut buffer = [0u8; MAX_READ];
         let length = match reader.read(&mut buffer) {
             Ok(length) => length,
             Err(_) => return Err(RunFault::Read),

@@ -1,30 +1,26 @@
 //! A line of which the end has not come.
 ghost use Rattle.std.specs.Prelude.{◌≡◌, [], ◌++◌, take};
-ghost use Rattle.gateway_loop.specs.private.Lines.{longest_kept};
+ghost use Rattle.gateway_loop.specs.private.Lines.{max_kept};
 
+use crate::limits::MAX_KEPT;
 use arrayvec::ArrayVec;
-use gateway_core::LONGEST_LINE;
 use std::marker::Model;
-
-/// How many bytes are kept of a line. That is enough: with CR it tells each line of at most `LONGEST_LINE` bytes from
-/// all that are longer, which are treated alike.
-const LONGEST_KEPT: usize = LONGEST_LINE + 2;
 
 /// The first bytes of a line of which the end has not come.
 #[derive(Drop)]
 pub struct UnendedLine {
-    bytes: ArrayVec<u8, LONGEST_KEPT>,
+    bytes: ArrayVec<u8, MAX_KEPT>,
 }
 
 impl Model for UnendedLine {
     ghost use Rattle.std.specs.Prelude.{◌≤◌, List, ℕ, length};
-    ghost use Rattle.gateway_loop.specs.private.Lines.{longest_kept};
+    ghost use Rattle.gateway_loop.specs.private.Lines.{max_kept};
 
     ghost Value = { List ℕ };
 
     ghost view = { λ line. line.bytes.items };
 
-    ghost invariant = { λ line. length line.bytes.items ≤ longest_kept };
+    ghost invariant = { λ line. length line.bytes.items ≤ max_kept };
 }
 
 impl UnendedLine {
@@ -38,9 +34,9 @@ impl UnendedLine {
 
     /// Takes the next bytes. Those are dropped for which there is no room.
     pub fn extend(&mut self, bytes: &[u8])
-        ensures { self.new ≡ take longest_kept (self.old ++ bytes.now) }
+        ensures { self.new ≡ take max_kept (self.old ++ bytes.now) }
     {
-        let room = LONGEST_KEPT - self.bytes.len();
+        let room = MAX_KEPT - self.bytes.len();
         let _fits = self
             .bytes
             .try_extend_from_slice(&bytes[..room.min(bytes.len())]);

@@ -3,6 +3,7 @@ ghost use Rattle.std.specs.Prelude.{◌≡◌, ◌≤◌, false, true, IfErr, If
 ghost use Rattle.sqlite.specs.State.{HasCleanDisk};
 ghost use Rattle.erp1_telegrams.specs.Address;
 ghost use Rattle.learned_devices.specs.Devices.{Devices};
+ghost use Rattle.device_registry.specs.private.Cached.{max_cached};
 ghost use Rattle.device_registry.specs.Holding.{Finds, kept_by};
 ghost use Rattle.gateway_core.specs.Calls.{new_value};
 ghost use Rattle.gateway_loop.specs.Headline.{IsNew};
@@ -16,7 +17,7 @@ use std::alloc::{AllocError, Global};
 
 /// A gateway for a radio module with this base ID, over the registry that the database holds. It is new: it has counted
 /// nothing, no packet waits, and no byte has come. A database that holds none of the registry's tables gets them. The
-/// registry remembers so many senders that were looked up, 1 to 1,024; no clause says so.
+/// registry remembers so many senders that were looked up, 1 to `MAX_CACHED`; no clause says so.
 ///
 /// It is refused as the registry is, or where there is no memory, and then the connection is dropped. Which of `Store`
 /// and `Memory` is told, tests show.
@@ -27,7 +28,7 @@ pub fn start<C: SqlConnection + Drop>(
     remembered: usize,
 ) -> Result<GatewayOver<RegistryOver<C>>, Fault>
     requires base { Address.is_base base ≡ true }
-    requires room { (1 ≤ remembered) × (remembered ≤ 1024) }
+    requires room { (1 ≤ remembered) × (remembered ≤ max_cached) }
     requires idle { (C.state conn).in_transaction ≡ false }
     // How the headline begins: with the devices that were committed last, over an open connection.
     ensures begins { IfOk result (λ gateway. HasCleanDisk (C.state gateway.handler.registry) → (found : Devices)

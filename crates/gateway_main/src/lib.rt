@@ -9,6 +9,6 @@ pub mod laws;
 mod program_run;
 
 pub use byte_io::{Failed, OverRead, OverWrite, Sink, Source};
-pub use gateway_loop::{LONGEST_READ, RunFault, Summary, live, replay};
+pub use gateway_loop::{MAX_READ, RunFault, Summary, live, replay};
 pub use gateway_start::start;
 pub use program_run::program;

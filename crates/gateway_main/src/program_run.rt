@@ -1,5 +1,5 @@
 //! The program.
-ghost use Rattle.std.specs.Prelude.{◌≡◌, ◌≤◌, false, true};
+ghost use Rattle.std.specs.Prelude.{◌≡◌, false, true};
 ghost use Rattle.erp1_telegrams.specs.Address;
 ghost use Rattle.gateway_loop.specs.Played.{IsIdle};
 
@@ -8,7 +8,7 @@ use crate::ending::{Ending, Served, done, status, without_arguments};
 use crate::fault::Fault;
 use crate::gateway_start::start;
 use byte_io::{OverRead, OverWrite};
-use device_registry::SqlConnection;
+use device_registry::{MAX_CACHED, SqlConnection};
 use gateway_cli::{Access, Opened, Plan, Service};
 use gateway_core::{DeviceStore, GatewayOver};
 use gateway_loop::{RunFault, Summary, live, replay};
@@ -43,7 +43,6 @@ fn words_of(rt: &HostRuntime) -> io::Result<Vec<String>> {
 /// Carries the plan out.
 fn run(rt: &HostRuntime, plan: Plan<'_>) -> Result<(), Fault>
     requires base { Address.is_base plan.base ≡ true }
-    requires room { (1 ≤ plan.remembered) × (plan.remembered ≤ 1024) }
 {
     match plan.db {
         None => {
@@ -64,10 +63,9 @@ fn serve<C: SqlConnection + Drop>(
     plan: Plan<'_>,
 ) -> Result<(C, Served), Fault>
     requires base { Address.is_base plan.base ≡ true }
-    requires room { (1 ≤ plan.remembered) × (plan.remembered ≤ 1024) }
     requires idle { (C.state conn).in_transaction ≡ false }
 {
-    let mut gateway = start(rt.alloc(), conn, plan.base, plan.remembered)?;
+    let mut gateway = start(rt.alloc(), conn, plan.base, MAX_CACHED)?;
     let served = match plan.service {
         Service::Replay { reads } => Ok(replay_standard(rt, &mut gateway, plan.explain, reads)),
         Service::Live {

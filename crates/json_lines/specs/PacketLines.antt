@@ -90,8 +90,8 @@ longest_content = 66
 abbrev pub longest_end : ℕ
 longest_end = 38
 
-abbrev pub longest_packet_line : ℕ
-longest_packet_line = longest_sender + longest_content + longest_end + 5
+abbrev pub max_packet_line : ℕ
+max_packet_line = longest_sender + longest_content + longest_end + 5
 
 -- ---- the numbers of a packet line are in the ranges of those of a packet
 

@@ -1,10 +1,10 @@
 //! Laws of the definitions. Each function does nothing: its contract is the law.
 ghost use Rattle.std.specs.Prelude.{◌≡◌, ◌≢◌, ℕ, List, [], ◌∷◌, ◌++◌};
 ghost use Rattle.json_lines.specs.Lines.{DeskLine, HasNumbersInRange, Teach, TeachLine, text, texts};
-ghost use Rattle.json_lines.specs.PacketLines.{HasPacketNumbersInRange, longest_packet_line, packet_text, why_word};
+ghost use Rattle.json_lines.specs.PacketLines.{HasPacketNumbersInRange, max_packet_line, packet_text, why_word};
 ghost use Rattle.json_lines.specs.declared.packet.PacketLine.{PacketLine};
 ghost use Rattle.teach_in.specs.declared.why.Why.{Why};
-ghost use Rattle.json_lines.specs.declared.pieces.TheConstants.{LONGEST_PACKET_LINE};
+ghost use Rattle.json_lines.specs.declared.limits.TheConstants.{MAX_PACKET_LINE};
 
 /// Lines that together have the text of a teach line are one teach line, with the same outcome.
 pub fn teach_texts_are_of_teach_lines()
@@ -37,5 +37,5 @@ pub fn packet_lines_are_distinguishable()
 
 /// The room of a packet line is the length of the longest.
 pub fn packet_lines_have_room()
-    ensures { LONGEST_PACKET_LINE ≡ longest_packet_line }
+    ensures { MAX_PACKET_LINE ≡ max_packet_line }
 {}

@@ -4,11 +4,12 @@ ghost use Rattle.std.specs.Prelude.{◌≡◌, ◌+◌, ◌≤◌, ◌++◌, len
 ghost use Rattle.arrayvec.specs.ArrayVec.{array_vec_len};
 ghost use Rattle.json_lines.specs.PacketLines.{content_members, end_members, members_text, other_members};
 ghost use Rattle.json_lines.specs.PacketLines.{packet_members, packet_text, sender_members, why_word};
-ghost use Rattle.json_lines.specs.PacketLines.{longest_content, longest_end, longest_packet_line, longest_sender};
+ghost use Rattle.json_lines.specs.PacketLines.{longest_content, longest_end, max_packet_line, longest_sender};
 
+use crate::limits::MAX_PACKET_LINE;
 use crate::pieces::{
-    LONGEST_PACKET_LINE, Text, put, put_byte, put_dbm, put_dest, put_id, put_known_profile,
-    put_maker, put_number, put_payload, put_string,
+    Text, put, put_byte, put_dbm, put_dest, put_id, put_known_profile, put_maker, put_number,
+    put_payload, put_string,
 };
 use crate::teach::word_of;
 use arrayvec::ArrayVec;
@@ -104,7 +105,7 @@ fn why_word(why: Why) -> &'static str
 
 // How a telegram came, and of whom.
 fn put_sender(told: &ToldTelegram, out: &mut Text)
-    requires { array_vec_len out.old + longest_sender ≤ longest_packet_line }
+    requires { array_vec_len out.old + longest_sender ≤ max_packet_line }
     ensures items { out.new.items ≡ out.old.items ++ members_text (sender_members told.now) }
     ensures len { array_vec_len out.new ≤ array_vec_len out.old + longest_sender }
 {
@@ -122,7 +123,7 @@ fn put_sender(told: &ToldTelegram, out: &mut Text)
 
 // What a telegram carries.
 fn put_content(told: &ToldTelegram, out: &mut Text)
-    requires { array_vec_len out.old + longest_content ≤ longest_packet_line }
+    requires { array_vec_len out.old + longest_content ≤ max_packet_line }
     ensures items { out.new.items ≡ out.old.items ++ members_text (content_members told.now) }
     ensures len { array_vec_len out.new ≤ array_vec_len out.old + longest_content }
 {
@@ -136,7 +137,7 @@ fn put_content(told: &ToldTelegram, out: &mut Text)
 
 // Another packet.
 fn put_other(kind: u8, size: u16, out: &mut Text)
-    requires { array_vec_len out.old + 25 ≤ longest_packet_line }
+    requires { array_vec_len out.old + 25 ≤ max_packet_line }
     ensures items { out.new.items ≡ out.old.items ++ members_text (other_members kind size) }
     ensures len { array_vec_len out.new ≤ array_vec_len out.old + 25 }
 {
@@ -148,7 +149,7 @@ fn put_other(kind: u8, size: u16, out: &mut Text)
 
 // What a packet was.
 fn put_packet(told: &ToldPacket, out: &mut Text)
-    requires { array_vec_len out.old + longest_sender + longest_content + 1 ≤ longest_packet_line }
+    requires { array_vec_len out.old + longest_sender + longest_content + 1 ≤ max_packet_line }
     ensures items { out.new.items ≡ out.old.items ++ members_text (packet_members told.now) }
     ensures len { array_vec_len out.new ≤ array_vec_len out.old + longest_sender + longest_content + 1 }
 {
@@ -164,7 +165,7 @@ fn put_packet(told: &ToldPacket, out: &mut Text)
 
 // The type of the line, and why.
 fn put_end(why: Why, out: &mut Text)
-    requires { array_vec_len out.old + longest_end ≤ longest_packet_line }
+    requires { array_vec_len out.old + longest_end ≤ max_packet_line }
     ensures items { out.new.items ≡ out.old.items ++ members_text (end_members why) }
     ensures len { array_vec_len out.new ≤ array_vec_len out.old + longest_end }
 {
@@ -181,7 +182,7 @@ fn put_end(why: Why, out: &mut Text)
 /// `"type":"packet","why":"read"}`, `{"kind":4,"size":12,"type":"packet","why":"other_type"}`
 ///
 /// It takes no memory, and it has room for each line.
-pub fn packet_line(told: &PacketLine) -> ArrayVec<u8, LONGEST_PACKET_LINE>
+pub fn packet_line(told: &PacketLine) -> ArrayVec<u8, MAX_PACKET_LINE>
     ensures { result.items ≡ packet_text told.now }
 {
     let mut out = ArrayVec::new();

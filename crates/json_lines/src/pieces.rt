@@ -4,22 +4,20 @@ ghost use Rattle.std.specs.Prelude.{◌≡◌, ◌+◌, ◌≤◌, ◌++◌, len
 ghost use Rattle.arrayvec.specs.ArrayVec.{array_vec_len};
 ghost use Rattle.hex.specs.Hex.{encode_upper};
 ghost use Rattle.json_lines.specs.Lines.{byte_text, dbm_text, in_quotes, or_null, profile_text};
-ghost use Rattle.json_lines.specs.PacketLines.{id_string, longest_packet_line};
+ghost use Rattle.json_lines.specs.PacketLines.{id_string, max_packet_line};
 
 use crate::digits::{byte_digits, eep_digits, id_digits};
+use crate::limits::MAX_PACKET_LINE;
 use arrayvec::ArrayVec;
 use erp1_telegrams::Eep;
 use itoa::Buffer;
 
-/// The length of the longest packet line, in bytes.
-pub const LONGEST_PACKET_LINE: usize = 184;
-
 // What is written of a packet line.
-pub(crate) type Text = ArrayVec<u8, LONGEST_PACKET_LINE>;
+pub(crate) type Text = ArrayVec<u8, MAX_PACKET_LINE>;
 
 // A piece as it is.
 pub(crate) fn put(piece: &[u8], out: &mut Text)
-    requires { array_vec_len out.old + length piece.now ≤ longest_packet_line }
+    requires { array_vec_len out.old + length piece.now ≤ max_packet_line }
     ensures items { out.new.items ≡ out.old.items ++ piece.now }
     ensures len { array_vec_len out.new ≡ array_vec_len out.old + length piece.now }
 {
@@ -29,7 +27,7 @@ pub(crate) fn put(piece: &[u8], out: &mut Text)
 
 // A piece in quotation marks.
 pub(crate) fn put_string(piece: &[u8], out: &mut Text)
-    requires { array_vec_len out.old + length piece.now + 2 ≤ longest_packet_line }
+    requires { array_vec_len out.old + length piece.now + 2 ≤ max_packet_line }
     ensures items { out.new.items ≡ out.old.items ++ in_quotes piece.now }
     ensures len { array_vec_len out.new ≡ array_vec_len out.old + length piece.now + 2 }
 {
@@ -40,7 +38,7 @@ pub(crate) fn put_string(piece: &[u8], out: &mut Text)
 
 // A byte.
 pub(crate) fn put_byte(byte: u8, out: &mut Text)
-    requires { array_vec_len out.old + 4 ≤ longest_packet_line }
+    requires { array_vec_len out.old + 4 ≤ max_packet_line }
     ensures items { out.new.items ≡ out.old.items ++ in_quotes (byte_text byte) }
     ensures len { array_vec_len out.new ≡ array_vec_len out.old + 4 }
 {
@@ -49,7 +47,7 @@ pub(crate) fn put_byte(byte: u8, out: &mut Text)
 
 // An ID.
 pub(crate) fn put_id(id: u32, out: &mut Text)
-    requires { array_vec_len out.old + 10 ≤ longest_packet_line }
+    requires { array_vec_len out.old + 10 ≤ max_packet_line }
     ensures items { out.new.items ≡ out.old.items ++ id_string id }
     ensures len { array_vec_len out.new ≡ array_vec_len out.old + 10 }
 {
@@ -58,7 +56,7 @@ pub(crate) fn put_id(id: u32, out: &mut Text)
 
 // The ID of the device that a telegram is for, or null.
 pub(crate) fn put_dest(dest: Option<u32>, out: &mut Text)
-    requires { array_vec_len out.old + 10 ≤ longest_packet_line }
+    requires { array_vec_len out.old + 10 ≤ max_packet_line }
     ensures items { out.new.items ≡ out.old.items ++ or_null id_string dest }
     ensures len { array_vec_len out.new ≤ array_vec_len out.old + 10 }
 {
@@ -70,7 +68,7 @@ pub(crate) fn put_dest(dest: Option<u32>, out: &mut Text)
 
 // A profile, or null.
 pub(crate) fn put_known_profile(eep: Option<Eep>, out: &mut Text)
-    requires { array_vec_len out.old + 10 ≤ longest_packet_line }
+    requires { array_vec_len out.old + 10 ≤ max_packet_line }
     ensures items { out.new.items ≡ out.old.items ++ or_null profile_text eep }
     ensures len { array_vec_len out.new ≤ array_vec_len out.old + 10 }
 {
@@ -82,7 +80,7 @@ pub(crate) fn put_known_profile(eep: Option<Eep>, out: &mut Text)
 
 // A number.
 pub(crate) fn put_number(n: u16, out: &mut Text)
-    requires { array_vec_len out.old + 5 ≤ longest_packet_line }
+    requires { array_vec_len out.old + 5 ≤ max_packet_line }
     ensures items { out.new.items ≡ out.old.items ++ decimal n }
     ensures len { array_vec_len out.new ≤ array_vec_len out.old + 5 }
 {
@@ -91,7 +89,7 @@ pub(crate) fn put_number(n: u16, out: &mut Text)
 
 // The number of a maker, or null.
 pub(crate) fn put_maker(maker: Option<u16>, out: &mut Text)
-    requires { array_vec_len out.old + 5 ≤ longest_packet_line }
+    requires { array_vec_len out.old + 5 ≤ max_packet_line }
     ensures items { out.new.items ≡ out.old.items ++ or_null decimal maker }
     ensures len { array_vec_len out.new ≤ array_vec_len out.old + 5 }
 {
@@ -103,7 +101,7 @@ pub(crate) fn put_maker(maker: Option<u16>, out: &mut Text)
 
 // The signal strength.
 fn put_strength(byte: u8, out: &mut Text)
-    requires { array_vec_len out.old + 4 ≤ longest_packet_line }
+    requires { array_vec_len out.old + 4 ≤ max_packet_line }
     ensures items { out.new.items ≡ out.old.items ++ dbm_text byte }
     ensures len { array_vec_len out.new ≤ array_vec_len out.old + 4 }
 {
@@ -112,7 +110,7 @@ fn put_strength(byte: u8, out: &mut Text)
 
 // The signal strength, or null.
 pub(crate) fn put_dbm(dbm: Option<u8>, out: &mut Text)
-    requires { array_vec_len out.old + 4 ≤ longest_packet_line }
+    requires { array_vec_len out.old + 4 ≤ max_packet_line }
     ensures items { out.new.items ≡ out.old.items ++ or_null dbm_text dbm }
     ensures len { array_vec_len out.new ≤ array_vec_len out.old + 4 }
 {
@@ -124,7 +122,7 @@ pub(crate) fn put_dbm(dbm: Option<u8>, out: &mut Text)
 
 // The bytes of a payload.
 pub(crate) fn put_payload(payload: &ArrayVec<u8, 14>, out: &mut Text)
-    requires { array_vec_len out.old + 30 ≤ longest_packet_line }
+    requires { array_vec_len out.old + 30 ≤ max_packet_line }
     ensures items { out.new.items ≡ out.old.items ++ in_quotes (encode_upper payload.now.items) }
     ensures len { array_vec_len out.new ≤ array_vec_len out.old + 30 }
 {

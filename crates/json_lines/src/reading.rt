@@ -13,6 +13,7 @@ ghost use Rattle.json_lines.specs.Lines.{profile_text};
 ghost use Rattle.json_lines.specs.private.LineData.{IsPlain};
 
 use crate::digits::{eep_digits, id_digits};
+use crate::limits::MAX_USUAL_LINE;
 use crate::line::Line;
 use erp1_telegrams::{Eep, Telegram};
 use exact_values::Fraction;
@@ -20,11 +21,6 @@ use itoa::Buffer;
 use json::Writer;
 use profiles_rps::{Reading, Readings, What};
 use std::alloc::{AllocError, Global};
-
-// The length in bytes of the longest line that a profile makes: A5-08-03 at -255 dBm, with the readings
-// `{"den":50,"name":"SVC","num":101,"unit":"V"},{"den":1,"name":"ILL","num":1002,"unit":"lx"},`
-// `{"den":51,"name":"TMP","num":-1514,"unit":"C"},{"name":"PIRS","word":"off"},{"name":"OCC","word":"released"}`.
-const LONGEST_USUAL_LINE: usize = 276;
 
 // A number with a sign.
 fn put_integer(n: i64, out: &mut Vec<u8>) -> Result<(), AllocError>
@@ -188,7 +184,7 @@ pub fn reading_line(
       readings = entries readings.now.items;
     }))) }
 {
-    let mut line = Vec::with_capacity(alloc, LONGEST_USUAL_LINE)?;
+    let mut line = Vec::with_capacity(alloc, MAX_USUAL_LINE)?;
     line.extend_from_slice(b"{\"dbm\":")?;
     put_dbm(telegram.dbm(), &mut line)?;
     line.extend_from_slice(&sender_piece(eep, telegram.sender()))?;

@@ -441,7 +441,6 @@ const PLANNED: [Planned; 2] = [
         },
         plan: Plan {
             db: Some("x.db"),
-            remembered: 1024,
             base: 0xFFA1_B280,
             explain: true,
             service: Service::Replay {
@@ -463,7 +462,6 @@ const PLANNED: [Planned; 2] = [
         },
         plan: Plan {
             db: None,
-            remembered: 1024,
             base: 0xFF80_0000,
             explain: false,
             service: Service::Live {

@@ -1,8 +1,8 @@
 //! Headers and packets of the standard, and of this gateway's limits.
 use arrayvec::ArrayVec;
 use esp3_frames::{
-    Header, HeaderFault, LONGEST_PACKET, PacketFault, PacketRef, check8, check8_between,
-    check8_next, first_packet, read_header, read_packet, write_packet,
+    Header, HeaderFault, MAX_PACKET, PacketFault, PacketRef, check8, check8_between, check8_next,
+    first_packet, read_header, read_packet, write_packet,
 };
 use std::alloc::{AllocError, Global};
 use std::test::Fail;
@@ -438,7 +438,7 @@ const WRITTEN: [Written; 4] = [
 
 #[test]
 fn longest_packets(rt: HostRuntime) -> Result<(), Fail> {
-    assert_eq!(rt; LONGEST_PACKET, 65_797);
+    assert_eq!(rt; MAX_PACKET, 65_797);
     let zeros = vec![in rt.alloc(); 0; 65_536]?;
     let mut out = ArrayVec::<u8, 262>::new();
     for (row, case) in WRITTEN.iter().enumerate() {

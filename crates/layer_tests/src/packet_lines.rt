@@ -1,7 +1,7 @@
 //! Packet lines whose bytes are known.
 use arrayvec::ArrayVec;
 use erp1_telegrams::Eep;
-use json_lines::{LONGEST_PACKET_LINE, PacketLine, ToldPacket, ToldTelegram, packet_line};
+use json_lines::{MAX_PACKET_LINE, PacketLine, ToldPacket, ToldTelegram, packet_line};
 use std::test::Fail;
 use teach_in::{Outcome, Why};
 
@@ -112,7 +112,7 @@ fn telegrams(rt: HostRuntime) -> Result<(), Fail> {
         });
         assert!(rt; line.as_slice() == case.line.as_bytes(), "{}", case.line);
     }
-    assert_eq!(rt; (LONGEST.len(), LONGEST_PACKET_LINE), (184, 184));
+    assert_eq!(rt; (LONGEST.len(), MAX_PACKET_LINE), (184, 184));
     Ok(())
 }
 

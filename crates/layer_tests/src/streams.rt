@@ -195,7 +195,7 @@ const TYPES_AND_DATA: [u8; 17] = [
 ];
 
 /// More runs and packets than a piece has.
-const MOST_TURNS: u32 = 1_000_000;
+const MAX_TURNS: u32 = 1_000_000;
 
 // Pushes the bytes in runs, appends the type and the data of each packet, and returns the number of packets.
 fn feed_runs(
@@ -206,7 +206,7 @@ fn feed_runs(
 ) -> Result<u32, Fail> {
     let mut rest = bytes;
     let mut packets: u32 = 0;
-    for _ in 0..=MOST_TURNS {
+    for _ in 0..=MAX_TURNS {
         if !framer.is_ready() {
             let count = framer.push_run(rest);
             rest = &rest[count..];

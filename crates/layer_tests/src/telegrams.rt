@@ -220,7 +220,7 @@ fn room_for_a_packet(rt: HostRuntime) -> Result<(), Fail> {
 }
 
 #[test]
-fn longest_packet(rt: HostRuntime) -> Result<(), Fail> {
+fn max_packet(rt: HostRuntime) -> Result<(), Fail> {
     let telegram = Telegram::new(0xD2, &[7; 14], 0x0180_0ABC, 0, BROADCAST, None)?;
     let mut out = ArrayVec::<u8, 64>::new();
     let done = write(&telegram, &mut out);

@@ -32,12 +32,12 @@ abbrev pub all_of : Devices → List Device
 all_of devices = map (λ entry. device entry.0 entry.1) (entries devices)
 
 -- the most devices that are kept. Own choice
-abbrev pub most_devices : ℕ
-most_devices = 1000
+abbrev pub max_devices : ℕ
+max_devices = 1000
 
 -- there is no room for this sender: so many others are learned
 abbrev pub is_full : Devices → ℕ → Bool
-is_full devices id = nat_le most_devices (len (remove devices id))
+is_full devices id = nat_le max_devices (len (remove devices id))
 
 -- what is done about a sender: it is learned with a profile and a maker, it is forgotten, or it gets a label
 pub data Deed : Type 0 where

@@ -3,8 +3,8 @@ use Rattle.std.specs.Prelude.{ℕ, Bool, not, ◌&&◌, nat_eq, nat_le, List, []
 use Rattle.std.specs.List.{list_all, starts_with, ends_with}
 
 -- the longest label, in bytes
-abbrev pub longest_label : ℕ
-longest_label = 32
+abbrev pub max_label : ℕ
+max_label = 32
 
 -- a byte that stands in a label: from space to `~` of ASCII
 abbrev pub is_shown : ℕ → Bool
@@ -20,4 +20,4 @@ is_name text =
 
 -- a text that people know a device by, or the empty one
 abbrev pub is_label : List ℕ → Bool
-is_label text = is_name text && nat_le (length text) longest_label
+is_label text = is_name text && nat_le (length text) max_label

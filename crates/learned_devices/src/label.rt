@@ -6,19 +6,17 @@ ghost use Rattle.std.specs.Cmp.Lexicographic.{nat_list_eq_equiv, pointwise};
 ghost use Rattle.std.specs.List.{list_all};
 ghost use Rattle.learned_devices.specs.Labels.{is_label, is_name, is_shown};
 
+use crate::limits::MAX_LABEL;
 use arrayvec::ArrayString;
 use std::alloc::AllocError;
 use std::fmt;
 use std::marker::Model;
 
-/// The longest label, in bytes. Own choice.
-pub const LONGEST_LABEL: usize = 32;
-
-/// A text that people know a device by, or the empty one: at most `LONGEST_LABEL` bytes from space to `~` of ASCII, of
+/// A text that people know a device by, or the empty one: at most `MAX_LABEL` bytes from space to `~` of ASCII, of
 /// which neither the first nor the last is a space. It lies in a fixed array. Own choice.
 #[derive(Drop)]
 pub struct Label {
-    text: ArrayString<LONGEST_LABEL>,
+    text: ArrayString<MAX_LABEL>,
 }
 
 impl Model for Label {

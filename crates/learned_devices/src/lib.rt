@@ -7,13 +7,15 @@ mod device_store;
 mod fault;
 mod label;
 pub mod laws;
+mod limits;
 #[cfg(test)]
 mod tests;
 
 pub use device_store::{DeviceStore, Receipt};
 use erp1_telegrams::Eep;
 pub use fault::{LearnFault, StoreFault};
-pub use label::{LONGEST_LABEL, Label, is_name};
+pub use label::{Label, is_name};
+pub use limits::MAX_LABEL;
 
 /// What is known of a sender: plain numbers and a label, none of which takes memory.
 #[derive(Clone, Debug, Drop, PartialEq, Eq)]

@@ -1,5 +1,5 @@
 //! Which texts are labels, how devices are copied, and what faults print.
-use crate::{Device, LONGEST_LABEL, Label, LearnFault, StoreFault, is_name};
+use crate::{Device, Label, LearnFault, MAX_LABEL, StoreFault, is_name};
 use erp1_telegrams::Eep;
 use std::alloc::AllocError;
 use std::test::Fail;
@@ -20,7 +20,7 @@ fn labels(rt: HostRuntime) -> Result<(), Fail> {
     ] {
         assert_eq!(rt; told(&Label::new(text)), Some(text));
     }
-    assert_eq!(rt; LONGEST_LABEL, 32);
+    assert_eq!(rt; MAX_LABEL, 32);
     assert_eq!(rt; Label::empty().as_str(), "");
     Ok(())
 }

@@ -1,7 +1,7 @@
 //! New gateways over databases in memory, and one over what another has learned.
 use crate::telling::Telling;
 use anyhow::{Result, bail};
-use device_registry::{Registry, RegistryOver, SqlConnection};
+use device_registry::{MAX_CACHED, Registry, RegistryOver, SqlConnection};
 use gateway_core::{DeviceStore, Gateway, GatewayOver, Reply, StartFault};
 use gateway_main::fault::Fault;
 use gateway_main::{OverRead, OverWrite, RunFault, Sink, Source, Summary, live, replay, start};
@@ -11,15 +11,12 @@ use std::alloc::Global;
 /// The base ID of the radio module in every case.
 pub const BASE: u32 = 0xFF80_0000;
 
-/// How many looked-up senders a registry remembers, as in the program.
-pub const REMEMBERED: usize = 1024;
-
 /// A new gateway, over a new database.
 pub(crate) fn fresh(
     alloc: Global,
 ) -> Result<GatewayOver<RegistryOver<Connection<MemStore>>>, Fault> {
     let conn = Connection::open_in_memory(alloc)?;
-    start(alloc, conn, BASE, REMEMBERED)
+    start(alloc, conn, BASE, MAX_CACHED)
 }
 
 /// Replays a script by a new gateway, with explanations or without.
@@ -31,7 +28,7 @@ pub(crate) fn replay_new<R: Source, W: Sink>(
     turns: u64,
 ) -> Result<Result<Summary, RunFault>, Fault> {
     let conn = Connection::open_in_memory(alloc)?;
-    let mut gateway = start(alloc, conn, BASE, REMEMBERED)?;
+    let mut gateway = start(alloc, conn, BASE, MAX_CACHED)?;
     Ok(replay(reader, writer, &mut gateway, explains, turns))
 }
 
@@ -64,7 +61,7 @@ pub(crate) fn serve_new<P: Source, Q: Source, R: Sink, D: Sink>(
     turns: u64,
 ) -> Result<Result<Summary, RunFault>, Fault> {
     let conn = Connection::open_in_memory(alloc)?;
-    let mut gateway = start(alloc, conn, BASE, REMEMBERED)?;
+    let mut gateway = start(alloc, conn, BASE, MAX_CACHED)?;
     let (serial_in, serial_out) = serial;
     let (desk_in, desk_out) = desk;
     Ok(live(

@@ -13,7 +13,7 @@ use Rattle.learned_devices.specs.Labels.{is_label}
 use Rattle.device_registry.specs.declared.table.Version.{Version}
 use Rattle.device_registry.specs.declared.table.Version.TheVariants.{First, Second}
 use Rattle.learned_devices.specs.Devices.{Learned, Devices, device}
-use Rattle.device_registry.specs.Table.{number_of, last_sender, last_profile, last_maker}
+use Rattle.device_registry.specs.Table.{number_of, max_sender, max_profile, max_maker}
 
 -- ---- the values
 
@@ -81,13 +81,13 @@ RowidsDiffer = IsAscending (λ a b. rowid a ≢ rowid b)
 pub record IsDevice (row : Row) : Type 0 where
   pub id : ℕ
   pub id_is : column row 0 ≡ Int (pos id)
-  pub is_sender : id ≤ last_sender
+  pub is_sender : id ≤ max_sender
   pub eep : ℕ
   pub eep_is : column row 2 ≡ Int (pos eep)
-  pub is_profile : eep ≤ last_profile
+  pub is_profile : eep ≤ max_profile
   pub maker : ℤ
   pub maker_is : column row 3 ≡ Int maker
-  pub is_maker : (negsuc 0 ≤ℤ maker) × (maker ≤ℤ pos last_maker)
+  pub is_maker : (negsuc 0 ≤ℤ maker) × (maker ≤ℤ pos max_maker)
   pub label : List ℕ
   pub label_is : column row 4 ≡ Text label
   pub is_label : is_label label ≡ true
@@ -140,7 +140,7 @@ is_number last (Blob b) = false
 
 -- the number of a maker, or that of none
 abbrev pub is_maker : Value → Bool
-is_maker (Int (pos n)) = nat_le n last_maker
+is_maker (Int (pos n)) = nat_le n max_maker
 is_maker (Int (negsuc n)) = n == 0
 is_maker Null = false
 is_maker (Real x) = false
@@ -158,7 +158,7 @@ is_label_text (Blob b) = false
 -- the row shows a device, each number in its range, and a label
 abbrev pub shows_device : Row → Bool
 shows_device row =
-    is_number last_sender (column row 0) && is_number last_profile (column row 1) && is_maker (column row 2)
+    is_number max_sender (column row 0) && is_number max_profile (column row 1) && is_maker (column row 2)
     && is_label_text (column row 3)
 
 -- the rows show devices, whose senders rise from this one

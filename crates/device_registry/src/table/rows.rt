@@ -10,7 +10,8 @@ ghost use Rattle.device_registry.specs.Table.Rows.{AreFound, ShowsVersion, liste
 ghost use Rattle.device_registry.specs.Table.Rows.{shows_device, devices_rise, eep_number, eep_of, maker_number};
 ghost use Rattle.device_registry.specs.Table.Rows.{maker_in, label_in};
 
-use super::{KEY, LAST_MAKER, LAST_PROFILE, LAST_SENDER, NO_MAKER, Version};
+use super::{KEY, NO_MAKER, Version};
+use crate::limits::{MAX_MAKER, MAX_PROFILE, MAX_SENDER};
 use erp1_telegrams::Eep;
 use learned_devices::{Device, Label};
 use sqlite::types::ValueRef;
@@ -35,7 +36,7 @@ fn read_maker(row: &Row, at: usize) -> Option<Option<u16>>
 {
     match row.get_ref(at) {
         Ok(ValueRef::Int(found)) if found == NO_MAKER => Some(None),
-        _ => Some(Some(number_in(row, at, LAST_MAKER)? as u16)),
+        _ => Some(Some(number_in(row, at, MAX_MAKER)? as u16)),
     }
 }
 
@@ -66,8 +67,8 @@ fn device_in(row: &Row) -> Option<Device>
     ensures { MatchOption result (shows_device row.now ≡ false)
         (λ it. (it ≡ listed row.now) × IsTrue (shows_device row.now)) }
 {
-    let id = number_in(row, 0, LAST_SENDER)?;
-    let eep = eep_of_number(number_in(row, 1, LAST_PROFILE)?);
+    let id = number_in(row, 0, MAX_SENDER)?;
+    let eep = eep_of_number(number_in(row, 1, MAX_PROFILE)?);
     let maker = read_maker(row, 2)?;
     let label = read_label(row, 3)?;
     Some(Device {

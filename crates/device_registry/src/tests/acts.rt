@@ -1,5 +1,6 @@
 //! Calls of a registry as data, each with the answer that is wanted of it.
 ghost use Rattle.std.specs.Prelude.{◌≤◌};
+ghost use Rattle.device_registry.specs.private.Cached.{max_cached};
 
 use super::given::{
     Fresh, Known, contact, either, fresh_registry, is_full, open_idle, relabel, varied,
@@ -60,7 +61,7 @@ pub fn play<S: Fresh>(
     acts: &[Act],
     behind: &[Act],
 ) -> Result<(), Fail>
-    requires { (1 ≤ cache) × (cache ≤ 1024) }
+    requires { (1 ≤ cache) × (cache ≤ max_cached) }
 {
     let mut registry = fresh_registry::<S>(alloc, cache)?;
     take_all(rt, &mut registry, acts)?;

@@ -1,5 +1,6 @@
 //! What is remembered of looked-up senders.
 ghost use Rattle.std.specs.Prelude.{◌≤◌};
+ghost use Rattle.device_registry.specs.private.Cached.{max_cached};
 
 use super::acts::{Act, Many, play};
 use super::given::{Known, contact, sensor};
@@ -144,7 +145,7 @@ fn answers_the_same(
     cache: usize,
     remembered: usize,
 ) -> Result<(), Fail>
-    requires { (1 ≤ cache) × (cache ≤ 1024) }
+    requires { (1 ≤ cache) × (cache ≤ max_cached) }
 {
     let acts = [
         Act::Many(Many::LearnsInTurn, 200),

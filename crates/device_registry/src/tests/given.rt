@@ -1,5 +1,6 @@
 //! Devices, faults and statements that the tests share.
 ghost use Rattle.std.specs.Prelude.{◌≡◌, ◌≤◌, []};
+ghost use Rattle.device_registry.specs.private.Cached.{max_cached};
 
 use super::remembering::Remembering;
 use crate::{Device, Label, LearnFault, OpenFault, Registry, StoreFault, prepare};
@@ -182,7 +183,7 @@ impl Fresh for MemStore {
 
 /// A new registry with a cache of so many senders.
 pub fn fresh_registry<S: Fresh>(alloc: Global, cache: usize) -> Result<Registry<S>, Fail>
-    requires { (1 ≤ cache) × (cache ≤ 1024) }
+    requires { (1 ≤ cache) × (cache ≤ max_cached) }
 {
     let conn = S::fresh(alloc)?;
     if !conn.is_autocommit() {

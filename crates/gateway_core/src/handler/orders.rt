@@ -8,6 +8,7 @@ ghost use Rattle.gateway_core.specs.private.Tries.{Gives, Tries};
 use crate::handler::Handler;
 use crate::handler::done::{Done, denied, labelled, sets, told};
 use crate::handler::sending::{ask_base, error_of};
+use crate::limits::MAX_LINE;
 use crate::refusal::Refusal;
 use crate::reply::Desk;
 use actuator_commands::{Order, parse};
@@ -15,9 +16,6 @@ use erp1_telegrams::Eep;
 use json_lines::{ErrorName, device_lines, status_line};
 use learned_devices::{Device, DeviceStore, Label};
 use teach_in::{Mode, supported};
-
-/// The longest line of the desk, in bytes. Own choice.
-pub const LONGEST_LINE: usize = 200;
 
 // Opens the mode that learns with this profile.
 fn open_as(eep: Eep) -> Done
@@ -117,7 +115,7 @@ impl<S: DeviceStore> Handler<S> {
     pub(crate) fn try_line(&mut self, line: &[u8]) -> Result<Done, Refusal>
         ensures { Tries S.kept self.old (λ state. line_effect state line.now) result self.new }
     {
-        if line.len() > LONGEST_LINE {
+        if line.len() > MAX_LINE {
             return Ok(denied(ErrorName::TooLong));
         }
         match parse(line) {

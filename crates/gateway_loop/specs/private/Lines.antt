@@ -1,15 +1,15 @@
 -- Lines as bytes, and the events that they are. Own choice.
 use Rattle.std.specs.Prelude.{◌≡◌, ◌+◌, ℕ, List, take, map}
 use Rattle.std.specs.Str.Lines.{strip_carriage_return}
-use Rattle.gateway_core.specs.Step.{longest_line}
+use Rattle.gateway_core.specs.Step.{max_line}
 use Rattle.gateway_core.specs.Events.{Event, Line}
 use Rattle.gateway_loop.specs.declared.line_loop.Lines.{Lines}
 use Rattle.gateway_loop.specs.declared.line_loop.Lines.TheVariants.{OfScript, OfDesk}
 use Rattle.gateway_loop.specs.Script.{IsOneLine, event_of}
 
 -- how many bytes are kept of a line: with CR they tell each line that is not too long from all that are
-abbrev pub longest_kept : ℕ
-longest_kept = longest_line + 2
+abbrev pub max_kept : ℕ
+max_kept = max_line + 2
 
 -- what a line is, without its end: of the desk always an order
 abbrev pub event_by : Lines → List ℕ → Event
@@ -23,4 +23,4 @@ events_by lines ended = map (λ line. event_by lines (strip_carriage_return line
 -- of a line came these bytes, and not its end: the first of them are kept
 pub record Keeps (tail kept : List ℕ) : Type 0 where
   pub one : IsOneLine tail
-  pub is : kept ≡ take longest_kept tail
+  pub is : kept ≡ take max_kept tail

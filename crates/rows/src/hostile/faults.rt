@@ -2,11 +2,11 @@
 //! the gateway knows.
 use super::script::{ITEMS, Known, Outcome, State, outcome_of, outcome_of_first};
 use crate::fakes::{Parts, Sips};
-use crate::gateways::{BASE, REMEMBERED, fresh, written_by};
+use crate::gateways::{BASE, fresh, written_by};
 use crate::lives::NEVER;
 use crate::telling::Telling;
 use anyhow::{Result, bail};
-use device_registry::{RegistryOver, SqlConnection};
+use device_registry::{MAX_CACHED, RegistryOver, SqlConnection};
 use gateway_core::{DeviceStore, GatewayOver};
 use gateway_main::{OverRead, OverWrite, RunFault, Summary, replay, start};
 use std::alloc::Global;
@@ -181,7 +181,7 @@ fn is_found_again<C: SqlConnection + Drop>(
     if !conn.is_autocommit() {
         return Ok(false);
     }
-    let mut again = start(alloc, conn, BASE, REMEMBERED)?;
+    let mut again = start(alloc, conn, BASE, MAX_CACHED)?;
     let list = written_by(alloc, &mut again, b"list")?;
     let wanted = State::new(Known::Actuator, 0).listed(alloc)?;
     Ok(list.as_slice() == wanted.as_bytes())

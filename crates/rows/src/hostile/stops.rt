@@ -5,10 +5,10 @@ use super::disks::{
     left_by,
 };
 use super::script::{ITEMS, Item, Known, LABELS, OK, STORE, State};
-use crate::gateways::{BASE, REMEMBERED, written_by};
+use crate::gateways::{BASE, written_by};
 use crate::telling::Telling;
 use anyhow::{Result, bail};
-use device_registry::{OpenFault, RegistryOver, SqlConnection, prepare};
+use device_registry::{MAX_CACHED, OpenFault, RegistryOver, SqlConnection, prepare};
 use gateway_core::{DeviceStore, GatewayOver};
 use gateway_main::fault::Fault;
 use gateway_main::start;
@@ -178,7 +178,7 @@ fn started<C: SqlConnection + Drop>(
     if !conn.is_autocommit() {
         bail!("a transaction is open");
     }
-    match start(alloc, conn, BASE, REMEMBERED) {
+    match start(alloc, conn, BASE, MAX_CACHED) {
         Ok(gateway) => Ok(Some(gateway)),
         Err(Fault::Store) => Ok(None),
         Err(_) => bail!("not refused by the store"),

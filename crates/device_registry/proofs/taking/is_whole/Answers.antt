@@ -7,7 +7,7 @@ use Rattle.sqlite.specs.Listing.{understood}
 use Rattle.sqlite.specs.Effect.{Database}
 use Rattle.sqlite.proofs.Callers.{unchanged_then}
 use Rattle.device_registry.specs.Table.{number_of, find_all_text}
-use Rattle.learned_devices.specs.Devices.{most_devices}
+use Rattle.learned_devices.specs.Devices.{max_devices}
 use Rattle.device_registry.specs.Table.Rows.{ShowsVersion, devices_rise}
 use Rattle.device_registry.proofs.ListDevicesMeaning.{all_means}
 use Rattle.device_registry.proofs.VersionMeaning.{version_means}
@@ -49,24 +49,24 @@ returns-clause-whole g c clean =
       unchanged_then old mid new first.1 second.1,
       λ yes t.
           let version : ShowsVersion c.args.version c.in_ok-versions.versions.items = search rules in
-          let few : length c.in_ok-devices.devices.items ≤ most_devices = search rules in
+          let few : length c.in_ok-devices.devices.items ≤ max_devices = search rules in
           let up : devices_rise 0 c.in_ok-devices.devices.items ≡ true = search rules in
           whole c.args.version old mid new c.in_ok-versions.versions.items c.in_ok-devices.devices.items t version first.0 first.1
           second.0 few up,
     )
 
-told_count : (n m : ℕ) → n ≡ m → m ≤ most_devices → most_devices < n → ⊥
+told_count : (n m : ℕ) → n ≡ m → m ≤ max_devices → max_devices < n → ⊥
 told_count n m e few many = omega arith
 
-pub returns-then-len-gt-MOST_DEVICES-clause-other : goal.returns-then-len-gt-MOST_DEVICES-clause-other
-returns-then-len-gt-MOST_DEVICES-clause-other g c clean none t it =
+pub returns-then-len-gt-MAX_DEVICES-clause-other : goal.returns-then-len-gt-MAX_DEVICES-clause-other
+returns-then-len-gt-MAX_DEVICES-clause-other g c clean none t it =
     let old = g.C.SqlConnection.state c.args.conn.now in
     let mid = g.C.SqlConnection.state c.shown_by.new.conn in
     let new = g.C.SqlConnection.state c.shown_by-2.new.conn in
     let between : HasCleanDisk mid = omega (arith, clean, c.shown_by-2.ensures.stop.clean) in
     let count = devices_told c.args.version old mid new c.in_ok-devices.devices.items t (c.in_ok-versions.ensures.shown between).1
     (rw c.find_all.ensures at (c.in_ok-devices.ensures.shown clean)).0 in
-    let many : most_devices < length c.in_ok-devices.devices.items = search rules in
+    let many : max_devices < length c.in_ok-devices.devices.items = search rules in
     absurd (told_count _ _ count it.few many)
 
 pub returns-clause-other : goal.returns-clause-other

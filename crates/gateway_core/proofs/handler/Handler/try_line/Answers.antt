@@ -1,27 +1,27 @@
 use Rattle.std.proofs.Common.{sym, ◌∙◌, Ok, Err}
 use Rattle.std.proofs.lemmas.Bool.{lt-ltb}
 use Rattle.actuator_commands.proofs.ForCallers.{parsed-in_range}
-use Rattle.gateway_core.specs.Step.{longest_line}
+use Rattle.gateway_core.specs.Step.{max_line}
 use Rattle.gateway_core.proofs.TryLemmas.{tries-alone, tries-order}
 use Rattle.gateway_core.proofs.handler.Handler.try_line.Goals as goal
 
 pub try_order-requires : goal.try_order-requires
 try_order-requires g c = parsed-in_range c.args.line.now c.in-Ok.order (sym c.parse.ensures ∙ c.in-Ok.is)
 
-pub returns-then-line-gt-LONGEST_LINE : goal.returns-then-line-gt-LONGEST_LINE
-returns-then-line-gt-LONGEST_LINE g c =
+pub returns-then-line-gt-MAX_LINE : goal.returns-then-line-gt-MAX_LINE
+returns-then-line-gt-MAX_LINE g c =
     tries-alone g.S.DeviceStore.kept _ _ _
     (λ devices keeps.
-    rw (lt-ltb longest_line _ c.if-line-gt-LONGEST_LINE.true) (c.denied.ensures, keeps))
+    rw (lt-ltb max_line _ c.if-line-gt-MAX_LINE.true) (c.denied.ensures, keeps))
 
 pub returns-in-Ok : goal.returns-in-Ok
 returns-in-Ok g c =
-    tries-order g.S.DeviceStore.kept _ _ c.args.line.now _ (Ok c.in-Ok.order) c.if-line-gt-LONGEST_LINE.false
+    tries-order g.S.DeviceStore.kept _ _ c.args.line.now _ (Ok c.in-Ok.order) c.if-line-gt-MAX_LINE.false
     (sym c.parse.ensures ∙ c.in-Ok.is) c.try_order.ensures
 
 pub returns-in-Err : goal.returns-in-Err
 returns-in-Err g c =
-    tries-order g.S.DeviceStore.kept _ _ c.args.line.now _ (Err c.in-Err.fault) c.if-line-gt-LONGEST_LINE.false
+    tries-order g.S.DeviceStore.kept _ _ c.args.line.now _ (Err c.in-Err.fault) c.if-line-gt-MAX_LINE.false
     (sym c.parse.ensures ∙ c.in-Err.is)
     (tries-alone g.S.DeviceStore.kept _ _ _
     (λ devices keeps. rw (← c.error_of.ensures) (c.denied-in-Err.ensures, keeps)))

@@ -2,7 +2,7 @@ use Rattle.std.proofs.Common.{Ok, Err, ◌++◌, length, take, sym, subst, ◌�
 use Rattle.std.specs.Str.Lines.{strip_carriage_return}
 use Rattle.std.proofs.lemmas.Bool.{eqb-true}
 use Rattle.std.proofs.lemmas.Result.{err_from_is_err_and}
-use Rattle.gateway_loop.specs.private.Lines.{event_by, longest_kept}
+use Rattle.gateway_loop.specs.private.Lines.{event_by, max_kept}
 use Rattle.gateway_loop.specs.private.EngineSteps.{TakesOrBreaks}
 use Rattle.gateway_loop.proofs.LineLoopLemmas.{kept_more, none_came}
 use Rattle.gateway_loop.proofs.LongLineLemmas.{kept_line_alike}
@@ -32,7 +32,7 @@ returns-in_err-take_line-clause-taken g c =
     let exit = err_from_is_err_and c.from_residual.result c.from_residual.ensures.1 in
     rw exit.1 (λ tail keeps.
     kept_line_alike stored way {A = Unit {0}} {E = Unit {0}} (Err tt) old new c.args.lines
-    (take longest_kept (kept ++ bytes)) (tail ++ bytes) (kept_more tail kept bytes keeps.is)
+    (take max_kept (kept ++ bytes)) (tail ++ bytes) (kept_more tail kept bytes keeps.is)
     (rw (c.strip-2.ensures, c.as_slice-2.ensures, c.extend.ensures) at c.in_err-take_line.ensures.taken))
 
 pub returns-clause-taken : goal.returns-clause-taken
@@ -44,5 +44,5 @@ returns-clause-taken g c = λ tail keeps.
     let kept = c.args.self.now.unended in
     let bytes = c.args.bytes.now in
     kept_line_alike stored way {A = Unit {0}} {E = Unit {0}} (Ok tt) old new c.args.lines
-    (take longest_kept (kept ++ bytes)) (tail ++ bytes) (kept_more tail kept bytes keeps.is)
+    (take max_kept (kept ++ bytes)) (tail ++ bytes) (kept_more tail kept bytes keeps.is)
     (rw (c.strip-2.ensures, c.as_slice-2.ensures, c.extend.ensures) at c.in_ok-take_line.ensures.taken)
