@@ -164,6 +164,7 @@ pub(crate) fn is_in_range(order: &Order) -> bool
         | Order::Status
         | Order::Base => true,
         Order::Add(id, _) | Order::Remove(id) | Order::Stop { id } => *id != BROADCAST,
+        // A `Label` is never longer; its text says so to the proof.
         Order::Label { id, label } => *id != BROADCAST && label.as_str().len() <= MAX_LABEL,
         Order::Switch { id, channel, .. }
         | Order::Query { id, channel }
