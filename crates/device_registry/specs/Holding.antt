@@ -73,13 +73,14 @@ pub record WritesRow {C : Type 0} (state : C → State) (new : C) (change : Chan
   pub executed : Executes put_text (put_params change.sender row) (state before) (state new) (Ok count)
 
 module _ {C : Type 0} (state : C → State) (old new : C) (change : Change) (devices : Devices) where
-  -- the call between these two wrote the row of the sender, or the version row where an unknown sender was forgotten
+  -- The last statement wrote the row of the sender. If a sender was forgotten that was not known, the call wrote the
+  -- version row.
   abbrev pub WritesFor : Deed → Type 0
   WritesFor (Learn eep maker) = WritesRow state new change devices
   WritesFor (Relabel label) = WritesRow state new change devices
   WritesFor Forget = get devices change.sender ≡ None → IsRenewed (state old) (state new)
 
-  -- the call wrote the update, even if it changed nothing
+  -- what the call wrote for the update, even if it changed nothing
   abbrev pub Writes : Type 0
   Writes = WritesFor change.deed
 

@@ -1,5 +1,5 @@
 -- What an open finds, and what it leaves.
-use Rattle.std.specs.Prelude.{◌≡◌, ◌≢◌, ◌⊎◌, ◌≤◌, IsTrue, false}
+use Rattle.std.specs.Prelude.{ℕ, ◌≡◌, ◌≢◌, ◌⊎◌, ◌≤◌, IsTrue, false}
 use Rattle.std.specs.FinMap.{len}
 use Rattle.sqlite.specs.Effect.{Database, IsDatabase}
 use Rattle.sqlite.specs.State.{State, HasCleanDisk, IsUnchanged, Survives}
@@ -19,6 +19,10 @@ use Rattle.learned_devices.specs.Devices.{Devices, max_devices}
 use Rattle.device_registry.specs.Stored.{IsRegistry, Holds, IsHeld}
 use Rattle.device_registry.specs.Ready.{Shows}
 use Rattle.device_registry.specs.Holding.{AreRegistries, HasDevices, IsCommitted, MayFind, Finds, Opens}
+
+-- the most looked-up senders that a registry may remember. Own choice
+abbrev pub max_cached : ℕ
+max_cached = 1024
 
 -- the connection is open between two transactions, over a sound database
 pub record IsAtRest (s : State) : Type 0 where

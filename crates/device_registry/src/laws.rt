@@ -2,7 +2,7 @@
 ghost use Rattle.std.specs.Prelude.{◌≡◌};
 ghost use Rattle.learned_devices.specs.Devices.{max_devices};
 ghost use Rattle.device_registry.specs.declared.limits.TheConstants.{MAX_CACHED, MAX_DEVICES};
-ghost use Rattle.device_registry.specs.private.Cached.{max_cached};
+ghost use Rattle.device_registry.specs.Opening.{max_cached};
 ghost use Rattle.device_registry.specs.Holding.{HoldsSome};
 ghost use Rattle.device_registry.specs.Opening.{ClosedFilesAreFound, FewAreHeld, FoundAgain, HandedOn};
 ghost use Rattle.device_registry.specs.Opening.{CrashedFilesAreFound};

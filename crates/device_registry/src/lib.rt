@@ -1,5 +1,5 @@
 //! The learned devices, in a SQLite database. What a call answers, the database holds; the senders that were looked
-//! up last are remembered besides. A change is answered once it is committed, with a receipt that nothing else makes.
+//! up last are remembered besides. A change is answered once it is committed; `learn` and `forget` give a receipt.
 //!
 //! Every word on what is stored has one premise, the store's own: so far the disk has returned what was written
 //! (`HasCleanDisk`).

@@ -42,7 +42,7 @@ module _ {S : Type 0} (stored : S → Kept) where
       (new : HandlerValue S) : Type 0 where
     pub base : new.base ≡ old.base
     pub clean : (stored new.registry).honest → (stored old.registry).honest
-    -- what a stop leaves is a registry still
+    -- what a crash leaves stays sound
     pub registries : (stored new.registry).honest → (stored old.registry).sound
         → (stored new.registry).sound
     pub went : (stored new.registry).honest → (start : State) → IsAt stored old start

@@ -41,7 +41,7 @@ lines_of explains answers = flat_map (desk_text explains) answers
 
 -- `S` is the store of a gateway's devices, and `stored` what it keeps.
 module _ {S : Type 0} (stored : S → Kept) where
-  -- A new gateway over a registry of these devices. It learns from nobody, has counted nothing, and no byte has come. A
+  -- A new gateway over a store of these devices. It learns from nobody, has counted nothing, and no byte has come. A
   -- crash leaves these devices and nothing else.
   pub record IsNew (base : ℕ) (found : Devices) (gateway : Value S) : Type 0 where
     pub value : gateway ≡ new_value base gateway.handler.registry
@@ -51,8 +51,8 @@ module _ {S : Type 0} (stored : S → Kept) where
 
   -- From the devices found, the items were handled in turn. Each took the step of the definitions, or it was refused.
   -- Only an item that needs memory or the store can be refused; then only the count of refused items changed. The
-  -- answers are out. The gateway knows what the last step left; while the connection is open, the registry holds its
-  -- devices. Any crash state is a registry, of what was known after some prefix of the items. The prefix has every
+  -- answers are out. The gateway knows what the last step left; while it is open, the store holds its
+  -- devices. Any crash state is sound, and of what was known after some prefix of the items. The prefix has every
   -- acknowledged item. The change of the next item may be there too, if its write was refused.
   pub record AsSpecified (base : ℕ) (found : Devices) (items : List Item) (out : List Answer → Type 0)
       (new : HandlerValue S) : Type 0 where

@@ -3,7 +3,7 @@ ghost use Rattle.std.specs.Prelude.{◌≡◌, ◌≤◌, false, true, IfErr, If
 ghost use Rattle.sqlite.specs.State.{HasCleanDisk};
 ghost use Rattle.erp1_telegrams.specs.Address;
 ghost use Rattle.learned_devices.specs.Devices.{Devices};
-ghost use Rattle.device_registry.specs.private.Cached.{max_cached};
+ghost use Rattle.device_registry.specs.Opening.{max_cached};
 ghost use Rattle.device_registry.specs.Holding.{Finds, kept_by};
 ghost use Rattle.gateway_core.specs.Calls.{new_value};
 ghost use Rattle.gateway_loop.specs.Headline.{IsNew};

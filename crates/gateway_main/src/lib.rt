@@ -7,6 +7,7 @@ pub mod fault;
 mod gateway_start;
 pub mod laws;
 mod program_run;
+pub mod registry_gateway;
 
 pub use byte_io::{Failed, OverRead, OverWrite, Sink, Source};
 pub use gateway_loop::{MAX_READ, RunFault, Summary, live, replay};

@@ -7,11 +7,12 @@ use crate::command_line;
 use crate::ending::{Ending, Served, done, status, without_arguments};
 use crate::fault::Fault;
 use crate::gateway_start::start;
+use crate::registry_gateway::{live, replay};
 use byte_io::{OverRead, OverWrite};
-use device_registry::{MAX_CACHED, SqlConnection};
+use device_registry::{MAX_CACHED, RegistryOver, SqlConnection};
 use gateway_cli::{Access, Opened, Plan, Service};
-use gateway_core::{DeviceStore, GatewayOver};
-use gateway_loop::{RunFault, Summary, live, replay};
+use gateway_core::GatewayOver;
+use gateway_loop::{RunFault, Summary};
 use sqlite::Connection;
 use std::fs::{File, OpenOptions};
 use std::process::ExitCode;
@@ -82,9 +83,9 @@ fn serve<C: SqlConnection + Drop>(
 }
 
 /// Replays standard input to standard output.
-fn replay_standard<S: DeviceStore>(
+fn replay_standard<C: SqlConnection>(
     rt: &HostRuntime,
-    gateway: &mut GatewayOver<S>,
+    gateway: &mut GatewayOver<RegistryOver<C>>,
     explains: bool,
     reads: u64,
 ) -> Result<Summary, RunFault>
@@ -96,10 +97,10 @@ fn replay_standard<S: DeviceStore>(
 }
 
 /// Opens the serial line, then the desk's file and then the file of the answers, and serves them.
-fn live_on_files<S: DeviceStore>(
+fn live_on_files<C: SqlConnection>(
     rt: &HostRuntime,
     files: (Opened<'_>, Opened<'_>, Opened<'_>),
-    gateway: &mut GatewayOver<S>,
+    gateway: &mut GatewayOver<RegistryOver<C>>,
     explains: bool,
     turns: u64,
 ) -> Served

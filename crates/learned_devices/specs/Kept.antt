@@ -10,7 +10,7 @@ pub record Kept : Type 1 where
   pub holds : Devices → Type 0
   -- a crash may leave these devices
   pub may_recover : Devices → Type 0
-  -- whatever a crash leaves holds some devices
+  -- whatever a crash leaves can be opened again (for a registry: it is a registry)
   pub sound : Type 0
 
 -- the devices are as they were, and a crash leaves only what it could leave before
@@ -28,7 +28,7 @@ abbrev pub MayLeave : Kept → Kept → Change → Devices → Type 0
 MayLeave old new change devices = (left : Devices) → new.may_recover left
     → old.may_recover left ⊎ (left ≡ changed devices change)
 
--- the write failed: the devices are as they were, but a crash may leave them with the change
+-- the call failed, at its write or before: the devices are as they were, but a crash may leave them with the change
 pub record Pends (old new : Kept) (change : Change) (devices : Devices) : Type 0 where
   pub now : new.holds devices
   pub stop : MayLeave old new change devices

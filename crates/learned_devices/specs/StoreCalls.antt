@@ -17,14 +17,14 @@ pub record LooksUp {E : Type 0} (old new : Kept) (id : ℕ) (result : Result (Op
       → MatchResult result (λ found. (found ≡ device_of devices id) × Keeps old new devices)
       (λ _. Keeps old new devices)
 
--- a change is committed, or its write failed
+-- a change is committed, or the call failed, at its write or before
 pub record Updates {A E : Type 0} (old new : Kept) (change : Change) (result : Result A E) : Type 0 where
   pub clean : new.honest → old.honest
   pub registries : new.honest → new.sound
   pub devices : new.honest → (devices : Devices) → old.holds devices
       → MatchResult result (λ _. Commits new change devices) (λ _. Pends old new change devices)
 
--- A device is not learned. If 1,000 others are, nothing is written; otherwise the write failed.
+-- A device is not learned. If 1,000 others are, nothing is written; otherwise the call failed, at its write or before.
 abbrev pub RefusesToLearn : Kept → Kept → Device → Devices → LearnFault → Type 0
 RefusesToLearn old new it devices Full = IsTrue (is_full devices it.id) × Keeps old new devices
 RefusesToLearn old new it devices (Refused fault) =

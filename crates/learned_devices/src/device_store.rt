@@ -7,8 +7,8 @@ ghost use Rattle.learned_devices.specs.StoreCalls.{LooksUp, Learns, Forgets, Rel
 use crate::fault::{LearnFault, StoreFault};
 use crate::{Device, Label};
 
-/// That an update is committed. Only `DeviceStore::learn` and `DeviceStore::forget` make one, after the commit. It
-/// cannot be dropped: it has to be spent.
+/// That a store has committed an update. `DeviceStore::learn` and `DeviceStore::forget` make one, after the commit; its
+/// fields are private to this module. It cannot be dropped: it has to be spent. It does not name its store.
 pub struct Receipt {
     id: u32,
     is_learned: bool,
@@ -29,7 +29,7 @@ pub trait DeviceStore {
     /// What it keeps.
     ghost kept: { Self → Kept };
 
-    /// That the call between these two values wrote this update of these devices, even if it changed none of them.
+    /// What the call between these two values wrote for this update of these devices, even if it changed none of them.
     ghost wrote: { Self → Self → Change → Devices → Type 0 };
 
     /// The device of a sender, if it is learned.

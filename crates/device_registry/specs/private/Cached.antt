@@ -5,10 +5,6 @@ use Rattle.learned_devices.specs.declared.Device.{Device}
 use Rattle.learned_devices.specs.Devices.{Devices, device_of}
 use Rattle.device_registry.specs.Ready.{Shows}
 
--- the most looked-up senders that a registry may remember. Own choice
-abbrev pub max_cached : ℕ
-max_cached = 1024
-
 -- the registry is open, and the entry is what it says of the sender
 pub record EntryAgrees (s : State) (entry : ℕ × Option Device) : Type 0 where
   pub devices : Devices

@@ -1,6 +1,6 @@
 //! Calls of a registry as data, each with the answer that is wanted of it.
 ghost use Rattle.std.specs.Prelude.{◌≤◌};
-ghost use Rattle.device_registry.specs.private.Cached.{max_cached};
+ghost use Rattle.device_registry.specs.Opening.{max_cached};
 
 use super::given::{
     Fresh, Known, contact, either, fresh_registry, is_full, open_idle, relabel, varied,

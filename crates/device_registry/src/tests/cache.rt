@@ -1,6 +1,6 @@
 //! What is remembered of looked-up senders.
 ghost use Rattle.std.specs.Prelude.{◌≤◌};
-ghost use Rattle.device_registry.specs.private.Cached.{max_cached};
+ghost use Rattle.device_registry.specs.Opening.{max_cached};
 
 use super::acts::{Act, Many, play};
 use super::given::{Known, contact, sensor};

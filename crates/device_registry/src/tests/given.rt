@@ -1,6 +1,6 @@
 //! Devices, faults and statements that the tests share.
 ghost use Rattle.std.specs.Prelude.{◌≡◌, ◌≤◌, []};
-ghost use Rattle.device_registry.specs.private.Cached.{max_cached};
+ghost use Rattle.device_registry.specs.Opening.{max_cached};
 
 use super::remembering::Remembering;
 use crate::{Device, Label, LearnFault, OpenFault, Registry, StoreFault, prepare};
