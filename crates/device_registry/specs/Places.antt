@@ -1,4 +1,4 @@
--- where the two tables stand in a schema, and what stands beside them, as functions.
+-- Where the two tables stand in a schema, and what stands beside them, as functions.
 use Rattle.std.specs.Prelude.{codes, ℕ, ◌==◌, List, Bool, true, not, ◌&&◌, ◌||◌, if◌then◌else◌, Option, Some, None}
 use Rattle.std.specs.Prelude.{is_none, slice_get, option_map, option_and_then}
 use Rattle.std.specs.List.{list_any, list_all}

@@ -3,46 +3,32 @@
 #![tactic(auto)]
 
 #[cfg(test)]
-mod command_line;
+mod actuator_commands;
 #[cfg(test)]
-mod comparison;
+mod bit_fields;
+#[cfg(test)]
+mod byte_io;
+#[cfg(test)]
+mod erp1_telegrams;
+#[cfg(test)]
+mod esp3_frames;
+#[cfg(test)]
+mod esp3_resync;
+#[cfg(test)]
+mod exact_values;
 #[cfg(test)]
 mod fault_texts;
 #[cfg(test)]
-mod fields;
+mod gateway_cli;
 #[cfg(test)]
-mod four_byte_profiles;
+mod json_lines;
 #[cfg(test)]
-mod fractions;
+mod profiles_4bs;
 #[cfg(test)]
-mod frames;
+mod profiles_rps;
 #[cfg(test)]
-mod lines;
-#[cfg(test)]
-mod long_lines;
-#[cfg(test)]
-mod orders;
-#[cfg(test)]
-mod over_std;
-#[cfg(test)]
-mod packet_lines;
-#[cfg(test)]
-mod packets;
-#[cfg(test)]
-mod plain;
-#[cfg(test)]
-mod profile_rows;
+mod profiles_vld;
 #[cfg(test)]
 mod readings;
 #[cfg(test)]
-mod streams;
-#[cfg(test)]
-mod switch_profiles;
-#[cfg(test)]
-mod teach_lines;
-#[cfg(test)]
-mod teaching;
-#[cfg(test)]
-mod telegrams;
-#[cfg(test)]
-mod variable_length_profiles;
+mod teach_in;

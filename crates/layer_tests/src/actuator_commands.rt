@@ -1,0 +1,3 @@
+//! Tests of `actuator_commands`: orders and their telegrams.
+mod orders;
+mod packets;
