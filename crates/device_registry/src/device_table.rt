@@ -1,4 +1,4 @@
-//! The devices in the store, with nothing beside it.
+//! The devices in the database, without a cache.
 ghost use Rattle.std.specs.Prelude.{◌≡◌, OnOk, IfOk, IsTrue, Some, None};
 ghost use Rattle.std.specs.FinMap.{get};
 ghost use Rattle.sqlite.specs.State.{HasCleanDisk};
@@ -16,7 +16,8 @@ use sqlite::Error;
 use std::alloc::Global;
 use std::marker::Model;
 
-/// The learned devices, over a connection that no one else uses. Each answer says besides that the connection is open.
+/// The learned devices, over a connection that no one else uses. Each result that is not an error also means that the connection
+/// is open.
 #[derive(Drop)]
 pub struct DeviceTable<C: SqlConnection> {
     pub(crate) alloc: Global,
@@ -50,8 +51,8 @@ impl<C: SqlConnection> DeviceTable<C> {
         found(&rows)
     }
 
-    /// Learns a device, in place of what was known of its sender, and returns whether there is room for it. Its label is
-    /// the one that the sender keeps.
+    /// Learns a device, in place of what was known of its sender, and returns whether there is room for it. It already
+    /// has the label that the sender keeps.
     pub fn learn(&mut self, device: Device) -> Result<bool, Error>
         requires { HasCleanDisk (C.state self.old) → (devices : Devices) → HasDevices (C.state self.old) devices →
             after (get devices device.id) (Learn device.eep device.maker) ≡ Some (known_of device) }
@@ -69,7 +70,7 @@ impl<C: SqlConnection> DeviceTable<C> {
         Ok(true)
     }
 
-    /// Gives a sender, of which all but the label is known to be this, its label.
+    /// Stores the device of a known sender, of which only the label may differ.
     pub fn relabel(&mut self, device: Device) -> Result<(), Error>
         requires ready { HasCleanDisk (C.state self.old) → IsReady (C.state self.old) }
         requires known { HasCleanDisk (C.state self.old) → (devices : Devices) → HasDevices (C.state self.old) devices →
@@ -86,7 +87,7 @@ impl<C: SqlConnection> DeviceTable<C> {
         Ok(())
     }
 
-    /// Forgets a sender. It commits also where nothing is known of it.
+    /// Forgets a sender. It commits also if the sender is not known.
     pub fn forget(&mut self, id: u32) -> Result<(), Error>
         ensures forgets { Forgets (kept (C.state self.old)) (kept (C.state self.new)) id result }
         ensures written { HasCleanDisk (C.state self.new) → (devices : Devices) →
@@ -110,7 +111,7 @@ impl<C: SqlConnection> DeviceTable<C> {
         all_listed(self.alloc, &rows)
     }
 
-    /// Hands the connection on, as it is.
+    /// Returns the connection, unchanged.
     pub fn close(self) -> C
         ensures same { result ≡ self }
         ensures hands_on { HandsOn (C.state self) }

@@ -9,7 +9,7 @@ use device_registry::{Registry, RegistryOver, SqlConnection};
 pub type Gateway<S> = GatewayOver<Registry<S>>;
 
 impl<C: SqlConnection> GatewayOver<RegistryOver<C>> {
-    /// Ends the gateway and returns the connection of its registry, as it is. While the disk has returned what was
+    /// Ends the gateway and returns the connection of its registry, unchanged. While the disk has returned what was
     /// written, the connection has no open transaction, and what the gateway knows of devices is committed.
     pub fn close(self) -> C
         ensures same { result ≡ self.handler.registry }

@@ -1,7 +1,7 @@
 //! How much an engine takes at a time.
 use gateway_core::MAX_LINE;
 
-/// The most bytes that one read brings. Own choice.
+/// The most bytes that one read returns. Own choice.
 pub const MAX_READ: usize = 256;
 
 /// The most bytes that a line of a script spells: two digits each, after `S` and a space. Own choice, as `MAX_LINE` is.

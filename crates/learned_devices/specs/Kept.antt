@@ -1,4 +1,4 @@
--- What a store keeps of devices, whatever it is made of, and how an update moves that. Own choice.
+-- What a store of devices keeps, whatever it is made of, and how an update changes that. Own choice.
 use Rattle.std.specs.Prelude.{◌≡◌, ◌⊎◌}
 use Rattle.learned_devices.specs.Devices.{Devices, Change, changed}
 

@@ -7,8 +7,8 @@ ghost use Rattle.learned_devices.specs.StoreCalls.{LooksUp, Learns, Forgets, Rel
 use crate::fault::{LearnFault, StoreFault};
 use crate::{Device, Label};
 
-/// That a store has committed an update. `DeviceStore::learn` and `DeviceStore::forget` make one, after the commit; its
-/// fields are private to this module. It cannot be dropped: it has to be spent. It does not name its store.
+/// Proof that a store has committed an update. `DeviceStore::learn` and `DeviceStore::forget` make one, after the commit; its
+/// fields are private to this module. It cannot be dropped; `spend` consumes it. It does not name its store.
 pub struct Receipt {
     id: u32,
     is_learned: bool,
@@ -36,8 +36,8 @@ pub trait DeviceStore {
     fn find(&mut self, id: u32) -> Result<Option<Device>, StoreFault>
         ensures { LooksUp (kept self.old) (kept self.new) id result };
 
-    /// Stores a device, in place of what was known of its sender, except for the label, which a known sender keeps.
-    /// `Ok` is returned after the commit.
+    /// Stores a device, in place of what was known of its sender. A known sender keeps its label. `Ok` is returned after
+    /// the commit.
     fn put(&mut self, device: Device) -> Result<(), LearnFault>
         requires { device.label ≡ [] }
         ensures learns { Learns (kept self.old) (kept self.new) device result }
@@ -50,7 +50,7 @@ pub trait DeviceStore {
         ensures written { (kept self.new).honest → (devices : Devices) → (kept self.old).holds devices →
             OnOk result (wrote self.old self.new (forgotten id) devices) };
 
-    /// Gives a sender a label, if it is learned. The result is whether it is.
+    /// Gives a sender a label, if it is learned. Returns whether it is learned.
     fn relabel(&mut self, id: u32, label: Label) -> Result<bool, StoreFault>
         ensures relabels { Relabels (kept self.old) (kept self.new) id label result }
         ensures written { (kept self.new).honest → (devices : Devices) → (kept self.old).holds devices →
@@ -60,7 +60,7 @@ pub trait DeviceStore {
     fn all(&mut self) -> Result<Vec<Device>, StoreFault>
         ensures { ListsAll (kept self.old) (kept self.new) result };
 
-    /// Learns a device, as `put` stores it, and gives the receipt for it.
+    /// Learns a device, as `put` stores it, and returns the receipt for it.
     fn learn(&mut self, device: Device) -> Result<Receipt, LearnFault>
         requires { device.label ≡ [] }
         ensures learns { Learns (kept self.old) (kept self.new) device result }
@@ -76,7 +76,7 @@ pub trait DeviceStore {
         })
     }
 
-    /// Forgets a sender, as `delete` does, and gives the receipt for it.
+    /// Forgets a sender, as `delete` does, and returns the receipt for it.
     fn forget(&mut self, id: u32) -> Result<Receipt, StoreFault>
         ensures forgets { Forgets (kept self.old) (kept self.new) id result }
         ensures receipt { IfOk result (λ receipt. (receipt.id ≡ id) × (receipt.is_learned ≡ false)) }

@@ -4,7 +4,7 @@ ghost use Rattle.learned_devices.specs.Faults.{no_answer};
 
 use std::alloc::AllocError;
 
-/// What a store lacked: memory, or an answer of its database.
+/// Why a call of a store failed: there was no memory, or the database did not answer.
 #[derive(Clone, Copy, Debug, PartialEq, Eq, thiserror::Error)]
 #[error("{}", if *.is_memory {"there is no memory"} else {"the store does not answer"})]
 pub struct StoreFault {
@@ -12,7 +12,7 @@ pub struct StoreFault {
 }
 
 impl StoreFault {
-    /// The database does not answer. A fault for lack of memory is made of the allocator's error alone.
+    /// The database does not answer. A fault for lack of memory is made only from the allocator's error.
     pub fn no_answer() -> StoreFault
         ensures { result ≡ no_answer }
     {
