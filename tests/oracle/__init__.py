@@ -1,1 +1,1 @@
-"""The oracle: what the gateway has to write, by the definitions and never by the program's output."""
+"""The oracle: what the gateway has to write, from the definitions and never from the program's output."""

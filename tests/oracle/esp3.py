@@ -1,5 +1,5 @@
 """Packets of EnOcean Serial Protocol 3, and the lines of a script that bring them. The oracle and the scripts in
-`bench` and `tests` make their data of these. It shares nothing with the program."""
+`bench` and `tests` make their data with this module. It shares nothing with the program."""
 
 
 def checks_of_bytes():
@@ -27,8 +27,8 @@ def packet(kind, data, optional=b""):
 
 
 def packets(stream):
-    """The packets of a stream, each as its type, its data and its optional data; at the end, what may still begin one.
-    Where a packet stands it is taken, and otherwise a byte is skipped."""
+    """The packets of a stream, each as its type, its data and its optional data. Returns what may still begin a packet.
+    If a packet begins at a byte it is taken; otherwise the byte is skipped."""
     start = stream.find(0x55)
     while start >= 0 and len(stream) >= start + 6:
         header = stream[start + 1 : start + 5]
@@ -53,13 +53,13 @@ def radio(subtelegrams=1, destination=ALL, dbm=45):
 
 
 def telegram(rorg, payload, sender, status=0, optional=radio()):
-    """The packet of a telegram; without more it is to all, one subtelegram, -45 dBm."""
+    """The packet of a telegram. The default of `optional` is: to all, one subtelegram, -45 dBm."""
     data = bytes([rorg, *payload, *sender.to_bytes(4, "big"), status])
     return packet(1, data, optional)
 
 
 def sent(rorg, payload, sender, destination=ALL):
-    """The packet of a telegram that the gateway sends: three subtelegrams, no strength of a signal, status 0."""
+    """The packet of a telegram that the gateway sends: three subtelegrams, no signal strength, status 0."""
     return telegram(rorg, payload, sender, 0, radio(3, destination, 255))
 
 

@@ -1,4 +1,4 @@
-"""The gateway, by the definitions: what it writes for each line of a script. It shares nothing with the program."""
+"""The gateway, from the definitions: what it writes for each line of a script. It shares nothing with the program."""
 import re
 
 from oracle import reasons
@@ -12,7 +12,7 @@ BASE = 0xFF800000
 MOST = 1000  # devices
 LONGEST = 200  # bytes of a line
 
-# The names of the codes with which the radio module answers.
+# The names of the return codes of the radio module.
 RETURN_CODES = dict(enumerate(["OK", "ERROR", "NOT_SUPPORTED", "WRONG_PARAM", "OPERATION_DENIED"]))
 
 # The lengths of the payload of a telegram, by its RORG.
@@ -31,7 +31,7 @@ def radio_line(stream):
 
 
 class Telegram:
-    """The telegram of a packet. Optional data of fewer than seven bytes is as none: the telegram is to all."""
+    """The telegram of a packet. Optional data of fewer than seven bytes is ignored: the telegram is to all."""
 
     def __init__(self, data, optional):
         self.rorg, self.payload, self.status = data[0], data[1:-5], data[-1]
@@ -65,7 +65,7 @@ class Gateway:
         return "".join(self.packet(*whole) for whole in self.packets(bytes.fromhex(text[2:])))
 
     def packets(self, stream):
-        """The packets that end with these bytes. What may begin one is held."""
+        """The packets that these bytes complete. Bytes that may begin another one are held."""
         self.held = yield from packets(self.held + stream)
 
     def order(self, text):
@@ -140,7 +140,7 @@ class Gateway:
         return line({"code": data[0], "data": data[1:].hex().upper(), "name": name, "type": "response"})
 
     def telegram(self, heard):
-        """Which count rises, what is told, and what the teach line has, if there is one."""
+        """The count that is incremented, what is written, and what the teach line has, if there is one."""
         if heard.sender == ALL or not heard.is_for_gateway():
             return "ignored", "", None
         known = self.devices.get(heard.sender)
@@ -159,7 +159,7 @@ class Gateway:
         return "teach", radio + teach_line(heard.sender, *taught), taught
 
     def verdict(self, kind, own, sender):
-        """The profile, the maker and the result that the teach line names, or None where the table is silent."""
+        """The profile, the maker and the result that the teach line names, or None if the table is silent."""
         if self.mode == "closed":
             return None
         by_mode = self.mode.startswith("as ")

@@ -1,4 +1,4 @@
-"""The lines that the gateway writes and that more than one module needs. The JSON is Python's."""
+"""Lines of the gateway that more than one module needs. Python makes the JSON."""
 import json
 
 
@@ -18,7 +18,7 @@ def teach_line(sender, eep, maker, result):
 
 
 def device_lines(devices, labels={}):
-    """The devices are profiles and makers by sender; a sender without a label has the empty one."""
+    """The devices are profiles and makers by sender. A sender without a label has the empty label."""
     listed = sorted(devices.items())
     return "".join(
         line({"eep": eep, "id": f"{sender:08X}", "label": labels.get(sender, ""), "maker": maker, "type": "device"})

@@ -20,7 +20,7 @@ VALUES = {"EEP": "D5-00-01", "CH": "7", "OFF": "5", "VAL": "50", "RAMP": "20", "
 
 
 def words_for(row, **other):
-    """The words of an order of the table, with these values, and else with such as can be done."""
+    """The words of an order of the table, with these values, and otherwise with values that can be done."""
     words, does, _ = row
     values = {**VALUES, "ID": ID_FOR.get(does, f"{CONTACT:08X}"), **other}
     return [values.get(word, word) for word in words.split(" ")]
@@ -48,7 +48,7 @@ def places(kinds, orders=ORDERS):
 
 TO_DEVICES = [row for row in ORDERS if row[1].startswith("D2")]
 TO_ALL = [row for row in ORDERS if row[1] in ("all", "module")]
-# One row for each order; and all rows but those that are as the row beside them, but for the last word.
+# One row for each order; and all rows except those that differ from the row beside them only in the last word.
 EACH = [rows[0] for rows in BY_NAME.values()]
 VARIED = [row for row in ORDERS if not row[0].endswith((" off", " energy"))]
 
@@ -61,7 +61,7 @@ class Row(Session):
             self.say(text)
 
     def count(self):
-        """No count but `refused` is 0 behind this."""
+        """After this no count is 0, except `refused`."""
         self.say("learn on")
         for payload in ("00", "09", "08"):
             self.send("D5 " + payload, CONTACT)
@@ -75,8 +75,8 @@ class Row(Session):
 
 
 def numbers_near(greatest):
-    """The ends of a range, and numbers past it: also such as are in it if only their last byte or their last two bytes
-    are taken, or all but their highest bit."""
+    """The ends of a range, and numbers past it: also some that are in it if only their last byte, their last two
+    bytes or all bits except the highest one are taken."""
     near = {0, 1, greatest - 1, greatest, greatest + 1, 128, 255, 256, 257, 256 + greatest}
     return [str(number) for number in sorted(near | {1000, 32768, 65535, 65536, 65536 + greatest, 99999})]
 
@@ -114,7 +114,7 @@ ENDS = [0, 1, 0x80000000, BASE, BASE + 127, 0xFFFFFFFE]
 
 
 def ids(row):
-    """Every order with an ID at each end, where it is learned and where it is not."""
+    """Every order with an ID at each end of the range, learned and not learned."""
     with_id = [order for order in ORDERS if " ID" in order[0]]
     for order in with_id:
         row.try_each(said(order, ID=ident) for ident in ("FFFFFFFF", "ffffffff", "FfFfFfFf"))
@@ -129,7 +129,7 @@ def ids(row):
 
 
 def cases(row):
-    """The digits of an ID and of a profile stand in either case."""
+    """The digits of an ID and of a profile may be of either case."""
     for eep in ("D2-01-0A", "D2-05-00"):
         row.say("add ABCDEF09 " + eep)
         for order in TO_DEVICES:
@@ -142,7 +142,7 @@ def cases(row):
 
 
 def spaces(row):
-    """Another space, or none, between two words, and spaces around them. One CR at the end of a line is not of it."""
+    """Another space, or none, between two words, and spaces around them. A CR at the end is not part of a line."""
     for order in ORDERS:
         text = said(order)
         gaps = [place for place, letter in enumerate(text) if letter == " "]
@@ -187,7 +187,7 @@ def word_for_word(row):
 
 
 def long_lines(row):
-    """A line of 200 bytes is read; of one that is longer not even the words are."""
+    """A line of 200 bytes is read. A longer one is not, not even its words."""
     for text in (said(ORDERS[-1]), said(TO_DEVICES[0])):
         row.try_each(text.ljust(length, filling) for length in (LONGEST, LONGEST + 1) for filling in " 0")
     a_umlaut = "\u00e4"
@@ -228,7 +228,7 @@ def each_kind(row):
 
 
 def each_profile(row):
-    """A device has every profile in turn: all orders to a device where the profile is VLD, and two at the others."""
+    """A device has every profile in turn: all orders to a device with a VLD profile, and two with the others."""
     texts = [said(order, ID=f"{STRANGER:08X}") for order in TO_DEVICES if order in VARIED]
     for place, number in enumerate(sorted(IN_TABLES)):
         eep = eep_of(number)
@@ -250,7 +250,7 @@ def each_number(row):
 
 
 def refusals(row):
-    """Where there are two causes: a line that is too long, then syntax, then range, and then the device."""
+    """If there are two causes: first a line that is too long, then syntax, then range, and then the device."""
     row.add(DEVICES)
     for order in [order for order in TO_DEVICES if order in VARIED]:
         kinds = [word for word in order[0].split(" ") if word in GREATEST]
@@ -284,7 +284,7 @@ MODES = ["learn off", "learn on", "learn on answer", "learn as F6-02-01", "learn
 
 
 def in_each_mode(row, sending):
-    """An order that sends raises no count, teaches nothing, and leaves the mode."""
+    """An order that sends increments no count, teaches nothing, and leaves the mode."""
     for mode in MODES:
         row.say(mode)
         for order in sending:
@@ -314,7 +314,7 @@ def answers(row):
         for cut in (5, len(stream) - 1):
             row.say("S " + stream[:cut].hex(), text, "S " + stream[cut:].hex())
         row.say("status")
-    # What the gateway itself sends, if it comes back, is for another.
+    # What the gateway itself sends is for another device, if it comes back.
     row.say("S " + sent(0xD2, bytes.fromhex("010064"), BASE, SWITCH).hex(), "status")
     row.clear()
 
@@ -362,8 +362,8 @@ def orders_to_all():
     return row
 
 
-# Texts that are labels, and texts that are none. A space, or a tab, stands within one or at its ends; others have a
-# letter that is no character of a label.
+# Texts that are labels, and texts that are none: with a space or a tab within them or at their ends, or with a letter
+# that is no character of a label.
 LABELS = ["x", "Hall", 'Door "A"', '"', '""', "\\", "\\\\", '\\"', "\\n", "\\u0041", "a b", "a  b", "a   b", "/"]
 LABELS += ["label", "01800ABC", "FFFFFFFF", "D5-00-01", "on", "null", "0", "-", "{}", '{"label":""}', "S 00", "a:b,c"]
 NO_LABELS = ["", " ", "  ", " x", "x ", " x ", "  x", "x  ", " Hall", 'Door "A" ', "\t", "\tx", "x\t", "a\tb", "a\rb"]
@@ -373,7 +373,7 @@ NO_LABELS += [" " + 32 * "x", 32 * "x" + "\x7f", 33 * "\u00fc", 33 * " ", 100 * 
 
 
 def all_labels(row):
-    """Each label is told by `list`, and what is none leaves the one before it."""
+    """`list` shows each label. A text that is no label leaves the label before it."""
     characters = [chr(code) for code in range(0x20, 0x7F)]
     texts = LABELS + characters[1:] + [f"a{one}b" for one in characters]
     texts += ["".join(characters[start : start + 32]).strip() for start in range(0, 95, 31)]
@@ -388,7 +388,7 @@ def all_labels(row):
 
 
 def label_refusals(row):
-    """Of two causes the first one is told: a line that is too long, syntax, range, an unknown device."""
+    """Of two causes the first one is reported: a line that is too long, syntax, range, an unknown device."""
     for ident in ("FFFFFFFF", "ffffffff", f"{STRANGER:08X}", f"{CONTACT:08X}", "0180"):
         for text in ("", " ", " y", "  y", " y ", " " + 33 * "y", " " + 33 * "y" + " ", "  " + 33 * "y", 200 * "y"):
             row.say(f"label {ident}{text}")
@@ -396,7 +396,7 @@ def label_refusals(row):
 
 
 def kept_labels(row):
-    """A label stays where its device is learned anew, and goes where it is forgotten."""
+    """A label stays if its device is learned again, and goes if it is forgotten."""
     row.say(f"label {CONTACT:08X} Hall", "list", f"add {CONTACT:08X} D5-00-01", "list")
     row.say(f"add {CONTACT:08x} A5-02-05", "list", f"add {CONTACT:08X} D5-00-02", "list", "learn on")
     row.send("D5 00", CONTACT)

@@ -4,12 +4,12 @@ import re
 from oracle.esp3 import ALL
 
 # The orders. A line is an order if it has the words of a row, with one space between two, and nothing else. A word in
-# capitals stands for a value, any other word for itself; TEXT is all that is left of the line. Where a line fits two
-# rows, the first one that can be done is done. A row has, behind the words, what is done:
+# capitals stands for a value, any other word for itself; TEXT is the rest of the line. If a line fits two rows, the
+# first one that can be done is done. After the words, a row has what is done:
 #
 #   mode M           the mode becomes M
 #   D2-01, D2-05-00  a VLD telegram with this payload goes from the base ID to the device ID, whose profile has to begin
-#                    so
+#                    with this
 #   all              a 4BS telegram with this payload goes to all, from the base ID + OFF
 #   module           a command with these bytes (packet type 5) goes to the radio module
 #   else             what `Gateway.order` says of this word; nothing is sent
@@ -49,7 +49,7 @@ BY_NAME = {}
 for row in ORDERS:
     BY_NAME.setdefault(row[0].split(" ")[0], []).append(row)
 
-# The numbers, each with the greatest that is in its range; the least is 0. An ID is in its range unless it is FFFFFFFF,
+# The numbers, each with the greatest value in its range; the least is 0. An ID is in its range unless it is FFFFFFFF,
 # and a text if it has at most 32 bytes.
 GREATEST = {"CH": 30, "OFF": 127, "VAL": 100, "RAMP": 255}
 MAX_LABEL = 32
@@ -65,7 +65,7 @@ SHAPES = {
 
 
 def values_of(words, text):
-    """The values that this line has at the words in capitals, or None where it does not fit the words."""
+    """The values that this line has at the words in capitals, or None if it does not fit the words."""
     words = words.split(" ")
     said = text.split(" ", len(words) - 1 if words[-1] == "TEXT" else -1)
     if len(words) != len(said):

@@ -1,5 +1,5 @@
 """The profiles of EnOcean Equipment Profiles 2.6 that the gateway reads, and what a telegram says by each. The oracle
-makes its sessions of these tables. They share nothing with the program: the fractions are Python's."""
+makes its sessions from these tables. They share nothing with the program: the fractions are Python's."""
 from fractions import Fraction
 
 # How a row reads its number. A row is (name, offset, length, condition, kind). A condition lists fields and their
@@ -220,7 +220,7 @@ def readings(rows, payload, status):
 
 
 def says(eep, rorg, payload, status):
-    """The readings of a telegram of this RORG, or None where the profile cannot read it: it is of another RORG, is for
+    """The readings of a telegram of this RORG, or None if the profile cannot read it: it is of another RORG, is for
     teach-in, or has another length or command than the messages of the profile."""
     if rorg != int(eep[:2], 16):
         return None
@@ -236,8 +236,8 @@ def says(eep, rorg, payload, status):
 
 
 def unsaid(eep, rorg, payload):
-    """Why the profile cannot read data of this RORG, in a word: the first of the kind of the telegram, the command of
-    its message for D2-01, its length, and the command for D2-05-00."""
+    """The word for why the profile cannot read data of this RORG. The first that is wrong counts: the kind of the
+    telegram, the command of its message for D2-01, its length, or the command for D2-05-00."""
     if rorg != int(eep[:2], 16):
         return "wrong_kind"
     if eep == "D2-05-00":

@@ -1,9 +1,9 @@
-"""Why a packet is handled as it is: the lines of `--explain`. Each word but `refused` is below."""
+"""Why a packet is handled as it is: the lines of `--explain`. Each word except `refused` is below."""
 from oracle.esp3 import ALL
 from oracle.profiles import says, unsaid
 from oracle.teach_in import kind_of
 
-# The words, by the count that their packets raise. Those of `teach` are the results of the teach line.
+# The words, by the count that their packets increment. Those of `teach` are the results of the teach line.
 WORDS = {
     "responses": ["response"],
     "readings": ["read"],
@@ -36,7 +36,7 @@ def first(cases):
 
 
 def of_packet(kind, data):
-    """Why, of a packet without a telegram."""
+    """Why, for a packet without a telegram."""
     return first(
         [
             ("response", kind == 2 and data),
@@ -48,8 +48,8 @@ def of_packet(kind, data):
 
 
 def of_telegram(heard, mode, known, taught):
-    """Why, where the window was in this mode. What was known of its sender, the profile and the maker, is None where it
-    was not learned; so is what a teach line has (profile, maker and result), where there is none."""
+    """Why, for a telegram that came in this mode. `known` has the profile and the maker that were known of its sender;
+    it is None if that was not learned. `taught` has the profile, the maker and the result of its teach line, if any."""
     kind, _ = kind_of(heard.rorg, heard.payload, known is not None)
     is_data = kind in DATA_KINDS
     return first(
@@ -68,8 +68,8 @@ def of_telegram(heard, mode, known, taught):
 
 
 def members(heard, why, known, taught):
-    """What is told of a telegram. Its profile and maker are those that it tells itself, as a query does; else those
-    with which its sender is learned, by this telegram or, where it is data that is looked at, before."""
+    """The members of the line for a telegram. Its profile and maker are those that it contains itself, as a query does;
+    otherwise those with which its sender is learned, by this telegram or, if it is data that is read, before."""
     eep, maker = kind_of(heard.rorg, heard.payload, known is not None)[1]
     if eep is None and why == "accepted":
         eep, maker, _ = taught

@@ -1,5 +1,6 @@
 #!/usr/bin/env python3
-"""Golden sessions: of each row NAME a script, and below each of its lines what is written for it, in NAME.session:
+"""Golden sessions. The session of a row NAME is a file NAME.session: its script, and below each line of the script what
+is written for it.
 
     > TEXT      a line of the script; if the line `\\ no LF` follows, it has no LF
     + TEXT      a line that is written only with `--explain`

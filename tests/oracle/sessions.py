@@ -3,7 +3,7 @@ from oracle.esp3 import pieces, radio, telegram
 from oracle.gateway import Gateway, without_explanations
 from oracle.session import NO_LF, read, steps
 
-# The orders of the modes, by the names that `status` tells.
+# The orders that set the modes, by the names of the modes in the answer to `status`.
 MODE_ORDERS = {"closed": "learn off", "on": "learn on", "answer": "learn on answer"}
 
 
@@ -23,18 +23,18 @@ class Session:
         self.steps.append((f"> {text}\n{NO_LF.decode()}", self.gateway.explained(text + "\r")))
 
     def send(self, text, sender, optional=radio()):
-        """A telegram: its RORG and payload, and its status where it is not 0, in hexadecimal."""
+        """A telegram: its RORG and payload, and its status if it is not 0, in hexadecimal."""
         rorg, payload, status = (bytes.fromhex(word) for word in (text + " 00").split(" ")[:3])
         self.say(*pieces(telegram(rorg[0], payload, sender, status[0], optional)).splitlines())
 
     def add(self, devices):
-        """These senders are learned with these profiles. Orders are said where they are needed."""
+        """These senders are learned with these profiles, by an order if it is needed."""
         for sender, eep in devices.items():
             if self.gateway.devices.get(sender) != (eep, None):
                 self.say(f"add {sender:08X} {eep}")
 
     def bring(self, mode, stranger=None):
-        """The mode is this one, and this sender is not learned. Orders are said where they are needed."""
+        """The mode is this one, and this sender is not learned. Orders are said if they are needed."""
         if self.gateway.mode != mode:
             self.say(MODE_ORDERS.get(mode, "learn " + mode))
         self.forget(stranger)

@@ -6,12 +6,12 @@
 #
 #   learn EEP    the sender is learned with this profile; one that is learned keeps its label
 #   learn own    the sender is learned with the telegram's own profile; if that is not supported: `unsupported`
-#   as RORG      the sender is learned as E where E is of this RORG, and the mode is closed then; else silent
+#   as RORG      if E is of this RORG, the sender is learned as E, and the mode is closed then; otherwise silent
 #   forget       the sender is forgotten, with its label, if it is learned: `deleted`
 #   tell WORD    nothing is learned or forgotten; this is the result
-#   silent       nothing is learned, forgotten or told
+#   silent       nothing is learned, forgotten or reported
 #
-# The maker is the telegram's own, where it names one. Where 1,000 other senders are learned, the result is `full`. A
+# The maker is the telegram's own, if it names one. If 1,000 other senders are learned, the result is `full`. A
 # line with `unsupported`, with `deleted` or with the WORD has the telegram's own profile and maker.
 VERDICTS = {
     # Kind                 modes `on`, `answer`    mode `as E`
@@ -36,7 +36,7 @@ REQUESTS = ["UTE teach-in", "UTE deletion", "UTE not specified", "UTE not used"]
 REPLIES = {"accepted": 0xF0, "unsupported": 0x90, "full": 0xD0}
 
 # Bits 5 and 4 of the first byte of the reply to a UTE query, by the result. Bit 7 is that of the query, bit 6 is 0, and
-# the others are the number 1. There is a reply where bit 6 of the query's first byte is 0. The other bytes are those of
+# the others are the number 1. There is a reply if bit 6 of the query's first byte is 0. The other bytes are those of
 # the query.
 UTE_REPLIES = {"accepted": 1, "deleted": 2, "unsupported": 3, "full": 0, "general": 0}
 
@@ -68,7 +68,7 @@ def kind_of(rorg, payload, known):
 
 
 def reply(kind, payload, mode, result):
-    """The payload of the reply to a telegram with this result, or None where it gets none."""
+    """The payload of the reply to a telegram with this result, or None if it gets none."""
     if kind == "4BS query" and mode == "answer":
         return [*payload[:3], REPLIES[result]]
     if kind in REQUESTS and payload[0] & 0x40 == 0:

@@ -1,7 +1,7 @@
 """The sessions on learning by telegram. `verdicts` has every kind of telegram in every mode, from known and unknown
 senders; `verdicts-full` the same with 1,000 devices, and at its end the lines of where-full.session, which is kept by
-hand: 01800ABC is none of these devices, and 00000001 is one. `every-kind-of-item`, which is kept by hand, comes with
-each of its lines left out, too: the answers to the other lines if the one is refused."""
+hand: 01800ABC is none of these devices, and 00000001 is one. `every-kind-of-item`, which is kept by hand, is
+also made with each of its lines left out: the answers to the other lines if that line is refused."""
 import functools
 import itertools
 import pathlib
@@ -19,7 +19,7 @@ MODES = [*MODE_ORDERS, *FIRST, *SECOND]
 
 STRANGER, OTHER_STRANGER = 0x01800ABC, 0x01800ABD
 
-# Telegrams: RORG, payload and status. Where a bit tells the kind, there is one with all other bits 0, and one with
+# Telegrams: RORG, payload and status. If a bit determines the kind, there is one with all other bits 0, and one with
 # them 1.
 FROM_STRANGERS = [
     "D5 00",  # 1BS teach-in
@@ -139,7 +139,7 @@ def single_bits(length):
 
 
 def bits(row):
-    """Bits that tell the kind, and bits that do not."""
+    """Bits that determine the kind, and bits that do not."""
     row.bring("answer", STRANGER)
     for last in range(256):
         if last & 0x08 == 0:
@@ -214,7 +214,7 @@ def queries(row):
 
 
 def universal(number, maker, first=0xA0, channels=1, unused=0):
-    """A UTE query, of the profile with this number; the unused bits stand beside those of the maker."""
+    """A UTE query, of the profile with this number; the unused bits are beside those of the maker."""
     fields = {(0, 8): first, (8, 8): channels, (16, 8): maker & 0xFF, (24, 5): unused, (29, 3): maker >> 8}
     profile = {(32, 8): number & 0xFF, (40, 8): number >> 8 & 0xFF, (48, 8): number >> 16}
     return "D4 " + with_fields(7, {**fields, **profile}).hex().upper()
@@ -293,7 +293,7 @@ def addresses(row):
 
 
 def optional_data(row):
-    """Optional data of fewer than seven bytes is as none: the telegram is to all. Of more the first seven are read."""
+    """Optional data of fewer than seven bytes is ignored: the telegram is to all. Of more the first seven are read."""
     for optional in (b"", radio(1, 0x01020304)[:6], radio(1, ALL, 0) + b"\x00", radio(1, BASE, 255) + b"\xff\xff"):
         row.bring("answer", STRANGER)
         row.send("A5 08284680", STRANGER, optional)
@@ -338,7 +338,7 @@ def no_telegrams(row):
 
 
 def one_after_another(row):
-    """What a telegram does to the one behind it: a sender is learned again, the mode is closed, data are read."""
+    """What a telegram does to the next one: a sender is learned again, the mode is closed, data are read."""
     row.bring("on", STRANGER)
     for text in (
         "A5 08284680",
@@ -359,7 +359,7 @@ def one_after_another(row):
     row.bring("on", OTHER_STRANGER)
     row.know(OTHER_STRANGER, "D2-01-12")
     for text in (
-        "D4 A00146001201D2",  # not specified: it is learned anew each time
+        "D4 A00146001201D2",  # not specified: it is learned again each time
         "D2 0460E4",
         "D4 A00146001201D2",
         "D4 A002FF070005D2",
@@ -368,7 +368,7 @@ def one_after_another(row):
         "D4 B00146001201D2",
         "D4 A00146000032D2",
         "D4 910146001201D2",
-        "D4 900146000032D2",  # deletion, also where it is gone
+        "D4 900146000032D2",  # deletion, also if it is gone
         "D2 327F0004",
         "D4 900146001201D2",
         "D4 A00146001201D2",
@@ -408,7 +408,7 @@ def one_after_another(row):
 
 
 def orders(row):
-    """The orders themselves: what is refused leaves the mode, and what has no mode, too."""
+    """The orders themselves: an order that is refused leaves the mode, and so does one without a mode."""
     for mode in MODES[:4]:
         row.bring(mode)
         row.say("learn as A5-38-08", "status", "learn", "status", "add 01800ABC A5-38-08", "remove 01800ABC", "status")
@@ -480,7 +480,7 @@ def verdicts():
 
 
 def verdicts_full():
-    """Where 1,000 devices are learned no stranger is, and one of the 1,000 may still be learned again."""
+    """If 1,000 devices are learned, no stranger is, and one of the 1,000 may still be learned again."""
     row = Row()
     fixed = dict(itertools.chain(*(known_by(rorg).items() for rorg in KNOWN)))
     for sender, eep in fixed.items():
@@ -496,7 +496,7 @@ def verdicts_full():
         ("as D2-01-12", "D2 00"),
     ):
         in_mode(row, mode, FROM_KNOWN + ["A5 E047FF80", "A5 10080080"], TEACHING)
-        # Where there is room for one, one stranger is learned, and not the next.
+        # If there is room for one, one stranger is learned, and not the next.
         row.say("remove 00000001")
         row.bring(mode)
         row.send(text, STRANGER)

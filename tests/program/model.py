@@ -1,4 +1,4 @@
-"""What the built program has to write for a script, and what it may leave, by the oracle."""
+"""What the built program has to write for a script, and what it may leave, according to the oracle."""
 import copy
 import re
 
@@ -42,7 +42,7 @@ def whole(lines):
 
 
 def answers(lines, refused=(), fault="memory", gateway=None):
-    """What has to be written for each line, where those of these numbers are refused with this error."""
+    """What has to be written for each line, if the lines with these numbers are refused with this error."""
     gateway = gateway or Gateway()
     told = []
     for number, line in enumerate(lines):
@@ -70,9 +70,9 @@ def tells_change(line, answer):
 
 
 def lists_behind(lines, refused):
-    """The answers to `list` that a start may give behind a run in which the lines of these numbers were refused. By the
-    first all that was told is done, and nothing else. The others are for an end that was not clean: one more change is
-    done, which was refused behind the last that was told."""
+    """The answers to `list` that a start may give after a run in which the lines with these numbers were refused. In
+    the first, all that was acknowledged is done, and nothing else. The others are for an end that was not clean: one
+    more change is done, which was refused after the last one that was acknowledged."""
     gateway, others = Gateway(), []
     for number, line in enumerate(lines):
         if number in refused:
@@ -85,8 +85,8 @@ def lists_behind(lines, refused):
 
 
 def refused_by_store(lines, told):
-    """The numbers of the lines that were refused, if each line was answered as the table says or, where it needs the
-    store, with `store`; or else None."""
+    """The numbers of the lines that were refused, if each line was answered as the oracle says or, if it needs the
+    store, with `store`; otherwise None."""
     gateway, numbers = Gateway(), []
     for number, line in enumerate(lines):
         needs_store = not re.match("learn|status|S 5500010002", line)
@@ -103,7 +103,7 @@ def refused_by_store(lines, told):
 
 
 def is_kept(lines, refused):
-    """Whether a start behind a run finds what it may, by its case; `refused` has the lines refused in each case."""
+    """Whether a start after a run finds what it may, by its case; `refused` has the lines refused in each case."""
 
     def is_so(case, told, database):
         lists = lists_behind([] if case == "start" else lines, refused[case])

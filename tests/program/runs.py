@@ -1,4 +1,4 @@
-"""What the tests of the built program share that are written in Python."""
+"""What the Python tests of the built program share."""
 import concurrent.futures
 import os
 import pathlib
@@ -60,7 +60,7 @@ def run(script, base="FF800000", database=None, **settings):
 
 
 def preloading(work, source, **variables):
-    """The environment of a run with the library of this source, which these variables tell what to do."""
+    """The environment of a run with the library of this source, which these variables control."""
     library = work / (source + ".so")
     if not library.exists():
         source = ROOT / "tests" / "preload" / source
@@ -77,9 +77,9 @@ def calls(work, kind, script, database=None, **settings):
 
 
 def refuse_each(work, name, kind, script, case_of, cases, database=None, is_kept=None, first=1, on=False):
-    """Each call of this kind refused in turn, from the one of number `first` on, alone or with all behind it; in the
-    end none is. Each run is on the database of its number. It ends in a case, `none` where no call is refused, and then
-    `is_kept` holds of the database; each of these cases is met."""
+    """Each call of this kind refused in turn, from number `first` on, alone or with all calls after it; in the end none
+    is refused. Each run is on the database of its number. It ends in a case, `none` if no call is refused, and then
+    `is_kept` holds for the database. Each of these cases occurs."""
     last = calls(work, kind, script, database and database(0))
     preloading(work, REFUSE_CALL)
 

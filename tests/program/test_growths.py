@@ -105,7 +105,7 @@ class Lines(GrowthsTest):
     """What takes only the memory of its line of output, and so does not ask the database."""
 
     def assert_lines_only(self, orders, line, *options):
-        """After these orders the packet takes each time as much memory as a reading does."""
+        """After these orders the packet takes each time as many growths as a reading does."""
         self.assertEqual(self.growths_by_packet(orders, line, *options), 3 * [self.growths_of_reading()])
 
     def test_the_longest_line_of_readings_is_allocated_at_once(self):
@@ -178,7 +178,7 @@ class NoMemory(GrowthsTest):
     """What takes no memory after the start: some 100,000 bytes of each kind."""
 
     def assert_no_memory(self, script, ignored, mode="closed"):
-        """A run on this script has only the growths of its start. With a packet after it, so many packets are ignored,
+        """A run on this script has only the growths of its start. If a packet follows, this many packets are ignored,
         and the mode is this one. The `learn` orders of the script are done.
 
         The packet comes after 01 and 65,791 zeros, so that a false header does not take it for its data."""
@@ -259,14 +259,14 @@ def error_line(name):
 
 class Orders(GrowthsTest):
     """How many growths a list, an `add`, a `remove` and a `label` have, as they were counted on this program with the
-    kit that the README names. They show a change, as a second question to the database is one. They do not show that
-    there is one question."""
+    kit that the README names. They show a change, such as a second query of the database. They do not show that
+    there is only one query."""
 
     TWO = "add 00000001 D5-00-01\nadd 00000002 D5-00-01\n"
     LABEL = "label 00000001 x\n"
 
     def assert_growths(self, wanted, script, line):
-        """After this script the line has so many growths."""
+        """After this script the line has this many growths."""
         before, after = (self.growths(text)[0] for text in (script, script + line))
         self.assertEqual(after - before, wanted)
 

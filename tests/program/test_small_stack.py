@@ -1,6 +1,6 @@
 """The built program on a stack of 128 KiB; the default is 8 MiB. Measured, it needs some 90 KiB, for an empty script as
 for the packets below, so there is no space for calls that nest once per byte of a packet. And the program with 20 MiB
-of addresses. Measured, it needs some 6, and some 14 with a registry in a file."""
+of addresses. Measured, it needs some 6 MiB, and some 14 MiB with a registry in a file."""
 import unittest
 
 from runs import ACCEPTED, OK, READING, counts, in_little_memory, on_small_stack

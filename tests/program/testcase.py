@@ -13,7 +13,7 @@ NOTHING = pathlib.Path(os.devnull)
 
 
 def text_of(content):
-    """Bytes as a text that has each of them, also where they are no UTF-8."""
+    """Bytes as a text that has each of them, also if they are no UTF-8."""
     return (content or b"").decode(errors="surrogateescape")
 
 

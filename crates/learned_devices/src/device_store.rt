@@ -7,8 +7,8 @@ ghost use Rattle.learned_devices.specs.StoreCalls.{LooksUp, Learns, Forgets, Rel
 use crate::fault::{LearnFault, StoreFault};
 use crate::{Device, Label};
 
-/// Proof that a store has committed an update. `DeviceStore::learn` and `DeviceStore::forget` make one, after the commit; its
-/// fields are private to this module. It cannot be dropped; `spend` consumes it. It does not name its store.
+/// Proof that a store has committed an update. `DeviceStore::learn` and `DeviceStore::forget` make one, after the
+/// commit; its fields are private to this module. It cannot be dropped; `spend` consumes it. It does not name its store.
 pub struct Receipt {
     id: u32,
     is_learned: bool,
