@@ -147,7 +147,8 @@ changed_recalled old new change known before between after early sure commits is
 -- nothing is learned, and what is remembered of the others stays
 pub full_recalled : (old new : State) (before after : List Entry) → (HasCleanDisk new → HasCleanDisk old)
     → (HasCleanDisk new → IsReady old × IsReady new)
-    → (HasCleanDisk new → (devices : Devices) → HasDevices old devices → Keeps (kept old) (kept new) devices) → CacheAgrees old before
+    → (HasCleanDisk new → (devices : Devices) → HasDevices old devices → Keeps (kept old) (kept new) devices)
+    → CacheAgrees old before
     → ((e : Entry) → Contains after e → Contains before e) → CacheAgrees new after
 full_recalled old new before after early sure keeps recalls fewer =
     listed_recalled old new after early sure keeps (fewer_recalled old before after recalls fewer)

@@ -71,5 +71,6 @@ drops schema at d limit mode db text tally after there spares does =
     let is : after ≡ left.0 = ap (λ (p : Tally × Database). p.1) (same_value left.2) in (
       ap (λ (d : Database). d.schema) is ∙ left.1.0,
       subst (λ (db : Trees). KeepsRows (without_table schema d).tables db after.trees) now
-          (subst (λ (end : Database). KeepsRows (without_table schema d).tables uncounted.0 end.trees) (sym is) left.1.1),
+          (subst (λ (end : Database). KeepsRows (without_table schema d).tables uncounted.0 end.trees)
+          (sym is) left.1.1),
     )

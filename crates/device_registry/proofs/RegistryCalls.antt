@@ -193,8 +193,8 @@ module _ (old new : State) (stays : Stays old new) (well : IsWell old) where
   looks_up id r told = record {
     clean = stays.clean;
     registries = (keeps_well old new stays well).0;
-    devices = λ clean devices has. on_both (λ found. found ≡ device_of devices id) (Keeps (kept old) (kept new) devices) r
-        (told clean devices has) (keeps old new stays well clean devices has);
+    devices = λ clean devices has. on_both (λ found. found ≡ device_of devices id)
+        (Keeps (kept old) (kept new) devices) r (told clean devices has) (keeps old new stays well clean devices has);
   }
 
   pub lists_all : {E : Type 0} (r : Result (Vec Device Global) E)
@@ -346,11 +346,13 @@ pub known_as : (id : ℕ) (known : Option Learned) (was : Device) → Some was �
 known_as id None was e = absurd (let none = e in cc)
 known_as id (Some it) was e = let same : was ≡ device id it = cc in ap (λ d. Some (known_of d)) (sym same)
 
-keeps_then : (a b c : State) (devices : Devices) → Keeps (kept a) (kept b) devices → Keeps (kept b) (kept c) devices → Keeps (kept a) (kept c) devices
+keeps_then : (a b c : State) (devices : Devices) → Keeps (kept a) (kept b) devices
+    → Keeps (kept b) (kept c) devices → Keeps (kept a) (kept c) devices
 keeps_then a b c devices first second =
     record { now = second.now; stop = λ left may. first.stop left (second.stop left may) }
 
-pends_then : (a b c : State) (change : Change) (devices : Devices) → Keeps (kept a) (kept b) devices → Pends (kept b) (kept c) change devices
+pends_then : (a b c : State) (change : Change) (devices : Devices) → Keeps (kept a) (kept b) devices
+    → Pends (kept b) (kept c) change devices
     → Pends (kept a) (kept c) change devices
 pends_then a b c change devices first second = record {
   now = second.now;
@@ -400,7 +402,8 @@ module _ (old mid : State) (id : ℕ) where
   label_in_device id None = refl
   label_in_device id (Some it) = refl
 
-  module _ (known : Option Device) (looks : LooksUp {E = StoreFault} (kept old) (kept mid) id (Ok known)) (new : State) where
+  module _ (known : Option Device) (looks : LooksUp {E = StoreFault} (kept old) (kept mid) id (Ok known))
+      (new : State) where
     kept_here : HasCleanDisk mid → (devices : Devices) → HasDevices old devices → Keeps (kept old) (kept mid) devices
     kept_here clean devices has = (looks.devices clean devices has).1
 
@@ -459,9 +462,11 @@ module _ (old mid : State) (id : ℕ) where
         → (HasCleanDisk mid → (devices : Devices) → HasDevices mid devices → OnOk r
         (WritesRow state last change devices))
         → HasCleanDisk mid → (devices : Devices) → HasDevices old devices → OnOk r (WritesRow state last change devices)
-    written_after state last change r written clean devices has = written clean devices (kept_here clean devices has).now
+    written_after state last change r written clean devices has =
+        written clean devices (kept_here clean devices has).now
 
-    pub learns_after : {A : Type 0} (it : Device) (r : Result A LearnFault) → Learns (kept mid) (kept new) it r → Learns (kept old) (kept new) it r
+    pub learns_after : {A : Type 0} (it : Device) (r : Result A LearnFault) → Learns (kept mid) (kept new) it r
+        → Learns (kept old) (kept new) it r
     learns_after it r learns = record {
       clean = λ clean. looks.clean (learns.clean clean);
       registries = learns.registries;
@@ -502,7 +507,8 @@ module _ (old mid : State) (id : ℕ) where
 
 -- the label of a device says nothing of how it is learned
 pub learns_alike : {A : Type 0} (old new : State) (it other : Device) (r : Result A LearnFault) → other.id ≡ it.id
-    → other.eep ≡ it.eep → other.maker ≡ it.maker → Learns (kept old) (kept new) other r → Learns (kept old) (kept new) it r
+    → other.eep ≡ it.eep → other.maker ≡ it.maker → Learns (kept old) (kept new) other r
+    → Learns (kept old) (kept new) it r
 learns_alike old new it other r id eep maker learns =
     let same : other ≡ record { id = it.id; eep = it.eep; maker = it.maker; label = other.label } =
     λ i. record { id = id i; eep = eep i; maker = maker i; label = other.label } in
@@ -515,7 +521,8 @@ learns_alike old new it other r id eep maker learns =
   where
     unlabelled : {A : Type 0} (r : Result A LearnFault) (devices : Devices)
         → MatchResult r (λ _. (is_full devices it.id ≡ false) × Commits (kept new) (learned it) devices)
-        (RefusesToLearn (kept old) (kept new) (record { id = it.id; eep = it.eep; maker = it.maker; label = other.label }) devices)
+        (RefusesToLearn (kept old) (kept new)
+        (record { id = it.id; eep = it.eep; maker = it.maker; label = other.label }) devices)
         → MatchResult r (λ _. (is_full devices it.id ≡ false) × Commits (kept new) (learned it) devices)
         (RefusesToLearn (kept old) (kept new) it devices)
     unlabelled (Ok receipt) devices then = then

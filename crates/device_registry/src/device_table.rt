@@ -16,8 +16,8 @@ use sqlite::Error;
 use std::alloc::Global;
 use std::marker::Model;
 
-/// The learned devices, over a connection that no one else uses. Each result that is not an error also means that the connection
-/// is open.
+/// The learned devices, over a connection that no one else uses. Each result that is not an error also means that the
+/// connection is open.
 #[derive(Drop)]
 pub struct DeviceTable<C: SqlConnection> {
     pub(crate) alloc: Global,

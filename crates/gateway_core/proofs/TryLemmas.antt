@@ -13,7 +13,8 @@ use Rattle.erp1_telegrams.specs.Telegram.{Telegram}
 use Rattle.profiles_rps.specs.Reading.{Entry}
 use Rattle.profiles_rps.specs.declared.unreadable.Unreadable.{Unreadable}
 use Rattle.learned_devices.specs.declared.Device.{Device}
-use Rattle.learned_devices.specs.Devices.{Learned, Devices, device, device_of, is_full, Change, learned, forgotten, relabelled}
+use Rattle.learned_devices.specs.Devices.{Learned, Devices, device, device_of, is_full, Change, learned, forgotten}
+use Rattle.learned_devices.specs.Devices.{relabelled}
 use Rattle.teach_in.specs.declared.mode.Mode.{Mode}
 use Rattle.teach_in.specs.declared.mode.Mode.TheVariants.{LearnAs}
 use Rattle.teach_in.specs.Profiles.{supported}
@@ -387,7 +388,8 @@ module _ {S : Type 0} (stored : S → Kept) where
   addition-pending old new devices known full done adds cause refused = one (is_full devices known.id) refused
     where
       one : (b : Bool)
-          → MatchBool b (Keeps (stored old) (stored new) devices) (Pends (stored old) (stored new) (learned known) devices)
+          → MatchBool b (Keeps (stored old) (stored new) devices)
+          (Pends (stored old) (stored new) (learned known) devices)
           → let e : Effect = if b then full else done in
           IsPending (stored old) (stored new) devices e.need cause e.change
       one true keeps = rw adds.stays (permitted full.need cause adds.full_needs, keeps)

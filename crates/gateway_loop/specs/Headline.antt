@@ -63,7 +63,8 @@ module _ {S : Type 0} (stored : S → Kept) where
     pub are_out : out answers
     pub known : IsAt stored new last
     pub registries : (stored new.registry).sound
-    pub left : (left : Devices) → (stored new.registry).may_recover left → AfterPrefix (begun base found) items fates left
+    pub left : (left : Devices) → (stored new.registry).may_recover left
+        → AfterPrefix (begun base found) items fates left
 
   -- so it was with some prefix of the items, and no other item was handled
   pub record BrokenOff (base : ℕ) (found : Devices) (items : List Item) (out : List Answer → Type 0)

@@ -25,7 +25,8 @@ module _ {C : Type 0} (state : C → State) where
       let P : ℕ → Type 0 = λ b. LeavesALife b began.found items answers None left in (
         left,
         inl (Second, held.holds),
-        subst P began.base_is (calls_leave_a_life (kept_by state) old new began.found items answers clean began.begins handled
+        subst P began.base_is (calls_leave_a_life (kept_by state) old new began.found items answers clean
+            began.begins handled
             left (trees, may, held.holds)),
       )
 

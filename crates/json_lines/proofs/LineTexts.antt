@@ -22,9 +22,11 @@ use Rattle.json_lines.specs.declared.counts.Counts.{Counts}
 use Rattle.json_lines.specs.Lines.{TeachLine, Response, text, or_null, in_quotes, member_text, object_text}
 use Rattle.json_lines.specs.Lines.{Teach, DeviceLine, ListEnd, StatusLine, ResponseLine}
 use Rattle.json_lines.specs.Lines.{profile_text, outcome_word, mode_word, code_names}
-use Rattle.json_lines.specs.private.LineData.{IsPlain, IsLineOf, or_null as data_or_null, members, object_of, number_data}
+use Rattle.json_lines.specs.private.LineData.{IsPlain, IsLineOf, or_null as data_or_null, members, object_of}
+use Rattle.json_lines.specs.private.LineData.{number_data}
 use Rattle.json_lines.specs.private.LineData.{profile_data}
-use Rattle.json_lines.specs.private.LineData.{teach_members, device_members, list_members, status_members, response_members}
+use Rattle.json_lines.specs.private.LineData.{teach_members, device_members, list_members, status_members}
+use Rattle.json_lines.specs.private.LineData.{response_members}
 use Rattle.json_lines.proofs.HexTexts.{plain-id, plain-eep, plain-as_text, plain_bytes}
 
 -- ---- an object

@@ -8,7 +8,8 @@ use crate::fault::{LearnFault, StoreFault};
 use crate::{Device, Label};
 
 /// Proof that a store has committed an update. `DeviceStore::learn` and `DeviceStore::forget` make one, after the
-/// commit; its fields are private to this module. It cannot be dropped; `spend` consumes it. It does not name its store.
+/// commit; its fields are private to this module. It does not name its store. It cannot be dropped; `spend` consumes
+/// it.
 pub struct Receipt {
     id: u32,
     is_learned: bool,
@@ -36,8 +37,8 @@ pub trait DeviceStore {
     fn find(&mut self, id: u32) -> Result<Option<Device>, StoreFault>
         ensures { LooksUp (kept self.old) (kept self.new) id result };
 
-    /// Stores a device, in place of what was known of its sender. A known sender keeps its label. `Ok` is returned after
-    /// the commit.
+    /// Stores a device, in place of what was known of its sender. A known sender keeps its label. `Ok` is returned
+    /// after the commit.
     fn put(&mut self, device: Device) -> Result<(), LearnFault>
         requires { device.label ≡ [] }
         ensures learns { Learns (kept self.old) (kept self.new) device result }

@@ -51,7 +51,8 @@ returns-clause-whole g c clean =
           let version : ShowsVersion c.args.version c.in_ok-versions.versions.items = search rules in
           let few : length c.in_ok-devices.devices.items ≤ max_devices = search rules in
           let up : devices_rise 0 c.in_ok-devices.devices.items ≡ true = search rules in
-          whole c.args.version old mid new c.in_ok-versions.versions.items c.in_ok-devices.devices.items t version first.0 first.1
+          whole c.args.version old mid new c.in_ok-versions.versions.items c.in_ok-devices.devices.items t version
+          first.0 first.1
           second.0 few up,
     )
 
@@ -64,7 +65,8 @@ returns-then-len-gt-MAX_DEVICES-clause-other g c clean none t it =
     let mid = g.C.SqlConnection.state c.shown_by.new.conn in
     let new = g.C.SqlConnection.state c.shown_by-2.new.conn in
     let between : HasCleanDisk mid = omega (arith, clean, c.shown_by-2.ensures.stop.clean) in
-    let count = devices_told c.args.version old mid new c.in_ok-devices.devices.items t (c.in_ok-versions.ensures.shown between).1
+    let count = devices_told c.args.version old mid new c.in_ok-devices.devices.items t
+    (c.in_ok-versions.ensures.shown between).1
     (rw c.find_all.ensures at (c.in_ok-devices.ensures.shown clean)).0 in
     let many : max_devices < length c.in_ok-devices.devices.items = search rules in
     absurd (told_count _ _ count it.few many)
@@ -75,7 +77,8 @@ returns-clause-other g c clean none t it =
     let mid = g.C.SqlConnection.state c.shown_by.new.conn in
     let new = g.C.SqlConnection.state c.shown_by-2.new.conn in
     let between : HasCleanDisk mid = omega (arith, clean, c.shown_by-2.ensures.stop.clean) in
-    let up = rise_told c.args.version old mid new c.in_ok-devices.devices.items t it (c.in_ok-versions.ensures.shown between).1
+    let up = rise_told c.args.version old mid new c.in_ok-devices.devices.items t it
+    (c.in_ok-versions.ensures.shown between).1
     (rw c.find_all.ensures at (c.in_ok-devices.ensures.shown clean)).0 in
     let not_up : devices_rise 0 c.in_ok-devices.devices.items ≡ false = search (rules, none) in
     absurd (let e = sym up ∙ not_up in cc)

@@ -14,7 +14,8 @@ use Rattle.gateway_loop.proofs.HeadlineLemmas.{replayed, replayed_until}
 use Rattle.gateway_loop.proofs.LineLoopLemmas.{bytes_none, bytes_behind, first_player, keeps_none, stops_behind}
 use Rattle.gateway_loop.proofs.CallCountLemmas.{wrong_at}
 use Rattle.gateway_loop.proofs.ReadLemmas.{one_read_more, reads_fail, reads_more, reads_none}
-use Rattle.gateway_loop.proofs.ScriptReplayLemmas.{part_at_end, part_at_line, plays_ended, plays_written, script_of_bytes}
+use Rattle.gateway_loop.proofs.ScriptReplayLemmas.{part_at_end, part_at_line, plays_ended, plays_written}
+use Rattle.gateway_loop.proofs.ScriptReplayLemmas.{script_of_bytes}
 use Rattle.gateway_loop.proofs.ScriptReplayLemmas.{script_taken}
 use Rattle.gateway_loop.proofs.script_replay.replay.Goals as goal
 

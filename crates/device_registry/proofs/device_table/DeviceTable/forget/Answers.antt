@@ -34,7 +34,8 @@ pub invariant_of-self-in_err-forget_or_renew : goal.invariant_of-self-in_err-for
 invariant_of-self-in_err-forget_or_renew g c =
     refused_well (g.C.SqlConnection.state c.self.inside.conn) (g.C.SqlConnection.state c.look_up.new.conn)
     (g.C.SqlConnection.state c.forget_or_renew.new.conn) (forgotten c.args.id) c.forget_or_renew.result
-    c.look_up.ensures.stays c.self.invariant c.forget_or_renew.ensures.turns c.in_err-forget_or_renew.ensures.turns.refused
+    c.look_up.ensures.stays c.self.invariant c.forget_or_renew.ensures.turns
+    c.in_err-forget_or_renew.ensures.turns.refused
 
 pub returns-in_err-forget_or_renew-clause-forgets : goal.returns-in_err-forget_or_renew-clause-forgets
 returns-in_err-forget_or_renew-clause-forgets g c =
@@ -85,5 +86,6 @@ returns-clause-ready g c clean =
     rw (← c.self.view_is) (ready_made (g.C.SqlConnection.state c.self.inside.conn)
     (g.C.SqlConnection.state c.look_up.new.conn)
     (g.C.SqlConnection.state c.forget_or_renew.new.conn) (forgotten c.args.id) c.forget_or_renew.result
-    c.look_up.ensures.stays c.self.invariant c.forget_or_renew.ensures.turns (c.in_ok-forget_or_renew.ensures.turns.made clean)
+    c.look_up.ensures.stays c.self.invariant c.forget_or_renew.ensures.turns
+    (c.in_ok-forget_or_renew.ensures.turns.made clean)
     clean (c.in_ok-rows.ensures.found (c.forget_or_renew.ensures.turns.clean clean)).0)

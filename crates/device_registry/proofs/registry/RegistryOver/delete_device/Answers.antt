@@ -9,7 +9,8 @@ invariant_of-self g c = (
   changed_recalled (g.C.SqlConnection.state c.self.inside.table) (g.C.SqlConnection.state c.forget.new.self)
       (forgotten c.args.id) None
       c.self.inside.cache.entries c.forget_entry.new.cache.entries c.remember.new.cache.entries
-      c.forget.ensures.forgets.clean c.in-Ok.ensures.ready c.in-Ok.ensures.forgets.devices (λ clean devices has. refl) c.self.invariant.1
+      c.forget.ensures.forgets.clean c.in-Ok.ensures.ready c.in-Ok.ensures.forgets.devices
+      (λ clean devices has. refl) c.self.invariant.1
       c.forget_entry.ensures.kept c.remember.ensures.kept,
 )
 

@@ -1,4 +1,5 @@
-use Rattle.device_registry.proofs.CacheAgreement.{fewer_recalled, recalled, told_ready, unmoved, found_recalled, cleared_recalled}
+use Rattle.device_registry.proofs.CacheAgreement.{fewer_recalled, recalled, told_ready, unmoved, found_recalled}
+use Rattle.device_registry.proofs.CacheAgreement.{cleared_recalled}
 use Rattle.device_registry.proofs.registry.RegistryOver.known.Goals as goal
 
 -- ---- the sender is remembered

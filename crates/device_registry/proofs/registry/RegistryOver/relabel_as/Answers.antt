@@ -33,7 +33,8 @@ returns-in_err-relabel_known-in-Some-clause-relabels g c =
     let old = g.C.SqlConnection.state c.args.self.now in
     let mid = g.C.SqlConnection.state c.known.new.self in
     let new = g.C.SqlConnection.state c.relabel_known.new.self in
-    let why = err_from_is_err_and c.from_residual-in_err-relabel_known-in-Some.result c.from_residual-in_err-relabel_known-in-Some.ensures.1 in
+    let why = err_from_is_err_and c.from_residual-in_err-relabel_known-in-Some.result
+    c.from_residual-in_err-relabel_known-in-Some.ensures.1 in
     let it = c.with_label.result in
     let at = c.with_label.ensures.0 in
     let label = ap (λ (l : Learned). l.label) c.with_label.ensures.1 in
@@ -85,4 +86,5 @@ returns-in_ok-relabel_known-in-Some-clause-written g c clean devices has known =
     (written_after old mid c.args.id c.in_ok-known.field-0 c.in_ok-known.ensures.looks_up
     (g.C.SqlConnection.state last) g.C.SqlConnection.state last (relabelled it.id it.label) {E = StoreFault}
     (Ok c.in_ok-relabel_known-in-Some.field-0)
-    (λ _. c.in_ok-relabel_known-in-Some.ensures.written clean) (c.in_ok-relabel_known-in-Some.ensures.updates.clean clean) devices has)
+    (λ _. c.in_ok-relabel_known-in-Some.ensures.written clean)
+    (c.in_ok-relabel_known-in-Some.ensures.updates.clean clean) devices has)
