@@ -1,8 +1,7 @@
 //! The readings of telegrams, refusals, and the supported profiles of the three crates of profiles. The tables of each
 //! crate are in a file of its own.
-use crate::profiles_4bs as four_byte_profiles;
 use crate::profiles_rps::switch_profiles;
-use crate::profiles_vld as variable_length_profiles;
+use crate::{profiles_4bs as four_byte_profiles, profiles_vld as variable_length_profiles};
 use erp1_telegrams::{BROADCAST, Eep, Telegram};
 use profiles_rps::{Reading, Readings, Unreadable, What};
 use std::process::Abort;

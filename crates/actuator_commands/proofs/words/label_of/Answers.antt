@@ -6,7 +6,7 @@ use Rattle.actuator_commands.proofs.words.label_of.Goals as goal
 pub returns-in-Some : goal.returns-in-Some
 returns-in-Some c =
     c.text_of.ensures ∙ sym (label_whole c.in-Some.text.now)
-        ∙ ap (λ left. label_in (words_left left)) (sym c.in-Some.is)
+    ∙ ap (λ left. label_in (words_left left)) (sym c.in-Some.is)
 
 pub returns-in-None : goal.returns-in-None
 returns-in-None c = search rules
