@@ -3,32 +3,32 @@
 #![tactic(auto)]
 
 #[cfg(test)]
-mod actuator_commands;
+mod actuator_commands_tests;
 #[cfg(test)]
-mod bit_fields;
+mod bit_fields_tests;
 #[cfg(test)]
-mod byte_io;
+mod byte_io_tests;
 #[cfg(test)]
-mod erp1_telegrams;
+mod erp1_telegrams_tests;
 #[cfg(test)]
-mod esp3_frames;
+mod esp3_frames_tests;
 #[cfg(test)]
-mod esp3_resync;
+mod esp3_resync_tests;
 #[cfg(test)]
-mod exact_values;
+mod exact_values_tests;
 #[cfg(test)]
 mod fault_texts;
 #[cfg(test)]
-mod gateway_cli;
+mod gateway_cli_tests;
 #[cfg(test)]
-mod json_lines;
+mod json_lines_tests;
 #[cfg(test)]
-mod profiles_4bs;
+mod profiles_4bs_tests;
 #[cfg(test)]
-mod profiles_rps;
+mod profiles_rps_tests;
 #[cfg(test)]
-mod profiles_vld;
+mod profiles_vld_tests;
 #[cfg(test)]
 mod readings;
 #[cfg(test)]
-mod teach_in;
+mod teach_in_tests;

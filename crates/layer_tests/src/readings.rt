@@ -1,7 +1,7 @@
 //! The readings of telegrams, refusals, and the supported profiles of the three crates of profiles. The tables of each
 //! crate are in a file of its own.
-use crate::profiles_rps::switch_profiles;
-use crate::{profiles_4bs as four_byte_profiles, profiles_vld as variable_length_profiles};
+use crate::profiles_rps_tests::switch_profiles;
+use crate::{profiles_4bs_tests, profiles_vld_tests};
 use erp1_telegrams::{BROADCAST, Eep, Telegram};
 use profiles_rps::{Reading, Readings, Unreadable, What};
 use std::process::Abort;
@@ -110,8 +110,8 @@ fn are_read(rt: &impl Abort, by: Crate, rows: &[Read]) -> Result<(), Fail> {
 #[test]
 fn worked_readings(rt: HostRuntime) -> Result<(), Fail> {
     are_read(&rt, Crate::Rps, &switch_profiles::READ)?;
-    are_read(&rt, Crate::FourByte, &four_byte_profiles::READ)?;
-    are_read(&rt, Crate::Vld, &variable_length_profiles::READ)
+    are_read(&rt, Crate::FourByte, &profiles_4bs_tests::READ)?;
+    are_read(&rt, Crate::Vld, &profiles_vld_tests::READ)
 }
 
 // A refusal leaves the readings that were there before.
@@ -133,11 +133,11 @@ fn are_refused(rt: &impl Abort, by: Crate, before: Reading, rows: &[Refusal]) ->
 
 #[test]
 fn refusals(rt: HostRuntime) -> Result<(), Fail> {
-    let (switches, four_bytes) = (&switch_profiles::REFUSED, &four_byte_profiles::REFUSED);
+    let (switches, four_bytes) = (&switch_profiles::REFUSED, &profiles_4bs_tests::REFUSED);
     are_refused(&rt, Crate::Rps, switch_profiles::BEFORE, switches)?;
-    are_refused(&rt, Crate::FourByte, four_byte_profiles::BEFORE, four_bytes)?;
-    let before = variable_length_profiles::BEFORE;
-    are_refused(&rt, Crate::Vld, before, &variable_length_profiles::REFUSED)
+    are_refused(&rt, Crate::FourByte, profiles_4bs_tests::BEFORE, four_bytes)?;
+    let before = profiles_vld_tests::BEFORE;
+    are_refused(&rt, Crate::Vld, before, &profiles_vld_tests::REFUSED)
 }
 
 fn is_listed(eep: Eep, table: &[Types]) -> bool {
@@ -163,8 +163,8 @@ fn supported_profiles(rt: HostRuntime) {
                 );
                 let wanted = (
                     is_listed(eep, &switch_profiles::SUPPORTED),
-                    is_listed(eep, &four_byte_profiles::SUPPORTED),
-                    is_listed(eep, &variable_length_profiles::SUPPORTED),
+                    is_listed(eep, &profiles_4bs_tests::SUPPORTED),
+                    is_listed(eep, &profiles_vld_tests::SUPPORTED),
                 );
                 assert_eq!(rt; found, wanted, "{rorg} {func} {typ}");
             }

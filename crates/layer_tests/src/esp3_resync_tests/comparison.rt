@@ -1,6 +1,6 @@
 //! The framer beside the plain one: after each byte of 10,000 made-up streams both hold the same packets.
-use crate::esp3_resync::plain::PlainFramer;
-use crate::esp3_resync::streams::feed_pieces;
+use crate::esp3_resync_tests::plain::PlainFramer;
+use crate::esp3_resync_tests::streams::feed_pieces;
 use esp3_frames::{check8, read_packet};
 use esp3_resync::{Framer, PacketBuf};
 use std::alloc::{AllocError, Global};
