@@ -1,6 +1,6 @@
 use Rattle.std.proofs.Common.{sym, ◌∙◌}
 use Rattle.actuator_commands.proofs.ForCallers.{parsed-in_range}
-use Rattle.layer_tests.proofs.packets.telegram.Goals as goal
+use Rattle.layer_tests.proofs.actuator_commands_tests.packets.telegram.Goals as goal
 
 pub packet_of-requires-clause-in_range : goal.packet_of-requires-clause-in_range
 packet_of-requires-clause-in_range c =
