@@ -1,0 +1,191 @@
+"""The command `enogate-mqtt`: what it prints of lines of a gateway, and the settings and words that it refuses."""
+from __future__ import annotations
+
+import json
+import os
+import pathlib
+import subprocess
+import tempfile
+import unittest
+
+COMMAND = pathlib.Path(__file__).resolve().parents[2] / "contrib" / "enogate-mqtt"
+PYTHON = "/usr/bin/python3"
+# In seconds. Only a run that hangs is stopped by this limit.
+HANGS = 60
+
+DEVICE = "enogate/hall/01800ABC"
+ACCEPTED = '{"eep":"D5-00-01","id":"01800ABC","maker":null,"result":"accepted","type":"teach"}'
+READING = '{"dbm":-45,"eep":"D5-00-01","id":"01800ABC","readings":[{"name":"CO","word":"closed"}],"type":"reading"}'
+PACKET = '{"dbm":-45,"dest":null,"eep":"D5-00-01","id":"01800ABC","payload":"09","rorg":"D5","type":"packet"}'
+CONTACT = "homeassistant/binary_sensor/enogate_hall/01800ABC_CO/config"
+# What is printed to delete a retained message.
+DELETED = "{} retained "
+
+
+def reading(eep, *readings, device="01800ABC"):
+    """A line of a gateway with these readings of a device."""
+    return json.dumps({"dbm": None, "eep": eep, "id": device, "readings": list(readings), "type": "reading"})
+
+
+def number(text):
+    """A reading with this fraction."""
+    return dict(zip(("num", "den"), map(int, text.split("/"))), name="TMP", unit="C")
+
+
+@unittest.skipUnless(os.path.exists(PYTHON) or os.environ.get("SKIP_NOTHING"), f"{PYTHON} is not installed")
+class Command(unittest.TestCase):
+    maxDiff = None
+
+    def run_it(self, *words, lines=(), **variables):
+        """Runs the command with these words, lines on its standard input, and environment variables."""
+        text = "".join(f"{line}\n" for line in lines).encode(errors="surrogateescape")
+        environment = {**os.environ, **variables}
+        return subprocess.run([COMMAND, *words], input=text, capture_output=True, env=environment, timeout=HANGS)
+
+    def printed(self, *lines, **variables):
+        """What the command prints of these lines, by line, and its journal."""
+        run = self.run_it("--print", "hall", lines=lines, **variables)
+        self.assertEqual(run.returncode, 0)
+        return run.stdout.decode().splitlines(), run.stderr.decode().splitlines()
+
+
+class Print(Command):
+    """`--print` needs no broker."""
+
+    def values(self, eep, place, *readings):
+        """What is published at this place for each of the readings."""
+        start = f"{DEVICE}/{place} retained "
+        found, _ = self.printed(*(reading(eep, it) for it in readings))
+        return [it.removeprefix(start) for it in found if it.startswith(start)]
+
+    def test_what_is_printed(self):
+        """A line that is no JSON is reported. The last line is of a type that the bridge does not have to know."""
+        found, journal = self.printed(ACCEPTED, '{"dbm":-45,"eep":"D5', READING, PACKET)
+        self.assertEqual([it for it in found if not it.startswith("homeassistant/")], [
+            f"enogate/hall/lines - {ACCEPTED}",
+            f"enogate/hall/lines - {READING}",
+            f"{DEVICE}/CO retained closed",
+            f"{DEVICE}/dbm retained -45",
+            f"enogate/hall/lines - {PACKET}",
+        ])
+        self.assertEqual(sum(it.startswith(f"{CONTACT} retained {{") for it in found), 1)
+        self.assertEqual(journal, ["enogate-mqtt: invalid line ignored: b'{\"dbm\":-45,\"eep\":\"D5'"])
+
+    def test_decimal_numbers(self):
+        wanted = {
+            "1024/51": "20.0784", "-1/3": "-0.333333", "2/3": "0.666667", "200001/2": "100000.5",
+            "200003/2": "100001.5", "1234567/100": "12345.67", "12345678/5": "2469135.6",
+            "999999999/1000": "999999.999", "1/3000000": "0.000000333333", "-100/1": "-100", "0/1": "0",
+            "4294967295/1": "4294967295",
+        }
+        self.assertEqual(self.values("A5-02-05", "TMP", *map(number, wanted)), [*wanted.values()])
+
+    def test_words_and_raw_numbers(self):
+        for eep, value, text in (("A5-10-05", {"name": "SP", "raw": 255}, "255"),
+                                 ("A5-10-05", {"name": "OCC", "word": "pressed"}, "pressed"),
+                                 ("A5-04-01", {"name": "HUM", "out_of_range": 251}, "out_of_range")):
+            with self.subTest(value):
+                self.assertEqual(self.values(eep, value["name"], value), [text])
+
+    def test_lines_of_no_gateway(self):
+        """They are reported and not published. A line that is not understood is only published as it is."""
+        no_lines = ["[]", '{"type":', "\udcff", '{"type":"\udcfc"}', ""]
+        not_understood = [
+            '{"type":"reading"}', '{"count":true,"type":"list"}', reading("A5-02-05", number("1/0")),
+            reading("A5-02-05", {"name": "../#", "word": "on"}), reading("A5-02-05", {"name": "TMP", "raw": 1.5}),
+            reading("D5-00-01", {"name": "CO", "word": "closed"}, device="+"),
+        ]
+        found, journal = self.printed(*no_lines, *not_understood)
+        self.assertEqual(found, [f"enogate/hall/lines - {it}" for it in not_understood])
+        starts = ("invalid line ignored: ", "line with unexpected members, not decoded: ")
+        self.assertEqual([sum(start in it for it in journal) for start in starts], [len(no_lines), len(not_understood)])
+
+    def test_presses(self):
+        """A press is an event of its rocker, a release is one event, and neither is retained."""
+        pressed, released = ({"name": "EB", "word": word} for word in ("pressed", "released"))
+        found, _ = self.printed(*(reading("F6-02-01", *it) for it in (
+            [{"name": "R1", "word": "AI"}, pressed, {"name": "R2", "word": "B0"}],
+            [{"name": "R1", "word": "AI"}, released],
+            [{"name": "buttons", "word": "none"}, released],
+            [{"name": "buttons", "word": "three_or_four"}, pressed],
+            [{"name": "R1", "out_of_range": 5}, pressed],
+        )))
+        self.assertEqual([it for it in found if "/press" in it.split(" ")[0]], [
+            f'{DEVICE}/press - {{"event_type":"{it}"}}' for it in ("AI", "B0", "released", "released", "three_or_four")
+        ])
+
+    def test_lists(self):
+        """A list deletes the devices that are not on it, if it is complete."""
+        other = '{"eep":"D5-00-01","id":"01800ABD","label":"","maker":null,"type":"device"}'
+        end = '{"count":1,"type":"list"}'
+        for lines, count in (([other, end], 1), ([end], 0), ([other, READING, end], 0), ([other, "torn", end], 0)):
+            with self.subTest(lines):
+                found, _ = self.printed(ACCEPTED, READING, *lines)
+                self.assertEqual(found.count(DELETED.format(CONTACT)), count)
+
+    def test_another_profile(self):
+        """The device is shown anew, and what was retained by its first profile is deleted."""
+        again = '{"eep":"A5-02-05","id":"01800ABC","maker":70,"result":"accepted","type":"teach"}'
+        before, _ = self.printed(ACCEPTED, READING)
+        found, _ = self.printed(ACCEPTED, READING, again)
+        self.assertEqual(found[: len(before)], before)
+        shown = "homeassistant/sensor/enogate_hall/01800ABC_{}/config retained"
+        self.assertEqual([it.split(" {")[0] for it in found[len(before) :]], [
+            "enogate/hall/lines -", *map(DELETED.format, (f"{DEVICE}/CO", f"{DEVICE}/dbm", CONTACT)),
+            *map(shown.format, ("TMP", "dbm", "last_seen")),
+        ])
+
+    def test_discovery(self):
+        found, _ = self.printed(ACCEPTED, READING, MQTT_DISCOVERY="")
+        self.assertEqual([it.split(" ")[0] for it in found],
+                         ["enogate/hall/lines", "enogate/hall/lines", f"{DEVICE}/CO", f"{DEVICE}/dbm"])
+        found, _ = self.printed(ACCEPTED, MQTT_DISCOVERY="ha/found")
+        self.assertEqual(
+            sum(it.startswith("ha/found/binary_sensor/enogate_hall/01800ABC_CO/config retained {") for it in found), 1)
+
+
+class Refused(Command):
+    """A wrong setting or word ends the command with one line, and the status at which its unit is not restarted."""
+
+    def assert_refused(self, wanted, *words, **variables):
+        run = self.run_it(*words, **variables)
+        found = run.returncode, run.stdout, run.stderr.decode()
+        self.assertEqual(found, (2, b"", f"enogate-mqtt: {wanted}\n"))
+
+    def test_settings(self):
+        work = pathlib.Path(self.enterContext(tempfile.TemporaryDirectory()))
+        (work / "empty").write_text("\n")
+        empty, none, missing = str(work / "empty"), str(work / "none"), "No such file or directory"
+        paths = ["--lines", str(work / "lines"), "--desk", str(work / "desk"), "--state", str(work / "state")]
+        for wanted, variables in (
+            ("MQTT_HOST is empty", {"MQTT_HOST": ""}),
+            ("invalid MQTT_PORT: 65536 (expected 1 to 65535)", {"MQTT_PORT": "65536"}),
+            ("invalid MQTT_PORT: mqtt (expected 1 to 65535)", {"MQTT_PORT": "mqtt"}),
+            (f"cannot read MQTT_PASSWORD_FILE: {none}: {missing}", {"MQTT_USER": "hall", "MQTT_PASSWORD_FILE": none}),
+            (f"first line of MQTT_PASSWORD_FILE is empty: {empty}", {"MQTT_USER": "hall", "MQTT_PASSWORD_FILE": empty}),
+            ("MQTT_PASSWORD_FILE is set, but MQTT_USER is not", {"MQTT_PASSWORD_FILE": str(COMMAND)}),
+            ("invalid MQTT_TLS: on (expected yes or no)", {"MQTT_TLS": "on"}),
+            ("MQTT_CA_FILE is set, but MQTT_TLS is not yes", {"MQTT_CA_FILE": "ca.crt"}),
+            (f"cannot load MQTT_CA_FILE: {none}: {missing}", {"MQTT_TLS": "yes", "MQTT_CA_FILE": none}),
+            ("MQTT_KEY_FILE is set, but MQTT_CERT_FILE is not", {"MQTT_TLS": "yes", "MQTT_KEY_FILE": "hall.key"}),
+            (f"cannot load MQTT_CERT_FILE and MQTT_KEY_FILE: {none}: {missing}",
+             {"MQTT_TLS": "yes", "MQTT_CERT_FILE": none}),
+            ("invalid MQTT_LEARN_SECONDS: 2m (expected a number of seconds)", {"MQTT_LEARN_SECONDS": "2m"}),
+            ("invalid MQTT_DISCOVERY: home/# (expected a topic without # and +)", {"MQTT_DISCOVERY": "home/#"}),
+        ):
+            with self.subTest(wanted):
+                self.assert_refused(wanted, *paths, "hall", **variables)
+
+    def test_words(self):
+        for wanted, *words in (
+            ("--lines, --desk and --state are required, except with --print", "hall"),
+            ("invalid gateway name: hall/+ (allowed: letters, digits, - and _)", "--print", "hall/+"),
+            ("the following arguments are required: NAME", "--print"),
+            ("unrecognized arguments: --host", "--print", "--host", "hall"),
+        ):
+            with self.subTest(words):
+                self.assert_refused(wanted, *words)
+
+
+if __name__ == "__main__":
+    unittest.main()
