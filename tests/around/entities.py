@@ -1,6 +1,6 @@
-"""Compares the table of entities with the profiles of tests/oracle/profiles.py, and tells what is wrong: each reading
-of each profile has a line, each line is for a reading, with the words that the profile has for it, and what a line
-tells Home Assistant is something that it knows. It reads the table by itself.
+"""Compares the table of entities with the profiles of tests/oracle/profiles.py, and prints what is wrong. Each
+reading of each profile has a line, each line is for a reading, with the words that the profile has for it, and Home
+Assistant knows what a line declares. It reads the table with code of its own.
 
     tests/around/entities.py contrib/enogate_mqtt/entities
 """

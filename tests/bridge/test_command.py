@@ -124,7 +124,7 @@ class Print(Command):
                 self.assertEqual(found.count(DELETED.format(CONTACT)), count)
 
     def test_another_profile(self):
-        """The device is shown anew, and what was retained by its first profile is deleted."""
+        """The device is announced again, and what was retained for its first profile is deleted."""
         again = '{"eep":"A5-02-05","id":"01800ABC","maker":70,"result":"accepted","type":"teach"}'
         before, _ = self.printed(ACCEPTED, READING)
         found, _ = self.printed(ACCEPTED, READING, again)

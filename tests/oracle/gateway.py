@@ -23,7 +23,7 @@ EXPLAINS = "+ "
 
 
 def without_explanations(text):
-    return "".join(told for told in text.splitlines(True) if not told.startswith(EXPLAINS))
+    return "".join(line for line in text.splitlines(True) if not line.startswith(EXPLAINS))
 
 
 def radio_line(stream):
@@ -122,17 +122,17 @@ class Gateway:
         if kind == 1 and data and len(data) - 6 in LENGTHS.get(data[0], []):
             heard = Telegram(data, optional)
             mode, known = self.mode, self.devices.get(heard.sender)
-            count, told, taught = self.telegram(heard)
+            count, answer, taught = self.telegram(heard)
             why = reasons.of_telegram(heard, mode, known, taught)
             members = reasons.members(heard, why, known, taught)
         else:
-            count, told = "ignored", ""
+            count, answer = "ignored", ""
             if kind == 2 and data:
-                count, told = "responses", self.response(data)
+                count, answer = "responses", self.response(data)
             why, members = reasons.of_packet(kind, data), {"kind": kind, "size": len(data)}
         self.counts[count] += 1
         assert reasons.COUNTS[why] == count, f"{data.hex()} is {why}, and is counted otherwise"
-        radio, desk = re.fullmatch(r"(S .*\n)?(.*\n)?", told).groups("")
+        radio, desk = re.fullmatch(r"(S .*\n)?(.*\n)?", answer).groups("")
         return radio + EXPLAINS + line({**members, "type": "packet", "why": why}) + desk
 
     def response(self, data):
@@ -146,10 +146,10 @@ class Gateway:
         known = self.devices.get(heard.sender)
         kind, own = kind_of(heard.rorg, heard.payload, known is not None)
         if kind == "data" and known:
-            told = says(known[0], heard.rorg, heard.payload, heard.status)
-            if told is None:
+            readings = says(known[0], heard.rorg, heard.payload, heard.status)
+            if readings is None:
                 return "ignored", "", None
-            reading = {"dbm": heard.dbm, "eep": known[0], "id": f"{heard.sender:08X}", "readings": told}
+            reading = {"dbm": heard.dbm, "eep": known[0], "id": f"{heard.sender:08X}", "readings": readings}
             return "readings", line({**reading, "type": "reading"}), None
         taught = self.verdict(kind, own, heard.sender)
         if taught is None:

@@ -4,7 +4,7 @@ import re
 from oracle.esp3 import ALL
 
 # The orders. A line is an order if it has the words of a row, with one space between two, and nothing else. A word in
-# capitals stands for a value, any other word for itself; TEXT is the rest of the line. If a line fits two rows, the
+# capitals is a value, any other word is itself; TEXT is the rest of the line. If a line fits two rows, the
 # first one that can be done is done. After the words, a row has what is done:
 #
 #   mode M           the mode becomes M
@@ -54,8 +54,7 @@ for row in ORDERS:
 GREATEST = {"CH": 30, "OFF": 127, "VAL": 100, "RAMP": 255}
 MAX_LABEL = 32
 
-# How the values are written. A text has characters from space to `~`, of which neither the first nor the last is a
-# space.
+# How the values are written. A text has characters from space to `~`. Neither the first nor the last is a space.
 SHAPES = {
     "ID": "[0-9A-Fa-f]{8}",
     "EEP": "[0-9A-Fa-f]{2}-[0-9A-Fa-f]{2}-[0-9A-Fa-f]{2}",
@@ -99,7 +98,7 @@ def is_in_range(values):
 
 
 def payload_of(by, values):
-    """The bytes of a payload as it stands in the table."""
+    """The bytes of a payload in the table."""
 
     def byte(word):
         name, _, more = word.partition("+")

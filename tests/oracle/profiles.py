@@ -208,15 +208,15 @@ def with_fields(size, fields, fill=0):
 def readings(rows, payload, status):
     """What the rows say, in their order."""
     bits = bits_of(payload)
-    told = []
+    found = []
     for name, offset, length, condition, kind in rows:
         holds = all(
             (status >> 4 & 1 if place == NU else field(bits, *place)) == value
             for place, value in condition.items()
         )
         if holds:
-            told.append({"name": name, **kind(field(bits, offset, length), bits)})
-    return told
+            found.append({"name": name, **kind(field(bits, offset, length), bits)})
+    return found
 
 
 def says(eep, rorg, payload, status):

@@ -12,7 +12,7 @@ class Session:
         self.gateway, self.steps = Gateway(), []
 
     def text(self, explains):
-        return "".join(line + (told if explains else without_explanations(told)) for line, told in self.steps)
+        return "".join(line + (answer if explains else without_explanations(answer)) for line, answer in self.steps)
 
     def say(self, *lines):
         for text in lines:
