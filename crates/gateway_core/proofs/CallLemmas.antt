@@ -32,7 +32,7 @@ module _ {S : Type 0} (stored : S → Kept) where
   stands_after_bytes : (stream : List ℕ) (before : List Packet) (old mid : Value S) (bytes : List ℕ)
       → Stands stream before old
       → Moves stored old (Bytes bytes) mid → Stands (stream ++ bytes) before mid
-  stands_after_bytes stream before old mid bytes stands (none, same, ready, rest, shown) =
+  stands_after_bytes stream before old mid bytes stands (none, same, ready, rest) =
       let parts = framing_in_parts stream bytes in
       record {
         packets =
@@ -82,7 +82,7 @@ module _ {S : Type 0} (stored : S → Kept) where
             λ v. Handles stored v.handler on.items (answers_of calls) new.handler in subst P same on.run;
       }
   goes_on stream before old (Next (Some answer) ∷ calls) new stands
-      (mid, (packet, first, rest, handles, shown), moves) =
+      (mid, (packet, first, rest, handles), moves) =
       let from : Stands stream (before ++ packet ∷ []) mid = record {
         packets = stands.packets ∙ ap (λ ps. before ++ ps) first ∙ sym (append_assoc before (packet ∷ []) mid.ready);
         rest = stands.rest ∙ sym rest;
@@ -97,7 +97,7 @@ module _ {S : Type 0} (stored : S → Kept) where
         run = handles-append stored old.handler mid.handler new.handler (Received packet ∷ []) on.items (answer ∷ [])
             (answers_of calls) handles on.run;
       }
-  goes_on stream before old (Order line answer ∷ calls) new stands (mid, (ready, rest, handles, shown), moves) =
+  goes_on stream before old (Order line answer ∷ calls) new stands (mid, (ready, rest, handles), moves) =
       let from : Stands stream before mid =
       record { packets = stands.packets ∙ ap (λ ps. before ++ ps) (sym ready); rest = stands.rest ∙ sym rest } in
       let on = goes_on stream before mid calls new from moves in
@@ -128,13 +128,12 @@ module _ {S : Type 0} (stored : S → Kept) where
   pub runs_are_bytes : RunsAreBytes stored
   runs_are_bytes old new [] some none moved = absurd (omega arith)
   runs_are_bytes old new (byte ∷ []) some none moved = (new, moved, refl)
-  runs_are_bytes old new (byte ∷ next ∷ bytes) some none (idle, same, ready, rest, shown) =
+  runs_are_bytes old new (byte ∷ next ∷ bytes) some none (idle, same, ready, rest) =
       let first : List ℕ = old.rest ++ byte ∷ [] in
       let mid : Value S = record {
         handler = old.handler;
         ready = packets_in first;
         rest = rest_of first;
-        explained = old.explained;
       } in
       let quiet : packets_in first ≡ [] = none 1 (omega arith) in
       let along : (others : List ℕ) → first ++ others ≡ old.rest ++ byte ∷ others =
@@ -147,12 +146,11 @@ module _ {S : Type 0} (stored : S → Kept) where
       let later : (k : ℕ) → k < length (next ∷ bytes) → packets_in (mid.rest ++ take k (next ∷ bytes)) ≡ [] =
       λ k below. behind (take k (next ∷ bytes)) ∙ none (suc k) (omega arith) in (
         mid,
-        (idle, refl, refl, refl, refl),
+        (idle, refl, refl, refl),
         runs_are_bytes mid new (next ∷ bytes) (omega arith) later (
           quiet,
           same,
           ready ∙ sym (behind (next ∷ bytes)),
           rest ∙ ap rest_of (sym (along (next ∷ bytes))) ∙ (framing_in_parts first (next ∷ bytes)).1,
-          shown,
         ),
       )

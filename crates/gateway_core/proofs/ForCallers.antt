@@ -6,8 +6,8 @@ pub use Rattle.gateway_core.proofs.ByteLemmas.{items_are_of_bytes}
 pub use Rattle.gateway_core.proofs.CallLemmas.{calls_are_a_run}
 pub use Rattle.gateway_core.proofs.CountLemmas.{count_on, refusals_are_counted, taken_are_counted}
 pub use Rattle.gateway_core.proofs.ReplyLemmas.{radio_is_told}
-pub use Rattle.gateway_core.proofs.EventLemmas.{brought-append, brought-rest, items_of-append, cuts_do_not_matter}
-pub use Rattle.gateway_core.proofs.EventLemmas.{cuts_are_answered_alike}
+pub use Rattle.gateway_core.proofs.CutLemmas.{brought-append, brought-rest, items_of-append, cuts_do_not_matter}
+pub use Rattle.gateway_core.proofs.CutLemmas.{cuts_are_answered_alike}
 pub use Rattle.gateway_core.proofs.LifeLemmas.{lives_keep}
 pub use Rattle.gateway_core.proofs.LongLineLemmas.{handles_alike}
 pub use Rattle.gateway_core.proofs.PrefixLemmas.{safe_is_prefix, left_is_prefix}

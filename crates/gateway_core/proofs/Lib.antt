@@ -4,7 +4,7 @@ pub mod CallLemmas
 pub mod CountLemmas
 pub mod DeviceLemmas
 pub mod EffectLemmas
-pub mod EventLemmas
+pub mod CutLemmas
 pub mod ExplainingLemmas
 pub mod ForCallers
 pub mod LifeLemmas

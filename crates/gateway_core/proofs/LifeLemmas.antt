@@ -3,9 +3,8 @@ use Rattle.std.proofs.Common.{◌≡◌, ◌≢◌, inl, inr, ℕ, true, false, 
 use Rattle.std.proofs.Common.{Some, None, refl, sym, ap, subst, ◌∙◌, arith, nat_cmp}
 use Rattle.std.specs.List.{AllByRecursion}
 use Rattle.std.specs.Ordering.{eq_by_cmp}
-use Rattle.std.specs.Cmp.{nat_cmp_total}
 use Rattle.std.proofs.lemmas.Bool.Decides.{nat_tests}
-use Rattle.std.specs.FinMap.{get, get-insert, get-remove}
+use Rattle.std.specs.FinMap.{get}
 use Rattle.std.specs.Prelude.{unwrap_or, IsSome}
 use Rattle.std.specs.Option.{option_map}
 use Rattle.learned_devices.specs.Devices.{Learned, Devices, Deed, Learn, Forget, Relabel, Change, kept_label, after}

@@ -1,13 +1,11 @@
 -- The numbers of devices stay in range.
-use Rattle.std.proofs.Common.{◌≡◌, inl, inr, ℕ, ◌<◌, ◌^◌, Bool, true, false, cond}
+use Rattle.std.proofs.Common.{◌≡◌, inl, inr, ℕ, ◌<◌, ◌^◌, Bool}
 use Rattle.std.proofs.Common.{List, [], ◌∷◌, ◌++◌, Option, Some, None, Ok}
-use Rattle.std.proofs.Common.{refl, sym, ap, subst, ◌∙◌, arith, nat_cmp}
+use Rattle.std.proofs.Common.{refl, sym, ap, subst, ◌∙◌, arith}
 use Rattle.std.specs.Prelude.{◌==◌, ◌&&◌, not, IfSome, slice_index}
 use Rattle.std.specs.List.{AllByRecursion, AllZip}
 use Rattle.std.specs.Option.{option_map}
-use Rattle.std.specs.Ordering.{eq_by_cmp}
 use Rattle.std.specs.FinMap.{get}
-use Rattle.std.proofs.lemmas.Bool.Decides.{nat_tests}
 use Rattle.hex.specs.Hex.{decode_of}
 use Rattle.hex.proofs.HexLemmas.{decode_of-ok}
 use Rattle.esp3_frames.specs.Packet.{Packet}
@@ -16,7 +14,7 @@ use Rattle.erp1_telegrams.specs.Telegram.{Telegram, telegram_of}
 use Rattle.erp1_telegrams.proofs.TelegramLemmas.{of_carried}
 use Rattle.learned_devices.specs.declared.Device.{Device}
 use Rattle.learned_devices.specs.Devices.{Learned, Devices, Deed, Learn, Forget, Relabel, Change, after, changed}
-use Rattle.learned_devices.specs.Devices.{device, device_of, learned}
+use Rattle.learned_devices.specs.Devices.{device, learned}
 use Rattle.learned_devices.specs.Ranges.{IsProfileInRange, IsMakerInRange, IsDeviceInRange, AreInRange}
 use Rattle.learned_devices.proofs.ForCallers.{entered-in}
 use Rattle.teach_in.specs.declared.four_byte.FourByteQuery.{FourByteQuery}

@@ -1,5 +1,5 @@
 -- One item, done or refused.
-use Rattle.std.proofs.Common.{◌≡◌, inl, inr, ℕ, ◌≤◌, ◌-◌, Bool, true, false}
+use Rattle.std.proofs.Common.{◌≡◌, inl, inr, ℕ, ◌≤◌, Bool, true, false}
 use Rattle.std.proofs.Common.{IsSome, List, []}
 use Rattle.std.proofs.Common.{◌∷◌, length, Option, Some, None, Result, Ok, Err, refl, sym, ap, subst, ◌∙◌}
 use Rattle.std.proofs.Common.{append-nil}
@@ -31,7 +31,6 @@ use Rattle.learned_devices.specs.declared.fault.StoreFault.{StoreFault}
 use Rattle.gateway_core.specs.declared.refusal.Refusal.{Refusal}
 use Rattle.gateway_core.specs.declared.refusal.Refusal.TheVariants.{Before, AtWrite}
 use Rattle.json_lines.specs.declared.counts.Counts.{Counts}
-use Rattle.gateway_core.specs.declared.handler.done.Done.{Done}
 use Rattle.json_lines.specs.Counts.{raised}
 use Rattle.json_lines.specs.Lines.{Error, Teach as TeachOf, TeachLine, text}
 use Rattle.gateway_core.specs.Step.{State, Item, Answer, Effect, explaining, line_for, count_in, tells, learns}
@@ -46,13 +45,12 @@ use Rattle.gateway_core.specs.Step.{if_supported, sets, denied, accepts, told_of
 use Rattle.gateway_core.specs.Step.{answer_by, telegram_sent}
 use Rattle.gateway_core.specs.Accounts.{eep_told, maker_told}
 use Rattle.gateway_core.specs.Profiles.{read_by}
-use Rattle.gateway_core.specs.Replies.{answer_of}
 use Rattle.gateway_core.specs.private.Refusals.{cause_of}
 use Rattle.gateway_core.specs.Step.{Cause, Memory, Need, NeedsMemory, NeedsStore, Permits}
 use Rattle.gateway_core.specs.Run.{refusal_of, Taken, Refused, RefusedAtWrite, refused}
 use Rattle.gateway_core.specs.Stops.{nothing_left, told, pending, Safe}
 use Rattle.gateway_core.specs.Handling.{HandlerValue, Went, Handles}
-use Rattle.gateway_core.specs.private.Tries.{state_of, Gives, IsMade, IsPending, Comes, Tries, counts_from}
+use Rattle.gateway_core.specs.private.Tries.{Done, state_of, Gives, IsMade, IsPending, Comes, Tries, counts_from}
 use Rattle.gateway_core.specs.private.Tries.{answered, mode_from}
 use Rattle.gateway_core.specs.private.Tries.{IsRefused, RegistryAlone, Learns, Forgets}
 
@@ -541,7 +539,7 @@ module _ {S : Type 0} (stored : S → Kept) where
     last = state_after start item;
     run = (
       tt,
-      ap (λ a. explaining (line_for item a) (answer_of done.reply)) counted
+      ap (λ a. explaining (line_for item a) done.answer) counted
           ∙ ap (explaining (line_for item (effect start item).account)) says,
       refl,
     );

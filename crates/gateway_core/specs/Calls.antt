@@ -8,13 +8,12 @@ use Rattle.json_lines.specs.Counts.{none_counted}
 use Rattle.gateway_core.specs.Step.{Item, Received, Ordered, Answer}
 use Rattle.gateway_core.specs.Handling.{HandlerValue, Handles}
 
--- the registry and the base ID, the packets that wait to be handled, the bytes behind them, of which one more packet
--- may come, and the text of the line that explains the packet that was handled last
+-- what the gateway knows, the packets that wait to be handled, and the bytes behind them, of which one more packet may
+-- come
 pub record Value (S : Type 0) : Type 0 where
   pub handler : HandlerValue S
   pub ready : List Packet
   pub rest : List ℕ
-  pub explained : List ℕ
 
 -- a handler with this base ID over this registry, which learns from nobody and has counted nothing
 abbrev pub new_handler : {S : Type 0} → ℕ → S → HandlerValue S
@@ -22,7 +21,7 @@ new_handler base registry = record { base = base; mode = Closed; counts = none_c
 
 -- a gateway with such a handler, to which no byte has come
 abbrev pub new_value : {S : Type 0} → ℕ → S → Value S
-new_value base registry = record { handler = new_handler base registry; ready = []; rest = []; explained = [] }
+new_value base registry = record { handler = new_handler base registry; ready = []; rest = [] }
 
 -- a call, with what it was given and what it answered
 pub data Call : Type 0 where
@@ -36,19 +35,17 @@ module _ {S : Type 0} (stored : S → Kept) where
   -- bytes go behind the rest, which is framed anew; this is allowed if no packet waits
   Moves old (Bytes bytes) new =
       (old.ready ≡ []) × (new.handler ≡ old.handler) × (new.ready ≡ packets_in (old.rest ++ bytes))
-      × (new.rest ≡ rest_of (old.rest ++ bytes)) × (new.explained ≡ old.explained)
-  -- the first packet that waits is handled, and explained
+      × (new.rest ≡ rest_of (old.rest ++ bytes))
+  -- the first packet that waits is handled
   Moves old (Next (Some answer)) new =
       (packet : Packet) × (old.ready ≡ packet ∷ new.ready) × (new.rest ≡ old.rest)
       × Handles stored old.handler (Received packet ∷ []) (answer ∷ []) new.handler
-      × (new.explained ≡ answer.explained)
   -- no packet waits
   Moves old (Next None) new = (old.ready ≡ []) × (new ≡ old)
   -- a line is handled
   Moves old (Order line answer) new =
       (new.ready ≡ old.ready) × (new.rest ≡ old.rest)
       × Handles stored old.handler (Ordered line ∷ []) (answer ∷ []) new.handler
-      × (new.explained ≡ old.explained)
 
   -- the calls take the gateway from old to new, one after another
   abbrev pub AllMove : Value S → List Call → Value S → Type 0

@@ -4,7 +4,6 @@ pub mod Step
 pub mod Run
 pub mod Stops
 pub mod Handling
-pub mod Handled
 pub mod Promises
 pub mod Lives
 pub mod Prefixes

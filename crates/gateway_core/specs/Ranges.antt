@@ -1,5 +1,5 @@
 -- The ranges of the numbers of devices: what is learned is in range, and so is the device that a teach line reports.
-use Rattle.std.specs.Prelude.{◌≡◌, ◌⊎◌, ℕ, ◌<◌, ◌^◌, List, ◌++◌, Some, IfSome, IsTrue}
+use Rattle.std.specs.Prelude.{◌≡◌, ◌⊎◌, ℕ, ◌<◌, List, ◌++◌, Some, IfSome}
 use Rattle.std.specs.List.{All, AllByRecursion}
 use Rattle.learned_devices.specs.declared.Device.{Device}
 use Rattle.learned_devices.specs.Ranges.{IsProfileInRange, IsDeviceInRange, AreInRange}

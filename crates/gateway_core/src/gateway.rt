@@ -1,16 +1,15 @@
 //! The gateway.
-ghost use Rattle.std.specs.Prelude.{◌≡◌, ◌≢◌, ◌↔◌, ◌<◌, ◌≤◌, ℕ, [], ◌∷◌, ◌++◌, length, take, false};
+ghost use Rattle.std.specs.Prelude.{◌≡◌, ◌≢◌, ◌↔◌, ◌<◌, ◌≤◌, ℕ, [], ◌∷◌, ◌++◌, List, length, take, false};
 ghost use Rattle.std.specs.Prelude.{IfOk, IfSome, IfNone, MatchBool, Some};
-ghost use Rattle.std.specs.Option.{option_copied, option_map};
+ghost use Rattle.std.specs.Option.{option_map};
 ghost use Rattle.esp3_frames.specs.Frames.{front_of, packets_in};
 ghost use Rattle.esp3_frames.specs.Frames.Front.{Whole};
 ghost use Rattle.esp3_frames.specs.Packet.{Packet};
 ghost use Rattle.esp3_frames.specs.Framing.{MayBecomePacket};
 ghost use Rattle.erp1_telegrams.specs.Address;
-ghost use Rattle.gateway_core.specs.Accounts.{explanation};
 ghost use Rattle.gateway_core.specs.Calls.{Bytes as BytesCall, Next as NextCall, Order as OrderCall};
 ghost use Rattle.gateway_core.specs.Calls.{Moves, Value, new_value};
-ghost use Rattle.gateway_core.specs.Replies.{answer_of};
+ghost use Rattle.gateway_core.specs.Replies.{answer_of, packet_answer};
 ghost use Rattle.gateway_core.specs.Step.{explained_by};
 
 use crate::handled::HandledPacket;
@@ -51,12 +50,10 @@ pub struct GatewayOver<S> {
     pub(crate) handler: Handler<S>,
     framer: Framer,
     packet: PacketBuf,
-    last: Option<HandledPacket>,
 }
 
 impl<S> Model for GatewayOver<S> {
     ghost use Rattle.gateway_core.specs.Calls.{Value as GatewayValue};
-    ghost use Rattle.gateway_core.specs.Accounts.{explanation};
     ghost use Rattle.gateway_core.specs.private.Codes.{value_code};
 
     ghost Value = { GatewayValue S };
@@ -68,7 +65,6 @@ impl<S> Model for GatewayOver<S> {
           handler = gateway.handler;
           ready = gateway.framer.ready;
           rest = gateway.framer.rest;
-          explained = explanation gateway.last;
         } };
 }
 
@@ -86,7 +82,6 @@ impl<S: DeviceStore + Drop> GatewayOver<S> {
             handler: Handler::new(alloc, registry, base),
             framer: Framer::new(alloc)?,
             packet: PacketBuf::new(alloc)?,
-            last: None,
         })
     }
 }
@@ -121,15 +116,15 @@ impl<S: DeviceStore> GatewayOver<S> {
         self.framer.push_run(bytes)
     }
 
-    /// Handles the packet with which the next bytes of the serial line begin, and returns its reply and its length in
-    /// bytes. It does what `bytes` and `next` do, without a copy. `None` says that a byte waits, or that no whole
-    /// packet begins these bytes; then nothing is taken.
-    pub fn handle_first(&mut self, bytes: &[u8]) -> Option<(Reply, usize)>
+    /// Handles the packet with which the next bytes of the serial line begin, and returns it and its length in bytes.
+    /// It does what `bytes` and `handle_next` do, without a copy. `None` says that a byte waits, or that no whole packet
+    /// begins these bytes; then nothing is taken.
+    pub fn handle_first(&mut self, bytes: &[u8]) -> Option<(HandledPacket, usize)>
         requires { self.old.ready ≡ [] }
         ensures within { IfSome result (λ r. (0 < r.1) × (r.1 ≤ length bytes.now)) }
         ensures taken { IfSome result (λ r. (mid : Value S)
             × Moves S.kept self.old (BytesCall (take r.1 bytes.now)) mid
-            × Moves S.kept mid (NextCall (Some (explained_by self.new.explained (answer_of r.0)))) self.new) }
+            × Moves S.kept mid (NextCall (Some (packet_answer r.0))) self.new) }
         ensures before { IfSome result (λ r. (k : ℕ) → k < r.1 →
             packets_in (self.old.rest ++ take k bytes.now) ≡ []) }
         ensures ready { IfSome result (λ r. self.new.ready ≡ []) }
@@ -137,27 +132,27 @@ impl<S: DeviceStore> GatewayOver<S> {
             × (self.old.rest ≡ [] → (p : Packet) → front_of bytes.now ≢ Whole p)) }
     {
         let (packet, count) = self.framer.lend(bytes)?;
-        Some((self.handler.packet(&packet, &mut self.last), count))
+        Some((self.handler.packet(&packet), count))
     }
 
-    /// Handles the first packet that waits. `None` says that none does. What explains the packet, `last_packet` tells.
-    pub fn next(&mut self) -> Option<Reply>
-        ensures { Moves S.kept self.old
-            (NextCall (option_map (λ reply. explained_by self.new.explained (answer_of reply)) result)) self.new }
+    /// Handles the first packet that waits, and returns it. `None` says that none does.
+    pub fn handle_next(&mut self) -> Option<HandledPacket>
+        ensures { Moves S.kept self.old (NextCall (option_map packet_answer result)) self.new }
     {
         if !self.framer.take(&mut self.packet) {
             return None;
         }
         let packet = self.packet.packet()?;
-        Some(self.handler.packet(&packet, &mut self.last))
+        Some(self.handler.packet(&packet))
     }
 
-    /// The packet that was handled last, which tells why what was done with it was done. `None` says that none was. It
-    /// takes no memory.
-    pub fn last_packet(&self) -> Option<&HandledPacket>
-        ensures { explanation (option_copied result) ≡ self.now.explained }
+    /// Handles the first packet that waits, and returns the reply to it. `None` says that none does.
+    pub fn next(&mut self) -> Option<Reply>
+        ensures { (line : List ℕ) × Moves S.kept self.old
+            (NextCall (option_map (λ reply. explained_by line (answer_of reply)) result)) self.new }
     {
-        self.last.as_ref()
+        let handled = self.handle_next()?;
+        Some(handled.reply)
     }
 
     /// Handles a line of the desk, without its line end.

@@ -1,12 +1,12 @@
 //! What the gateway knows, and how it handles one item.
-ghost use Rattle.std.specs.Prelude.{◌≡◌, ◌≤◌, true, [], ◌∷◌, length};
+ghost use Rattle.std.specs.Prelude.{◌≡◌, ◌≤◌, true, [], ◌∷◌, length, Some};
 ghost use Rattle.erp1_telegrams.specs.Address.{is_base};
 ghost use Rattle.esp3_frames.specs.Outcome.{packet_of};
 ghost use Rattle.esp3_frames.specs.Packet.{max_data};
 ghost use Rattle.gateway_core.specs.Calls.{new_handler};
 ghost use Rattle.gateway_core.specs.Handling.{Handles};
-ghost use Rattle.gateway_core.specs.Replies.{answer_of};
-ghost use Rattle.gateway_core.specs.Step.{Ordered, Received, explaining};
+ghost use Rattle.gateway_core.specs.Replies.{answer_of, packet_answer};
+ghost use Rattle.gateway_core.specs.Step.{Ordered, Received, with_mode};
 ghost use Rattle.gateway_core.specs.private.Tries.{account_from, answer_from, counts_from, mode_from};
 
 mod changes;
@@ -17,8 +17,8 @@ mod sending;
 mod teaching;
 
 use crate::account::Account;
-use crate::handled::HandledPacket;
-use crate::handler::done::{Done, refused};
+use crate::handled::{HandledPacket, line_of_other, line_of_telegram};
+use crate::handler::done::{OrderDone, PacketDone, refused};
 use crate::refusal::Refusal;
 use crate::reply::Reply;
 use erp1_telegrams::read;
@@ -83,55 +83,75 @@ impl<S: DeviceStore> Handler<S> {
         registry
     }
 
-    // Counts what is done or refused, sets its mode, and answers it. It hands on the account of a packet.
-    fn reply_to(&mut self, tried: Result<Done, Refusal>) -> (Reply, Option<Account>)
+    // Counts a packet by what is done for it or by its refusal, sets the mode, and returns the reply and the account.
+    fn packet_reply(&mut self, tried: Result<PacketDone, Refusal>) -> (Reply, Account)
         ensures answer { answer_of result.0 ≡ answer_from tried }
-        ensures account { result.1 ≡ account_from tried }
+        ensures account { Some result.1 ≡ account_from tried }
+        ensures base { self.new.base ≡ self.old.base }
+        ensures mode { self.new.mode ≡ mode_from self.old.mode tried }
+        ensures counts { self.new.counts ≡ counts_from self.old.counts tried }
+        ensures registry { self.new.registry ≡ self.old.registry }
+    {
+        let (account, mode, reply) = match tried {
+            Ok(
+                PacketDone {
+                    account,
+                    mode,
+                    reply,
+                },
+            ) => (account, mode, reply),
+            Err(refusal) => (Account::because(Why::Refused), None, refused(refusal)),
+        };
+        self.counts.raise(account.count());
+        self.set_mode(mode);
+        (reply, account)
+    }
+
+    // Counts an order that is refused, sets the mode, and returns the reply.
+    fn order_reply(&mut self, tried: Result<OrderDone, Refusal>) -> Reply
+        ensures answer { answer_of result ≡ answer_from tried }
         ensures base { self.new.base ≡ self.old.base }
         ensures mode { self.new.mode ≡ mode_from self.old.mode tried }
         ensures counts { self.new.counts ≡ counts_from self.old.counts tried }
         ensures registry { self.new.registry ≡ self.old.registry }
     {
         match tried {
-            Ok(
-                Done {
-                    account,
-                    mode,
-                    reply,
-                },
-            ) => {
-                if let Some(account) = &account {
-                    self.counts.raise(account.count());
-                }
-                if let Some(mode) = mode {
-                    self.mode = mode;
-                }
-                (reply, account)
+            Ok(OrderDone { mode, reply }) => {
+                self.set_mode(mode);
+                reply
             }
             Err(refusal) => {
                 self.counts.raise(Count::Refused);
-                (refused(refusal), Some(Account::because(Why::Refused)))
+                refused(refusal)
             }
         }
     }
 
-    /// Handles a packet of the serial line, and stores in `last` what explains it.
-    pub fn packet(&mut self, packet: &PacketRef<'_>, last: &mut Option<HandledPacket>) -> Reply
+    // Sets the mode, if there is one to set.
+    fn set_mode(&mut self, mode: Option<Mode>)
+        ensures { self.new ≡ record self.old { mode = with_mode self.old.mode mode } }
+    {
+        if let Some(mode) = mode {
+            self.mode = mode;
+        }
+    }
+
+    /// Handles a packet of the serial line.
+    pub fn packet(&mut self, packet: &PacketRef<'_>) -> HandledPacket
         requires { length packet.now.body.now ≤ max_data }
-        ensures { Handles S.kept self.old (Received (packet_of packet.now) ∷ [])
-            (explaining last.new (answer_of result) ∷ []) self.new }
+        ensures { Handles S.kept self.old (Received (packet_of packet.now) ∷ []) (packet_answer result ∷ []) self.new }
     {
         let Ok(telegram) = read(packet) else {
             let tried = self.try_other(packet);
-            let (reply, account) = self.reply_to(tried);
-            *last = HandledPacket::of_other(packet, account);
-            return reply;
+            let (reply, account) = self.packet_reply(tried);
+            let line = line_of_other(packet, account);
+            return HandledPacket { reply, line };
         };
         let teach = classify(&telegram);
         let tried = self.try_telegram(&telegram, &teach);
-        let (reply, account) = self.reply_to(tried);
-        *last = HandledPacket::of_telegram(telegram, teach, account);
-        reply
+        let (reply, account) = self.packet_reply(tried);
+        let line = line_of_telegram(&telegram, &teach, account);
+        HandledPacket { reply, line }
     }
 
     /// Handles a line of the desk.
@@ -139,7 +159,6 @@ impl<S: DeviceStore> Handler<S> {
         ensures { Handles S.kept self.old (Ordered line.now ∷ []) (answer_of result ∷ []) self.new }
     {
         let tried = self.try_line(line);
-        let (reply, _) = self.reply_to(tried);
-        reply
+        self.order_reply(tried)
     }
 }

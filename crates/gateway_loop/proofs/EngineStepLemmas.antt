@@ -52,7 +52,7 @@ module _ {S : Type 0} (stored : S → Kept) {O : Type 0} (way : Way O) where
   pub drains_one : (old mid new : Value S) (answer : Answer) (o mids now : O) (count some total : ℕ)
       → Drains stored old mid (way.puts o mids) count some → Moves stored mid (Next (Some answer)) new
       → way.puts mids now (answer ∷ []) → total ≡ count_with some 1 → Drains stored old new (way.puts o now) count total
-  drains_one old mid new answer o mids now count some total before (packet, first, rest, handled, shown) out counted =
+  drains_one old mid new answer o mids now count some total before (packet, first, rest, handled) out counted =
       record {
         packets = before.packets ++ packet ∷ [];
         ready = ready_after old.ready mid.ready new.ready before.packets packet before.ready first;
@@ -70,7 +70,7 @@ module _ {S : Type 0} (stored : S → Kept) {O : Type 0} (way : Way O) where
   pub drains_part : (old mid new : Value S) (answer : Answer) (o mids now : O) (count some : ℕ)
       → Drains stored old mid (way.puts o mids) count some → Moves stored mid (Next (Some answer)) new
       → way.breaks mids now [] answer → DrainsPart stored old new (way.breaks o now)
-  drains_part old mid new answer o mids now count some before (packet, first, rest, handled, shown) part = record {
+  drains_part old mid new answer o mids now count some before (packet, first, rest, handled) part = record {
     packets = before.packets ++ packet ∷ [];
     some = omega (arith, length-append before.packets (packet ∷ []));
     ready = ready_after old.ready mid.ready new.ready before.packets packet before.ready first;
@@ -87,7 +87,7 @@ module _ {O S : Type 0} (stored : S → Kept) (way : Way O) where
   -- bytes, and the packets that they make ready
   items_of-bytes : (old mid : Value S) (run : List ℕ) → IsIdle old → Moves stored old (Bytes run) mid
       → items_of old.rest (Piece run ∷ []) ≡ map Received mid.ready
-  items_of-bytes old mid run idle (none, state, ready, rest, shown) =
+  items_of-bytes old mid run idle (none, state, ready, rest) =
       items_of-piece old.rest run idle.rest ∙ ap (λ (ps : List Packet). map Received ps) (sym ready)
 
   pub takes_nothing : (old : Engine O S) → IsIdle old.gateway.now → old.items < 2 ^ 64
@@ -224,7 +224,7 @@ module _ {O S : Type 0} (stored : S → Kept) (way : Way O) where
       → Moves stored old.gateway.now (Order line answer) new.gateway.now
       → way.puts old.outlet new.outlet (answer ∷ []) → new.items ≡ count_with old.items 1
       → Takes stored way old new (Line line ∷ [])
-  takes_order old new line answer idle (ready, rest, handled, shown) out counted = record {
+  takes_order old new line answer idle (ready, rest, handled) out counted = record {
     played = record {
       answered =
           answers_one stored way old.gateway.now.handler new.gateway.now.handler (Ordered line) answer old.outlet
@@ -238,7 +238,7 @@ module _ {O S : Type 0} (stored : S → Kept) (way : Way O) where
   pub breaks_at_order : (old new : Engine O S) (line : List ℕ) (answer : Answer) → IsIdle old.gateway.now
       → Moves stored old.gateway.now (Order line answer) new.gateway.now → way.breaks old.outlet new.outlet [] answer
       → EngineBreaks stored way old new [] (Line line)
-  breaks_at_order old new line answer idle (ready, rest, handled, shown) part = record {
+  breaks_at_order old new line answer idle (ready, rest, handled) part = record {
     begun = Line line;
     begins = refl;
     items = Ordered line ∷ [];

@@ -7,24 +7,24 @@ ghost use Rattle.gateway_core.specs.Step.{explaining};
 ghost use Rattle.gateway_loop.specs.Written.{desk_text};
 
 use byte_io::{Failed, Sink, write_text};
-use gateway_core::{HandledPacket, Reply};
-use json_lines::packet_line;
+use gateway_core::Reply;
+use json_lines::{PacketLine, packet_line};
 
-/// Writes what the desk is told by a reply. Before it stands the line that explains its packet, if it is of one, where
-/// packets are explained. It takes no memory.
+/// Writes a reply's text for the desk. The line that explains its packet, if there is one, comes before it if packets
+/// are explained. It takes no memory.
 pub fn write_desk_text<W: Sink>(
     writer: &mut W,
     explains: bool,
-    packet: Option<&HandledPacket>,
+    line: Option<&PacketLine>,
     reply: &Reply,
 ) -> Result<(), Failed>
     ensures written { Writes (W.held writer.old) (W.held writer.new) result
-        (desk_text explains (explaining (option_copied packet.entry) (answer_of reply.now))) }
+        (desk_text explains (explaining (option_copied line.entry) (answer_of reply.now))) }
     ensures told { Went result (W.counts writer.old) (W.counts writer.new) }
 {
     if explains {
-        if let Some(packet) = packet {
-            write_text(writer, packet_line(&packet.line()).as_slice())?;
+        if let Some(line) = line {
+            write_text(writer, packet_line(line).as_slice())?;
         }
     }
     write_text(writer, reply.desk.as_bytes())

@@ -4,8 +4,8 @@ ghost use Rattle.std.specs.Prelude.{◌≡◌, ◌<◌, ◌≤◌, [], ◌∷◌
 ghost use Rattle.hex.specs.Hex.{decode_of};
 ghost use Rattle.json_lines.specs.Counts.{one_more};
 ghost use Rattle.gateway_core.specs.Events.{Line as LineEvent, Piece as PieceEvent};
-ghost use Rattle.gateway_core.specs.Replies.{answer_of};
-ghost use Rattle.gateway_core.specs.Step.{explained_by, max_line};
+ghost use Rattle.gateway_core.specs.Replies.{answer_of, packet_answer};
+ghost use Rattle.gateway_core.specs.Step.{max_line};
 ghost use Rattle.gateway_loop.specs.private.EngineSteps.{Drains, DrainsPart, EngineBreaks, Takes, TakesOrBreaks};
 ghost use Rattle.gateway_loop.specs.Outlets.{Puts};
 ghost use Rattle.gateway_loop.specs.Played.{IsIdle};
@@ -15,7 +15,7 @@ use crate::digits::decode;
 use crate::limits::MAX_PIECE;
 use crate::outlet::Outlet;
 use byte_io::Failed;
-use gateway_core::{DeviceStore, GatewayOver, MAX_LINE, Reply};
+use gateway_core::{DeviceStore, GatewayOver, HandledPacket, MAX_LINE, Reply};
 
 /// A gateway, and the outlet for its replies.
 #[derive(Drop)]
@@ -57,8 +57,8 @@ impl<O: Outlet, S: DeviceStore> Engine<'_, O, S> {
     {
         // The proof needs that the count is a `u64`.
         let _start = self.items;
-        if let Some((reply, count)) = self.gateway.handle_first(bytes) {
-            self.answer_packet(&reply)?;
+        if let Some((handled, count)) = self.gateway.handle_first(bytes) {
+            self.answer_packet(&handled)?;
             return Ok(count);
         }
         let count = self.gateway.bytes(bytes);
@@ -80,8 +80,8 @@ impl<O: Outlet, S: DeviceStore> Engine<'_, O, S> {
     {
         // The proof needs that the count is a `u64`.
         let _start = self.items;
-        while let Some(reply) = self.gateway.next() {
-            self.answer_packet(&reply)?;
+        while let Some(handled) = self.gateway.handle_next() {
+            self.answer_packet(&handled)?;
         }
         Ok(())
     }
@@ -138,17 +138,16 @@ impl<O: Outlet, S: DeviceStore> Engine<'_, O, S> {
         self.items = self.items.saturating_add(1);
     }
 
-    /// Counts the packet that was handled last, and puts out its reply, with the line that explains it.
-    fn answer_packet(&mut self, reply: &Reply) -> Result<(), Failed>
+    /// Counts a packet that was handled, and puts out its reply, with the line that explains it.
+    fn answer_packet(&mut self, handled: &HandledPacket) -> Result<(), Failed>
         ensures gateway { self.new.gateway.ghost_name ≡ self.old.gateway.ghost_name }
         ensures kept { self.new.gateway.now ≡ self.old.gateway.now }
         ensures loans { O.loans self.new.outlet ≡ O.loans self.old.outlet }
         ensures counted { self.new.items ≡ one_more self.old.items }
-        ensures put { Puts O.way result self.old.outlet self.new.outlet
-            (explained_by self.old.gateway.now.explained (answer_of reply.now)) }
+        ensures put { Puts O.way result self.old.outlet self.new.outlet (packet_answer handled.now) }
     {
         self.count_item();
-        self.outlet.put(self.gateway.last_packet(), reply)
+        self.outlet.put(Some(&handled.line), &handled.reply)
     }
 
     /// Counts an order that was handled, and puts out its reply.

@@ -6,7 +6,8 @@ ghost use Rattle.gateway_core.specs.Step.{explaining};
 ghost use Rattle.gateway_loop.specs.Outlets.{Puts, Way};
 
 use byte_io::Failed;
-use gateway_core::{HandledPacket, Reply};
+use gateway_core::Reply;
+use json_lines::PacketLine;
 
 /// Where replies go.
 pub trait Outlet {
@@ -16,10 +17,10 @@ pub trait Outlet {
     /// The names of what it borrows.
     ghost loans: { Self → List ℕ };
 
-    /// Puts out a reply, and before what the desk is told by it the line that explains its packet, if there is one and
-    /// it is wanted. After `Failed` a first part of it at most is out, and not all.
-    fn put(&mut self, packet: Option<&HandledPacket>, reply: &Reply) -> Result<(), Failed>
+    /// Puts out a reply. The line that explains its packet, if there is one and it is wanted, comes before the text for
+    /// the desk. After `Failed` a first part of it at most is out, and not all.
+    fn put(&mut self, line: Option<&PacketLine>, reply: &Reply) -> Result<(), Failed>
         ensures loans { loans self.new ≡ loans self.old }
         ensures put { Puts way result self.old self.new
-            (explaining (option_copied packet.entry) (answer_of reply.now)) };
+            (explaining (option_copied line.entry) (answer_of reply.now)) };
 }

@@ -7,7 +7,8 @@ ghost use Rattle.gateway_loop.specs.Written.{radio_text, way_of_text};
 use crate::desk_text::write_desk_text;
 use crate::outlet::Outlet;
 use byte_io::{Failed, Sink, write_text};
-use gateway_core::{HandledPacket, Reply};
+use gateway_core::Reply;
+use json_lines::PacketLine;
 
 /// The text of a replay: of each reply its radio bytes as a serial piece, if there are any, and then the desk's text,
 /// behind the line that explains its packet where that is wanted.
@@ -23,11 +24,11 @@ impl<W: Sink> Outlet for ReplayText<'_, W> {
 
     ghost loans = { λ text. text.sink.ghost_name ∷ [] };
 
-    fn put(&mut self, packet: Option<&HandledPacket>, reply: &Reply) -> Result<(), Failed> {
+    fn put(&mut self, line: Option<&PacketLine>, reply: &Reply) -> Result<(), Failed> {
         if let Some(bytes) = &reply.radio {
             write_piece(self.sink, bytes.as_slice())?;
         }
-        write_desk_text(self.sink, self.explains, packet, reply)
+        write_desk_text(self.sink, self.explains, line, reply)
     }
 }
 

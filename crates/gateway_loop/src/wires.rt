@@ -5,7 +5,8 @@ ghost use Rattle.gateway_loop.specs.Wires.{way_of_wires};
 use crate::desk_text::write_desk_text;
 use crate::outlet::Outlet;
 use byte_io::{Failed, Sink, write_text};
-use gateway_core::{HandledPacket, Reply};
+use gateway_core::Reply;
+use json_lines::PacketLine;
 
 /// The two ways out of a live gateway: of each reply its radio bytes go to the serial line, if there are any, and then
 /// its text goes to the desk, behind the line that explains its packet where that is wanted.
@@ -22,10 +23,10 @@ impl<R: Sink, D: Sink> Outlet for Wires<'_, '_, R, D> {
 
     ghost loans = { λ out. out.serial.ghost_name ∷ out.desk.ghost_name ∷ [] };
 
-    fn put(&mut self, packet: Option<&HandledPacket>, reply: &Reply) -> Result<(), Failed> {
+    fn put(&mut self, line: Option<&PacketLine>, reply: &Reply) -> Result<(), Failed> {
         if let Some(bytes) = &reply.radio {
             write_text(self.serial, bytes.as_slice())?;
         }
-        write_desk_text(self.desk, self.explains, packet, reply)
+        write_desk_text(self.desk, self.explains, line, reply)
     }
 }

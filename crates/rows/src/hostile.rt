@@ -4,19 +4,19 @@
 //! `a device that could not be told is kept`. Each case outside this module was `ok`. Which body a case differed by is
 //! told by its number; no body was tried alone.
 mod bytes;
+mod crashes;
 mod cuts;
 mod disks;
 mod faults;
 mod live_faults;
 mod script;
-mod stops;
 mod turns;
 
 use crate::telling::Telling;
 use anyhow::Result;
 
 pub(crate) fn tell(rt: &HostRuntime, telling: &mut Telling) -> Result<()> {
-    stops::tell(rt, telling)?;
+    crashes::tell(rt, telling)?;
     cuts::tell(rt, telling)?;
     bytes::tell(rt, telling)?;
     faults::tell(rt, telling)?;

@@ -60,7 +60,7 @@ packet_code =
 
 abbrev pub value_code : {S : Type 0} → Coded S → Coded (Value S)
 value_code {S} devices =
-    code_by (HandlerValue S × (List Packet × (List ℕ × List ℕ)))
-    (coded× (handler_code devices) (coded× (coded_list packet_code) (coded× (coded_list coded_ℕ) (coded_list coded_ℕ))))
-    (λ v. (v.handler, (v.ready, (v.rest, v.explained))))
-    (λ p. record { handler = p.0; ready = p.1.0; rest = p.1.1.0; explained = p.1.1.1 }) (λ _. refl)
+    code_by (HandlerValue S × (List Packet × List ℕ))
+    (coded× (handler_code devices) (coded× (coded_list packet_code) (coded_list coded_ℕ)))
+    (λ v. (v.handler, (v.ready, v.rest)))
+    (λ p. record { handler = p.0; ready = p.1.0; rest = p.1.1 }) (λ _. refl)

@@ -13,7 +13,6 @@ use Rattle.teach_in.specs.Ute.{ute_code}
 use Rattle.json_lines.specs.declared.counts.Count.TheVariants as count
 use Rattle.json_lines.specs.declared.counts.Counts.{Counts}
 use Rattle.teach_in.specs.declared.why.Why.TheVariants as why
-use Rattle.gateway_core.specs.declared.handler.done.Done.{Done}
 use Rattle.gateway_core.specs.declared.handler.changes.Committed.{Committed}
 use Rattle.gateway_core.specs.declared.refusal.Refusal.{Refusal}
 use Rattle.gateway_core.specs.declared.refusal.Refusal.TheVariants.{Before, AtWrite}
@@ -25,13 +24,19 @@ use Rattle.gateway_core.specs.Step.{State, Item, Answer, explaining, line_for, s
 use Rattle.gateway_core.specs.Step.{told_of, with_mode, Cause, Need, Permits}
 use Rattle.gateway_core.specs.private.Refusals.{cause_in, cause_of}
 use Rattle.gateway_core.specs.Run.{cause_text}
-use Rattle.gateway_core.specs.Replies.{answer_of}
 use Rattle.gateway_core.specs.Handling.{HandlerValue}
+
+-- what is done for an item: the answer, before its packet is explained, the account of a packet, and the mode that is
+-- set, if any
+pub record Done : Type 0 where
+  pub answer : Answer
+  pub account : Option Account
+  pub mode : Option Mode
 
 -- what is done gives the answer of the effect, has its account, and sets its mode
 abbrev pub Gives : Done → Effect → Type 0
 Gives done effect =
-    (answer_of done.reply ≡ answer_by effect) × (done.account ≡ effect.account) × (done.mode ≡ effect.mode)
+    (done.answer ≡ answer_by effect) × (done.account ≡ effect.account) × (done.mode ≡ effect.mode)
 
 -- what the handler knows, where these are the devices
 abbrev pub state_of : {S : Type 0} → HandlerValue S → Devices → State
@@ -136,7 +141,7 @@ pub record Forgets {S : Type 0} (stored : S → Kept) (old : HandlerValue S) (li
 
 -- the answer to what is done, or refused, before its packet is explained
 abbrev pub answer_from : Result Done Refusal → Answer
-answer_from (Ok done) = answer_of done.reply
+answer_from (Ok done) = done.answer
 answer_from (Err refusal) = said (cause_text (cause_in refusal))
 
 -- the account of what is done, or refused

@@ -7,7 +7,7 @@ ghost use Rattle.gateway_core.specs.Step.{NeedsStore, addition, forgets, learns,
 ghost use Rattle.gateway_core.specs.private.Tries.{Learns, Forgets, Tries};
 
 use crate::handler::Handler;
-use crate::handler::done::{Done, denied, told};
+use crate::handler::done::{OrderDone, denied, told};
 use crate::refusal::Refusal;
 use crate::reply::Desk;
 use erp1_telegrams::Eep;
@@ -67,7 +67,7 @@ impl<S: DeviceStore> Handler<S> {
     }
 
     // Learns a device that the desk names.
-    pub(crate) fn learn_named(&mut self, device: Device) -> Result<Done, Refusal>
+    pub(crate) fn learn_named(&mut self, device: Device) -> Result<OrderDone, Refusal>
         requires { device.label ≡ [] }
         ensures { Tries S.kept self.old (λ state. addition state.devices device
             (tells NeedsStore (Error ErrorName.Full ∷ [])) (learns device)) result self.new }
@@ -79,7 +79,7 @@ impl<S: DeviceStore> Handler<S> {
     }
 
     // Forgets a device that the desk names.
-    pub(crate) fn forget_named(&mut self, device: Device) -> Result<Done, Refusal>
+    pub(crate) fn forget_named(&mut self, device: Device) -> Result<OrderDone, Refusal>
         ensures { Tries S.kept self.old (λ state. forgets device) result self.new }
     {
         let committed = self.forget(device.id, Some(device.eep), device.maker)?;

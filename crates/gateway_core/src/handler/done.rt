@@ -14,14 +14,42 @@ use crate::refusal::Refusal;
 use crate::reply::{Desk, Reply};
 use arrayvec::ArrayVec;
 use json_lines::{ErrorName, done_line};
+use std::marker::Model;
 use teach_in::{Mode, Why};
 
-// The account of a packet, the mode that is set, if any, and the answer to the item.
+// What is done for a packet: its account, the mode that is set, if any, and the reply.
 #[derive(Drop)]
-pub(crate) struct Done {
-    pub(crate) account: Option<Account>,
+pub(crate) struct PacketDone {
+    pub(crate) account: Account,
     pub(crate) mode: Option<Mode>,
     pub(crate) reply: Reply,
+}
+
+impl Model for PacketDone {
+    ghost use Rattle.std.specs.Prelude.{Some};
+    ghost use Rattle.gateway_core.specs.Replies.{answer_of};
+    ghost use Rattle.gateway_core.specs.private.Tries.{Done};
+
+    ghost Value = { Done };
+
+    ghost view = { λ done. record { answer = answer_of done.reply; account = Some done.account; mode = done.mode } };
+}
+
+// What is done for an order: the mode that is set, if any, and the reply.
+#[derive(Drop)]
+pub(crate) struct OrderDone {
+    pub(crate) mode: Option<Mode>,
+    pub(crate) reply: Reply,
+}
+
+impl Model for OrderDone {
+    ghost use Rattle.std.specs.Prelude.{None};
+    ghost use Rattle.gateway_core.specs.Replies.{answer_of};
+    ghost use Rattle.gateway_core.specs.private.Tries.{Done};
+
+    ghost Value = { Done };
+
+    ghost view = { λ done. record { answer = answer_of done.reply; account = None; mode = done.mode } };
 }
 
 // Nothing goes out by radio.
@@ -31,66 +59,63 @@ fn reply_with(desk: Desk) -> Reply
     Reply { radio: None, desk }
 }
 
-pub(crate) fn told(desk: Desk) -> Done
+pub(crate) fn told(desk: Desk) -> OrderDone
     ensures account { result.account ≡ None }
     ensures mode { result.mode ≡ None }
-    ensures answer { answer_of result.reply ≡ said (desk_bytes desk) }
+    ensures answer { result.answer ≡ said (desk_bytes desk) }
 {
-    Done {
-        account: None,
+    OrderDone {
         mode: None,
         reply: reply_with(desk),
     }
 }
 
 // Of a packet this is told.
-pub(crate) fn accounted(account: Account, desk: Desk) -> Done
+pub(crate) fn accounted(account: Account, desk: Desk) -> PacketDone
     ensures account { result.account ≡ Some account }
     ensures mode { result.mode ≡ None }
-    ensures answer { answer_of result.reply ≡ said (desk_bytes desk) }
+    ensures answer { result.answer ≡ said (desk_bytes desk) }
 {
-    Done {
-        account: Some(account),
+    PacketDone {
+        account,
         mode: None,
         reply: reply_with(desk),
     }
 }
 
 // Of a packet nothing is told, be it that its sender was looked up or not.
-pub(crate) fn ignored(why: Why) -> Done
+pub(crate) fn ignored(why: Why) -> PacketDone
     ensures { (asked : Bool) → Gives result (Step.unsaid asked (because why)) }
 {
     accounted(Account::because(why), Desk::Nothing)
 }
 
-pub(crate) fn denied(name: ErrorName) -> Done
+pub(crate) fn denied(name: ErrorName) -> OrderDone
     ensures { Gives result (Step.denied name) }
 {
     told(Desk::Fixed(name.line()))
 }
 
-pub(crate) fn sets(mode: Mode) -> Done
+pub(crate) fn sets(mode: Mode) -> OrderDone
     ensures { Gives result (Step.sets mode) }
 {
-    Done {
-        account: None,
+    OrderDone {
         mode: Some(mode),
         reply: reply_with(Desk::Fixed(done_line())),
     }
 }
 
 // A device has the label that it was given.
-pub(crate) fn labelled() -> Done
+pub(crate) fn labelled() -> OrderDone
     ensures { (id : ℕ) (label : List ℕ) → Gives result (Step.labels id label) }
 {
     told(Desk::Fixed(done_line()))
 }
 
-pub(crate) fn sends_packet(packet: ArrayVec<u8, 64>) -> Done
+pub(crate) fn sends_packet(packet: ArrayVec<u8, 64>) -> OrderDone
     ensures { (asked : Bool) → Gives result (Step.sends_packet asked packet.items) }
 {
-    Done {
-        account: None,
+    OrderDone {
         mode: None,
         reply: Reply {
             radio: Some(packet),

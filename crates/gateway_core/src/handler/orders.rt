@@ -6,7 +6,7 @@ ghost use Rattle.gateway_core.specs.Step.{if_supported, line_effect, order_effec
 ghost use Rattle.gateway_core.specs.private.Tries.{Gives, Tries};
 
 use crate::handler::Handler;
-use crate::handler::done::{Done, denied, labelled, sets, told};
+use crate::handler::done::{OrderDone, denied, labelled, sets, told};
 use crate::handler::sending::{ask_base, error_of};
 use crate::limits::MAX_LINE;
 use crate::refusal::Refusal;
@@ -18,7 +18,7 @@ use learned_devices::{Device, DeviceStore, Label};
 use teach_in::{Mode, supported};
 
 // Opens the mode that learns with this profile.
-fn open_as(eep: Eep) -> Done
+fn open_as(eep: Eep) -> OrderDone
     ensures { Gives result (if_supported eep (sets (LearnAs eep))) }
 {
     if supported(eep) {
@@ -30,7 +30,7 @@ fn open_as(eep: Eep) -> Done
 
 impl<S: DeviceStore> Handler<S> {
     // Learns a device that the desk names.
-    fn try_add(&mut self, id: u32, eep: Eep) -> Result<Done, Refusal>
+    fn try_add(&mut self, id: u32, eep: Eep) -> Result<OrderDone, Refusal>
         ensures { Tries S.kept self.old (λ state. order_effect state (Ok (Order.Add id eep))) result self.new }
     {
         if !supported(eep) {
@@ -45,7 +45,7 @@ impl<S: DeviceStore> Handler<S> {
     }
 
     // Forgets a device that the desk names.
-    fn try_remove(&mut self, id: u32) -> Result<Done, Refusal>
+    fn try_remove(&mut self, id: u32) -> Result<OrderDone, Refusal>
         ensures { Tries S.kept self.old (λ state. order_effect state (Ok (Order.Remove id))) result self.new }
     {
         match self.registry.find(id)? {
@@ -56,7 +56,7 @@ impl<S: DeviceStore> Handler<S> {
 
     // Labels a device that the desk names, if it is learned. The answer is a fixed text, so nothing is refused after
     // the write.
-    fn try_label(&mut self, id: u32, label: Label) -> Result<Done, Refusal>
+    fn try_label(&mut self, id: u32, label: Label) -> Result<OrderDone, Refusal>
         ensures { Tries S.kept self.old (λ state. order_effect state (Ok (Order.Label id label))) result self.new }
     {
         match self.registry.relabel(id, label) {
@@ -67,7 +67,7 @@ impl<S: DeviceStore> Handler<S> {
     }
 
     // Tells all devices.
-    fn try_list(&mut self) -> Result<Done, Refusal>
+    fn try_list(&mut self) -> Result<OrderDone, Refusal>
         ensures { Tries S.kept self.old (λ state. order_effect state (Ok Order.List)) result self.new }
     {
         let all = self.registry.all()?;
@@ -76,7 +76,7 @@ impl<S: DeviceStore> Handler<S> {
     }
 
     // Tells the counts and the mode.
-    fn try_status(&self) -> Result<Done, Refusal>
+    fn try_status(&self) -> Result<OrderDone, Refusal>
         ensures { Tries S.kept self.now (λ state. order_effect state (Ok Order.Status)) result self.now }
     {
         let line = status_line(self.alloc, &self.counts, self.mode)?;
@@ -84,7 +84,7 @@ impl<S: DeviceStore> Handler<S> {
     }
 
     // Does an order.
-    fn try_order(&mut self, order: Order) -> Result<Done, Refusal>
+    fn try_order(&mut self, order: Order) -> Result<OrderDone, Refusal>
         requires { IsInRange order }
         ensures { Tries S.kept self.old (λ state. order_effect state (Ok order)) result self.new }
     {
@@ -99,20 +99,13 @@ impl<S: DeviceStore> Handler<S> {
             Order::List => self.try_list(),
             Order::Status => self.try_status(),
             Order::Base => Ok(ask_base()),
-            Order::Switch { .. }
-            | Order::Dim { .. }
-            | Order::Query { .. }
-            | Order::Meter { .. }
-            | Order::Blind { .. }
-            | Order::Stop { .. }
-            | Order::Central { .. }
-            | Order::Level { .. }
-            | Order::Teach { .. } => self.try_send(&order),
+            // It goes to devices.
+            order => self.try_send(&order),
         }
     }
 
     // Handles a line, or refuses it.
-    pub(crate) fn try_line(&mut self, line: &[u8]) -> Result<Done, Refusal>
+    pub(crate) fn try_line(&mut self, line: &[u8]) -> Result<OrderDone, Refusal>
         ensures { Tries S.kept self.old (λ state. line_effect state line.now) result self.new }
     {
         if line.len() > MAX_LINE {

@@ -10,7 +10,7 @@ ghost use Rattle.gateway_core.specs.private.Tries.{Gives, Tries};
 
 use crate::account::{Account, why_other, why_passed_over, why_unread};
 use crate::handler::Handler;
-use crate::handler::done::{Done, accounted, ignored};
+use crate::handler::done::{PacketDone, accounted, ignored};
 use crate::profiles;
 use crate::refusal::Refusal;
 use crate::reply::Desk;
@@ -24,7 +24,7 @@ use std::alloc::{AllocError, Global};
 use teach_in::{Teach, Why};
 
 // The line of what the telegram of this device tells, if its profile reads it.
-fn reading(alloc: Global, telegram: &Telegram, device: &Device) -> Result<Done, AllocError>
+fn reading(alloc: Global, telegram: &Telegram, device: &Device) -> Result<PacketDone, AllocError>
     ensures { IfOk result (λ done. Gives done (reading_effect telegram.now device.now
         (read_by device.now.eep telegram.now))) }
 {
@@ -44,7 +44,7 @@ fn reading(alloc: Global, telegram: &Telegram, device: &Device) -> Result<Done, 
 
 impl<S: DeviceStore> Handler<S> {
     // Tells what a data telegram of a learned sender says. Another sender is learned by it, where that is planned.
-    fn try_data(&mut self, telegram: &Telegram, teach: &Teach) -> Result<Done, Refusal>
+    fn try_data(&mut self, telegram: &Telegram, teach: &Teach) -> Result<PacketDone, Refusal>
         requires { teach.now ≡ teach_in_of telegram.now }
         ensures { Tries S.kept self.old (λ state. case_effect state telegram.now
             (data_case (device_of state.devices telegram.now.sender))) result self.new }
@@ -62,7 +62,7 @@ impl<S: DeviceStore> Handler<S> {
         &mut self,
         telegram: &Telegram,
         teach: &Teach,
-    ) -> Result<Done, Refusal>
+    ) -> Result<PacketDone, Refusal>
         requires { teach.now ≡ teach_in_of telegram.now }
         ensures { Tries S.kept self.old (λ state. telegram_effect state telegram.now) result self.new }
     {
@@ -79,7 +79,7 @@ impl<S: DeviceStore> Handler<S> {
     }
 
     // Handles a packet without a telegram, or refuses it.
-    pub(crate) fn try_other(&self, packet: &PacketRef<'_>) -> Result<Done, Refusal>
+    pub(crate) fn try_other(&self, packet: &PacketRef<'_>) -> Result<PacketDone, Refusal>
         ensures { Tries S.kept self.now (λ _. other_effect (packet_of packet.now)
             (Responses.response_in (packet_of packet.now))) result self.now }
     {

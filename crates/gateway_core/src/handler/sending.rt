@@ -11,7 +11,7 @@ ghost use Rattle.gateway_core.specs.Step.{order_effect, telegram_sent};
 ghost use Rattle.gateway_core.specs.private.Tries.{Gives, Tries};
 
 use crate::handler::Handler;
-use crate::handler::done::{Done, denied, sends_packet};
+use crate::handler::done::{OrderDone, denied, sends_packet};
 use crate::refusal::Refusal;
 use actuator_commands::{Order, OrderFault, packet_of};
 use arrayvec::ArrayVec;
@@ -47,7 +47,7 @@ pub(crate) fn error_of(fault: OrderFault) -> ErrorName
 }
 
 // Asks the radio module for its base ID.
-pub(crate) fn ask_base() -> Done
+pub(crate) fn ask_base() -> OrderDone
     ensures { (asked : Bool) → Gives result (Step.sends_packet asked (spelling Step.base_query)) }
 {
     let mut packet = ArrayVec::new();
@@ -58,7 +58,7 @@ pub(crate) fn ask_base() -> Done
 }
 
 // Sends the telegram of an order, by what is known of its device, or tells why there is none.
-fn send(order: &Order, device: Option<&Device>, base: u32) -> Done
+fn send(order: &Order, device: Option<&Device>, base: u32) -> OrderDone
     requires sends { sends order.now ≡ true }
     requires in_range { IsInRange order.now }
     requires base { is_base base ≡ true }
@@ -73,7 +73,7 @@ fn send(order: &Order, device: Option<&Device>, base: u32) -> Done
 
 impl<S: DeviceStore> Handler<S> {
     // Does an order that goes to devices.
-    pub(crate) fn try_send(&mut self, order: &Order) -> Result<Done, Refusal>
+    pub(crate) fn try_send(&mut self, order: &Order) -> Result<OrderDone, Refusal>
         requires sends { sends order.now ≡ true }
         requires in_range { IsInRange order.now }
         ensures { Tries S.kept self.old (λ state. order_effect state (Ok order.now)) result self.new }

@@ -16,7 +16,7 @@ ghost use Rattle.gateway_core.specs.private.Tries.{Gives, MayReply, Tries, state
 use crate::account::{Account, told_by, why_silent};
 use crate::handler::Handler;
 use crate::handler::changes::Committed;
-use crate::handler::done::{Done, ignored};
+use crate::handler::done::{PacketDone, ignored};
 use crate::handler::sending::packet_with;
 use crate::refusal::Refusal;
 use crate::reply::{Desk, Reply};
@@ -56,24 +56,18 @@ impl<S: DeviceStore> Handler<S> {
         }
     }
 
-    // Tells what came of a sender, and replies to it.
-    fn tell_sender(&self, teach: &Teach, verdict: &Verdict, line: Line) -> Done
+    // Reports to the desk what came of a sender, and replies to the sender.
+    fn answer_sender(&self, teach: &Teach, verdict: &Verdict, line: Line) -> Reply
         requires { MayReply teach.now verdict.now.id verdict.now.outcome }
-        ensures account { result.account ≡ Some (because (why.Told verdict.now.outcome)) }
-        ensures mode { result.mode ≡ None }
-        ensures answer { answer_of result.reply ≡ record {
+        ensures { answer_of result ≡ record {
           radio = radio_of (reply_of self.now.base self.now.mode teach.now verdict.now.outcome);
           explained = [];
           desk = line;
         } }
     {
-        Done {
-            account: Some(Account::because(Why::Told(verdict.outcome()))),
-            mode: None,
-            reply: Reply {
-                radio: self.reply_packet(teach, verdict),
-                desk: Desk::Owned(line),
-            },
+        Reply {
+            radio: self.reply_packet(teach, verdict),
+            desk: Desk::Owned(line),
         }
     }
 
@@ -85,7 +79,7 @@ impl<S: DeviceStore> Handler<S> {
         eep: Option<Eep>,
         maker: Option<u16>,
         outcome: Outcome,
-    ) -> Result<Done, AllocError>
+    ) -> Result<PacketDone, AllocError>
         requires accepted { outcome ≢ Outcome.Accepted }
         requires deleted { outcome ≢ Outcome.Deleted }
         requires reply { MayReply teach.now id outcome }
@@ -95,11 +89,15 @@ impl<S: DeviceStore> Handler<S> {
         let draft = teach_line(self.alloc, id, eep, maker, outcome)?;
         let verdict = Verdict::refused(id, outcome);
         let line = draft.tell(&verdict);
-        Ok(self.tell_sender(teach, &verdict, line))
+        Ok(PacketDone {
+            account: Account::because(Why::Told(outcome)),
+            mode: None,
+            reply: self.answer_sender(teach, &verdict, line),
+        })
     }
 
     // Learns the sender of a telegram.
-    fn try_accept(&mut self, teach: &Teach, device: Device) -> Result<Done, Refusal>
+    fn try_accept(&mut self, teach: &Teach, device: Device) -> Result<PacketDone, Refusal>
         requires label { device.label ≡ [] }
         requires accepted { MayReply teach.now device.id outcome.Accepted }
         requires full { MayReply teach.now device.id outcome.Full }
@@ -113,20 +111,25 @@ impl<S: DeviceStore> Handler<S> {
             let full = self.refuse(teach, id, Some(eep), maker, Outcome::Full)?;
             return Ok(full);
         };
-        let mut done = self.tell_sender(teach, &verdict, line);
-        done.account = Some(account);
-        done.mode = mode_after_one(self.mode);
-        Ok(done)
+        Ok(PacketDone {
+            account,
+            mode: mode_after_one(self.mode),
+            reply: self.answer_sender(teach, &verdict, line),
+        })
     }
 
     // Forgets the sender of a telegram, learned or not.
-    fn try_forget(&mut self, teach: &Teach, id: u32) -> Result<Done, Refusal>
+    fn try_forget(&mut self, teach: &Teach, id: u32) -> Result<PacketDone, Refusal>
         requires { MayReply teach.now id outcome.Deleted }
         ensures { Tries S.kept self.old (λ state. deletes state teach.now id) result self.new }
     {
         let (eep, maker) = told_by(teach);
         let Committed { verdict, line } = self.forget(id, eep, maker)?;
-        Ok(self.tell_sender(teach, &verdict, line))
+        Ok(PacketDone {
+            account: Account::because(Why::Told(Outcome::Deleted)),
+            mode: None,
+            reply: self.answer_sender(teach, &verdict, line),
+        })
     }
 
     // Does what is planned about the sender of a telegram: of one of teach-in, or of data, for which the store was
@@ -136,7 +139,7 @@ impl<S: DeviceStore> Handler<S> {
         telegram: &Telegram,
         teach: &Teach,
         asked: bool,
-    ) -> Result<Done, Refusal>
+    ) -> Result<PacketDone, Refusal>
         requires { teach.now ≡ teach_in_of telegram.now }
         ensures { Tries S.kept self.old (λ state. plan_effect state telegram.now asked
             (plan_of telegram.now state.mode false)) result self.new }

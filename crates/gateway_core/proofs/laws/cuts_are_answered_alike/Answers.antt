@@ -1,4 +1,4 @@
-use Rattle.gateway_core.proofs.EventLemmas.{cuts_are_answered_alike}
+use Rattle.gateway_core.proofs.CutLemmas.{cuts_are_answered_alike}
 use Rattle.gateway_core.proofs.laws.cuts_are_answered_alike.Goals as goal
 
 pub returns : goal.returns

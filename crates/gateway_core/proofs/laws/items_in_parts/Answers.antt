@@ -1,4 +1,4 @@
-use Rattle.gateway_core.proofs.EventLemmas.{items_of-append, brought-rest}
+use Rattle.gateway_core.proofs.CutLemmas.{items_of-append, brought-rest}
 use Rattle.gateway_core.proofs.laws.items_in_parts.Goals as goal
 
 pub returns-clause-items : goal.returns-clause-items

@@ -12,9 +12,9 @@ pub returns-in_err-write_text-clause-written : goal.returns-in_err-write_text-cl
 returns-in_err-write_text-clause-written g c =
     let old = g.W.Sink.held c.args.writer.now in
     let new = g.W.Sink.held c.write_text.new.writer in
-    let text = packet_text c.in-Some.packet.now in
+    let text = packet_text c.in-Some.line.now in
     let part : AppendsPart old new [] text =
-    rw (c.as_slice.ensures.value, c.packet_line.ensures, c.line.ensures) at c.in_err-write_text.ensures.written in
+    rw (c.as_slice.ensures.value, c.packet_line.ensures) at c.in_err-write_text.ensures.written in
     rw (c.if-explains.true, c.in-Some.is)
     (writes_part _ _ _ _ _ c.from_residual.ensures.1
     (part_of_front old new text (desk_bytes c.args.reply.now.desk) part))
@@ -30,11 +30,11 @@ returns-clause-written g c =
     rw c.as_bytes.ensures at c.write_text-2.ensures.written in
     elim c.if-explains.branch [
       | then-explains+in-Some+in_ok-write_text w ↦
-          let first : Appends old (held c.if-explains.writer) (packet_text w.in-Some.packet.now) =
-          rw (w.writer-is, ← w.line.ensures, ← w.packet_line.ensures, ← w.as_slice.ensures.value)
+          let first : Appends old (held c.if-explains.writer) (packet_text w.in-Some.line.now) =
+          rw (w.writer-is, ← w.packet_line.ensures, ← w.as_slice.ensures.value)
           w.in_ok-write_text.ensures.written in
           rw (w.if-explains.true, w.in-Some.is)
-          (writes_behind old (held c.if-explains.writer) new r (packet_text w.in-Some.packet.now) text first desk)
+          (writes_behind old (held c.if-explains.writer) new r (packet_text w.in-Some.line.now) text first desk)
       | then-explains+in_default w ↦ rw (w.if-explains.true, w.in_default.is) (rw w.writer-is at desk)
       | else-explains w ↦ rw w.if-explains.false (rw w.writer-is at desk)
     ]

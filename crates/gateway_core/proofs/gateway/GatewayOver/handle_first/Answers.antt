@@ -1,4 +1,4 @@
-use Rattle.std.proofs.Common.{◌≡◌, List, ℕ, [], ◌∷◌, ◌++◌, take, refl, sym, ap, ◌∙◌}
+use Rattle.std.proofs.Common.{◌≡◌, List, ℕ, [], ◌∷◌, ◌++◌, take, sym, ap, ◌∙◌}
 use Rattle.esp3_frames.specs.Packet.{Packet}
 use Rattle.esp3_frames.specs.Frames.{Frames, frames_of}
 use Rattle.esp3_frames.specs.Outcome.{packet_of}
@@ -17,7 +17,6 @@ returns-clause-taken g c =
       handler = c.self.inside.handler;
       ready = packet ∷ [];
       rest = old.rest;
-      explained = old.explained;
     } in
     let ready : framer.ready ≡ [] = ap (λ (v : Value Over). v.ready) c.self.view_is ∙ c.requires in
     let rest : framer.rest ≡ old.rest = ap (λ (v : Value Over). v.rest) c.self.view_is in
@@ -29,7 +28,6 @@ returns-clause-taken g c =
         ap (λ (v : Value Over). v.handler) c.self.view_is,
         sym (ap (λ (f : Frames). f.ready) framed),
         sym (ap (λ (f : Frames). f.rest) framed ∙ rest),
-        refl,
       ),
-      (packet, ap (λ (ps : List Packet). packet ∷ ps) (sym ready), rest, c.packet.ensures, refl),
+      (packet, ap (λ (ps : List Packet). packet ∷ ps) (sym ready), rest, c.packet.ensures),
     )

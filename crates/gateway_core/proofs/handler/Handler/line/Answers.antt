@@ -5,11 +5,12 @@ use Rattle.gateway_core.proofs.handler.Handler.line.Goals as goal
 
 pub returns : goal.returns
 returns g c =
+    let reply = c.order_reply in
     tries-handles g.S.DeviceStore.kept _ _ _ (Ordered c.args.line.now) _ _
     (record {
-      answer_is = ap (explained_by []) c.reply_to-reply.ensures.answer;
-      base = c.reply_to-reply.ensures.base;
-      mode = c.reply_to-reply.ensures.mode;
-      counts = c.reply_to-reply.ensures.counts;
-      registry = c.reply_to-reply.ensures.registry;
+      answer_is = ap (explained_by []) reply.ensures.answer;
+      base = reply.ensures.base;
+      mode = reply.ensures.mode;
+      counts = reply.ensures.counts;
+      registry = reply.ensures.registry;
     }) c.try_line-tried.ensures

@@ -1,21 +1,23 @@
 use Rattle.std.proofs.Common.{refl, sym, ap, ◌∙◌}
 use Rattle.esp3_frames.specs.Outcome.{packet_of}
+use Rattle.json_lines.specs.PacketLines.{packet_text}
 use Rattle.gateway_core.specs.Replies.{answer_of}
-use Rattle.gateway_core.specs.Step.{Received, explaining, line_for}
+use Rattle.gateway_core.specs.Step.{Received, explained_by, explaining, line_for}
 use Rattle.gateway_core.specs.private.Tries.{account_from}
 use Rattle.gateway_core.proofs.TryLemmas.{tries-handles, tries-same}
 use Rattle.gateway_core.proofs.handler.Handler.packet.Goals as goal
 
 pub returns-in_default : goal.returns-in_default
 returns-in_default g c =
-    let item = Received (packet_of c.args.packet.now) in
-    let reply = c.reply_to-reply in
+    let packet = packet_of c.args.packet.now in
+    let reply = c.packet_reply-reply in
     let none = sym c.read.ensures ∙ c.in_default.is in
-    let line = c.of_other.ensures c.in_default.field-0 none ∙ ap (line_for item) reply.ensures.account in
-    tries-handles g.S.DeviceStore.kept _ _ _ item _ _
+    tries-handles g.S.DeviceStore.kept _ _ _ (Received packet) _ _
     (record {
-      answer_is = ap (λ l. explaining l (answer_of reply.result.0)) line
-          ∙ ap (explaining (line_for item (account_from c.try_other-tried.result))) reply.ensures.answer;
+      answer_is = ap (λ l. explained_by (packet_text l) (answer_of reply.result.0))
+          (c.line_of_other-line.ensures c.in_default.field-0 none)
+          ∙ ap (λ a. explaining (line_for (Received packet) a) (answer_of reply.result.0)) reply.ensures.account
+          ∙ ap (explaining (line_for (Received packet) (account_from c.try_other-tried.result))) reply.ensures.answer;
       base = reply.ensures.base;
       mode = reply.ensures.mode;
       counts = reply.ensures.counts;
@@ -24,15 +26,15 @@ returns-in_default g c =
 
 pub returns : goal.returns
 returns g c =
-    let item = Received (packet_of c.args.packet.now) in
-    let reply = c.reply_to-reply-2 in
+    let packet = packet_of c.args.packet.now in
+    let reply = c.packet_reply-reply-2 in
     let telegram = sym c.read.ensures ∙ c.in-Ok.is in
-    let line = c.of_telegram.ensures (packet_of c.args.packet.now) telegram
-    ∙ ap (line_for item) reply.ensures.account in
-    tries-handles g.S.DeviceStore.kept _ _ _ item _ _
+    tries-handles g.S.DeviceStore.kept _ _ _ (Received packet) _ _
     (record {
-      answer_is = ap (λ l. explaining l (answer_of reply.result.0)) line
-          ∙ ap (explaining (line_for item (account_from c.try_telegram-tried.result))) reply.ensures.answer;
+      answer_is = ap (λ l. explained_by (packet_text l) (answer_of reply.result.0))
+          (c.line_of_telegram-line.ensures packet telegram)
+          ∙ ap (λ a. explaining (line_for (Received packet) a) (answer_of reply.result.0)) reply.ensures.account
+          ∙ ap (explaining (line_for (Received packet) (account_from c.try_telegram-tried.result))) reply.ensures.answer;
       base = reply.ensures.base;
       mode = reply.ensures.mode;
       counts = reply.ensures.counts;

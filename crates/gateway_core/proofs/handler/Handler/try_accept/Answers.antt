@@ -56,7 +56,7 @@ returns g c =
       taught-answer (state_of c.learn.new.self devices) c.args.teach.now (told_of c.args.device Accepted) _ _ _
           (ap (λ (e : Committed). e.verdict.outcome) (sym c.in-Some.field-0-is) ∙ learned.told.1)
           (ap (λ (e : Committed). e.line) (sym c.in-Some.field-0-is) ∙ learned.told.2)
-          c.tell_sender-done.ensures.answer,
+          c.answer_sender.ensures,
       ap Some c.of_device-account.ensures,
-      c.mode_after_one-done.ensures ∙ ap (λ (v : HandlerValue _). mode_after_one v.mode) c.self.view_is,
+      c.mode_after_one.ensures ∙ ap (λ (v : HandlerValue _). mode_after_one v.mode) c.self.view_is,
     ))

@@ -1,9 +1,7 @@
 use Rattle.std.proofs.Common.{refl, sym, ap, ◌∙◌, Some}
 use Rattle.std.proofs.lemmas.Result.{err_from_is_err_and}
 use Rattle.teach_in.specs.declared.outcome.Outcome.TheVariants.{Deleted}
-use Rattle.teach_in.specs.declared.why.Why.TheVariants.{Told}
 use Rattle.json_lines.specs.Lines.{Teach, TeachLine, text}
-use Rattle.gateway_core.specs.Accounts.{because}
 use Rattle.gateway_core.specs.Step.{deletes, line_with}
 use Rattle.gateway_core.specs.private.Tries.{state_of}
 use Rattle.gateway_core.proofs.TryLemmas.{line_told, taught-answer, tries-forgotten, tries-unforgotten}
@@ -27,8 +25,7 @@ returns g c =
       taught-answer (state_of c.forget.new.self devices) c.args.teach.now
           (line_with c.args.id c.args.teach.now Deleted) _ _ _
           (forgotten.told.1 ∙ ap (λ (l : TeachLine). l.outcome) line)
-          (forgotten.told.2 ∙ ap (λ l. text (Teach l)) line) c.tell_sender.ensures.answer,
-      c.tell_sender.ensures.account
-          ∙ ap (λ o. Some (because (Told o))) (forgotten.told.1 ∙ ap (λ (l : TeachLine). l.outcome) line),
-      c.tell_sender.ensures.mode,
+          (forgotten.told.2 ∙ ap (λ l. text (Teach l)) line) c.answer_sender.ensures,
+      ap Some c.because.ensures,
+      refl,
     ))

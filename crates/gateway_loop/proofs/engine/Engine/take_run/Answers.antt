@@ -2,8 +2,7 @@ use Rattle.std.proofs.Common.{take, drop, rules, subst, sym}
 use Rattle.std.proofs.lemmas.List.{take-append-drop}
 use Rattle.std.proofs.lemmas.Result.{err_from_is_err_and}
 use Rattle.gateway_core.specs.Calls.{Value, Moves, Bytes}
-use Rattle.gateway_core.specs.Replies.{answer_of}
-use Rattle.gateway_core.specs.Step.{explained_by}
+use Rattle.gateway_core.specs.Replies.{packet_answer}
 use Rattle.gateway_loop.proofs.EngineStepLemmas.{drains_nothing, drains_one, drains_part, takes_run, breaks_in_run}
 use Rattle.gateway_loop.proofs.engine.Engine.take_run.Goals as goal
 
@@ -18,7 +17,7 @@ returns-in_err-answer_packet-clause-taken g c =
     let n = c.in-Some.count in
     let bytes = c.args.bytes.now in
     let mid = c.in-Some.ensures.taken.0 in
-    let answer = explained_by c.handle_first.new.self.explained (answer_of c.in-Some.reply) in
+    let answer = packet_answer c.in-Some.handled in
     let exit = err_from_is_err_and c.from_residual.result c.from_residual.ensures.1 in
     rw exit.1
     (breaks_in_run stored way old new mid (take n bytes) (drop n bytes) bytes c.requires.idle c.in-Some.ensures.taken.1
@@ -34,7 +33,7 @@ returns-in-Some-clause-taken g c =
     let old = c.args.self.now in
     let new = c.answer_packet.new.self in
     let mid = c.in-Some.ensures.taken.0 in
-    let answer = explained_by c.handle_first.new.self.explained (answer_of c.in-Some.reply) in
+    let answer = packet_answer c.in-Some.handled in
     takes_run stored way old new mid (take c.in-Some.count c.args.bytes.now) c.requires.idle c.in-Some.ensures.taken.1
     (rw c.answer_packet.ensures.kept c.in-Some.ensures.ready)
     (drains_one stored way mid mid new.gateway.now answer old.outlet old.outlet new.outlet old.items old.items new.items

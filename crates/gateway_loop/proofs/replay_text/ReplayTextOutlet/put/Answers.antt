@@ -20,7 +20,7 @@ returns-in_err-write_piece-clause-put g c =
     let explains = c.args.self.now.explains in
     let old = sink_value g.W.Sink c.args.self.now.sink.now in
     let new = sink_value g.W.Sink c.write_piece.new.writer in
-    let answer = explaining (option_copied c.args.packet) (answer_of c.args.reply.now) in
+    let answer = explaining (option_copied c.args.line) (answer_of c.args.reply.now) in
     let radio : answer.radio ≡ Some c.as_slice.result.now =
     ap (option_map (λ bytes. bytes.items)) c.in-Some.is ∙ ap Some (sym c.as_slice.ensures.value) in
     let part : AppendsPart old.held new.held [] (radio_text answer.radio) =
@@ -40,7 +40,7 @@ returns-clause-put g c =
     let mid = sink_value g.W.Sink c.match-reply.self.sink.now in
     let new = sink_value g.W.Sink c.write_desk_text.new.writer in
     let r = c.write_desk_text.result in
-    let answer = explaining (option_copied c.args.packet) (answer_of c.args.reply.now) in
+    let answer = explaining (option_copied c.args.line) (answer_of c.args.reply.now) in
     let told : Writes mid.held new.held r (desk_text now answer) = c.write_desk_text.ensures.written in
     elim c.match-reply.branch [
       | in-Some+in_ok-write_piece w ↦
