@@ -162,6 +162,14 @@ fn reads_next<S: DeviceStore>(gateway: &mut GatewayOver<S>) -> bool {
     }
 }
 
+/// Whether it is, as `handle_next` returns it.
+fn handles_next<S: DeviceStore>(gateway: &mut GatewayOver<S>) -> bool {
+    match gateway.handle_next() {
+        Some(handled) => tells(&handled.reply, READ),
+        None => false,
+    }
+}
+
 /// Whether the packet is read that is whole after the first 30 bytes of the stream, and not before.
 fn by_bytes<S: DeviceStore>(gateway: &mut GatewayOver<S>) -> bool {
     for byte in &STREAM[..30] {
@@ -173,12 +181,15 @@ fn by_bytes<S: DeviceStore>(gateway: &mut GatewayOver<S>) -> bool {
     reads_next(gateway) && !gateway.is_ready()
 }
 
-/// Whether a run ends with each of the two packets, and it is read.
+/// Whether a run ends with each of the two packets, both are read, and then none is left.
 fn in_a_run<S: DeviceStore>(gateway: &mut GatewayOver<S>) -> bool {
     if gateway.is_ready() || gateway.bytes(&STREAM) != 30 || !reads_next(gateway) {
         return false;
     }
-    !gateway.is_ready() && gateway.bytes(&STREAM[30..]) == 21 && reads_next(gateway)
+    if gateway.is_ready() || gateway.bytes(&STREAM[30..]) != 21 || !handles_next(gateway) {
+        return false;
+    }
+    gateway.next().is_none() && gateway.handle_next().is_none()
 }
 
 /// Whether the packet at the front of some bytes is read, and no packet if noise is at the front or a byte is held.
@@ -187,7 +198,7 @@ fn at_the_front<S: DeviceStore>(gateway: &mut GatewayOver<S>) -> bool {
         return false;
     }
     let is_read = match gateway.handle_first(&STREAM[9..]) {
-        Some((reply, count)) => count == 21 && tells(&reply, READ),
+        Some((handled, count)) => count == 21 && tells(&handled.reply, READ),
         None => false,
     };
     if gateway.is_ready() {
