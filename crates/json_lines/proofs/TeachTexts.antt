@@ -76,45 +76,27 @@ teach-unknown id maker outcome more = grouped-teach (or_null decimal maker) (out
 
 -- ---- the ends of teach lines
 
--- the outcomes differ in their first letters
-letter : Outcome → ℕ
-letter Accepted = 97
-letter Deleted = 100
-letter Unsupported = 117
-letter Full = 102
-letter General = 103
-letter NoProfile = 110
+-- the outcome of a text that begins as the end of a teach line does: the outcomes differ in their first letters
+outcome_in : List ℕ → Outcome
+outcome_in text =
+    let letter = slice_index_or text 10 0 in
+    if letter == 97 then Accepted else if letter == 100 then Deleted else if letter == 117 then Unsupported
+    else if letter == 102 then Full else if letter == 103 then General else NoProfile
 
-result-letter : (outcome : Outcome) (more : List ℕ) → slice_index_or (result_text outcome ++ more) 10 0 ≡ letter outcome
-unfolding result_text letter
-result-letter Accepted more = refl
-result-letter Deleted more = refl
-result-letter Unsupported more = refl
-result-letter Full more = refl
-result-letter General more = refl
-result-letter NoProfile more = refl
-
-of_letter : ℕ → Outcome
-of_letter n =
-    if n == 97 then Accepted else if n == 100 then Deleted else if n == 117 then Unsupported
-    else if n == 102 then Full else if n == 103 then General else NoProfile
-
-of_letter-letter : (outcome : Outcome) → of_letter (letter outcome) ≡ outcome
-unfolding letter of_letter
-of_letter-letter Accepted = refl
-of_letter-letter Deleted = refl
-of_letter-letter Unsupported = refl
-of_letter-letter Full = refl
-of_letter-letter General = refl
-of_letter-letter NoProfile = refl
+outcome_in-result : (outcome : Outcome) (more : List ℕ) → outcome_in (result_text outcome ++ more) ≡ outcome
+unfolding result_text outcome_in
+outcome_in-result Accepted more = refl
+outcome_in-result Deleted more = refl
+outcome_in-result Unsupported more = refl
+outcome_in-result Full more = refl
+outcome_in-result General more = refl
+outcome_in-result NoProfile more = refl
 
 -- the same end has the same outcome, and the same behind it
 same-result : (a b : Outcome) (more : List ℕ) → result_text a ++ more ≡ result_text b ++ []
     → (a ≡ b) × (more ≡ [])
 same-result a b more e =
-    let letters : letter a ≡ letter b =
-    sym (result-letter a more) ∙ ap (λ (t : List ℕ). slice_index_or t 10 0) e ∙ result-letter b [] in
-    let same : a ≡ b = sym (of_letter-letter a) ∙ ap of_letter letters ∙ of_letter-letter b in
+    let same : a ≡ b = sym (outcome_in-result a more) ∙ ap outcome_in e ∙ outcome_in-result b [] in
     let ends : result_text b ++ more ≡ result_text b ++ [] =
     subst (λ o. result_text o ++ more ≡ result_text b ++ []) same e in
     (same, append_cancel_left (result_text b) more [] ends)
