@@ -3,8 +3,8 @@ ghost use Rattle.std.specs.Prelude.{◌≡◌, ◌+◌, ◌^◌, ◌<◌, ◌≤
 ghost use Rattle.std.specs.Option.{option_copied};
 ghost use Rattle.erp1_telegrams.specs.Address.{is_base};
 ghost use Rattle.erp1_telegrams.specs.Telegram.{fits};
-ghost use Rattle.actuator_commands.specs.Orders.{IsInRange};
 ghost use Rattle.actuator_commands.specs.Limits.{max_channel};
+ghost use Rattle.actuator_commands.specs.Orders.{IsInRange};
 ghost use Rattle.actuator_commands.specs.Packets.{ToOne, has_profile, meter_byte, order_telegram, payload_for};
 ghost use Rattle.actuator_commands.specs.Packets.{query_payload, sends, telegram_for, telegram_to_all, telegram_to_one};
 
@@ -31,6 +31,24 @@ impl Actuator {
             Actuator::Blind => eep.rorg == rorg::VLD && eep.func == 0x05 && eep.typ == 0x00,
         }
     }
+
+    // The telegram with this payload to a device, if it is such an actuator.
+    fn telegram(
+        self,
+        id: u32,
+        payload: &[u8],
+        device: Option<&Device>,
+        base: u32,
+    ) -> Result<Telegram, OrderFault>
+        requires { IsTrue (fits 0xD2 (length payload.now)) }
+        ensures { result ≡ telegram_for (ToOne id (payload_for self payload.now)) (option_copied device.entry) base }
+    {
+        let known = device.ok_or(OrderFault::UnknownDevice)?;
+        if !self.has_profile(known.eep) {
+            return Err(OrderFault::WrongProfile);
+        }
+        Ok(to_one(id, payload, base))
+    }
 }
 
 // A VLD telegram from the base ID to a device.
@@ -42,24 +60,6 @@ fn to_one(id: u32, payload: &[u8], base: u32) -> Telegram
         Ok(telegram) => telegram,
         Err(_) => unreachable!(),
     }
-}
-
-// A telegram to a device, which has to be this actuator.
-fn to_actuator(
-    actuator: Actuator,
-    id: u32,
-    payload: &[u8],
-    device: Option<&Device>,
-    base: u32,
-) -> Result<Telegram, OrderFault>
-    requires { IsTrue (fits 0xD2 (length payload.now)) }
-    ensures { result ≡ telegram_for (ToOne id (payload_for actuator payload.now)) (option_copied device.entry) base }
-{
-    let known = device.ok_or(OrderFault::UnknownDevice)?;
-    if !actuator.has_profile(known.eep) {
-        return Err(OrderFault::WrongProfile);
-    }
-    Ok(to_one(id, payload, base))
 }
 
 // A query of a channel, of a switch or of a blind.
@@ -123,43 +123,22 @@ pub fn packet_of(order: &Order, device: Option<&Device>, base: u32) -> Result<Te
     match *order {
         Order::Switch { id, channel, on } => {
             let value = if on { 0x64 } else { 0x00 };
-            to_actuator(
-                Actuator::Switch,
-                id,
-                &[0x01, channel as u8, value],
-                device,
-                base,
-            )
+            Actuator::Switch.telegram(id, &[0x01, channel as u8, value], device, base)
         }
         Order::Dim { id, channel, value } => {
-            to_actuator(
-                Actuator::Switch,
-                id,
-                &[0x01, channel as u8, value as u8],
-                device,
-                base,
-            )
+            Actuator::Switch.telegram(id, &[0x01, channel as u8, value as u8], device, base)
         }
         Order::Query { id, channel } => query(id, channel, device, base),
         Order::Meter {
             id,
             channel,
             quantity,
-        } => to_actuator(
-            Actuator::Switch,
-            id,
-            &[0x06, meter_byte(channel, quantity)],
-            device,
-            base,
-        ),
-        Order::Blind { id, value } => to_actuator(
-            Actuator::Blind,
-            id,
-            &[value as u8, 0x7F, 0x00, 0x01],
-            device,
-            base,
-        ),
-        Order::Stop { id } => to_actuator(Actuator::Blind, id, &[0x02], device, base),
+        } => Actuator::Switch.telegram(id, &[0x06, meter_byte(channel, quantity)], device, base),
+        Order::Blind { id, value } => {
+            let payload = [value as u8, 0x7F, 0x00, 0x01];
+            Actuator::Blind.telegram(id, &payload, device, base)
+        }
+        Order::Stop { id } => Actuator::Blind.telegram(id, &[0x02], device, base),
         Order::Central { offset, on } => {
             let bits = if on { 0x09 } else { 0x08 };
             to_all(offset, [0x01, 0x00, 0x00, bits], base)
