@@ -7,7 +7,7 @@ use Rattle.std.proofs.lemmas.Bool.{and_parts, le-leb, leb-true, ne_eqb}
 use Rattle.std.proofs.lemmas.List.Splits.{join_with_byte-slice_split}
 use Rattle.std.proofs.lemmas.Slice.Zip.{AllZip-long}
 use Rattle.actuator_commands.specs.Words.{words, Word, Says, Id, Profile, Number, Text, SpellsWord, IsWordInRange}
-use Rattle.actuator_commands.specs.Words.{is_word_in_range, id_in, eep_in, number_in, state_in, quantity_in}
+use Rattle.actuator_commands.specs.Words.{is_word_in_range, id_in}
 use Rattle.actuator_commands.specs.Words.{of_two, of_three, label_in}
 use Rattle.learned_devices.specs.Labels.{max_label}
 use Rattle.actuator_commands.specs.declared.orders.Order.{Order}
@@ -89,11 +89,11 @@ fits_two_words name second =
     (fits_if ws (bytes_eq name (codes "learn") && bytes_eq second (codes "off")) _ _
     (λ e. let both = two_named name second (codes "learn") (codes "off") e in (both.0, (both.1, tt)))
     (fits_named ws name (codes "remove") _ _
-    (λ is. fits_map ws (λ id. Remove id) (id_in second) (λ id i. (is, (id_spelled second id i, tt))))
+    (λ is. fits_map ws (λ id. Remove id) _ (λ id i. (is, (id_spelled second id i, tt))))
     (fits_named ws name (codes "stop") _ _
-    (λ is. fits_map ws (λ id. Stop id) (id_in second) (λ id i. (is, (id_spelled second id i, tt))))
+    (λ is. fits_map ws (λ id. Stop id) _ (λ id i. (is, (id_spelled second id i, tt))))
     (fits_named ws name (codes "teach") _ None
-    (λ is. fits_map ws (λ offset. Teach offset) (number_in second) (λ n k. (is, (number_spelled second n k, tt))))
+    (λ is. fits_map ws (λ offset. Teach offset) _ (λ n k. (is, (number_spelled second n k, tt))))
     tt))))
 
 fits_three_words : (name second third : List ℕ) → Fits (name ∷ second ∷ third ∷ []) (three_words name second third)
@@ -106,19 +106,18 @@ fits_three_words name second third =
     (both.0, (both.1, (named third (codes "answer") all.1, tt))))
     (fits_if ws (bytes_eq name (codes "learn") && bytes_eq second (codes "as")) _ _
     (λ e. let both = two_named name second (codes "learn") (codes "as") e in
-    fits_map ws (λ eep. LearnAs eep) (eep_in third)
-    (λ eep p. (both.0, (both.1, (eep_spelled third eep p, tt)))))
+    fits_map ws (λ eep. LearnAs eep) _ (λ eep p. (both.0, (both.1, (eep_spelled third eep p, tt)))))
     (fits_named ws name (codes "add") _ _
-    (λ is. fits_of_two ws (λ id eep. Add id eep) (id_in second) (eep_in third)
+    (λ is. fits_of_two ws (λ id eep. Add id eep) _ _
     (λ id eep i p. (is, (id_spelled second id i, (eep_spelled third eep p, tt)))))
     (fits_named ws name (codes "query") _ _
-    (λ is. fits_of_two ws (λ id channel. Query id channel) (id_in second) (number_in third)
+    (λ is. fits_of_two ws (λ id channel. Query id channel) _ _
     (λ id n i k. (is, (id_spelled second id i, (number_spelled third n k, tt)))))
     (fits_named ws name (codes "blind") _ _
-    (λ is. fits_of_two ws (λ id value. Blind id value) (id_in second) (number_in third)
+    (λ is. fits_of_two ws (λ id value. Blind id value) _ _
     (λ id n i k. (is, (id_spelled second id i, (number_spelled third n k, tt)))))
     (fits_named ws name (codes "central") _ None
-    (λ is. fits_of_two ws (λ offset on. Central offset on) (number_in second) (state_in third)
+    (λ is. fits_of_two ws (λ offset on. Central offset on) _ _
     (λ n on k o. (is, (number_spelled second n k, (state_spelled third on o, tt)))))
     tt)))))
 
@@ -128,16 +127,16 @@ unfolding Fits
 fits_four_words name second third fourth =
     let ws : List (List ℕ) = name ∷ second ∷ third ∷ fourth ∷ [] in
     fits_named ws name (codes "switch") _ _
-    (λ is. fits_of_three ws (λ id channel on. Switch id channel on) (id_in second) (number_in third) (state_in fourth)
+    (λ is. fits_of_three ws (λ id channel on. Switch id channel on) _ _ _
     (λ id n on i k o. (is, (id_spelled second id i, (number_spelled third n k, (state_spelled fourth on o, tt))))))
     (fits_named ws name (codes "dim") _ _
-    (λ is. fits_of_three ws (λ id channel v. Dim id channel v) (id_in second) (number_in third) (number_in fourth)
+    (λ is. fits_of_three ws (λ id channel v. Dim id channel v) _ _ _
     (λ id n v i k o. (is, (id_spelled second id i, (number_spelled third n k, (number_spelled fourth v o, tt))))))
     (fits_named ws name (codes "meter") _ _
-    (λ is. fits_of_three ws (λ id channel q. Meter id channel q) (id_in second) (number_in third) (quantity_in fourth)
+    (λ is. fits_of_three ws (λ id channel q. Meter id channel q) _ _ _
     (λ id n q i k o. (is, (id_spelled second id i, (number_spelled third n k, (quantity_spelled fourth q o, tt))))))
     (fits_named ws name (codes "level") _ None
-    (λ is. fits_of_three ws (λ offset v r. Level offset v r) (number_in second) (number_in third) (number_in fourth)
+    (λ is. fits_of_three ws (λ offset v r. Level offset v r) _ _ _
     (λ n v r k o p. (is, (number_spelled second n k, (number_spelled third v o, (number_spelled fourth r p, tt))))))
     tt)))
 

@@ -18,8 +18,8 @@ use Rattle.teach_in.specs.declared.outcome.Outcome.TheVariants.{Accepted, Delete
 use Rattle.teach_in.specs.declared.outcome.Outcome.TheVariants as outcome
 use Rattle.json_lines.specs.declared.counts.Counts.{Counts}
 use Rattle.json_lines.specs.declared.error_lines.ErrorName.{ErrorName}
-use Rattle.json_lines.specs.declared.error_lines.ErrorName.TheVariants.{Syntax, TooLong, Range, UnknownDevice, WrongProfile}
-use Rattle.json_lines.specs.declared.error_lines.ErrorName.TheVariants.{UnsupportedProfile, Memory, Store}
+use Rattle.json_lines.specs.declared.error_lines.ErrorName.TheVariants.{Syntax, TooLong, Range, UnknownDevice}
+use Rattle.json_lines.specs.declared.error_lines.ErrorName.TheVariants.{WrongProfile, UnsupportedProfile, Memory, Store}
 use Rattle.json_lines.specs.declared.error_lines.ErrorName.TheVariants as error
 
 -- ---- what a line tells
