@@ -2,6 +2,7 @@
 use Rattle.std.proofs.Common.{◌≡◌, ℕ, Bool, true, false, cond, not, ◌==◌, ◌&&◌}
 use Rattle.std.proofs.Common.{List, [], ◌∷◌, refl, sym, ap, ◌∙◌}
 use Rattle.std.proofs.Common.{subst, Some, None}
+use Rattle.std.proofs.Math.Bool.{and-false}
 use Rattle.std.specs.Prelude.{Result, Ok, Err, MatchResult, codes, nat_le, length, option_map}
 use Rattle.std.specs.Borrow.{Bor}
 use Rattle.std.specs.List.{AllZip, join_with_byte}
@@ -43,16 +44,12 @@ label_named (first ∷ more) text e =
 
 -- ---- its range
 
-and_false : (b : Bool) → (b && false) ≡ false
-and_false true = refl
-and_false false = refl
-
 -- a text that is too long is out of range
 too_long : (id : ℕ) (text : List ℕ) → nat_le (length text) max_label ≡ false
     → is_in_range (Label id text) ≡ false
 too_long id [] long = absurd cc
 too_long id (first ∷ more) long =
-    ap (λ b. not (id == 0xFFFF_FFFF) && (b && true)) long ∙ and_false (not (id == 0xFFFF_FFFF))
+    ap (λ b. not (id == 0xFFFF_FFFF) && (b && true)) long ∙ and-false (not (id == 0xFFFF_FFFF))
 
 not_taken : (id : ℕ) (more : List (List ℕ)) (text : List ℕ) → label_in more ≡ Some text
     → (is_label text ≡ true → ⊥) → result_of (Some (Label id text)) ≡ Err Range

@@ -1,13 +1,14 @@
 -- The computed order of a line is the one that the line spells.
 use Rattle.std.proofs.Common.{◌≡◌, ℕ, Bool, true, false, cond, List, [], ◌∷◌, refl, sym, ap, ◌∙◌, subst, Option, Some}
-use Rattle.std.proofs.Common.{None, not, ◌==◌, ◌&&◌, ◌⊎◌, inl, inr}
-use Rattle.std.specs.Prelude.{Result, Ok, Err, codes, bytes_eq, nat_le, option_map, length, ◌++◌}
+use Rattle.std.proofs.Common.{None, not, ◌==◌, ◌&&◌, ◌⊎◌, inl, inr, arith}
+use Rattle.std.specs.Prelude.{Result, Ok, Err, codes, bytes_eq, nat_le, option_map, length}
 use Rattle.std.specs.List.{AllByRecursion, AllZip, join_with_byte, list_all}
 use Rattle.std.proofs.lemmas.Bool.{and_parts, le-leb, leb-true, ne_eqb}
 use Rattle.std.proofs.lemmas.List.Splits.{join_with_byte-slice_split}
+use Rattle.std.proofs.lemmas.Slice.Zip.{AllZip-long}
 use Rattle.actuator_commands.specs.Words.{words, Word, Says, Id, Profile, Number, Text, SpellsWord, IsWordInRange}
-use Rattle.actuator_commands.specs.Words.{is_word_in_range, id_in, eep_in, number_in, state_in, quantity_in}
-use Rattle.actuator_commands.specs.Words.{of_two, of_three, text_in, label_in}
+use Rattle.actuator_commands.specs.Words.{is_word_in_range, id_in}
+use Rattle.actuator_commands.specs.Words.{of_two, of_three, label_in}
 use Rattle.learned_devices.specs.Labels.{max_label}
 use Rattle.actuator_commands.specs.declared.orders.Order.{Order}
 use Rattle.actuator_commands.specs.declared.orders.Order.TheVariants.{LearnOn, LearnOnAnswer, LearnAs, LearnOff}
@@ -43,6 +44,10 @@ fits_if : (ws : List (List ℕ)) (b : Bool) (o else' : Option Order) → (b ≡ 
 fits_if ws true o else' h k = h refl
 fits_if ws false o else' h k = k
 
+fits_named : (ws : List (List ℕ)) (text name : List ℕ) (o else' : Option Order) → (text ≡ name → Fits ws o)
+    → Fits ws else' → Fits ws (cond (bytes_eq text name) o else')
+fits_named ws text name o else' h = fits_if ws (bytes_eq text name) o else' (λ e. h (named text name e))
+
 module _ {A : Type 0} where
   fits_map : (ws : List (List ℕ)) (make : A → Order) (a : Option A)
       → ((x : A) → a ≡ Some x → AllZip SpellsWord ws (words_of (make x))) → Fits ws (option_map make a)
@@ -71,9 +76,9 @@ fits_one_word : (name : List ℕ) → Fits (name ∷ []) (one_word name)
 unfolding Fits
 fits_one_word name =
     let ws : List (List ℕ) = name ∷ [] in
-    fits_if ws (bytes_eq name (codes "list")) _ _ (λ e. (named name (codes "list") e, tt))
-    (fits_if ws (bytes_eq name (codes "status")) _ _ (λ e. (named name (codes "status") e, tt))
-    (fits_if ws (bytes_eq name (codes "base")) _ None (λ e. (named name (codes "base") e, tt)) tt))
+    fits_named ws name (codes "list") _ _ (λ is. (is, tt))
+    (fits_named ws name (codes "status") _ _ (λ is. (is, tt))
+    (fits_named ws name (codes "base") _ None (λ is. (is, tt)) tt))
 
 fits_two_words : (name second : List ℕ) → Fits (name ∷ second ∷ []) (two_words name second)
 unfolding Fits
@@ -83,15 +88,12 @@ fits_two_words name second =
     (λ e. let both = two_named name second (codes "learn") (codes "on") e in (both.0, (both.1, tt)))
     (fits_if ws (bytes_eq name (codes "learn") && bytes_eq second (codes "off")) _ _
     (λ e. let both = two_named name second (codes "learn") (codes "off") e in (both.0, (both.1, tt)))
-    (fits_if ws (bytes_eq name (codes "remove")) _ _
-    (λ e. fits_map ws (λ id. Remove id) (id_in second)
-    (λ id i. (named name (codes "remove") e, (id_spelled second id i, tt))))
-    (fits_if ws (bytes_eq name (codes "stop")) _ _
-    (λ e. fits_map ws (λ id. Stop id) (id_in second)
-    (λ id i. (named name (codes "stop") e, (id_spelled second id i, tt))))
-    (fits_if ws (bytes_eq name (codes "teach")) _ None
-    (λ e. fits_map ws (λ offset. Teach offset) (number_in second)
-    (λ offset o. (named name (codes "teach") e, (number_spelled second offset o, tt))))
+    (fits_named ws name (codes "remove") _ _
+    (λ is. fits_map ws (λ id. Remove id) _ (λ id i. (is, (id_spelled second id i, tt))))
+    (fits_named ws name (codes "stop") _ _
+    (λ is. fits_map ws (λ id. Stop id) _ (λ id i. (is, (id_spelled second id i, tt))))
+    (fits_named ws name (codes "teach") _ None
+    (λ is. fits_map ws (λ offset. Teach offset) _ (λ n k. (is, (number_spelled second n k, tt))))
     tt))))
 
 fits_three_words : (name second third : List ℕ) → Fits (name ∷ second ∷ third ∷ []) (three_words name second third)
@@ -104,20 +106,19 @@ fits_three_words name second third =
     (both.0, (both.1, (named third (codes "answer") all.1, tt))))
     (fits_if ws (bytes_eq name (codes "learn") && bytes_eq second (codes "as")) _ _
     (λ e. let both = two_named name second (codes "learn") (codes "as") e in
-    fits_map ws (λ eep. LearnAs eep) (eep_in third)
-    (λ eep p. (both.0, (both.1, (eep_spelled third eep p, tt)))))
-    (fits_if ws (bytes_eq name (codes "add")) _ _
-    (λ e. fits_of_two ws (λ id eep. Add id eep) (id_in second) (eep_in third)
-    (λ id eep i p. (named name (codes "add") e, (id_spelled second id i, (eep_spelled third eep p, tt)))))
-    (fits_if ws (bytes_eq name (codes "query")) _ _
-    (λ e. fits_of_two ws (λ id channel. Query id channel) (id_in second) (number_in third)
-    (λ id n i k. (named name (codes "query") e, (id_spelled second id i, (number_spelled third n k, tt)))))
-    (fits_if ws (bytes_eq name (codes "blind")) _ _
-    (λ e. fits_of_two ws (λ id value. Blind id value) (id_in second) (number_in third)
-    (λ id n i k. (named name (codes "blind") e, (id_spelled second id i, (number_spelled third n k, tt)))))
-    (fits_if ws (bytes_eq name (codes "central")) _ None
-    (λ e. fits_of_two ws (λ offset on. Central offset on) (number_in second) (state_in third)
-    (λ n on k o. (named name (codes "central") e, (number_spelled second n k, (state_spelled third on o, tt)))))
+    fits_map ws (λ eep. LearnAs eep) _ (λ eep p. (both.0, (both.1, (eep_spelled third eep p, tt)))))
+    (fits_named ws name (codes "add") _ _
+    (λ is. fits_of_two ws (λ id eep. Add id eep) _ _
+    (λ id eep i p. (is, (id_spelled second id i, (eep_spelled third eep p, tt)))))
+    (fits_named ws name (codes "query") _ _
+    (λ is. fits_of_two ws (λ id channel. Query id channel) _ _
+    (λ id n i k. (is, (id_spelled second id i, (number_spelled third n k, tt)))))
+    (fits_named ws name (codes "blind") _ _
+    (λ is. fits_of_two ws (λ id value. Blind id value) _ _
+    (λ id n i k. (is, (id_spelled second id i, (number_spelled third n k, tt)))))
+    (fits_named ws name (codes "central") _ None
+    (λ is. fits_of_two ws (λ offset on. Central offset on) _ _
+    (λ n on k o. (is, (number_spelled second n k, (state_spelled third on o, tt)))))
     tt)))))
 
 fits_four_words : (name second third fourth : List ℕ)
@@ -125,33 +126,18 @@ fits_four_words : (name second third fourth : List ℕ)
 unfolding Fits
 fits_four_words name second third fourth =
     let ws : List (List ℕ) = name ∷ second ∷ third ∷ fourth ∷ [] in
-    fits_if ws (bytes_eq name (codes "switch")) _ _
-    (λ e. fits_of_three ws (λ id channel on. Switch id channel on) (id_in second) (number_in third) (state_in fourth)
-    (λ id n on i k o. (
-      named name (codes "switch") e,
-      (id_spelled second id i, (number_spelled third n k, (state_spelled fourth on o, tt))),
-    )))
-    (fits_if ws (bytes_eq name (codes "dim")) _ _
-    (λ e. fits_of_three ws (λ id channel value. Dim id channel value) (id_in second) (number_in third)
-    (number_in fourth)
-    (λ id n v i k o. (
-      named name (codes "dim") e,
-      (id_spelled second id i, (number_spelled third n k, (number_spelled fourth v o, tt))),
-    )))
-    (fits_if ws (bytes_eq name (codes "meter")) _ _
-    (λ e. fits_of_three ws (λ id channel quantity. Meter id channel quantity) (id_in second) (number_in third)
-    (quantity_in fourth)
-    (λ id n q i k o. (
-      named name (codes "meter") e,
-      (id_spelled second id i, (number_spelled third n k, (quantity_spelled fourth q o, tt))),
-    )))
-    (fits_if ws (bytes_eq name (codes "level")) _ None
-    (λ e. fits_of_three ws (λ offset value ramp. Level offset value ramp) (number_in second) (number_in third)
-    (number_in fourth)
-    (λ n v r k o p. (
-      named name (codes "level") e,
-      (number_spelled second n k, (number_spelled third v o, (number_spelled fourth r p, tt))),
-    )))
+    fits_named ws name (codes "switch") _ _
+    (λ is. fits_of_three ws (λ id channel on. Switch id channel on) _ _ _
+    (λ id n on i k o. (is, (id_spelled second id i, (number_spelled third n k, (state_spelled fourth on o, tt))))))
+    (fits_named ws name (codes "dim") _ _
+    (λ is. fits_of_three ws (λ id channel v. Dim id channel v) _ _ _
+    (λ id n v i k o. (is, (id_spelled second id i, (number_spelled third n k, (number_spelled fourth v o, tt))))))
+    (fits_named ws name (codes "meter") _ _
+    (λ is. fits_of_three ws (λ id channel q. Meter id channel q) _ _ _
+    (λ id n q i k o. (is, (id_spelled second id i, (number_spelled third n k, (quantity_spelled fourth q o, tt))))))
+    (fits_named ws name (codes "level") _ None
+    (λ is. fits_of_three ws (λ offset v r. Level offset v r) _ _ _
+    (λ n v r k o p. (is, (number_spelled second n k, (number_spelled third v o, (number_spelled fourth r p, tt))))))
     tt)))
 
 fits : (ws : List (List ℕ)) → Fits ws (plain_order ws)
@@ -197,141 +183,37 @@ shaped (name ∷ more) = by_name (bytes_eq name (codes "label")) refl
         subst (λ n. Shaped (n ∷ more) (label_order more)) (sym (named name (codes "label") is)) (shaped_label more)
     by_name false is = shaped_words (name ∷ more) (plain_order (name ∷ more)) (fits (name ∷ more))
 
--- texts that spell words: the first of them, and the others
-record Parts (ws : List (List ℕ)) (word : Word) (more : List Word) : Type 0 where
-  text : List ℕ
-  texts : List (List ℕ)
-  whole : ws ≡ text ∷ texts
-  spelled : SpellsWord text word
-  others : AllZip SpellsWord texts more
-
-parts : (ws : List (List ℕ)) (word : Word) (more : List Word) → AllZip SpellsWord ws (word ∷ more) → Parts ws word more
-parts [] word more h = absurd h
-parts (text ∷ texts) word more (is, others) =
-    record { text = text; texts = texts; whole = refl; spelled = is; others = others }
-
-no_more : (ws : List (List ℕ)) → AllZip SpellsWord ws [] → ws ≡ []
-no_more [] h = refl
-no_more (text ∷ texts) h = absurd h
-
--- texts that spell a name and one word more, or two or three
-record TwoTexts (ws : List (List ℕ)) (name : List ℕ) (second : Word) : Type 0 where
-  b : List ℕ
-  whole : ws ≡ name ∷ b ∷ []
-  is_b : SpellsWord b second
-
-record ThreeTexts (ws : List (List ℕ)) (name : List ℕ) (second third : Word) : Type 0 where
-  b : List ℕ
-  c : List ℕ
-  whole : ws ≡ name ∷ b ∷ c ∷ []
-  is_b : SpellsWord b second
-  is_c : SpellsWord c third
-
-record FourTexts (ws : List (List ℕ)) (name : List ℕ) (second third fourth : Word) : Type 0 where
-  b : List ℕ
-  c : List ℕ
-  d : List ℕ
-  whole : ws ≡ name ∷ b ∷ c ∷ d ∷ []
-  is_b : SpellsWord b second
-  is_c : SpellsWord c third
-  is_d : SpellsWord d fourth
-
-one_text : (ws : List (List ℕ)) (name : List ℕ) → AllZip SpellsWord ws (Says name ∷ []) → ws ≡ name ∷ []
-one_text ws name h =
-    let p = parts ws (Says name) [] h in
-    let end = no_more p.texts p.others in
-    cc (p.whole, p.spelled, end)
-
-two_texts : (ws : List (List ℕ)) (name : List ℕ) (second : Word) → AllZip SpellsWord ws (Says name ∷ second ∷ [])
-    → TwoTexts ws name second
-two_texts ws name second h =
-    let p = parts ws (Says name) (second ∷ []) h in
-    let q = parts p.texts second [] p.others in
-    let end = no_more q.texts q.others in
-    record { b = q.text; whole = cc (p.whole, p.spelled, q.whole, end); is_b = q.spelled }
-
-three_texts : (ws : List (List ℕ)) (name : List ℕ) (second third : Word)
-    → AllZip SpellsWord ws (Says name ∷ second ∷ third ∷ []) → ThreeTexts ws name second third
-three_texts ws name second third h =
-    let p = parts ws (Says name) (second ∷ third ∷ []) h in
-    let q = parts p.texts second (third ∷ []) p.others in
-    let r = parts q.texts third [] q.others in
-    let end = no_more r.texts r.others in
-    record {
-      b = q.text;
-      c = r.text;
-      whole = cc (p.whole, p.spelled, q.whole, r.whole, end);
-      is_b = q.spelled;
-      is_c = r.spelled;
-    }
-
-four_texts : (ws : List (List ℕ)) (name : List ℕ) (second third fourth : Word)
-    → AllZip SpellsWord ws (Says name ∷ second ∷ third ∷ fourth ∷ []) → FourTexts ws name second third fourth
-four_texts ws name second third fourth h =
-    let p = parts ws (Says name) (second ∷ third ∷ fourth ∷ []) h in
-    let q = parts p.texts second (third ∷ fourth ∷ []) p.others in
-    let r = parts q.texts third (fourth ∷ []) q.others in
-    let s = parts r.texts fourth [] r.others in
-    let end = no_more s.texts s.others in
-    record {
-      b = q.text;
-      c = r.text;
-      d = s.text;
-      whole = cc (p.whole, p.spelled, q.whole, r.whole, s.whole, end);
-      is_b = q.spelled;
-      is_c = r.spelled;
-      is_d = s.spelled;
-    }
-
 -- words that spell those of an order are read as it
-read : (ws : List (List ℕ)) (order : Order) → AllZip SpellsWord ws (words_of order) → order_in ws ≡ Some order
-read ws LearnOn h =
-    let t = two_texts ws _ _ h in
-    let is : ws ≡ codes "learn" ∷ codes "on" ∷ [] = cc (t.whole, t.is_b) in
-    ap order_in is
-read ws LearnOnAnswer h =
-    let t = three_texts ws _ _ _ h in
-    let is : ws ≡ codes "learn" ∷ codes "on" ∷ codes "answer" ∷ [] = cc (t.whole, t.is_b, t.is_c) in
-    ap order_in is
-read ws (LearnAs eep) h =
-    let t = three_texts ws _ _ _ h in
-    let is : ws ≡ codes "learn" ∷ codes "as" ∷ t.c ∷ [] = cc (t.whole, t.is_b) in
-    rw (is, eep_read t.c eep t.is_c) refl
-read ws LearnOff h =
-    let t = two_texts ws _ _ h in
-    let is : ws ≡ codes "learn" ∷ codes "off" ∷ [] = cc (t.whole, t.is_b) in
-    ap order_in is
-read ws (Add id eep) h =
-    let t = three_texts ws _ _ _ h in rw (t.whole, id_read t.b id t.is_b, eep_read t.c eep t.is_c) refl
-read ws (Remove id) h = let t = two_texts ws _ _ h in rw (t.whole, id_read t.b id t.is_b) refl
-read ws (Label id []) h = let t = two_texts ws _ _ h in rw (t.whole, id_read t.b id t.is_b) refl
-read ws (Label id (first ∷ more)) h =
-    let t = three_texts ws _ _ _ h in
-    ap order_in t.whole ∙ ap (λ o. of_two (λ id label. Label id label) o (text_in t.c)) (id_read t.b id t.is_b)
-    ∙ ap (λ o. of_two (λ id label. Label id label) (Some id) o) (text_read t.c (first ∷ more) t.is_c)
-read ws ListAll h = ap order_in (one_text ws _ h)
-read ws Status h = ap order_in (one_text ws _ h)
-read ws Base h = ap order_in (one_text ws _ h)
-read ws (Switch id channel on) h =
-    let t = four_texts ws _ _ _ _ h in
-    rw (t.whole, id_read t.b id t.is_b, number_read t.c channel t.is_c, t.is_d, state_read on) refl
-read ws (Dim id channel value) h =
-    let t = four_texts ws _ _ _ _ h in
-    rw (t.whole, id_read t.b id t.is_b, number_read t.c channel t.is_c, number_read t.d value t.is_d) refl
-read ws (Query id channel) h =
-    let t = three_texts ws _ _ _ h in rw (t.whole, id_read t.b id t.is_b, number_read t.c channel t.is_c) refl
-read ws (Meter id channel quantity) h =
-    let t = four_texts ws _ _ _ _ h in
-    rw (t.whole, id_read t.b id t.is_b, number_read t.c channel t.is_c, t.is_d, quantity_read quantity) refl
-read ws (Blind id value) h =
-    let t = three_texts ws _ _ _ h in rw (t.whole, id_read t.b id t.is_b, number_read t.c value t.is_c) refl
-read ws (Stop id) h = let t = two_texts ws _ _ h in rw (t.whole, id_read t.b id t.is_b) refl
-read ws (Central offset on) h =
-    let t = three_texts ws _ _ _ h in rw (t.whole, number_read t.b offset t.is_b, t.is_c, state_read on) refl
-read ws (Level offset value ramp) h =
-    let t = four_texts ws _ _ _ _ h in
-    rw (t.whole, number_read t.b offset t.is_b, number_read t.c value t.is_c, number_read t.d ramp t.is_d) refl
-read ws (Teach offset) h = let t = two_texts ws _ _ h in rw (t.whole, number_read t.b offset t.is_b) refl
+read : (order : Order) (ws : List (List ℕ)) → AllZip SpellsWord ws (words_of order) → order_in ws ≡ Some order
+read LearnOn (a ∷ b ∷ []) (is_a, (is_b, _)) = rw (is_a, is_b) refl
+read LearnOnAnswer (a ∷ b ∷ c ∷ []) (is_a, (is_b, (is_c, _))) = rw (is_a, is_b, is_c) refl
+read (LearnAs eep) (a ∷ b ∷ c ∷ []) (is_a, (is_b, (is_c, _))) = rw (is_a, is_b, eep_read c eep is_c) refl
+read LearnOff (a ∷ b ∷ []) (is_a, (is_b, _)) = rw (is_a, is_b) refl
+read (Add id eep) (a ∷ b ∷ c ∷ []) (is_a, (is_b, (is_c, _))) = rw (is_a, id_read b id is_b, eep_read c eep is_c) refl
+read (Remove id) (a ∷ b ∷ []) (is_a, (is_b, _)) = rw (is_a, id_read b id is_b) refl
+read (Label id []) (a ∷ b ∷ []) (is_a, (is_b, _)) = rw (is_a, id_read b id is_b) refl
+read (Label id (first ∷ more)) (a ∷ b ∷ c ∷ []) (is_a, (is_b, (is_c, _))) =
+    rw (is_a, id_read b id is_b, text_read c (first ∷ more) is_c) refl
+read ListAll (a ∷ []) (is_a, _) = rw is_a refl
+read Status (a ∷ []) (is_a, _) = rw is_a refl
+read Base (a ∷ []) (is_a, _) = rw is_a refl
+read (Switch id channel on) (a ∷ b ∷ c ∷ d ∷ []) (is_a, (is_b, (is_c, (is_d, _)))) =
+    rw (is_a, id_read b id is_b, number_read c channel is_c, is_d, state_read on) refl
+read (Dim id channel value) (a ∷ b ∷ c ∷ d ∷ []) (is_a, (is_b, (is_c, (is_d, _)))) =
+    rw (is_a, id_read b id is_b, number_read c channel is_c, number_read d value is_d) refl
+read (Query id channel) (a ∷ b ∷ c ∷ []) (is_a, (is_b, (is_c, _))) =
+    rw (is_a, id_read b id is_b, number_read c channel is_c) refl
+read (Meter id channel quantity) (a ∷ b ∷ c ∷ d ∷ []) (is_a, (is_b, (is_c, (is_d, _)))) =
+    rw (is_a, id_read b id is_b, number_read c channel is_c, is_d, quantity_read quantity) refl
+read (Blind id value) (a ∷ b ∷ c ∷ []) (is_a, (is_b, (is_c, _))) =
+    rw (is_a, id_read b id is_b, number_read c value is_c) refl
+read (Stop id) (a ∷ b ∷ []) (is_a, (is_b, _)) = rw (is_a, id_read b id is_b) refl
+read (Central offset on) (a ∷ b ∷ c ∷ []) (is_a, (is_b, (is_c, _))) =
+    rw (is_a, number_read b offset is_b, is_c, state_read on) refl
+read (Level offset value ramp) (a ∷ b ∷ c ∷ d ∷ []) (is_a, (is_b, (is_c, (is_d, _)))) =
+    rw (is_a, number_read b offset is_b, number_read c value is_c, number_read d ramp is_d) refl
+read (Teach offset) (a ∷ b ∷ []) (is_a, (is_b, _)) = rw (is_a, number_read b offset is_b) refl
+read order ws h = absurd (omega (arith, AllZip-long SpellsWord ws (words_of order) h))
 
 -- ---- the range
 
@@ -386,19 +268,16 @@ speaks : (line : List ℕ) → Speaks line (order_of line)
 speaks line = speaks_by_shape line (order_in (words line)) (shaped (words line))
 
 -- the words of a line with the shape of `label` are read as its texts
-label_joined : (texts : List (List ℕ)) (id : ℕ) (label : List ℕ)
+label_joined : (id : ℕ) (label : List ℕ) (texts : List (List ℕ))
     → AllZip SpellsWord texts (words_of (Label id label))
     → order_in (words (join_with_byte 32 texts)) ≡ order_in texts
-label_joined texts id [] h =
-    let t = two_texts texts _ _ h in
-    let apart : words (codes "label" ++ 32 ∷ t.b) ≡ codes "label" ∷ t.b ∷ [] =
-    label-alone t.b (id-lacks t.b id t.is_b) in
-    ap (λ ws. order_in (words (join_with_byte 32 ws))) t.whole ∙ ap order_in apart ∙ ap order_in (sym t.whole)
-label_joined texts id (first ∷ more) h =
-    let t = three_texts texts _ _ _ h in
-    ap (λ ws. order_in (words (join_with_byte 32 ws))) t.whole
-    ∙ ap order_in (label-apart t.b t.c (id-lacks t.b id t.is_b))
-    ∙ ap (λ o. of_two (λ id label. Label id label) (id_in t.b) o) (label_whole t.c) ∙ ap order_in (sym t.whole)
+label_joined id [] (a ∷ b ∷ []) (is_a, (is_b, _)) =
+    rw is_a (ap order_in (label-alone b (id-lacks b id is_b)))
+label_joined id (first ∷ more) (a ∷ b ∷ c ∷ []) (is_a, (is_b, (is_c, _))) =
+    rw is_a
+    (ap order_in (label-apart b c (id-lacks b id is_b))
+    ∙ ap (λ o. of_two (λ id label. Label id label) (id_in b) o) (label_whole c))
+label_joined id label texts h = absurd (omega (arith, AllZip-long SpellsWord texts (words_of (Label id label)) h))
 
 -- and those of any order
 read_joined : (order : Order) (texts : List (List ℕ)) → AllZip SpellsWord texts (words_of order)
@@ -407,13 +286,13 @@ read_joined order texts spell =
     elim (plain-words order) [
       | inl plain ↦ ap order_in (words-joined order texts plain spell)
       | inr it ↦
-          label_joined texts it.id it.label (subst (λ o. AllZip SpellsWord texts (words_of o)) it.is spell)
+          label_joined it.id it.label texts (subst (λ o. AllZip SpellsWord texts (words_of o)) it.is spell)
     ]
 
 -- a line with the shape of an order is read as its range says
 in_shape : (line : List ℕ) (order : Order) → HasShape line order → order_of line ≡ result_of (Some order)
 in_shape line order (texts, is, spell) =
-    ap order_of is ∙ ap result_of (read_joined order texts spell) ∙ ap result_of (read texts order spell)
+    ap order_of is ∙ ap result_of (read_joined order texts spell) ∙ ap result_of (read order texts spell)
 
 no_syntax : (order : Order) (b : Bool) → cond b (Ok order) (Err Range) ≡ Err Syntax → ⊥
 no_syntax order true e = cc

@@ -39,20 +39,16 @@ id_read digits id (bytes, four, decoded, is) =
 -- ---- a profile
 
 byte_from-some : (r : Result (List ℕ) FromHexError) (byte : ℕ) → byte_from r ≡ Some byte → r ≡ Ok (byte ∷ [])
-byte_from-some (Ok []) byte e = absurd cc
 byte_from-some (Ok (x ∷ [])) byte e = let same : x ≡ byte = cc in ap (λ n. Ok (n ∷ [])) same
-byte_from-some (Ok (x ∷ y ∷ more)) byte e = absurd cc
-byte_from-some (Err fault) byte e = absurd cc
+byte_from-some decoded byte e = absurd cc
 
 byte_spelled : (a b byte : ℕ) → byte_in (a ∷ b ∷ []) ≡ Some byte → decode_of (a ∷ b ∷ []) ≡ Ok (byte ∷ [])
 byte_spelled a b byte e =
     sym (decode_sized-twice (a ∷ b ∷ []) 1 refl) ∙ byte_from-some (decode_sized (a ∷ b ∷ []) 1) byte e
 
 pair : (digits : List ℕ) → length digits ≡ 2 → (a : ℕ) × (b : ℕ) × (digits ≡ a ∷ b ∷ [])
-pair [] e = absurd (omega arith)
-pair (a ∷ []) e = absurd (omega arith)
 pair (a ∷ b ∷ []) e = (a, b, refl)
-pair (a ∷ b ∷ c ∷ more) e = absurd (omega arith)
+pair digits e = absurd (omega arith)
 
 -- two digits that decode to a byte
 byte_read : (digits : List ℕ) (byte : ℕ) → decode_of digits ≡ Ok (byte ∷ [])
@@ -68,9 +64,7 @@ eep_from-some : (r f t : Option ℕ) (eep : Eep) → eep_from r f t ≡ Some eep
 eep_from-some (Some r) (Some f) (Some t) eep e =
     let is : record { rorg = r; func = f; typ = t } ≡ eep = cc in
     (ap (λ (x : Eep). Some x.rorg) is, ap (λ (x : Eep). Some x.func) is, ap (λ (x : Eep). Some x.typ) is)
-eep_from-some None f t eep e = absurd cc
-eep_from-some (Some r) None t eep e = absurd cc
-eep_from-some (Some r) (Some f) None eep e = absurd cc
+eep_from-some r f t eep e = absurd cc
 
 chosen : {A : Type 0} (b : Bool) (o : Option A) (x : A) → cond b o None ≡ Some x → (b ≡ true) × (o ≡ Some x)
 chosen true o x e = (refl, e)
@@ -91,15 +85,7 @@ eep_spelled (a ∷ b ∷ x ∷ c ∷ d ∷ y ∷ e ∷ f ∷ []) eep h =
       is_func = byte_spelled c d eep.func parts.1;
       is_typ = byte_spelled e f eep.typ parts.2;
     }
-eep_spelled [] eep h = absurd cc
-eep_spelled (a ∷ []) eep h = absurd cc
-eep_spelled (a ∷ b ∷ []) eep h = absurd cc
-eep_spelled (a ∷ b ∷ x ∷ []) eep h = absurd cc
-eep_spelled (a ∷ b ∷ x ∷ c ∷ []) eep h = absurd cc
-eep_spelled (a ∷ b ∷ x ∷ c ∷ d ∷ []) eep h = absurd cc
-eep_spelled (a ∷ b ∷ x ∷ c ∷ d ∷ y ∷ []) eep h = absurd cc
-eep_spelled (a ∷ b ∷ x ∷ c ∷ d ∷ y ∷ e ∷ []) eep h = absurd cc
-eep_spelled (a ∷ b ∷ x ∷ c ∷ d ∷ y ∷ e ∷ f ∷ g ∷ more) eep h = absurd cc
+eep_spelled text eep h = absurd cc
 
 pub eep_read : (text : List ℕ) (eep : Eep) → SpellsEep text eep → eep_in text ≡ Some eep
 eep_read text eep s =

@@ -1,3 +1,5 @@
+pub mod Limits
 pub mod Words
 pub mod Orders
 pub mod Packets
+pub mod private

@@ -3,6 +3,7 @@
 use Rattle.std.specs.Prelude.{◌≡◌, ℕ, Bool, ◌&&◌, List, [], ◌∷◌, codes, bytes_eq, Option, Some, None, Result, Ok, Err}
 use Rattle.std.specs.Prelude.{option_map, if◌then◌else◌}
 use Rattle.std.specs.List.{AllByRecursion, AllZip, join_with_byte, list_all}
+use Rattle.actuator_commands.specs.Limits.{max_channel, max_offset, max_value, max_ramp}
 use Rattle.actuator_commands.specs.Words.{words, Word, Says, Id, Profile, Number, Text, SpellsWord, IsWordInRange}
 use Rattle.actuator_commands.specs.Words.{state_name, quantity_name, is_word_in_range, id_in, eep_in, number_in}
 use Rattle.actuator_commands.specs.Words.{state_in, quantity_in, label_in, of_two, of_three}
@@ -31,17 +32,17 @@ words_of (Label id label) = Says (codes "label") ∷ Id id ∷ label_words label
 words_of ListAll = Says (codes "list") ∷ []
 words_of Status = Says (codes "status") ∷ []
 words_of Base = Says (codes "base") ∷ []
-words_of (Switch id channel on) = Says (codes "switch") ∷ Id id ∷ Number 30 channel ∷ Says (state_name on) ∷ []
-words_of (Dim id channel value) = Says (codes "dim") ∷ Id id ∷ Number 30 channel ∷ Number 100 value ∷ []
-words_of (Query id channel) = Says (codes "query") ∷ Id id ∷ Number 30 channel ∷ []
+words_of (Switch id channel on) = Says (codes "switch") ∷ Id id ∷ Number max_channel channel ∷ Says (state_name on) ∷ []
+words_of (Dim id channel value) = Says (codes "dim") ∷ Id id ∷ Number max_channel channel ∷ Number max_value value ∷ []
+words_of (Query id channel) = Says (codes "query") ∷ Id id ∷ Number max_channel channel ∷ []
 words_of (Meter id channel quantity) =
-    Says (codes "meter") ∷ Id id ∷ Number 30 channel ∷ Says (quantity_name quantity) ∷ []
-words_of (Blind id value) = Says (codes "blind") ∷ Id id ∷ Number 100 value ∷ []
+    Says (codes "meter") ∷ Id id ∷ Number max_channel channel ∷ Says (quantity_name quantity) ∷ []
+words_of (Blind id value) = Says (codes "blind") ∷ Id id ∷ Number max_value value ∷ []
 words_of (Stop id) = Says (codes "stop") ∷ Id id ∷ []
-words_of (Central offset on) = Says (codes "central") ∷ Number 127 offset ∷ Says (state_name on) ∷ []
+words_of (Central offset on) = Says (codes "central") ∷ Number max_offset offset ∷ Says (state_name on) ∷ []
 words_of (Level offset value ramp) =
-    Says (codes "level") ∷ Number 127 offset ∷ Number 100 value ∷ Number 255 ramp ∷ []
-words_of (Teach offset) = Says (codes "teach") ∷ Number 127 offset ∷ []
+    Says (codes "level") ∷ Number max_offset offset ∷ Number max_value value ∷ Number max_ramp ramp ∷ []
+words_of (Teach offset) = Says (codes "teach") ∷ Number max_offset offset ∷ []
 
 -- The line has the shape of the order, whatever its numbers: texts that spell the order's words, one by one, with one
 -- space between each two and none before or behind. Own choice.

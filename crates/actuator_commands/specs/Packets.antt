@@ -11,14 +11,13 @@ use Rattle.actuator_commands.specs.declared.orders.OrderFault.{OrderFault}
 use Rattle.actuator_commands.specs.declared.orders.OrderFault.TheVariants.{Range, UnknownDevice, WrongProfile}
 use Rattle.actuator_commands.specs.declared.orders.Quantity.{Quantity}
 use Rattle.actuator_commands.specs.declared.orders.Quantity.TheVariants.{Energy, Power}
+use Rattle.actuator_commands.specs.declared.packets.Actuator.{Actuator}
+use Rattle.actuator_commands.specs.declared.packets.Actuator.TheVariants as actuator
 
--- the profiles of switches and dimmers ("D2-01", with any TYPE)
-abbrev pub is_switch : Eep → Bool
-is_switch eep = eep.rorg == 0xD2 && eep.func == 0x01
-
--- the profile of a blind ("D2-05-00")
-abbrev pub is_blind : Eep → Bool
-is_blind eep = eep.rorg == 0xD2 && eep.func == 0x05 && eep.typ == 0x00
+-- the profiles of an actuator: of switches and dimmers ("D2-01", with any TYPE), and of blinds ("D2-05-00")
+abbrev pub has_profile : Actuator → Eep → Bool
+has_profile actuator.Switch eep = eep.rorg == 0xD2 && eep.func == 0x01
+has_profile actuator.Blind eep = eep.rorg == 0xD2 && eep.func == 0x05 && eep.typ == 0x00
 
 -- What an order says: to the device with an ID, a payload by the device's profile, or none where that has no such
 -- order; or to all, as the sender that has this offset from the base ID.
@@ -26,39 +25,38 @@ pub data Message : Type 0 where
   ToOne : (id : ℕ) → (payload_of : Eep → Option (List ℕ)) → Message
   ToAll : (offset : ℕ) → (payload : List ℕ) → Message
 
-abbrev pub for_switch : List ℕ → Eep → Option (List ℕ)
-for_switch payload eep = if is_switch eep then Some payload else None
-
-abbrev pub for_blind : List ℕ → Eep → Option (List ℕ)
-for_blind payload eep = if is_blind eep then Some payload else None
+-- a payload to these actuators, and none to other devices
+abbrev pub payload_for : Actuator → List ℕ → Eep → Option (List ℕ)
+payload_for actuator payload eep = if has_profile actuator eep then Some payload else None
 
 -- "D2-01", command 3, is followed by the channel; in "D2-05-00", command 3, the high bits of the command's own byte are
 -- the channel, which is 0
-abbrev pub for_query : ℕ → Eep → Option (List ℕ)
-for_query channel eep =
-    if is_switch eep then Some (0x03 ∷ channel ∷ [])
-    else if is_blind eep && channel == 0 then Some (0x03 ∷ [])
+abbrev pub query_payload : ℕ → Eep → Option (List ℕ)
+query_payload channel eep =
+    if has_profile actuator.Switch eep then Some (0x03 ∷ channel ∷ [])
+    else if has_profile actuator.Blind eep && channel == 0 then Some (0x03 ∷ [])
     else None
 
 -- "D2-01", command 6, has the channel in the low bits, and asks for power by the highest bit
-abbrev pub metered : ℕ → Quantity → ℕ
-metered channel Energy = channel
-metered channel Power = channel + 128
+abbrev pub meter_byte : ℕ → Quantity → ℕ
+meter_byte channel Energy = channel
+meter_byte channel Power = channel + 128
 
 -- The table: what each order says, if it goes to devices.
 abbrev pub message_of : Order → Option Message
 -- "D2-01", command 1: the channel, and the value in percent. The bits DV are 0: at once
 message_of (Switch id channel on) =
-    Some (ToOne id (for_switch (0x01 ∷ channel ∷ (if on then 0x64 else 0x00) ∷ [])))
-message_of (Dim id channel value) = Some (ToOne id (for_switch (0x01 ∷ channel ∷ value ∷ [])))
-message_of (Query id channel) = Some (ToOne id (for_query channel))
+    Some (ToOne id (payload_for actuator.Switch (0x01 ∷ channel ∷ (if on then 0x64 else 0x00) ∷ [])))
+message_of (Dim id channel value) = Some (ToOne id (payload_for actuator.Switch (0x01 ∷ channel ∷ value ∷ [])))
+message_of (Query id channel) = Some (ToOne id (query_payload channel))
 -- "D2-01", command 6
-message_of (Meter id channel quantity) = Some (ToOne id (for_switch (0x06 ∷ metered channel quantity ∷ [])))
+message_of (Meter id channel quantity) =
+    Some (ToOne id (payload_for actuator.Switch (0x06 ∷ meter_byte channel quantity ∷ [])))
 -- "D2-05-00", command 1: the position in percent; the angle, which 127 leaves as it is; REPO and LOCK, which are 0; and
 -- the channel 0 with the command
-message_of (Blind id value) = Some (ToOne id (for_blind (value ∷ 0x7F ∷ 0x00 ∷ 0x01 ∷ [])))
+message_of (Blind id value) = Some (ToOne id (payload_for actuator.Blind (value ∷ 0x7F ∷ 0x00 ∷ 0x01 ∷ [])))
 -- "D2-05-00", command 2
-message_of (Stop id) = Some (ToOne id (for_blind (0x02 ∷ [])))
+message_of (Stop id) = Some (ToOne id (payload_for actuator.Blind (0x02 ∷ [])))
 -- "A5-38-08", command 1, without a time: bit 3 of DB0 says that it is no teach-in, and bit 0 is on
 message_of (Central offset on) = Some (ToAll offset (0x01 ∷ 0x00 ∷ 0x00 ∷ (if on then 0x09 else 0x08) ∷ []))
 -- "A5-38-08", command 2: the value and the ramp; bit 2 of DB0 says that the value is in percent, and bit 0 is on. Own

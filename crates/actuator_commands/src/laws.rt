@@ -1,6 +1,8 @@
 //! Laws of the definitions. Each function does nothing: its contract is the law.
 ghost use Rattle.std.specs.Prelude.{◌≡◌, ℕ, ◌↔◌, ◌⊎◌, List, Some, Err};
+ghost use Rattle.actuator_commands.specs.declared.limits.TheConstants.{MAX_LINE};
 ghost use Rattle.actuator_commands.specs.declared.orders.OrderFault.{OrderFault};
+ghost use Rattle.actuator_commands.specs.Limits.{max_line};
 ghost use Rattle.actuator_commands.specs.Orders.{OrdersAreSpelled, order_of};
 ghost use Rattle.actuator_commands.specs.Words.{SpellsId, id_in};
 
@@ -18,4 +20,9 @@ pub fn lines_have_two_faults()
 /// The computed ID of a text is the one that the text spells.
 pub fn ids_are_spelled()
     ensures { (digits : List ℕ) (id : ℕ) → SpellsId digits id ↔ (id_in digits ≡ Some id) }
+{}
+
+/// The limit of a line in the code is that of the definitions.
+pub fn lines_have_a_limit()
+    ensures { MAX_LINE ≡ max_line }
 {}

@@ -10,6 +10,7 @@ mod packets;
 mod words;
 
 pub use grammar::parse;
+pub use limits::MAX_LINE;
 pub use orders::{Order, OrderFault, Quantity};
 pub use packets::packet_of;
 pub use words::id_of;

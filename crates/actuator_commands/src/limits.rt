@@ -1,4 +1,7 @@
-//! The greatest numbers of orders.
+//! The limits of orders.
+
+/// The longest line of the desk, in bytes. Own choice.
+pub const MAX_LINE: usize = 200;
 
 /// The greatest number of a channel: 30 is all channels of a device (EnOcean Equipment Profiles 2.6, "D2-01", "I/O
 /// channel").

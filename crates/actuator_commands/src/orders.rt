@@ -2,6 +2,7 @@
 ghost use Rattle.std.specs.Prelude.{◌≡◌};
 ghost use Rattle.actuator_commands.specs.Orders.{is_in_range};
 ghost use Rattle.actuator_commands.specs.Packets.{recipient, sends};
+ghost use Rattle.actuator_commands.specs.private.Targets.{target};
 
 use crate::limits::{MAX_CHANNEL, MAX_OFFSET, MAX_RAMP, MAX_VALUE};
 use erp1_telegrams::{BROADCAST, Eep};
@@ -116,29 +117,19 @@ pub enum OrderFault {
     WrongProfile,
 }
 
-impl Order {
-    /// Whether the order goes to devices: `packet_of` makes its telegram.
-    pub fn sends(&self) -> bool
-        ensures { result ≡ sends self.now }
-    {
-        matches!(
-            self,
-            Order::Switch { .. }
-                | Order::Dim { .. }
-                | Order::Query { .. }
-                | Order::Meter { .. }
-                | Order::Blind { .. }
-                | Order::Stop { .. }
-                | Order::Central { .. }
-                | Order::Level { .. }
-                | Order::Teach { .. }
-        )
-    }
+// Where an order goes.
+#[derive(Clone, Copy)]
+enum Target {
+    // To the device with this ID.
+    One(u32),
+    // To all devices that were taught its sender.
+    All,
+}
 
-    /// The device that the order goes to: `packet_of` wants what is known of it. It is `None` where the order goes to
-    /// no device, or to all.
-    pub fn recipient(&self) -> Option<u32>
-        ensures { result ≡ recipient self.now }
+impl Order {
+    // Where the order goes, if it goes to devices.
+    fn target(&self) -> Option<Target>
+        ensures { result ≡ target self.now }
     {
         match self {
             Order::Switch { id, .. }
@@ -146,7 +137,26 @@ impl Order {
             | Order::Query { id, .. }
             | Order::Meter { id, .. }
             | Order::Blind { id, .. }
-            | Order::Stop { id } => Some(*id),
+            | Order::Stop { id } => Some(Target::One(*id)),
+            Order::Central { .. } | Order::Level { .. } | Order::Teach { .. } => Some(Target::All),
+            _ => None,
+        }
+    }
+
+    /// Whether the order goes to devices: `packet_of` makes its telegram.
+    pub fn sends(&self) -> bool
+        ensures { result ≡ sends self.now }
+    {
+        self.target().is_some()
+    }
+
+    /// The device that the order goes to: `packet_of` needs what is known of it. It is `None` if the order goes to no
+    /// device, or to all.
+    pub fn recipient(&self) -> Option<u32>
+        ensures { result ≡ recipient self.now }
+    {
+        match self.target() {
+            Some(Target::One(id)) => Some(id),
             _ => None,
         }
     }
@@ -164,8 +174,10 @@ pub(crate) fn is_in_range(order: &Order) -> bool
         | Order::Status
         | Order::Base => true,
         Order::Add(id, _) | Order::Remove(id) | Order::Stop { id } => *id != BROADCAST,
-        // A `Label` is never longer; its text says so to the proof.
-        Order::Label { id, label } => *id != BROADCAST && label.as_str().len() <= MAX_LABEL,
+        Order::Label { id, label } => {
+            prove!(label.as_str().len() <= MAX_LABEL);
+            *id != BROADCAST
+        }
         Order::Switch { id, channel, .. }
         | Order::Query { id, channel }
         | Order::Meter { id, channel, .. } => *id != BROADCAST && *channel <= MAX_CHANNEL,

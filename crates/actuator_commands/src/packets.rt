@@ -3,25 +3,52 @@ ghost use Rattle.std.specs.Prelude.{◌≡◌, ◌+◌, ◌^◌, ◌<◌, ◌≤
 ghost use Rattle.std.specs.Option.{option_copied};
 ghost use Rattle.erp1_telegrams.specs.Address.{is_base};
 ghost use Rattle.erp1_telegrams.specs.Telegram.{fits};
+ghost use Rattle.actuator_commands.specs.Limits.{max_channel};
 ghost use Rattle.actuator_commands.specs.Orders.{IsInRange};
-ghost use Rattle.actuator_commands.specs.Packets.{ToOne, for_blind, for_query, for_switch, is_blind, is_switch};
-ghost use Rattle.actuator_commands.specs.Packets.{metered, order_telegram, sends, telegram_for, telegram_to_all};
-ghost use Rattle.actuator_commands.specs.Packets.{telegram_to_one};
+ghost use Rattle.actuator_commands.specs.Packets.{ToOne, has_profile, meter_byte, order_telegram, payload_for};
+ghost use Rattle.actuator_commands.specs.Packets.{query_payload, sends, telegram_for, telegram_to_all, telegram_to_one};
 
 use crate::orders::{Order, OrderFault, Quantity};
 use erp1_telegrams::{BROADCAST, Eep, Telegram, rorg};
 use learned_devices::Device;
 
-fn is_switch(eep: Eep) -> bool
-    ensures { result ≡ is_switch eep }
-{
-    eep.rorg == rorg::VLD && eep.func == 0x01
+// The actuators that orders to one device are for.
+#[derive(Clone, Copy)]
+enum Actuator {
+    // A switch or a dimmer.
+    Switch,
+    // A blind.
+    Blind,
 }
 
-fn is_blind(eep: Eep) -> bool
-    ensures { result ≡ is_blind eep }
-{
-    eep.rorg == rorg::VLD && eep.func == 0x05 && eep.typ == 0x00
+impl Actuator {
+    // Whether devices with this profile are such actuators.
+    fn has_profile(self, eep: Eep) -> bool
+        ensures { result ≡ has_profile self eep }
+    {
+        match self {
+            Actuator::Switch => eep.rorg == rorg::VLD && eep.func == 0x01,
+            Actuator::Blind => eep.rorg == rorg::VLD && eep.func == 0x05 && eep.typ == 0x00,
+        }
+    }
+
+    // The telegram with this payload to a device, if it is such an actuator.
+    fn telegram(
+        self,
+        id: u32,
+        payload: &[u8],
+        device: Option<&Device>,
+        base: u32,
+    ) -> Result<Telegram, OrderFault>
+        requires { IsTrue (fits 0xD2 (length payload.now)) }
+        ensures { result ≡ telegram_for (ToOne id (payload_for self payload.now)) (option_copied device.entry) base }
+    {
+        let known = device.ok_or(OrderFault::UnknownDevice)?;
+        if !self.has_profile(known.eep) {
+            return Err(OrderFault::WrongProfile);
+        }
+        Ok(to_one(id, payload, base))
+    }
 }
 
 // A VLD telegram from the base ID to a device.
@@ -35,49 +62,15 @@ fn to_one(id: u32, payload: &[u8], base: u32) -> Telegram
     }
 }
 
-// A telegram to a switch or a dimmer.
-fn to_switch(
-    id: u32,
-    payload: &[u8],
-    device: Option<&Device>,
-    base: u32,
-) -> Result<Telegram, OrderFault>
-    requires { IsTrue (fits 0xD2 (length payload.now)) }
-    ensures { result ≡ telegram_for (ToOne id (for_switch payload.now)) (option_copied device.entry) base }
-{
-    let switch = device.ok_or(OrderFault::UnknownDevice)?;
-    if !is_switch(switch.eep) {
-        return Err(OrderFault::WrongProfile);
-    }
-    Ok(to_one(id, payload, base))
-}
-
-// A telegram to a blind.
-fn to_blind(
-    id: u32,
-    payload: &[u8],
-    device: Option<&Device>,
-    base: u32,
-) -> Result<Telegram, OrderFault>
-    requires { IsTrue (fits 0xD2 (length payload.now)) }
-    ensures { result ≡ telegram_for (ToOne id (for_blind payload.now)) (option_copied device.entry) base }
-{
-    let blind = device.ok_or(OrderFault::UnknownDevice)?;
-    if !is_blind(blind.eep) {
-        return Err(OrderFault::WrongProfile);
-    }
-    Ok(to_one(id, payload, base))
-}
-
 // A query of a channel, of a switch or of a blind.
 fn query(id: u32, channel: u32, device: Option<&Device>, base: u32) -> Result<Telegram, OrderFault>
-    requires { channel ≤ 30 }
-    ensures { result ≡ telegram_for (ToOne id (for_query channel)) (option_copied device.entry) base }
+    requires { channel ≤ max_channel }
+    ensures { result ≡ telegram_for (ToOne id (query_payload channel)) (option_copied device.entry) base }
 {
     let device = device.ok_or(OrderFault::UnknownDevice)?;
-    if is_switch(device.eep) {
+    if Actuator::Switch.has_profile(device.eep) {
         Ok(to_one(id, &[0x03, channel as u8], base))
-    } else if is_blind(device.eep) && channel == 0 {
+    } else if Actuator::Blind.has_profile(device.eep) && channel == 0 {
         Ok(to_one(id, &[0x03], base))
     } else {
         Err(OrderFault::WrongProfile)
@@ -85,9 +78,9 @@ fn query(id: u32, channel: u32, device: Option<&Device>, base: u32) -> Result<Te
 }
 
 // The byte that asks for what a channel measures.
-fn metered(channel: u32, quantity: Quantity) -> u8
-    requires { channel ≤ 30 }
-    ensures { result ≡ metered channel quantity }
+fn meter_byte(channel: u32, quantity: Quantity) -> u8
+    requires { channel ≤ max_channel }
+    ensures { result ≡ meter_byte channel quantity }
 {
     match quantity {
         Quantity::Energy => channel as u8,
@@ -130,19 +123,22 @@ pub fn packet_of(order: &Order, device: Option<&Device>, base: u32) -> Result<Te
     match *order {
         Order::Switch { id, channel, on } => {
             let value = if on { 0x64 } else { 0x00 };
-            to_switch(id, &[0x01, channel as u8, value], device, base)
+            Actuator::Switch.telegram(id, &[0x01, channel as u8, value], device, base)
         }
         Order::Dim { id, channel, value } => {
-            to_switch(id, &[0x01, channel as u8, value as u8], device, base)
+            Actuator::Switch.telegram(id, &[0x01, channel as u8, value as u8], device, base)
         }
         Order::Query { id, channel } => query(id, channel, device, base),
         Order::Meter {
             id,
             channel,
             quantity,
-        } => to_switch(id, &[0x06, metered(channel, quantity)], device, base),
-        Order::Blind { id, value } => to_blind(id, &[value as u8, 0x7F, 0x00, 0x01], device, base),
-        Order::Stop { id } => to_blind(id, &[0x02], device, base),
+        } => Actuator::Switch.telegram(id, &[0x06, meter_byte(channel, quantity)], device, base),
+        Order::Blind { id, value } => {
+            let payload = [value as u8, 0x7F, 0x00, 0x01];
+            Actuator::Blind.telegram(id, &payload, device, base)
+        }
+        Order::Stop { id } => Actuator::Blind.telegram(id, &[0x02], device, base),
         Order::Central { offset, on } => {
             let bits = if on { 0x09 } else { 0x08 };
             to_all(offset, [0x01, 0x00, 0x00, bits], base)

@@ -27,8 +27,9 @@ use Rattle.teach_in.proofs.ForCallers.{either, LearnsByTold, Hears, AsksDeletion
 use Rattle.json_lines.specs.declared.counts.Count.TheVariants as count
 use Rattle.teach_in.specs.declared.why.Why.{Why}
 use Rattle.teach_in.specs.declared.why.Why.TheVariants as why
-use Rattle.json_lines.specs.declared.fixed.ErrorName.{ErrorName}
-use Rattle.json_lines.specs.declared.fixed.ErrorName.TheVariants as error
+use Rattle.json_lines.specs.declared.error_lines.ErrorName.{ErrorName}
+use Rattle.json_lines.specs.declared.error_lines.ErrorName.TheVariants as error
+use Rattle.actuator_commands.specs.Limits.{max_line}
 use Rattle.actuator_commands.specs.declared.orders.Order.{Order}
 use Rattle.actuator_commands.specs.declared.orders.Order.TheVariants.{LearnOn, LearnOnAnswer, LearnOff, Add, Remove}
 use Rattle.actuator_commands.specs.declared.orders.Order.TheVariants.{LearnAs, Label, List as ListAll, Status, Base}
@@ -51,7 +52,7 @@ use Rattle.gateway_core.specs.Step.{tells, sets, learns, forgets, labels, tells_
 use Rattle.gateway_core.specs.Step.{plan_effect}
 use Rattle.gateway_core.specs.Step.{PassedOver, Teaches, data_case, kind_case, reading_effect, case_effect}
 use Rattle.gateway_core.specs.Step.{telegram_effect, packet_effect, line_effect}
-use Rattle.gateway_core.specs.Step.{packet_by, other_effect, if_known, if_supported, order_effect, max_line}
+use Rattle.gateway_core.specs.Step.{packet_by, other_effect, if_known, if_supported, order_effect}
 use Rattle.gateway_core.specs.Step.{effect}
 use Rattle.gateway_core.proofs.DeviceLemmas.{device_of-known}
 

@@ -4,9 +4,10 @@ use Rattle.std.specs.Prelude.{if◌then◌else◌, IsSome}
 use Rattle.std.proofs.lemmas.Bool.{lt-ltb}
 use Rattle.learned_devices.specs.Kept.{Kept}
 use Rattle.json_lines.specs.Counts.{raised}
-use Rattle.json_lines.specs.declared.fixed.ErrorName.TheVariants.{TooLong}
+use Rattle.json_lines.specs.declared.error_lines.ErrorName.TheVariants.{TooLong}
+use Rattle.actuator_commands.specs.Limits.{max_line}
 use Rattle.actuator_commands.specs.Orders.{order_of}
-use Rattle.gateway_core.specs.Step.{State, Item, Ordered, Answer, said, Effect, denied, order_effect, max_line}
+use Rattle.gateway_core.specs.Step.{State, Item, Ordered, Answer, said, Effect, denied, order_effect}
 use Rattle.gateway_core.specs.Step.{Permits, line_effect, effect, answer_by, count_in, with_change, with_mode}
 use Rattle.gateway_core.specs.Run.{Fate, Taken, Refused, RefusedAtWrite, Run, cause_text, refused}
 use Rattle.gateway_core.specs.Stops.{Left, nothing_left, told, pending, left_by, Safe}

@@ -18,6 +18,7 @@ use Rattle.teach_in.specs.declared.telegrams.Teach.TheVariants.{FourByte, Ute}
 use Rattle.teach_in.specs.FourByte.{four_byte_reply}
 use Rattle.teach_in.specs.Telegrams.{teach_in_of}
 use Rattle.teach_in.specs.Ute.{wants_reply, ute_reply}
+use Rattle.actuator_commands.specs.Limits.{max_line}
 use Rattle.actuator_commands.specs.declared.orders.Order.{Order}
 use Rattle.actuator_commands.specs.declared.orders.Order.TheVariants.{LearnOn, LearnOnAnswer, LearnOff, Add, Remove}
 use Rattle.actuator_commands.specs.declared.orders.Order.TheVariants.{Label, List as ListAll, Status, Base}
@@ -30,7 +31,7 @@ use Rattle.gateway_core.specs.Run.{Taken, Refused, RefusedAtWrite}
 use Rattle.gateway_core.specs.Step.{State, Received, Ordered, Effect, told_of, radio_of, reply_of, line_with}
 use Rattle.gateway_core.specs.Step.{packet_effect, line_effect}
 use Rattle.gateway_core.specs.Step.{order_effect, sending_effect, telegram_sent, forgets, labels, if_known}
-use Rattle.gateway_core.specs.Step.{base_query, known_of, if_supported, max_line}
+use Rattle.gateway_core.specs.Step.{base_query, known_of, if_supported}
 use Rattle.gateway_core.specs.Telling.{IsReply, IsPacketOf, RadioIsTold}
 use Rattle.gateway_core.proofs.EffectLemmas.{of_packet, of_line}
 

@@ -16,18 +16,19 @@ use Rattle.teach_in.specs.declared.ute.UteQuery.{UteQuery}
 use Rattle.teach_in.specs.Telegrams.{teach_in_of}
 use Rattle.teach_in.specs.Ute.{eep_in, maker_in}
 use Rattle.teach_in.proofs.ForCallers.{AsksDeletion}
+use Rattle.actuator_commands.specs.Limits.{max_line}
 use Rattle.actuator_commands.specs.declared.orders.Order.{Order}
 use Rattle.actuator_commands.specs.declared.orders.Order.TheVariants.{Label}
 use Rattle.actuator_commands.specs.declared.orders.OrderFault.{OrderFault}
 use Rattle.actuator_commands.specs.Orders.{order_of}
-use Rattle.json_lines.specs.declared.fixed.ErrorName.{ErrorName}
-use Rattle.json_lines.specs.declared.fixed.ErrorName.TheVariants as error
+use Rattle.json_lines.specs.declared.error_lines.ErrorName.{ErrorName}
+use Rattle.json_lines.specs.declared.error_lines.ErrorName.TheVariants as error
 use Rattle.json_lines.specs.Lines.{DeskLine, Reading, Teach, ListEnd, StatusLine, ResponseLine, Done, Error}
 use Rattle.json_lines.specs.Lines.{TeachLine, text, texts, listing}
 use Rattle.json_lines.proofs.ForCallers.{of_teach_lines}
 use Rattle.gateway_core.specs.Step.{State, Received, Ordered, Effect, told_of, tells_sender, accepts, deletes}
 use Rattle.gateway_core.specs.Step.{line_with, learns, forgets, labels, if_known, denied, packet_effect, line_effect}
-use Rattle.gateway_core.specs.Step.{order_effect, max_line, change_of, Cause, Memory, Store}
+use Rattle.gateway_core.specs.Step.{order_effect, change_of, Cause, Memory, Store}
 use Rattle.gateway_core.specs.Run.{Fate, Taken, Refused, RefusedAtWrite, cause_text, answer_with}
 use Rattle.gateway_core.specs.Telling.{IsDeleted, Tells, ChangesAreTold, LabelsAreTold, TeachLinesAreTold}
 use Rattle.gateway_core.proofs.EffectLemmas.{IsRefusal, of_packet, of_line}

@@ -25,7 +25,7 @@ use Rattle.teach_in.specs.declared.plans.Plan.TheVariants.{Refuse}
 use Rattle.teach_in.specs.Telegrams.{teach_in_of}
 use Rattle.teach_in.specs.Plans.{plan_of}
 use Rattle.teach_in.proofs.ForCallers.{either, of_plan}
-use Rattle.json_lines.specs.declared.fixed.ErrorName.TheVariants as error
+use Rattle.json_lines.specs.declared.error_lines.ErrorName.TheVariants as error
 use Rattle.gateway_core.specs.declared.handler.changes.Committed.{Committed}
 use Rattle.learned_devices.specs.declared.fault.StoreFault.{StoreFault}
 use Rattle.gateway_core.specs.declared.refusal.Refusal.{Refusal}
@@ -35,10 +35,11 @@ use Rattle.json_lines.specs.Counts.{raised}
 use Rattle.json_lines.specs.Lines.{Error, Teach as TeachOf, TeachLine, text}
 use Rattle.gateway_core.specs.Step.{State, Item, Answer, Effect, explaining, line_for, count_in, tells, learns}
 use Rattle.gateway_core.specs.Step.{addition, if_known, labels}
+use Rattle.actuator_commands.specs.Limits.{max_line}
 use Rattle.actuator_commands.specs.declared.orders.Order.{Order}
 use Rattle.actuator_commands.specs.declared.orders.OrderFault.{OrderFault}
 use Rattle.actuator_commands.specs.Orders.{order_of}
-use Rattle.gateway_core.specs.Step.{order_effect, line_effect, max_line}
+use Rattle.gateway_core.specs.Step.{order_effect, line_effect}
 use Rattle.gateway_core.specs.Step.{reading_effect, case_effect, data_case, effect, change_of, needs, with_change}
 use Rattle.gateway_core.specs.Step.{state_after, with_mode, plan_effect, tells_sender, radio_of, reply_of, line_with}
 use Rattle.gateway_core.specs.Step.{if_supported, sets, denied, accepts, told_of}

@@ -1,7 +1,7 @@
 -- What the gateway does with many items, of which some may be refused.
 use Rattle.std.specs.Prelude.{◌≡◌, IsSome, ℕ, ◌+◌, ◌^◌, ◌<◌, List, [], ◌∷◌, map, Option, Some, None}
 use Rattle.json_lines.specs.declared.counts.Count.TheVariants as count
-use Rattle.json_lines.specs.declared.fixed.ErrorName.TheVariants as error
+use Rattle.json_lines.specs.declared.error_lines.ErrorName.TheVariants as error
 use Rattle.teach_in.specs.declared.why.Why.TheVariants as why
 use Rattle.json_lines.specs.Counts.{counted, count_with}
 use Rattle.json_lines.specs.Lines.{Error, text}

@@ -32,12 +32,13 @@ use Rattle.actuator_commands.specs.declared.orders.Order.TheVariants.{List as Li
 use Rattle.actuator_commands.specs.declared.orders.Order.TheVariants as order
 use Rattle.actuator_commands.specs.declared.orders.OrderFault.{OrderFault}
 use Rattle.actuator_commands.specs.declared.orders.OrderFault.TheVariants.{Syntax, Range, UnknownDevice, WrongProfile}
+use Rattle.actuator_commands.specs.Limits.{max_line}
 use Rattle.actuator_commands.specs.Orders.{order_of}
 use Rattle.actuator_commands.specs.Packets.{order_telegram, recipient}
 use Rattle.json_lines.specs.declared.counts.Count.{Count}
 use Rattle.json_lines.specs.declared.counts.Counts.{Counts}
-use Rattle.json_lines.specs.declared.fixed.ErrorName.{ErrorName}
-use Rattle.json_lines.specs.declared.fixed.ErrorName.TheVariants as error
+use Rattle.json_lines.specs.declared.error_lines.ErrorName.{ErrorName}
+use Rattle.json_lines.specs.declared.error_lines.ErrorName.TheVariants as error
 use Rattle.json_lines.specs.Counts.{raised}
 use Rattle.json_lines.specs.declared.packet.PacketLine.{PacketLine}
 use Rattle.teach_in.specs.declared.why.Why.{Why}
@@ -318,10 +319,6 @@ order_effect state (Ok ListAll) = tells NeedsStore (listing (all_of state.device
 order_effect state (Ok Status) = tells NeedsMemory (StatusLine state.counts state.mode ∷ [])
 order_effect state (Ok Base) = sends_packet false (spelling base_query)
 order_effect state (Ok order) = sending_effect state order
-
--- the longest line of the desk, in bytes. Own choice
-abbrev pub max_line : ℕ
-max_line = 200
 
 abbrev pub line_effect : State → List ℕ → Effect
 line_effect state line =

@@ -13,14 +13,15 @@ use Rattle.teach_in.specs.declared.ute.UteQuery.{UteQuery}
 use Rattle.teach_in.specs.FourByte.{four_byte_reply}
 use Rattle.teach_in.specs.Telegrams.{teach_in_of}
 use Rattle.teach_in.specs.Ute.{eep_in, maker_in, wants_reply, request_in, deletion, ute_reply}
+use Rattle.actuator_commands.specs.Limits.{max_line}
 use Rattle.actuator_commands.specs.declared.orders.Order.{Order}
 use Rattle.actuator_commands.specs.declared.orders.Order.TheVariants.{Base, Label}
 use Rattle.actuator_commands.specs.Orders.{order_of}
 use Rattle.actuator_commands.specs.Packets.{order_telegram, recipient}
-use Rattle.json_lines.specs.declared.fixed.ErrorName.TheVariants.{UnknownDevice}
+use Rattle.json_lines.specs.declared.error_lines.ErrorName.TheVariants.{UnknownDevice}
 use Rattle.json_lines.specs.Lines.{TeachLine, Teach, Done, Error, text}
 use Rattle.gateway_core.specs.Step.{State, Item, Received, Ordered, Effect, effect, told_of, answer_to, change_of}
-use Rattle.gateway_core.specs.Step.{base_query, known_of, max_line}
+use Rattle.gateway_core.specs.Step.{base_query, known_of}
 use Rattle.gateway_core.specs.Run.{Fate, Taken, answer_with}
 
 -- A device that is told deleted: as it stands where the desk has ordered so, and by radio as its query tells it,

@@ -1,6 +1,5 @@
 -- All lines that are too long are treated alike.
 use Rattle.learned_devices.specs.Kept.{Kept}
-use Rattle.gateway_core.specs.Step.{max_line}
 use Rattle.std.proofs.Common.{◌≡◌, ℕ, ◌+◌, ◌-◌, ◌<◌, ◌≤◌, List, [], ◌∷◌, ◌++◌, length, take, drop, refl}
 use Rattle.std.proofs.Common.{ap, sym, subst, ◌∙◌, arith, true, false, inl, inr, map}
 use Rattle.std.specs.Prelude.{Result, ◌==◌, ◌&&◌, if◌then◌else◌, nat_eq, codes, slice_index}
@@ -10,6 +9,7 @@ use Rattle.std.proofs.lemmas.Bool.{lt-leb, cases_lt}
 use Rattle.std.proofs.lemmas.List.{length-take, take_all}
 use Rattle.std.proofs.lemmas.Result.{MatchResult-weaker}
 use Rattle.hex.specs.Hex.{decode_of}
+use Rattle.actuator_commands.specs.Limits.{max_line}
 use Rattle.gateway_core.specs.Step.{Item, Received, Ordered, Answer}
 use Rattle.gateway_core.proofs.ForCallers.{handles_alike}
 use Rattle.esp3_frames.specs.Packet.{Packet}

@@ -6,8 +6,8 @@ use Rattle.std.specs.List.{starts_with}
 use Rattle.std.specs.Str.Lines.{lines}
 use Rattle.hex.specs.Hex.{decode_of}
 use Rattle.hex.specs.declared.error.FromHexError.{FromHexError}
+use Rattle.actuator_commands.specs.Limits.{max_line}
 use Rattle.gateway_core.specs.Events.{Event, Piece, Line}
-use Rattle.gateway_core.specs.Step.{max_line}
 
 -- the bytes that the digits of a line spell, or else the line
 abbrev pub spelled : List ℕ → Result (List ℕ) FromHexError → Event

@@ -3,9 +3,9 @@
 ghost use Rattle.std.specs.Prelude.{◌≡◌, ◌<◌, ◌≤◌, [], ◌∷◌, length, take, drop, IfOk, OnOk, OnErr, MatchResult};
 ghost use Rattle.hex.specs.Hex.{decode_of};
 ghost use Rattle.json_lines.specs.Counts.{one_more};
+ghost use Rattle.actuator_commands.specs.Limits.{max_line};
 ghost use Rattle.gateway_core.specs.Events.{Line as LineEvent, Piece as PieceEvent};
 ghost use Rattle.gateway_core.specs.Replies.{answer_of, packet_answer};
-ghost use Rattle.gateway_core.specs.Step.{max_line};
 ghost use Rattle.gateway_loop.specs.private.EngineSteps.{Drains, DrainsPart, EngineBreaks, Takes, TakesOrBreaks};
 ghost use Rattle.gateway_loop.specs.Outlets.{Puts};
 ghost use Rattle.gateway_loop.specs.Played.{IsIdle};

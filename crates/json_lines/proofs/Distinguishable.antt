@@ -1,7 +1,8 @@
 -- A line for the desk and a packet line differ, whatever follows them.
-use Rattle.std.proofs.Common.{◌≡◌, ◌≢◌, ℕ, List, ◌++◌, drop, codes, sym, ap, ◌∙◌, arith, append_assoc}
+use Rattle.std.proofs.Common.{◌≡◌, ◌≢◌, ℕ, List, ◌++◌, drop, codes, refl, sym, ap, ◌∙◌, arith, append_assoc}
 use Rattle.std.specs.Prelude.{slice_index_or}
-use Rattle.json_lines.specs.Lines.{DeskLine, Reading, Teach, DeviceLine, ListEnd, StatusLine, ResponseLine, Done, Error}
+use Rattle.std.proofs.lemmas.Bool.{eqb-false}
+use Rattle.json_lines.specs.Lines.{DeskLine, Reading}
 use Rattle.json_lines.specs.Lines.{ReadingLine, dbm_text, or_null, text}
 use Rattle.json_lines.specs.PacketLines.{packet_text}
 use Rattle.json_lines.specs.ToldTelegram.{ToldTelegram}
@@ -9,7 +10,8 @@ use Rattle.json_lines.specs.declared.packet.PacketLine.{PacketLine}
 use Rattle.json_lines.specs.declared.packet.ToldPacket.{ToldPacket}
 use Rattle.json_lines.specs.declared.packet.ToldPacket.TheVariants.{Telegram, Other}
 use Rattle.teach_in.specs.declared.why.Why.{Why}
-use Rattle.json_lines.proofs.PacketLineTexts.{behind, behind-comma, strength-alone}
+use Rattle.json_lines.proofs.CommaTexts.{behind, behind-comma}
+use Rattle.json_lines.proofs.PacketLineTexts.{strength-alone}
 
 regrouped : (first others more : List ℕ) → (((first ++ others) ++ codes "}") ++ codes "\n") ++ more
     ≡ first ++ (others ++ (codes "}\n" ++ more))
@@ -46,23 +48,10 @@ distinguishable line packet = one line packet.packet packet.why
         sym (reading-goes_on line a) ∙ ap (λ (t : List ℕ). slice_index_or (behind (drop 7 t)) 1 0) e
         ∙ telegram-goes_on shown why b in
         absurd (omega (arith, h))
-    one (Teach line) (Telegram shown) why a b e = let h : 101 ≡ 100 = third _ _ e in absurd (omega (arith, h))
-    one (DeviceLine known) (Telegram shown) why a b e = let h : 101 ≡ 100 = third _ _ e in absurd (omega (arith, h))
-    one (ListEnd count) (Telegram shown) why a b e = let h : 99 ≡ 100 = third _ _ e in absurd (omega (arith, h))
-    one (StatusLine counts mode) (Telegram shown) why a b e =
-        let h : 105 ≡ 100 = third _ _ e in absurd (omega (arith, h))
-    one (ResponseLine response) (Telegram shown) why a b e =
-        let h : 99 ≡ 100 = third _ _ e in absurd (omega (arith, h))
-    one Done (Telegram shown) why a b e = let h : 116 ≡ 100 = third _ _ e in absurd (omega (arith, h))
-    one (Error name) (Telegram shown) why a b e = let h : 101 ≡ 100 = third _ _ e in absurd (omega (arith, h))
-    one (Reading line) (Other kind size) why a b e = let h : 100 ≡ 107 = third _ _ e in absurd (omega (arith, h))
-    one (Teach line) (Other kind size) why a b e = let h : 101 ≡ 107 = third _ _ e in absurd (omega (arith, h))
-    one (DeviceLine known) (Other kind size) why a b e =
-        let h : 101 ≡ 107 = third _ _ e in absurd (omega (arith, h))
-    one (ListEnd count) (Other kind size) why a b e = let h : 99 ≡ 107 = third _ _ e in absurd (omega (arith, h))
-    one (StatusLine counts mode) (Other kind size) why a b e =
-        let h : 105 ≡ 107 = third _ _ e in absurd (omega (arith, h))
-    one (ResponseLine response) (Other kind size) why a b e =
-        let h : 99 ≡ 107 = third _ _ e in absurd (omega (arith, h))
-    one Done (Other kind size) why a b e = let h : 116 ≡ 107 = third _ _ e in absurd (omega (arith, h))
-    one (Error name) (Other kind size) why a b e = let h : 101 ≡ 107 = third _ _ e in absurd (omega (arith, h))
+    one line (Telegram shown) why a b e =
+        eqb-false _ 100 refl
+        (third (text line ++ a) (packet_text (record { packet = Telegram shown; why = why }) ++ b) e)
+    one (Reading line) (Other kind size) why a b e = eqb-false 100 107 refl (third _ _ e)
+    one line (Other kind size) why a b e =
+        eqb-false _ 107 refl
+        (third (text line ++ a) (packet_text (record { packet = Other kind size; why = why }) ++ b) e)

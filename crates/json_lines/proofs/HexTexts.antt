@@ -95,7 +95,7 @@ all_below limit (n ∷ ns) positive h zero = h.0
 all_below limit (n ∷ ns) positive h (suc i) = all_below limit ns positive h.1 i
 
 -- what holds of the texts of bytes and of a dash, and so of two texts behind one another, holds of a profile's text
-on_eep : (P : List ℕ → Type 0) → ((a b : List ℕ) → P a → P b → P (a ++ b)) → P (codes "-")
+pub on_eep : (P : List ℕ → Type 0) → ((a b : List ℕ) → P a → P b → P (a ++ b)) → P (codes "-")
     → ((byte : ℕ) → P (byte_text byte)) → (eep : Eep) → P (eep_text eep)
 on_eep P append dash of_byte eep =
     let rorg = append (byte_text eep.rorg) (codes "-") (of_byte eep.rorg) dash in
@@ -106,9 +106,11 @@ on_eep P append dash of_byte eep =
 pub plain-append : (a b : List ℕ) → IsPlain a → IsPlain b → IsPlain (a ++ b)
 plain-append a b ha hb = flat_map-append escape_byte a b ∙ ap₂ (λ x y. x ++ y) ha hb
 
+pub byte_bytes : (byte : ℕ) → IsBytes (to_be_bytes w8 byte)
+byte_bytes byte = all_below 256 (to_be_bytes w8 byte) (omega arith) (omega arith, tt)
+
 plain-byte : (byte : ℕ) → IsPlain (byte_text byte)
-plain-byte byte =
-    plain_bytes (to_be_bytes w8 byte) (all_below 256 (to_be_bytes w8 byte) (omega arith) (omega arith, tt))
+plain-byte byte = plain_bytes (to_be_bytes w8 byte) (byte_bytes byte)
 
 pub id_bytes : (id : ℕ) → IsBytes (to_be_bytes w32 id)
 id_bytes id = all_below 256 (to_be_bytes w32 id) (omega arith)

@@ -1,3 +1,4 @@
+pub mod CommaTexts
 pub mod ForCallers
 pub mod HexTexts
 pub mod LineTexts

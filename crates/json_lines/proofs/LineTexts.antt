@@ -31,8 +31,9 @@ use Rattle.json_lines.proofs.HexTexts.{plain-id, plain-eep, plain-as_text, plain
 
 -- ---- an object
 
-abbrev told : List (List ℕ × Data) → List (List ℕ × List ℕ)
-told ms = map (λ m. (m.0, compact_text m.1)) ms
+-- the members with the texts of their values
+abbrev named_texts : List (List ℕ × Data) → List (List ℕ × List ℕ)
+named_texts ms = map (λ m. (m.0, compact_text m.1)) ms
 
 abbrev ArePlain : List (List ℕ × Data) → Type 0
 ArePlain ms = AllByRecursion (λ m. IsPlain m.0) ms
@@ -47,7 +48,7 @@ grouped name text rest plain =
 
 -- the members behind the first, each with a comma before it
 members_behind : (ms : List (List ℕ × Data)) → ArePlain ms
-    → members_text true (members ms) ≡ flat_map (λ m. codes "," ++ member_text m) (told ms) ++ codes "}"
+    → members_text true (members ms) ≡ flat_map (λ m. codes "," ++ member_text m) (named_texts ms) ++ codes "}"
 members_behind [] plain = refl
 members_behind (m ∷ ms) plain =
     ap (λ (rest : List ℕ). codes "," ++ (quoted m.0 ++ 58 ∷ (compact_text m.1 ++ rest))) (members_behind ms plain.1)
@@ -55,19 +56,19 @@ members_behind (m ∷ ms) plain =
     ∙ sym (append_assoc (codes "," ++ member_text (m.0, compact_text m.1)) _ _)
 
 -- an object has the text of its members
-object_told : (ms : List (List ℕ × Data)) → ArePlain ms → compact_text (object_of ms) ≡ object_text (told ms)
-object_told [] plain = refl
-object_told (m ∷ ms) plain =
+object_written : (ms : List (List ℕ × Data)) → ArePlain ms → compact_text (object_of ms) ≡ object_text (named_texts ms)
+object_written [] plain = refl
+object_written (m ∷ ms) plain =
     ap (λ (rest : List ℕ). codes "{" ++ (quoted m.0 ++ 58 ∷ (compact_text m.1 ++ rest))) (members_behind ms plain.1)
     ∙ ap (λ (text : List ℕ). codes "{" ++ text) (grouped m.0 (compact_text m.1) _ plain.0)
     ∙ ap (λ (text : List ℕ). codes "{" ++ text) (sym (append_assoc (member_text (m.0, compact_text m.1)) _ _))
 
 -- the line of what an object sends
-line_told : (ms : List (List ℕ × Data)) (line : List ℕ) → ArePlain ms → has_float (object_of ms) ≡ false
-    → IsLineOf (SendsValue (object_of ms)) line → line ≡ object_text (told ms) ++ codes "\n"
-line_told ms line plain whole sent =
+line_written : (ms : List (List ℕ × Data)) (line : List ℕ) → ArePlain ms → has_float (object_of ms) ≡ false
+    → IsLineOf (SendsValue (object_of ms)) line → line ≡ object_text (named_texts ms) ++ codes "\n"
+line_written ms line plain whole sent =
     let made = text_of_value (object_of ms) sent.log sent.text sent.writes sent.made whole in
-    sent.ends ∙ ap (λ (text : List ℕ). text ++ codes "\n") (made ∙ object_told ms plain)
+    sent.ends ∙ ap (λ (text : List ℕ). text ++ codes "\n") (made ∙ object_written ms plain)
 
 -- ---- the parts of the lines
 
@@ -129,47 +130,47 @@ no_float-name = no_float-or_null string (λ name. refl)
 
 -- ---- the lines
 
-pub teach_told : (line : TeachLine) (bytes : List ℕ) → IsLineOf (SendsValue (object_of (teach_members line))) bytes
+pub teach_written : (line : TeachLine) (bytes : List ℕ) → IsLineOf (SendsValue (object_of (teach_members line))) bytes
     → bytes ≡ text (Teach line)
 unfolding serde_json_on_literals
-teach_told line bytes sent =
-    let same : object_text (told (teach_members line)) ++ codes "\n" ≡ text (Teach line) =
+teach_written line bytes sent =
+    let same : object_text (named_texts (teach_members line)) ++ codes "\n" ≡ text (Teach line) =
     rw (text-known_profile line.eep, plain-id line.id, text-maker line.maker, plain-outcome line.outcome) refl in
     let whole : has_float (object_of (teach_members line)) ≡ false =
     rw (no_float-known_profile line.eep, no_float-maker line.maker) refl in
-    line_told (teach_members line) bytes (refl, (refl, (refl, (refl, (refl, tt))))) whole sent ∙ same
+    line_written (teach_members line) bytes (refl, (refl, (refl, (refl, (refl, tt))))) whole sent ∙ same
 
-pub device_told : (known : Device) (bytes : List ℕ) → IsLineOf (SendsValue (object_of (device_members known))) bytes
+pub device_written : (known : Device) (bytes : List ℕ) → IsLineOf (SendsValue (object_of (device_members known))) bytes
     → bytes ≡ text (DeviceLine known)
 unfolding serde_json_on_literals
-device_told known bytes sent =
-    let same : object_text (told (device_members known)) ++ codes "\n" ≡ text (DeviceLine known) =
+device_written known bytes sent =
+    let same : object_text (named_texts (device_members known)) ++ codes "\n" ≡ text (DeviceLine known) =
     rw (plain-eep known.eep, plain-id known.id, text-maker known.maker) refl in
     let whole : has_float (object_of (device_members known)) ≡ false = rw (no_float-maker known.maker) refl in
-    line_told (device_members known) bytes (refl, (refl, (refl, (refl, (refl, tt))))) whole sent ∙ same
+    line_written (device_members known) bytes (refl, (refl, (refl, (refl, (refl, tt))))) whole sent ∙ same
 
-pub list_told : (count : ℕ) (bytes : List ℕ) → IsLineOf (SendsValue (object_of (list_members count))) bytes
+pub list_written : (count : ℕ) (bytes : List ℕ) → IsLineOf (SendsValue (object_of (list_members count))) bytes
     → bytes ≡ text (ListEnd count)
 unfolding serde_json_on_literals
-list_told count bytes sent = line_told (list_members count) bytes (refl, (refl, tt)) refl sent
+list_written count bytes sent = line_written (list_members count) bytes (refl, (refl, tt)) refl sent
 
-pub status_told : (counts : Counts) (mode : Mode) (bytes : List ℕ)
+pub status_written : (counts : Counts) (mode : Mode) (bytes : List ℕ)
     → IsLineOf (SendsValue (object_of (status_members counts mode))) bytes → bytes ≡ text (StatusLine counts mode)
 unfolding serde_json_on_literals
-status_told counts mode bytes sent =
-    let same : object_text (told (status_members counts mode)) ++ codes "\n" ≡ text (StatusLine counts mode) =
+status_written counts mode bytes sent =
+    let same : object_text (named_texts (status_members counts mode)) ++ codes "\n" ≡ text (StatusLine counts mode) =
     rw (plain-mode mode) refl in
     let plain : ArePlain (status_members counts mode) =
     (refl, (refl, (refl, (refl, (refl, (refl, (refl, tt))))))) in
-    line_told (status_members counts mode) bytes plain refl sent ∙ same
+    line_written (status_members counts mode) bytes plain refl sent ∙ same
 
-pub response_told : (response : Response) (line : List ℕ) → IsBytes response.bytes
+pub response_written : (response : Response) (line : List ℕ) → IsBytes response.bytes
     → IsLineOf (SendsValue (object_of (response_members response.code (encode_upper response.bytes)))) line
     → line ≡ text (ResponseLine response)
 unfolding serde_json_on_literals
-response_told response line bytes sent =
+response_written response line bytes sent =
     let ms : List (List ℕ × Data) = response_members response.code (encode_upper response.bytes) in
-    let same : object_text (told ms) ++ codes "\n" ≡ text (ResponseLine response) =
+    let same : object_text (named_texts ms) ++ codes "\n" ≡ text (ResponseLine response) =
     rw (plain_bytes response.bytes bytes, text-name response.code) refl in
     let whole : has_float (object_of ms) ≡ false = rw (no_float-name (slice_get code_names response.code)) refl in
-    line_told ms line (refl, (refl, (refl, (refl, tt)))) whole sent ∙ same
+    line_written ms line (refl, (refl, (refl, (refl, tt)))) whole sent ∙ same

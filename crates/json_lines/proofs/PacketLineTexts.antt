@@ -1,13 +1,12 @@
 -- Packet lines with one text are one line.
-use Rattle.std.proofs.Common.{◌≡◌, ◌≢◌, ℕ, zero, suc, ◌+◌, ◌<◌, ◌^◌, ◌/◌, ◌%◌, Bool, true, false, cond}
+use Rattle.std.proofs.Common.{◌≡◌, ◌≢◌, ℕ, suc, ◌<◌, ◌^◌, ◌/◌, ◌%◌, Bool, true}
 use Rattle.std.proofs.Common.{List, [], ◌∷◌, ◌++◌, codes, decimal, Option, Some, None}
 use Rattle.std.proofs.Common.{refl, sym, ap, subst, ◌∙◌, arith, append_assoc, append-nil, pos, negsuc, ◌-ℤ◌, ℤ}
-use Rattle.std.proofs.Common.{inl, inr, slice_index}
-use Rattle.std.specs.Prelude.{if◌then◌else◌, ◌==◌, ◌&&◌, IfSome, nat_lt, slice_index_or, not}
-use Rattle.std.specs.List.{AllByRecursion}
-use Rattle.std.specs.Fmt.{digits_onto, digits, digit_glyph, signed_decimal}
+use Rattle.std.proofs.Common.{slice_index}
+use Rattle.std.specs.Prelude.{◌==◌, IfSome, slice_index_or, not}
+use Rattle.std.specs.Fmt.{signed_decimal}
 use Rattle.std.specs.Int.{w8, w32, to_be_bytes}
-use Rattle.std.proofs.lemmas.Bool.{and_parts, cases_lt, ne_eqb}
+use Rattle.std.proofs.lemmas.Bool.{eqb-false}
 use Rattle.std.proofs.lemmas.Fmt.{decimal_injective, signed_decimal_injective}
 use Rattle.std.proofs.lemmas.Int.{ints}
 use Rattle.std.proofs.lemmas.List.{append_cancel_left, append_cancel_right}
@@ -21,99 +20,39 @@ use Rattle.json_lines.specs.declared.packet.PacketLine.{PacketLine}
 use Rattle.json_lines.specs.declared.packet.ToldPacket.{ToldPacket}
 use Rattle.json_lines.specs.declared.packet.ToldPacket.TheVariants.{Telegram, Other}
 use Rattle.teach_in.specs.declared.why.Why.{Why}
-use Rattle.json_lines.proofs.HexTexts.{id_bytes}
+use Rattle.json_lines.proofs.CommaTexts.{NoComma, no-decimal, no-maker, no-null, peel}
+use Rattle.json_lines.proofs.HexTexts.{byte_bytes, holds_below-at, id_bytes, on_eep}
 use Rattle.json_lines.proofs.PacketTexts.{mag-minus}
 use Rattle.json_lines.proofs.TeachLines.{same-bytes, same-id, same-byte, same-eep, same-maker, not-null}
 use Rattle.json_lines.proofs.WhyWords.{one_why}
-
--- ---- texts with no comma
-
--- no byte of it is a comma
-abbrev NoComma : List ℕ → Type 0
-NoComma = AllByRecursion (λ c. c ≢ 44)
 
 no-append : (a b : List ℕ) → NoComma a → NoComma b → NoComma (a ++ b)
 no-append [] b in_a in_b = in_b
 no-append (c ∷ a) b in_a in_b = (in_a.0, no-append a b in_a.1 in_b)
 
--- what stands before and behind the first comma
-before : List ℕ → List ℕ
-before [] = []
-before (c ∷ t) = if c == 44 then [] else c ∷ before t
-
-pub behind : List ℕ → List ℕ
-behind [] = []
-behind (c ∷ t) = if c == 44 then t else behind t
-
-before-comma : (a rest : List ℕ) → NoComma a → before (a ++ 44 ∷ rest) ≡ a
-unfolding before
-before-comma [] rest free = refl
-before-comma (c ∷ a) rest free = rw (ne_eqb c 44 free.0) (ap (λ t. c ∷ t) (before-comma a rest free.1))
-
-pub behind-comma : (a rest : List ℕ) → NoComma a → behind (a ++ 44 ∷ rest) ≡ rest
-unfolding behind
-behind-comma [] rest free = refl
-behind-comma (c ∷ a) rest free = rw (ne_eqb c 44 free.0) (behind-comma a rest free.1)
-
--- two texts, each up to its first comma
-peel : (a b x y : List ℕ) → NoComma a → NoComma b → a ++ 44 ∷ x ≡ b ++ 44 ∷ y → (a ≡ b) × (x ≡ y)
-peel a b x y in_a in_b e = (
-  sym (before-comma a x in_a) ∙ ap before e ∙ before-comma b y in_b,
-  sym (behind-comma a x in_a) ∙ ap behind e ∙ behind-comma b y in_b,
-)
-
--- ---- the values of members have none
-
-glyph-other : (d : ℕ) (b : Bool) → cond b (48 + d) (87 + d) ≢ 44
-glyph-other d true e = absurd (omega (arith, e))
-glyph-other d false e = absurd (omega (arith, e))
-
-no-digits : (k n : ℕ) (later : List ℕ) → NoComma later → NoComma (digits_onto k 10 false n later)
-no-digits zero n later h = h
-no-digits (suc k) n later h =
-    let longer : NoComma (digit_glyph false (n % 10) ∷ later) = (glyph-other (n % 10) (nat_lt (n % 10) 10), h) in
-    one _ _ (n / 10 == 0) longer (no-digits k (n / 10) (digit_glyph false (n % 10) ∷ later) longer)
-  where
-    one : (now on : List ℕ) (b : Bool) → NoComma now → NoComma on → NoComma (if b then now else on)
-    one now on true last more = last
-    one now on false last more = more
-
-no-decimal : (n : ℕ) → NoComma (decimal n)
-unfolding digits
-no-decimal n = no-digits 64 n [] tt
+-- ---- the values of members have no comma
 
 no-signed : (z : _) → NoComma (signed_decimal z)
 no-signed (pos n) = no-decimal n
 no-signed (negsuc n) = ((λ e. absurd (omega (arith, e))), no-decimal (suc n))
 
--- none of the digits below n is a comma
-abbrev none_is : ℕ → Bool
-none_is zero = true
-none_is (suc n) = not (slice_index upper_digits n == 44) && none_is n
+-- a hexadecimal digit is no comma; it computes
+abbrev is_other : ℕ → Bool
+is_other digit = not (slice_index upper_digits digit == 44)
 
-not-eq : (c : ℕ) → not (c == 44) ≡ true → c ≢ 44
-not-eq c h e =
-    let t : not (44 == 44) ≡ true = subst (λ n. not (n == 44) ≡ true) e h in
+no-digit : (digit : ℕ) → digit < 16 → slice_index upper_digits digit ≢ 44
+no-digit digit below e =
+    let other : not (44 == 44) ≡ true =
+    subst (λ c. not (c == 44) ≡ true) e (holds_below-at is_other 16 digit refl below) in
     absurd cc
-
-none-at : (n digit : ℕ) → none_is n ≡ true → digit < n → slice_index upper_digits digit ≢ 44
-none-at zero digit h below = absurd (omega arith)
-none-at (suc n) digit h below =
-    let parts = and_parts (not (slice_index upper_digits n == 44)) (none_is n) h in
-    elim (cases_lt digit n) [
-      | inl lower ↦ none-at n digit parts.1 lower
-      | inr top ↦
-          let e : digit ≡ n = omega arith in
-          rw e (not-eq (slice_index upper_digits n) parts.0)
-    ]
 
 no-hex : (bytes : List ℕ) → IsBytes bytes → NoComma (encode_upper bytes)
 unfolding encode_with
 no-hex [] h = tt
 no-hex (byte ∷ rest) h =
     let below : byte < 256 = h 0 in (
-      none-at 16 (byte / 16) refl (omega arith),
-      (none-at 16 (byte % 16) refl (omega arith), no-hex rest (λ i. h (suc i))),
+      no-digit (byte / 16) (omega arith),
+      (no-digit (byte % 16) (omega arith), no-hex rest (λ i. h (suc i))),
     )
 
 no-quotes : (t : List ℕ) → NoComma t → NoComma (in_quotes t)
@@ -123,39 +62,14 @@ no-quotes t free = (
       ((λ e. absurd (omega (arith, e))), tt),
 )
 
-not-dash : (c : ℕ) → c ≡ 45 → c ≢ 44
-not-dash c is e = absurd (omega (arith, is, e))
+no-byte : (byte : ℕ) → NoComma (byte_text byte)
+no-byte byte = no-hex (to_be_bytes w8 byte) (byte_bytes byte)
 
-no-byte : (byte : ℕ) → byte < 256 → NoComma (byte_text byte)
-no-byte byte below = no-hex (to_be_bytes w8 byte) (one-byte (byte % 256) (omega arith))
-  where
-    one-byte : (n : ℕ) → n < 256 → IsBytes (n ∷ [])
-    one-byte n below zero = below
-    one-byte n below (suc i) = omega arith
-
-no-eep : (eep : Eep) → (eep.rorg < 256) × (eep.func < 256) × (eep.typ < 256) → NoComma (eep_text eep)
-no-eep eep in_eep =
-    let dash : NoComma (codes "-") = ((λ e. absurd (omega (arith, e))), tt) in
-    no-append _ (byte_text eep.typ)
-    (no-append _ (codes "-")
-    (no-append _ (byte_text eep.func) (no-append (byte_text eep.rorg) (codes "-") (no-byte eep.rorg in_eep.0) dash)
-    (no-byte eep.func in_eep.1))
-    dash)
-    (no-byte eep.typ in_eep.2)
+no-eep : (eep : Eep) → NoComma (eep_text eep)
+no-eep = on_eep NoComma no-append ((λ e. absurd (omega (arith, e))), tt) no-byte
 
 no-id : (id : ℕ) → NoComma (id_string id)
 no-id id = no-quotes (id_text id) (no-hex (to_be_bytes w32 id) (id_bytes id))
-
-no-null : NoComma (codes "null")
-no-null = (
-  (λ e. absurd (omega (arith, e))),
-  ((λ e. absurd (omega (arith, e))), ((λ e. absurd (omega (arith, e))), ((λ e. absurd (omega (arith, e))), tt))),
-)
-
-no-known : {A : Type 0} (text_of : A → List ℕ) (known : Option A) → IfSome known (λ it. NoComma (text_of it))
-    → NoComma (or_null text_of known)
-no-known text_of None free = no-null
-no-known text_of (Some it) free = free
 
 -- ---- what is known is the same where its text is
 
@@ -238,25 +152,20 @@ dest-alone : (known : Option ℕ) → NoComma (or_null id_string known)
 dest-alone None = no-null
 dest-alone (Some id) = no-id id
 
-eep-alone : (known : Option Eep) → IfSome known (λ eep. (eep.rorg < 256) × (eep.func < 256) × (eep.typ < 256))
-    → NoComma (or_null profile_text known)
-eep-alone None range = no-null
-eep-alone (Some eep) range = no-quotes (eep_text eep) (no-eep eep range)
-
-maker-alone : (known : Option ℕ) → NoComma (or_null decimal known)
-maker-alone None = no-null
-maker-alone (Some maker) = no-decimal maker
+eep-alone : (known : Option Eep) → NoComma (or_null profile_text known)
+eep-alone None = no-null
+eep-alone (Some eep) = no-quotes (eep_text eep) (no-eep eep)
 
 no-commas : (shown : ToldTelegram) → HasFieldsInRange shown → NoCommas (values shown)
 no-commas shown range = record {
   dbm = strength-alone shown.dbm;
   dest = dest-alone shown.dest;
-  eep = eep-alone shown.eep range.eep;
+  eep = eep-alone shown.eep;
   id = no-id shown.id;
-  maker = maker-alone shown.maker;
+  maker = no-maker shown.maker;
   payload = no-quotes (encode_upper shown.payload) (no-hex shown.payload range.payload);
-  rorg = no-quotes (byte_text shown.rorg) (no-byte shown.rorg range.rorg);
-  status = no-quotes (byte_text shown.status) (no-byte shown.status range.status);
+  rorg = no-quotes (byte_text shown.rorg) (no-byte shown.rorg);
+  status = no-quotes (byte_text shown.status) (no-byte shown.status);
 }
 
 -- a line of a telegram, member by member
@@ -437,8 +346,6 @@ one_packet_line line other = one line.packet other.packet line.why other.why
         ∙ ap (λ w. let x : PacketLine = record { packet = Other type many; why = w } in x)
         (same-word why by sizes.1)
     one (Telegram a) (Other kind size) why by in_a in_b e =
-        let bytes : 100 ≡ 107 = ap (λ (t : List ℕ). slice_index_or t 2 0) e in
-        absurd (omega (arith, bytes))
+        absurd (eqb-false 100 107 refl (ap (λ (t : List ℕ). slice_index_or t 2 0) e))
     one (Other kind size) (Telegram b) why by in_a in_b e =
-        let bytes : 107 ≡ 100 = ap (λ (t : List ℕ). slice_index_or t 2 0) e in
-        absurd (omega (arith, bytes))
+        absurd (eqb-false 107 100 refl (ap (λ (t : List ℕ). slice_index_or t 2 0) e))

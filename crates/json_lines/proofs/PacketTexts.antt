@@ -59,7 +59,7 @@ behind (m ∷ ms) [] some others = absurd (omega arith)
 behind (m ∷ ms) (n ∷ ns) some others = join_by-append member_text (codes ",") m ms n ns
 
 some_members : (packet : ToldPacket) → 0 < length (packet_members packet)
-some_members (Telegram told) = lit< tt
+some_members (Telegram telegram) = lit< tt
 some_members (Other kind size) = lit< tt
 
 -- a line, piece by piece

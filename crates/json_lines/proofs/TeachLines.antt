@@ -1,22 +1,21 @@
 -- Teach lines with one text are one line.
-use Rattle.std.proofs.Common.{◌≡◌, ◌≢◌, ℕ, zero, suc, ◌+◌, ◌<◌, ◌^◌, ◌/◌, ◌%◌, Bool, true, false, cond}
+use Rattle.std.proofs.Common.{◌≡◌, ◌≢◌, ℕ, ◌<◌, ◌^◌, ◌%◌}
 use Rattle.std.proofs.Common.{List, [], ◌∷◌, ◌++◌, take, drop, codes, decimal, Option, Some, None, Result, Ok, Err}
 use Rattle.std.proofs.Common.{refl, sym, ap, subst, ◌∙◌, arith}
-use Rattle.std.specs.Prelude.{if◌then◌else◌, ◌==◌, IfSome, nat_lt, slice_index, slice_index_or}
-use Rattle.std.specs.Fmt.{digits_onto, digits, digit_glyph}
+use Rattle.std.specs.Prelude.{IfSome, slice_index, slice_index_or}
+use Rattle.std.specs.List.{AllByRecursion}
 use Rattle.std.specs.Int.{w32, to_be_bytes, from_be_bytes}
 use Rattle.std.proofs.lemmas.Fmt.{decimal_injective}
-use Rattle.std.proofs.lemmas.List.{append_cancel_right}
 use Rattle.std.proofs.lemmas.Nat.{from_be_bytes-to_be_bytes_4}
 use Rattle.hex.specs.Hex.{IsBytes, decode_of, encode_upper, encode_with}
 use Rattle.hex.specs.declared.FromHexError.{FromHexError}
 use Rattle.hex.proofs.HexLemmas.{decode_of-encode_upper}
 use Rattle.erp1_telegrams.specs.declared.eep.Eep.{Eep}
-use Rattle.teach_in.specs.declared.outcome.Outcome.{Outcome}
 use Rattle.json_lines.specs.Lines.{HasNumbersInRange, Teach, TeachLine, byte_text, eep_text, id_text, or_null}
 use Rattle.json_lines.specs.Lines.{text}
-use Rattle.json_lines.proofs.HexTexts.{id_bytes}
-use Rattle.json_lines.proofs.TeachTexts.{result_text, teach-known, teach-more, teach-unknown}
+use Rattle.json_lines.proofs.CommaTexts.{all-decimal}
+use Rattle.json_lines.proofs.HexTexts.{byte_bytes, id_bytes}
+use Rattle.json_lines.proofs.TeachTexts.{from-maker, teach-known, teach-more, teach-unknown}
 
 -- ---- what a text shows
 
@@ -36,16 +35,11 @@ same-id a b in_a in_b e =
     ∙ ap (from_be_bytes w32) (same-bytes (to_be_bytes w32 a) (to_be_bytes w32 b) (id_bytes a) (id_bytes b) e)
     ∙ from_be_bytes-to_be_bytes_4 b in_b
 
-byte_bytes : (n : ℕ) → n < 256 → IsBytes (n ∷ [])
-byte_bytes n below zero = below
-byte_bytes n below (suc i) = omega arith
-
 pub same-byte : (a b : ℕ) → a < 256 → b < 256 → byte_text a ≡ byte_text b → a ≡ b
 same-byte a b in_a in_b e =
     let rest : a % 256 ≡ b % 256 =
     ap (λ (t : List ℕ). slice_index t 0)
-    (same-bytes (a % 256 ∷ []) (b % 256 ∷ []) (byte_bytes (a % 256) (omega arith))
-    (byte_bytes (b % 256) (omega arith)) e) in
+    (same-bytes (a % 256 ∷ []) (b % 256 ∷ []) (byte_bytes a) (byte_bytes b) e) in
     omega (arith, rest, in_a, in_b)
 
 pub same-eep : (a b : Eep) → (a.rorg < 256) × (a.func < 256) × (a.typ < 256)
@@ -59,26 +53,11 @@ same-eep a b in_a in_b e =
     ∙ ap (λ n. let eep : Eep = record { rorg = b.rorg; func = n; typ = a.typ } in eep) func
     ∙ ap (λ n. let eep : Eep = record { rorg = b.rorg; func = b.func; typ = n } in eep) typ
 
--- a number is not null: it does not begin with an n
-glyph-digit : (n : ℕ) (b : Bool) → cond b (48 + n % 10) (87 + n % 10) ≢ 110
-glyph-digit n true e = absurd (omega (arith, e))
-glyph-digit n false e = absurd (omega (arith, e))
-
-digits-first : (k n : ℕ) (later : List ℕ) → slice_index_or later 0 0 ≢ 110
-    → slice_index_or (digits_onto k 10 false n later) 0 0 ≢ 110
-digits-first zero n later first = first
-digits-first (suc k) n later first =
-    let now = glyph-digit n (nat_lt (n % 10) 10) in
-    one _ _ (n / 10 == 0) now (digits-first k (n / 10) (digit_glyph false (n % 10) ∷ later) now)
-  where
-    one : (now on : List ℕ) (b : Bool) → slice_index_or now 0 0 ≢ 110 → slice_index_or on 0 0 ≢ 110
-        → slice_index_or (if b then now else on) 0 0 ≢ 110
-    one now on true last more = last
-    one now on false last more = more
-
+-- a number is not null: none of its digits is an n
 pub not-null : (n : ℕ) → decimal n ≢ codes "null"
-unfolding digits
-not-null n e = digits-first 64 n [] (λ none. absurd (omega (arith, none))) (ap (λ (t : List ℕ). slice_index_or t 0 0) e)
+not-null n e =
+    (subst (AllByRecursion (λ c. c ≢ 110)) e (all-decimal (λ c. c ≢ 110) (λ digit below i. absurd (omega (arith, i))) n)).0
+    refl
 
 pub same-maker : (a b : Option ℕ) → IfSome a (λ maker. maker < 2 ^ 16) → IfSome b (λ maker. maker < 2 ^ 16)
     → or_null decimal a ≡ or_null decimal b → a ≡ b
@@ -89,15 +68,6 @@ same-maker (Some a) None in_a in_b e = absurd (not-null a e)
 same-maker None (Some b) in_a in_b e = absurd (not-null b (sym e))
 
 -- ---- the parts of a line
-
--- the makers of two lines, from there on where they stand
-makers : (a b : Option ℕ) (one other : Outcome) (s t : List ℕ)
-    → s ≡ or_null decimal a ++ 44 ∷ (result_text one ++ []) → t ≡ or_null decimal b ++ 44 ∷ (result_text other ++ [])
-    → one ≡ other → s ≡ t → or_null decimal a ≡ or_null decimal b
-makers a b one other s t in_s in_t same e =
-    append_cancel_right (or_null decimal a) (or_null decimal b) (44 ∷ (result_text other ++ []))
-    (subst (λ o. or_null decimal a ++ 44 ∷ (result_text o ++ []) ≡ or_null decimal b ++ 44 ∷ (result_text other ++ []))
-    same (sym in_s ∙ e ∙ in_t))
 
 eep-shown : (eep : Eep) (line : TeachLine)
     → take 8 (drop 8 (text (Teach (record line { eep = Some eep })) ++ [])) ≡ eep_text eep
@@ -140,8 +110,8 @@ one_teach_line line told in_line in_told e =
         (same-id line.id told.id in_line.1 in_told.1
         (sym (id-shown a line) ∙ ap (λ (t : List ℕ). take 8 (drop 24 t)) h ∙ id-shown b told))
         (same-maker line.maker told.maker in_line.2 in_told.2
-        (makers line.maker told.maker line.outcome told.outcome _ _ (teach-known a line.id line.maker line.outcome [])
-        (teach-known b told.id told.maker told.outcome []) outcome (ap (drop 42) h)))
+        (from-maker line.maker told.maker _ _ _ _ (teach-known a line.id line.maker line.outcome [])
+        (teach-known b told.id told.maker told.outcome []) (ap (drop 42) h)).0)
         outcome
     one None None in_a in_b h =
         let outcome = (teach-more (record line { eep = None }) (record told { eep = None }) [] h).0 in
@@ -149,8 +119,8 @@ one_teach_line line told in_line in_told e =
         (same-id line.id told.id in_line.1 in_told.1
         (sym (id-shown-alone line) ∙ ap (λ (t : List ℕ). take 8 (drop 18 t)) h ∙ id-shown-alone told))
         (same-maker line.maker told.maker in_line.2 in_told.2
-        (makers line.maker told.maker line.outcome told.outcome _ _ (teach-unknown line.id line.maker line.outcome [])
-        (teach-unknown told.id told.maker told.outcome []) outcome (ap (drop 36) h)))
+        (from-maker line.maker told.maker _ _ _ _ (teach-unknown line.id line.maker line.outcome [])
+        (teach-unknown told.id told.maker told.outcome []) (ap (drop 36) h)).0)
         outcome
     one (Some a) None in_a in_b h =
         let bytes : 34 ≡ 110 = ap (λ (t : List ℕ). slice_index_or t 7 0) h in

@@ -1,10 +1,9 @@
 -- The text of a teach line is the text of one teach line alone, with that line's outcome.
-use Rattle.std.proofs.Common.{◌≡◌, ◌≢◌, ℕ, zero, suc, ◌+◌, ◌/◌, ◌%◌, Bool, true, false, cond, List, [], ◌∷◌}
+use Rattle.std.proofs.Common.{◌≡◌, ◌≢◌, ℕ, List, [], ◌∷◌}
 use Rattle.std.proofs.Common.{◌++◌, drop, codes, decimal, Option, Some, None, refl, sym, ap, subst, ◌∙◌, arith}
 use Rattle.std.proofs.Common.{append_assoc, append-nil}
-use Rattle.std.specs.Prelude.{if◌then◌else◌, ◌==◌, nat_lt, slice_index_or}
-use Rattle.std.specs.Fmt.{digits_onto, digits, digit_glyph}
-use Rattle.std.proofs.lemmas.Bool.{ne_eqb}
+use Rattle.std.specs.Prelude.{if◌then◌else◌, ◌==◌, slice_index_or}
+use Rattle.std.proofs.lemmas.Bool.{eqb-false}
 use Rattle.std.proofs.lemmas.List.{append_cancel_left}
 use Rattle.hex.specs.Hex.{encode_with}
 use Rattle.erp1_telegrams.specs.declared.eep.Eep.{Eep}
@@ -12,42 +11,9 @@ use Rattle.learned_devices.specs.declared.Device.{Device}
 use Rattle.teach_in.specs.declared.outcome.Outcome.{Outcome}
 use Rattle.teach_in.specs.declared.outcome.Outcome.TheVariants.{Accepted, Deleted, Unsupported, Full, General}
 use Rattle.teach_in.specs.declared.outcome.Outcome.TheVariants.{NoProfile}
-use Rattle.json_lines.specs.Lines.{DeskLine, Reading, Teach, DeviceLine, ListEnd, StatusLine, ResponseLine, Done, Error}
+use Rattle.json_lines.specs.Lines.{DeskLine, Teach, DeviceLine}
 use Rattle.json_lines.specs.Lines.{TeachLine, or_null, outcome_word, text, texts}
-
--- ---- behind the first comma
-
-behind : List ℕ → List ℕ
-behind [] = []
-behind (c ∷ t) = if c == 44 then t else behind t
-
-behind-other : (c : ℕ) (t : List ℕ) → c ≢ 44 → behind (c ∷ t) ≡ behind t
-unfolding behind
-behind-other c t other = rw (ne_eqb c 44 other) refl
-
-glyph-other : (d : ℕ) (b : Bool) → cond b (48 + d) (87 + d) ≢ 44
-glyph-other d true e = absurd (omega (arith, e))
-glyph-other d false e = absurd (omega (arith, e))
-
--- a number has no comma
-behind-digits : (k n : ℕ) (later rest : List ℕ) → behind (later ++ 44 ∷ rest) ≡ rest
-    → behind (digits_onto k 10 false n later ++ 44 ∷ rest) ≡ rest
-behind-digits zero n later rest h = h
-behind-digits (suc k) n later rest h =
-    let last = digit_glyph false (n % 10) in
-    let longer : behind ((last ∷ later) ++ 44 ∷ rest) ≡ rest =
-    behind-other last (later ++ 44 ∷ rest) (glyph-other (n % 10) (nat_lt (n % 10) 10)) ∙ h in
-    one _ _ (n / 10 == 0) longer (behind-digits k (n / 10) (last ∷ later) rest longer)
-  where
-    one : (now on : List ℕ) (b : Bool) → behind (now ++ 44 ∷ rest) ≡ rest → behind (on ++ 44 ∷ rest) ≡ rest
-        → behind ((if b then now else on) ++ 44 ∷ rest) ≡ rest
-    one now on true last more = last
-    one now on false last more = more
-
-behind-maker : (maker : Option ℕ) (rest : List ℕ) → behind (or_null decimal maker ++ 44 ∷ rest) ≡ rest
-unfolding behind digits
-behind-maker None rest = refl
-behind-maker (Some maker) rest = behind-digits 64 maker [] rest refl
+use Rattle.json_lines.proofs.CommaTexts.{no-maker, peel}
 
 -- ---- from the maker on
 
@@ -76,54 +42,36 @@ teach-unknown id maker outcome more = grouped-teach (or_null decimal maker) (out
 
 -- ---- the ends of teach lines
 
--- the outcomes differ in their first letters
-letter : Outcome → ℕ
-letter Accepted = 97
-letter Deleted = 100
-letter Unsupported = 117
-letter Full = 102
-letter General = 103
-letter NoProfile = 110
+-- the outcome of a text that begins as the end of a teach line does: the outcomes differ in their first letters
+outcome_in : List ℕ → Outcome
+outcome_in text =
+    let letter = slice_index_or text 10 0 in
+    if letter == 97 then Accepted else if letter == 100 then Deleted else if letter == 117 then Unsupported
+    else if letter == 102 then Full else if letter == 103 then General else NoProfile
 
-result-letter : (outcome : Outcome) (more : List ℕ) → slice_index_or (result_text outcome ++ more) 10 0 ≡ letter outcome
-unfolding result_text letter
-result-letter Accepted more = refl
-result-letter Deleted more = refl
-result-letter Unsupported more = refl
-result-letter Full more = refl
-result-letter General more = refl
-result-letter NoProfile more = refl
-
-of_letter : ℕ → Outcome
-of_letter n =
-    if n == 97 then Accepted else if n == 100 then Deleted else if n == 117 then Unsupported
-    else if n == 102 then Full else if n == 103 then General else NoProfile
-
-of_letter-letter : (outcome : Outcome) → of_letter (letter outcome) ≡ outcome
-unfolding letter of_letter
-of_letter-letter Accepted = refl
-of_letter-letter Deleted = refl
-of_letter-letter Unsupported = refl
-of_letter-letter Full = refl
-of_letter-letter General = refl
-of_letter-letter NoProfile = refl
+outcome_in-result : (outcome : Outcome) (more : List ℕ) → outcome_in (result_text outcome ++ more) ≡ outcome
+unfolding result_text outcome_in
+outcome_in-result Accepted more = refl
+outcome_in-result Deleted more = refl
+outcome_in-result Unsupported more = refl
+outcome_in-result Full more = refl
+outcome_in-result General more = refl
+outcome_in-result NoProfile more = refl
 
 -- the same end has the same outcome, and the same behind it
 same-result : (a b : Outcome) (more : List ℕ) → result_text a ++ more ≡ result_text b ++ []
     → (a ≡ b) × (more ≡ [])
 same-result a b more e =
-    let letters : letter a ≡ letter b =
-    sym (result-letter a more) ∙ ap (λ (t : List ℕ). slice_index_or t 10 0) e ∙ result-letter b [] in
-    let same : a ≡ b = sym (of_letter-letter a) ∙ ap of_letter letters ∙ of_letter-letter b in
+    let same : a ≡ b = sym (outcome_in-result a more) ∙ ap outcome_in e ∙ outcome_in-result b [] in
     let ends : result_text b ++ more ≡ result_text b ++ [] =
     subst (λ o. result_text o ++ more ≡ result_text b ++ []) same e in
     (same, append_cancel_left (result_text b) more [] ends)
 
--- what stands behind the maker, in two lines with the same text
-same-behind : (a b : Option ℕ) (x y s t : List ℕ) → s ≡ or_null decimal a ++ 44 ∷ x → t ≡ or_null decimal b ++ 44 ∷ y
-    → s ≡ t → x ≡ y
-same-behind a b x y s t in_s in_t e =
-    sym (behind-maker a x) ∙ ap behind (sym in_s ∙ e ∙ in_t) ∙ behind-maker b y
+-- the maker, and what stands behind it, in two lines with the same text
+pub from-maker : (a b : Option ℕ) (x y s t : List ℕ) → s ≡ or_null decimal a ++ 44 ∷ x
+    → t ≡ or_null decimal b ++ 44 ∷ y → s ≡ t → (or_null decimal a ≡ or_null decimal b) × (x ≡ y)
+from-maker a b x y s t in_s in_t e =
+    peel (or_null decimal a) (or_null decimal b) x y (no-maker a) (no-maker b) (sym in_s ∙ e ∙ in_t)
 
 -- ---- one line and more
 
@@ -137,12 +85,12 @@ teach-more line told more e = one line.eep told.eep e
         → (line.outcome ≡ told.outcome) × (more ≡ [])
     one (Some a) (Some b) h =
         same-result line.outcome told.outcome more
-        (same-behind line.maker told.maker _ _ _ _ (teach-known a line.id line.maker line.outcome more)
-        (teach-known b told.id told.maker told.outcome []) (ap (drop 42) h))
+        (from-maker line.maker told.maker _ _ _ _ (teach-known a line.id line.maker line.outcome more)
+        (teach-known b told.id told.maker told.outcome []) (ap (drop 42) h)).1
     one None None h =
         same-result line.outcome told.outcome more
-        (same-behind line.maker told.maker _ _ _ _ (teach-unknown line.id line.maker line.outcome more)
-        (teach-unknown told.id told.maker told.outcome []) (ap (drop 36) h))
+        (from-maker line.maker told.maker _ _ _ _ (teach-unknown line.id line.maker line.outcome more)
+        (teach-unknown told.id told.maker told.outcome []) (ap (drop 36) h)).1
     one (Some a) None h =
         let bytes : 34 ≡ 110 = ap (λ (t : List ℕ). slice_index_or t 7 0) h in
         absurd (omega (arith, bytes))
@@ -195,28 +143,9 @@ of_first (Teach line) rest told e =
     let parts = teach-more line told (texts rest) e in
     (line, ap (λ lines. Teach line ∷ lines) (no_lines rest parts.1), parts.0)
 of_first (DeviceLine known) rest told e = absurd (device-more known told (texts rest) e)
-of_first (Reading line) rest told e =
-    let h : 98 ≡ 101 = fourth _ told e in
-    absurd (omega (arith, h))
-of_first (ListEnd count) rest told e =
-    let h : 111 ≡ 101 = fourth _ told e in
-    absurd (omega (arith, h))
-of_first (StatusLine counts mode) rest told e =
-    let h : 103 ≡ 101 = fourth _ told e in
-    absurd (omega (arith, h))
-of_first (ResponseLine response) rest told e =
-    let h : 111 ≡ 101 = fourth _ told e in
-    absurd (omega (arith, h))
-of_first Done rest told e =
-    let h : 121 ≡ 101 = fourth _ told e in
-    absurd (omega (arith, h))
-of_first (Error name) rest told e =
-    let h : 114 ≡ 101 = fourth _ told e in
-    absurd (omega (arith, h))
+of_first first rest told e = absurd (eqb-false _ 101 refl (fourth (text first ++ texts rest) told e))
 
 pub of_teach_lines : (lines : List DeskLine) (told : TeachLine) → texts lines ≡ text (Teach told)
     → IsTeachLine lines told
-of_teach_lines [] told e =
-    let h : 0 ≡ 101 = fourth [] told (e ∙ sym (append-nil (text (Teach told)))) in
-    absurd (omega (arith, h))
+of_teach_lines [] told e = absurd (eqb-false 0 101 refl (fourth [] told (e ∙ sym (append-nil (text (Teach told))))))
 of_teach_lines (first ∷ rest) told e = of_first first rest told (e ∙ sym (append-nil (text (Teach told))))

@@ -17,10 +17,10 @@ use Rattle.teach_in.specs.declared.outcome.Outcome.{Outcome}
 use Rattle.teach_in.specs.declared.outcome.Outcome.TheVariants.{Accepted, Deleted, Unsupported, General, NoProfile}
 use Rattle.teach_in.specs.declared.outcome.Outcome.TheVariants as outcome
 use Rattle.json_lines.specs.declared.counts.Counts.{Counts}
-use Rattle.json_lines.specs.declared.fixed.ErrorName.{ErrorName}
-use Rattle.json_lines.specs.declared.fixed.ErrorName.TheVariants.{Syntax, TooLong, Range, UnknownDevice, WrongProfile}
-use Rattle.json_lines.specs.declared.fixed.ErrorName.TheVariants.{UnsupportedProfile, Memory, Store}
-use Rattle.json_lines.specs.declared.fixed.ErrorName.TheVariants as error
+use Rattle.json_lines.specs.declared.error_lines.ErrorName.{ErrorName}
+use Rattle.json_lines.specs.declared.error_lines.ErrorName.TheVariants.{Syntax, TooLong, Range, UnknownDevice}
+use Rattle.json_lines.specs.declared.error_lines.ErrorName.TheVariants.{WrongProfile, UnsupportedProfile, Memory, Store}
+use Rattle.json_lines.specs.declared.error_lines.ErrorName.TheVariants as error
 
 -- ---- what a line tells
 

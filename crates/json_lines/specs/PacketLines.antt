@@ -42,19 +42,19 @@ id_string id = in_quotes (id_text id)
 
 -- how a telegram came, and of whom. Own choice
 abbrev pub sender_members : ToldTelegram → List (List ℕ × List ℕ)
-sender_members told =
-    (codes "dbm", or_null dbm_text told.dbm)
-    ∷ (codes "dest", or_null id_string told.dest)
-    ∷ (codes "eep", or_null profile_text told.eep)
-    ∷ (codes "id", id_string told.id)
-    ∷ (codes "maker", or_null decimal told.maker) ∷ []
+sender_members telegram =
+    (codes "dbm", or_null dbm_text telegram.dbm)
+    ∷ (codes "dest", or_null id_string telegram.dest)
+    ∷ (codes "eep", or_null profile_text telegram.eep)
+    ∷ (codes "id", id_string telegram.id)
+    ∷ (codes "maker", or_null decimal telegram.maker) ∷ []
 
 -- what a telegram carries. Own choice
 abbrev pub content_members : ToldTelegram → List (List ℕ × List ℕ)
-content_members told =
-    (codes "payload", in_quotes (encode_upper told.payload))
-    ∷ (codes "rorg", in_quotes (byte_text told.rorg))
-    ∷ (codes "status", in_quotes (byte_text told.status)) ∷ []
+content_members telegram =
+    (codes "payload", in_quotes (encode_upper telegram.payload))
+    ∷ (codes "rorg", in_quotes (byte_text telegram.rorg))
+    ∷ (codes "status", in_quotes (byte_text telegram.status)) ∷ []
 
 -- another packet: its type, and the number of bytes of its data. Own choice
 abbrev pub other_members : ℕ → ℕ → List (List ℕ × List ℕ)
@@ -62,7 +62,7 @@ other_members kind size = (codes "kind", decimal kind) ∷ (codes "size", decima
 
 -- what the packet was. Own choice
 abbrev pub packet_members : ToldPacket → List (List ℕ × List ℕ)
-packet_members (Telegram told) = sender_members told ++ content_members told
+packet_members (Telegram telegram) = sender_members telegram ++ content_members telegram
 packet_members (Other kind size) = other_members kind size
 
 -- the type of the line, and why. Own choice

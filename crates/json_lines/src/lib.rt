@@ -8,7 +8,8 @@
 mod counts;
 mod devices;
 mod digits;
-mod fixed;
+mod done;
+mod error_lines;
 pub mod laws;
 mod limits;
 mod line;
@@ -22,7 +23,8 @@ mod teach;
 
 pub use counts::{Count, Counts};
 pub use devices::device_lines;
-pub use fixed::{ErrorName, done_line};
+pub use done::done_line;
+pub use error_lines::ErrorName;
 pub use limits::MAX_PACKET_LINE;
 pub use line::Line;
 pub use packet::{PacketLine, ToldPacket, ToldTelegram, packet_line};

@@ -56,10 +56,10 @@ impl Line {
 
 // The line of what serializes itself. serde_json has other errors than memory, and no clause says that none of them can
 // come here. So any error is told as out of memory.
-pub(crate) fn line_of<T: Serialize>(alloc: Global, told: &T) -> Result<Line, AllocError>
-    ensures { IfOk result (IsLineOf (T.writes told.now)) }
+pub(crate) fn line_of<T: Serialize>(alloc: Global, object: &T) -> Result<Line, AllocError>
+    ensures { IfOk result (IsLineOf (T.writes object.now)) }
 {
-    match serde_json::to_vec(alloc, told) {
+    match serde_json::to_vec(alloc, object) {
         Ok(mut bytes) => {
             bytes.push(b'\n')?;
             Ok(Line::new(bytes))

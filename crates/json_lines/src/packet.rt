@@ -104,35 +104,35 @@ fn why_word(why: Why) -> &'static str
 }
 
 // How a telegram came, and of whom.
-fn put_sender(told: &ToldTelegram, out: &mut Text)
+fn put_sender(telegram: &ToldTelegram, out: &mut Text)
     requires { array_vec_len out.old + longest_sender ≤ max_packet_line }
-    ensures items { out.new.items ≡ out.old.items ++ members_text (sender_members told.now) }
+    ensures items { out.new.items ≡ out.old.items ++ members_text (sender_members telegram.now) }
     ensures len { array_vec_len out.new ≤ array_vec_len out.old + longest_sender }
 {
     put(b"\"dbm\":", out);
-    put_dbm(told.dbm, out);
+    put_dbm(telegram.dbm, out);
     put(b",\"dest\":", out);
-    put_dest(told.dest, out);
+    put_dest(telegram.dest, out);
     put(b",\"eep\":", out);
-    put_known_profile(told.eep, out);
+    put_known_profile(telegram.eep, out);
     put(b",\"id\":", out);
-    put_id(told.id, out);
+    put_id(telegram.id, out);
     put(b",\"maker\":", out);
-    put_maker(told.maker, out);
+    put_maker(telegram.maker, out);
 }
 
 // What a telegram carries.
-fn put_content(told: &ToldTelegram, out: &mut Text)
+fn put_content(telegram: &ToldTelegram, out: &mut Text)
     requires { array_vec_len out.old + longest_content ≤ max_packet_line }
-    ensures items { out.new.items ≡ out.old.items ++ members_text (content_members told.now) }
+    ensures items { out.new.items ≡ out.old.items ++ members_text (content_members telegram.now) }
     ensures len { array_vec_len out.new ≤ array_vec_len out.old + longest_content }
 {
     put(b"\"payload\":", out);
-    put_payload(&told.payload, out);
+    put_payload(&telegram.payload, out);
     put(b",\"rorg\":", out);
-    put_byte(told.rorg, out);
+    put_byte(telegram.rorg, out);
     put(b",\"status\":", out);
-    put_byte(told.status, out);
+    put_byte(telegram.status, out);
 }
 
 // Another packet.
@@ -148,12 +148,12 @@ fn put_other(kind: u8, size: u16, out: &mut Text)
 }
 
 // What a packet was.
-fn put_packet(told: &ToldPacket, out: &mut Text)
+fn put_packet(packet: &ToldPacket, out: &mut Text)
     requires { array_vec_len out.old + longest_sender + longest_content + 1 ≤ max_packet_line }
-    ensures items { out.new.items ≡ out.old.items ++ members_text (packet_members told.now) }
+    ensures items { out.new.items ≡ out.old.items ++ members_text (packet_members packet.now) }
     ensures len { array_vec_len out.new ≤ array_vec_len out.old + longest_sender + longest_content + 1 }
 {
-    match told {
+    match packet {
         ToldPacket::Telegram(telegram) => {
             put_sender(telegram, out);
             put(b",", out);
@@ -182,14 +182,14 @@ fn put_end(why: Why, out: &mut Text)
 /// `"type":"packet","why":"read"}`, `{"kind":4,"size":12,"type":"packet","why":"other_type"}`
 ///
 /// It takes no memory, and it has room for each line.
-pub fn packet_line(told: &PacketLine) -> ArrayVec<u8, MAX_PACKET_LINE>
-    ensures { result.items ≡ packet_text told.now }
+pub fn packet_line(line: &PacketLine) -> ArrayVec<u8, MAX_PACKET_LINE>
+    ensures { result.items ≡ packet_text line.now }
 {
     let mut out = ArrayVec::new();
     put(b"{", &mut out);
-    put_packet(&told.packet, &mut out);
+    put_packet(&line.packet, &mut out);
     put(b",", &mut out);
-    put_end(told.why, &mut out);
+    put_end(line.why, &mut out);
     put(b"}\n", &mut out);
     out
 }

@@ -64,7 +64,7 @@ fn is_plain(text: &[u8]) -> bool
 }
 
 // A text between quotation marks, with its escapes.
-fn quoted(alloc: Global, text: &str) -> Result<Vec<u8>, AllocError>
+fn json_string(alloc: Global, text: &str) -> Result<Vec<u8>, AllocError>
     ensures { IfOk result (λ bytes. bytes.items ≡ quoted text.now) }
 {
     let mut writer = Writer::new(Vec::new(alloc));
@@ -77,8 +77,8 @@ fn quoted(alloc: Global, text: &str) -> Result<Vec<u8>, AllocError>
 fn put_escaped(text: &str, out: &mut Vec<u8>) -> Result<(), AllocError>
     ensures { OnOk result (out.new.items ≡ out.old.items ++ escape text.now) }
 {
-    let quoted = quoted(*out.allocator(), text)?;
-    out.extend_from_slice(&quoted[1..quoted.len() - 1])
+    let string = json_string(*out.allocator(), text)?;
+    out.extend_from_slice(&string[1..string.len() - 1])
 }
 
 // A text with its escapes.

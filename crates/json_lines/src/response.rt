@@ -61,9 +61,9 @@ pub fn response_line(alloc: Global, code: u8, rest: &[u8]) -> Result<Line, Alloc
     ensures { IfOk result (λ line. line ≡ text (ResponseLine (record { code = code; bytes = rest.now }))) }
 {
     let digits = hex::encode_upper(alloc, rest)?;
-    let told = ResponseObject {
+    let object = ResponseObject {
         code,
         digits: digits.as_str(),
     };
-    line_of(alloc, &told)
+    line_of(alloc, &object)
 }

@@ -105,12 +105,12 @@ pub fn teach_line(
     ensures line { IfOk result (λ draft. draft.line ≡ text (Teach
         (record { eep = eep; id = id; maker = maker; outcome = outcome }))) }
 {
-    let told = TeachObject {
+    let object = TeachObject {
         eep,
         id,
         maker,
         outcome,
     };
-    let line = line_of(alloc, &told)?;
+    let line = line_of(alloc, &object)?;
     Ok(Draft { id, outcome, line })
 }

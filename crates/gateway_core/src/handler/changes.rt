@@ -2,7 +2,7 @@
 //! behind it.
 ghost use Rattle.std.specs.Prelude.{◌≡◌, [], ◌∷◌};
 ghost use Rattle.json_lines.specs.Lines.{Error};
-ghost use Rattle.json_lines.specs.declared.fixed.ErrorName.{ErrorName};
+ghost use Rattle.json_lines.specs.declared.error_lines.ErrorName.{ErrorName};
 ghost use Rattle.gateway_core.specs.Step.{NeedsStore, addition, forgets, learns, tells};
 ghost use Rattle.gateway_core.specs.private.Tries.{Learns, Forgets, Tries};
 

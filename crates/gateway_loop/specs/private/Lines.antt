@@ -1,7 +1,7 @@
 -- Lines as bytes, and the events that they are. Own choice.
 use Rattle.std.specs.Prelude.{◌≡◌, ◌+◌, ℕ, List, take, map}
 use Rattle.std.specs.Str.Lines.{strip_carriage_return}
-use Rattle.gateway_core.specs.Step.{max_line}
+use Rattle.actuator_commands.specs.Limits.{max_line}
 use Rattle.gateway_core.specs.Events.{Event, Line}
 use Rattle.gateway_loop.specs.declared.line_loop.Lines.{Lines}
 use Rattle.gateway_loop.specs.declared.line_loop.Lines.TheVariants.{OfScript, OfDesk}

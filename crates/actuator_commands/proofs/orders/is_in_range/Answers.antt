@@ -4,9 +4,6 @@ use Rattle.actuator_commands.proofs.orders.is_in_range.Goals as goal
 pub returns-then-channel-le-MAX_CHANNEL : goal.returns-then-channel-le-MAX_CHANNEL
 returns-then-channel-le-MAX_CHANNEL c = search rules
 
-pub returns-then-id-4 : goal.returns-then-id-4
-returns-then-id-4 c = search rules
-
 pub returns-then-value-le-MAX_VALUE : goal.returns-then-value-le-MAX_VALUE
 returns-then-value-le-MAX_VALUE c = search rules
 

@@ -9,4 +9,4 @@ returns c = rw (
   c.put_packet.ensures.items,
   c.put.ensures.items,
   c.new-out.ensures,
-) (line_pieces c.args.told.now.packet c.args.told.now.why)
+) (line_pieces c.args.line.now.packet c.args.line.now.why)

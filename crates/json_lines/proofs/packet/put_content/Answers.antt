@@ -3,7 +3,7 @@ use Rattle.json_lines.proofs.packet.put_content.Goals as goal
 
 pub returns-clause-items : goal.returns-clause-items
 returns-clause-items c = rw (
-  ← c.told.view_is,
+  ← c.telegram.view_is,
   c.put_byte-2.ensures.items,
   c.put-3.ensures.items,
   c.put_byte.ensures.items,

@@ -3,7 +3,7 @@ use Rattle.json_lines.proofs.packet.put_sender.Goals as goal
 
 pub returns-clause-items : goal.returns-clause-items
 returns-clause-items c = rw (
-  ← c.told.view_is,
+  ← c.telegram.view_is,
   c.put_maker.ensures.items,
   c.put-5.ensures.items,
   c.put_id.ensures.items,

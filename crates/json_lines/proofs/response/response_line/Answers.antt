@@ -2,7 +2,7 @@ use Rattle.std.proofs.Common.{◌≡◌, ◌∙◌, arith}
 use Rattle.std.proofs.lemmas.Result.{IfOk-weaker}
 use Rattle.hex.specs.Hex.{encode_upper, IsBytes}
 use Rattle.json_lines.specs.Lines.{Response}
-use Rattle.json_lines.proofs.LineTexts.{response_told}
+use Rattle.json_lines.proofs.LineTexts.{response_written}
 use Rattle.json_lines.proofs.response.response_line.Goals as goal
 
 pub returns : goal.returns
@@ -11,4 +11,4 @@ returns c =
     let bytes : IsBytes c.args.rest.now = λ i. omega (arith, c.type_inv.rest i) in
     let digits : c.as_str.result.now ≡ encode_upper c.args.rest.now =
     c.as_str.ensures.value ∙ c.in_ok-digits.ensures in
-    IfOk-weaker c.line_of.result _ _ (λ line h. response_told response line bytes (rw digits at h)) c.line_of.ensures
+    IfOk-weaker c.line_of.result _ _ (λ line h. response_written response line bytes (rw digits at h)) c.line_of.ensures

@@ -1,6 +1,6 @@
 use Rattle.std.proofs.Common.{rules}
 use Rattle.json_lines.specs.Lines.{TeachLine}
-use Rattle.json_lines.proofs.LineTexts.{teach_told}
+use Rattle.json_lines.proofs.LineTexts.{teach_written}
 use Rattle.json_lines.proofs.teach.teach_line.Goals as goal
 
 pub returns-clause-line : goal.returns-clause-line
@@ -11,7 +11,7 @@ returns-clause-line c =
       maker = c.args.maker;
       outcome = c.args.outcome;
     } in
-    teach_told line c.in_ok-line.line c.in_ok-line.ensures
+    teach_written line c.in_ok-line.line c.in_ok-line.ensures
 
 pub returns-clause-outcome : goal.returns-clause-outcome
 returns-clause-outcome c = search rules

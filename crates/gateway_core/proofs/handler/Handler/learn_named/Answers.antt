@@ -1,7 +1,7 @@
 use Rattle.std.proofs.Common.{[], ◌∷◌, Ok, sym, ap, subst, ◌∙◌, append-nil}
 use Rattle.std.proofs.lemmas.Result.{err_from_is_err_and}
 use Rattle.json_lines.specs.Lines.{Error}
-use Rattle.json_lines.specs.declared.fixed.ErrorName.TheVariants as name
+use Rattle.json_lines.specs.declared.error_lines.ErrorName.TheVariants as name
 use Rattle.gateway_core.specs.Step.{said, learns, tells, NeedsStore}
 use Rattle.gateway_core.specs.private.Tries.{Learns}
 use Rattle.gateway_core.proofs.TryLemmas.{by-desk, tries-learned, tries-full, tries-refused}

@@ -1,5 +1,5 @@
 use Rattle.json_lines.proofs.ReadingTexts.{print-string}
-use Rattle.json_lines.proofs.reading.quoted.Goals as goal
+use Rattle.json_lines.proofs.reading.json_string.Goals as goal
 
 pub returns : goal.returns
 returns c = rw (

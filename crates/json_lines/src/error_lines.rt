@@ -1,7 +1,7 @@
-//! The lines that never change: literals, so that none of them takes memory.
+//! The error lines: literals, so that none of them takes memory.
 
 ghost use Rattle.std.specs.Prelude.{◌≡◌};
-ghost use Rattle.json_lines.specs.Lines.{Done, Error, text};
+ghost use Rattle.json_lines.specs.Lines.{Error, text};
 
 /// Why the gateway has not done what it was given.
 #[derive(Clone, Copy, Debug, PartialEq, Eq)]
@@ -45,11 +45,4 @@ impl ErrorName {
             ErrorName::Store => b"{\"error\":\"store\",\"type\":\"error\"}\n",
         }
     }
-}
-
-/// The line of an order that is done: `{"type":"ok"}` and a line feed. It takes no memory.
-pub fn done_line() -> &'static [u8]
-    ensures { result.now ≡ text Done }
-{
-    b"{\"type\":\"ok\"}\n"
 }

@@ -1,0 +1,2 @@
+-- For private clauses: no public contract depends on these.
+pub mod Targets

@@ -1,0 +1,14 @@
+-- Where the orders go.
+use Rattle.std.specs.Prelude.{Option, option_map}
+use Rattle.actuator_commands.specs.declared.orders.Order.{Order}
+use Rattle.actuator_commands.specs.declared.orders.Target.{Target}
+use Rattle.actuator_commands.specs.declared.orders.Target.TheVariants.{One, All}
+use Rattle.actuator_commands.specs.Packets.{Message, ToOne, ToAll, message_of}
+
+abbrev pub target_of : Message → Target
+target_of (ToOne id payload_of) = One id
+target_of (ToAll offset payload) = All
+
+-- where an order goes, if it goes to devices
+abbrev pub target : Order → Option Target
+target order = option_map target_of (message_of order)
