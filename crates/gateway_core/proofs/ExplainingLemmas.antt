@@ -9,9 +9,9 @@ use Rattle.erp1_telegrams.specs.declared.eep.Eep.{Eep}
 use Rattle.erp1_telegrams.specs.declared.telegram.TelegramFault.{TelegramFault}
 use Rattle.erp1_telegrams.specs.Address.{is_own, is_passed_over}
 use Rattle.erp1_telegrams.specs.Telegram.{Telegram, telegram_of}
-use Rattle.profiles_rps.specs.Reading.{Entry}
-use Rattle.profiles_rps.specs.declared.unreadable.Unreadable.{Unreadable}
-use Rattle.profiles_rps.specs.declared.unreadable.Unreadable.TheVariants as unreadable
+use Rattle.profile_rows.specs.Reading.{Entry}
+use Rattle.profile_rows.specs.declared.unreadable.Unreadable.{Unreadable}
+use Rattle.profile_rows.specs.declared.unreadable.Unreadable.TheVariants as unreadable
 use Rattle.learned_devices.specs.declared.Device.{Device}
 use Rattle.learned_devices.specs.Devices.{device_of, is_full}
 use Rattle.teach_in.specs.declared.ute.UteQuery.{UteQuery}

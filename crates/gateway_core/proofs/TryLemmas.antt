@@ -10,8 +10,8 @@ use Rattle.std.proofs.lemmas.Bool.{le-ltb}
 use Rattle.learned_devices.specs.Kept.{Kept, Keeps, Commits, Pends}
 use Rattle.erp1_telegrams.specs.declared.eep.Eep.{Eep}
 use Rattle.erp1_telegrams.specs.Telegram.{Telegram}
-use Rattle.profiles_rps.specs.Reading.{Entry}
-use Rattle.profiles_rps.specs.declared.unreadable.Unreadable.{Unreadable}
+use Rattle.profile_rows.specs.Reading.{Entry}
+use Rattle.profile_rows.specs.declared.unreadable.Unreadable.{Unreadable}
 use Rattle.learned_devices.specs.declared.Device.{Device}
 use Rattle.learned_devices.specs.Devices.{Learned, Devices, device, device_of, is_full, Change, learned, forgotten}
 use Rattle.learned_devices.specs.Devices.{relabelled}

@@ -6,9 +6,9 @@ use Rattle.esp3_frames.specs.Packet.{Packet}
 use Rattle.erp1_telegrams.specs.declared.eep.Eep.{Eep}
 use Rattle.erp1_telegrams.specs.Address.{is_own, is_passed_over}
 use Rattle.erp1_telegrams.specs.Telegram.{Telegram, telegram_of}
-use Rattle.profiles_rps.specs.Reading.{Entry}
-use Rattle.profiles_rps.specs.declared.unreadable.Unreadable.{Unreadable}
-use Rattle.profiles_rps.specs.declared.unreadable.Unreadable.TheVariants as unreadable
+use Rattle.profile_rows.specs.Reading.{Entry}
+use Rattle.profile_rows.specs.declared.unreadable.Unreadable.{Unreadable}
+use Rattle.profile_rows.specs.declared.unreadable.Unreadable.TheVariants as unreadable
 use Rattle.learned_devices.specs.declared.Device.{Device}
 use Rattle.learned_devices.specs.Devices.{device_of, forgotten, is_full, learned}
 use Rattle.teach_in.specs.declared.mode.Mode.TheVariants.{Closed, LearnAs}

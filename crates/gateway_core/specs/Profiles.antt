@@ -4,8 +4,8 @@ use Rattle.std.specs.Prelude.{◌==◌, List, Result, if◌then◌else◌}
 use Rattle.erp1_telegrams.specs.declared.eep.Eep.{Eep}
 use Rattle.erp1_telegrams.specs.Telegram.{Telegram}
 use Rattle.profiles_rps.specs.Profiles as rps
-use Rattle.profiles_rps.specs.Reading.{Entry}
-use Rattle.profiles_rps.specs.declared.unreadable.Unreadable.{Unreadable}
+use Rattle.profile_rows.specs.Reading.{Entry}
+use Rattle.profile_rows.specs.declared.unreadable.Unreadable.{Unreadable}
 use Rattle.profiles_4bs.specs.Profiles as four_byte
 use Rattle.profiles_vld.specs.Profiles as variable_length
 

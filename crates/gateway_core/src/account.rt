@@ -9,7 +9,7 @@ use esp3_frames::PacketRef;
 use esp3_frames::packet_type::{RADIO_ERP1, RESPONSE};
 use json_lines::Count;
 use learned_devices::Device;
-use profiles_rps::Unreadable;
+use profile_rows::Unreadable;
 use teach_in::{Mode, Teach, Why};
 
 /// Why what was done with a packet was done, and what is known of its sender: the profile and the maker of the device

@@ -1,10 +1,10 @@
 //! What a telegram says by the profile of its sender.
 ghost use Rattle.std.specs.Prelude.{◌≡◌};
 ghost use Rattle.gateway_core.specs.Profiles;
-ghost use Rattle.profiles_rps.specs.Answer.{told};
+ghost use Rattle.profile_rows.specs.Answer.{told};
 
 use erp1_telegrams::{Eep, Telegram, rorg};
-use profiles_rps::{Readings, Unreadable};
+use profile_rows::{Readings, Unreadable};
 
 /// Sets `readings` to what the telegram of a sender with this profile says, or returns why the profile does not read
 /// it. There is a crate for the profiles of each RORG.

@@ -9,7 +9,7 @@ use Rattle.std.specs.List.{join_by, flat_map}
 use Rattle.json.specs.Print.{quoted}
 use Rattle.hex.specs.Hex.{encode_upper}
 use Rattle.erp1_telegrams.specs.declared.eep.Eep.{Eep}
-use Rattle.profiles_rps.specs.Reading.{Meaning, value, word, raw, out_of_range, Entry}
+use Rattle.profile_rows.specs.Reading.{Meaning, value, word, raw, out_of_range, Entry}
 use Rattle.learned_devices.specs.declared.Device.{Device}
 use Rattle.teach_in.specs.declared.mode.Mode.{Mode}
 use Rattle.teach_in.specs.declared.mode.Mode.TheVariants.{Closed, Learn, LearnAnswer, LearnAs}

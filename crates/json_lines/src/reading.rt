@@ -5,7 +5,7 @@ ghost use Rattle.std.specs.Bool.{OnTrue};
 ghost use Rattle.std.specs.Fmt.{signed_decimal};
 ghost use Rattle.std.specs.List.{join_by};
 ghost use Rattle.json.specs.Print.{escape, quoted};
-ghost use Rattle.profiles_rps.specs.Reading.{entries, entry_of, value, word};
+ghost use Rattle.profile_rows.specs.Reading.{entries, entry_of, value, word};
 ghost use Rattle.exact_values.specs.Fraction.{ratio};
 ghost use Rattle.json_lines.specs.Lines as lines;
 ghost use Rattle.json_lines.specs.Lines.{dbm_text, entry_text, id_text, in_quotes, member_text, named_text, or_null};
@@ -19,7 +19,7 @@ use erp1_telegrams::{Eep, Telegram};
 use exact_values::Fraction;
 use itoa::Buffer;
 use json::Writer;
-use profiles_rps::{Reading, Readings, What};
+use profile_rows::{Reading, Readings, What};
 use std::alloc::{AllocError, Global};
 
 // A number with a sign.

@@ -4,7 +4,7 @@ use byte_io::Failed;
 use erp1_telegrams::TelegramFault;
 use esp3_frames::{HeaderFault, PacketFault};
 use gateway_cli::Refused;
-use profiles_rps::Unreadable;
+use profile_rows::Unreadable;
 use std::error::Error;
 use std::test::Fail;
 

@@ -23,6 +23,8 @@ mod gateway_cli_tests;
 #[cfg(test)]
 mod json_lines_tests;
 #[cfg(test)]
+mod profile_rows_tests;
+#[cfg(test)]
 mod profiles_4bs_tests;
 #[cfg(test)]
 mod profiles_rps_tests;

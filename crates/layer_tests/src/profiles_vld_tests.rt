@@ -2,7 +2,7 @@
 use crate::readings::Wanted::{OutOfRange, Raw, Value, Word};
 use crate::readings::{Read, Refusal, Types};
 use erp1_telegrams::Eep;
-use profiles_rps::{Reading, Unreadable, What};
+use profile_rows::{Reading, Unreadable, What};
 
 /// An electronic switch.
 const SWITCH: Eep = Eep {

@@ -1,9 +1,8 @@
 //! The readings of telegrams, refusals, and the supported profiles of the three crates of profiles. The tables of each
 //! crate are in a file of its own.
-use crate::profiles_rps_tests::switch_profiles;
-use crate::{profiles_4bs_tests, profiles_vld_tests};
+use crate::{profiles_4bs_tests, profiles_rps_tests, profiles_vld_tests};
 use erp1_telegrams::{BROADCAST, Eep, Telegram};
-use profiles_rps::{Reading, Readings, Unreadable, What};
+use profile_rows::{Reading, Readings, Unreadable, What};
 use std::process::Abort;
 use std::test::Fail;
 
@@ -63,7 +62,7 @@ impl Crate {
     }
 }
 
-fn telegram(rorg: u8, payload: &[u8], status: u8) -> Result<Telegram, Fail> {
+pub(crate) fn telegram(rorg: u8, payload: &[u8], status: u8) -> Result<Telegram, Fail> {
     Ok(Telegram::new(rorg, payload, 0x0180_0ABC, status, BROADCAST, None)?)
 }
 
@@ -109,7 +108,7 @@ fn are_read(rt: &impl Abort, by: Crate, rows: &[Read]) -> Result<(), Fail> {
 
 #[test]
 fn worked_readings(rt: HostRuntime) -> Result<(), Fail> {
-    are_read(&rt, Crate::Rps, &switch_profiles::READ)?;
+    are_read(&rt, Crate::Rps, &profiles_rps_tests::READ)?;
     are_read(&rt, Crate::FourByte, &profiles_4bs_tests::READ)?;
     are_read(&rt, Crate::Vld, &profiles_vld_tests::READ)
 }
@@ -133,8 +132,8 @@ fn are_refused(rt: &impl Abort, by: Crate, before: Reading, rows: &[Refusal]) ->
 
 #[test]
 fn refusals(rt: HostRuntime) -> Result<(), Fail> {
-    let (switches, four_bytes) = (&switch_profiles::REFUSED, &profiles_4bs_tests::REFUSED);
-    are_refused(&rt, Crate::Rps, switch_profiles::BEFORE, switches)?;
+    let (switches, four_bytes) = (&profiles_rps_tests::REFUSED, &profiles_4bs_tests::REFUSED);
+    are_refused(&rt, Crate::Rps, profiles_rps_tests::BEFORE, switches)?;
     are_refused(&rt, Crate::FourByte, profiles_4bs_tests::BEFORE, four_bytes)?;
     let before = profiles_vld_tests::BEFORE;
     are_refused(&rt, Crate::Vld, before, &profiles_vld_tests::REFUSED)
@@ -162,7 +161,7 @@ fn supported_profiles(rt: HostRuntime) {
                     profiles_vld::supports(eep),
                 );
                 let wanted = (
-                    is_listed(eep, &switch_profiles::SUPPORTED),
+                    is_listed(eep, &profiles_rps_tests::SUPPORTED),
                     is_listed(eep, &profiles_4bs_tests::SUPPORTED),
                     is_listed(eep, &profiles_vld_tests::SUPPORTED),
                 );

@@ -1,7 +1,7 @@
 -- The gas sensor (EnOcean Equipment Profiles 2.6, "A5-09: Gas Sensor"; its rows are an own choice).
 use Rattle.std.specs.Prelude.{pos, List, [], ◌∷◌, codes}
-use Rattle.profiles_rps.specs.Rows.{Row, range, always, where_field}
-use Rattle.profiles_rps.specs.Profile.{Profiles}
+use Rattle.profile_rows.specs.Rows.{Row, range, always, where_field}
+use Rattle.profile_rows.specs.Profile.{Profiles}
 
 -- the concentration of CO2, with the humidity and the temperature where there are sensors of these
 abbrev pub carbon_dioxide : List Row

@@ -1,7 +1,7 @@
 -- The temperature and humidity sensors (EnOcean Equipment Profiles 2.6, "A5-04: Temperature and Humidity Sensor").
 use Rattle.std.specs.Prelude.{ℤ, pos, List, [], ◌∷◌, codes}
-use Rattle.profiles_rps.specs.Rows.{Row, range, always, where_field}
-use Rattle.profiles_rps.specs.Profile.{Profiles}
+use Rattle.profile_rows.specs.Rows.{Row, range, always, where_field}
+use Rattle.profile_rows.specs.Profile.{Profiles}
 use Rattle.profiles_4bs.specs.Tenths.{minus}
 
 -- the humidity, and between two ends, in tenths, the temperature, where there is a temperature sensor

@@ -1,7 +1,7 @@
 -- The light sensors (EnOcean Equipment Profiles 2.6, "A5-06: Light Sensor").
 use Rattle.std.specs.Prelude.{ℤ, pos, List, [], ◌∷◌, codes}
-use Rattle.profiles_rps.specs.Rows.{Row, range, always, where_field}
-use Rattle.profiles_rps.specs.Profile.{Profiles}
+use Rattle.profile_rows.specs.Rows.{Row, range, always, where_field}
+use Rattle.profile_rows.specs.Profile.{Profiles}
 
 -- the supply voltage, and the one of two illuminations that the range select names: first the ends of ILL2, then those
 -- of ILL1, in tenths

@@ -1,8 +1,8 @@
 -- The light, temperature and occupancy sensors (EnOcean Equipment Profiles 2.6, "A5-08: Light, Temperature and
 -- Occupancy Sensor").
 use Rattle.std.specs.Prelude.{ℕ, ℤ, pos, List, [], ◌∷◌, codes}
-use Rattle.profiles_rps.specs.Rows.{Row, range, words, always}
-use Rattle.profiles_rps.specs.Profile.{Profiles}
+use Rattle.profile_rows.specs.Rows.{Row, range, words, always}
+use Rattle.profile_rows.specs.Profile.{Profiles}
 use Rattle.profiles_4bs.specs.Tenths.{minus}
 use Rattle.profiles_4bs.specs.OccupancyButton.{pressed_or_released}
 

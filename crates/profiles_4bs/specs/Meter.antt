@@ -1,7 +1,7 @@
 -- The meters (EnOcean Equipment Profiles 2.6, "A5-12: Automated Meter Reading (AMR)"; their rows are an own choice).
 use Rattle.std.specs.Prelude.{ℕ, List, [], ◌∷◌, codes}
-use Rattle.profiles_rps.specs.Rows.{Row, over_power, number, always, where_field}
-use Rattle.profiles_rps.specs.Profile.{Profiles}
+use Rattle.profile_rows.specs.Rows.{Row, over_power, number, always, where_field}
+use Rattle.profile_rows.specs.Profile.{Profiles}
 
 -- The meter reading over ten to the power of the field of two bits at 30, and the tariff as the number itself. The bit
 -- 29 selects the unit: of a cumulative value, or of a current one

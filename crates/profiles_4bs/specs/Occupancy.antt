@@ -1,7 +1,7 @@
 -- The occupancy sensor (EnOcean Equipment Profiles 2.6, "A5-07: Occupancy Sensor").
 use Rattle.std.specs.Prelude.{pos, List, [], ◌∷◌, codes}
-use Rattle.profiles_rps.specs.Rows.{Row, range, parted, always, where_field}
-use Rattle.profiles_rps.specs.Profile.{Profiles}
+use Rattle.profile_rows.specs.Rows.{Row, range, parted, always, where_field}
+use Rattle.profile_rows.specs.Profile.{Profiles}
 
 -- the supply voltage where it is available, and whether somebody moves
 abbrev pub voltage_and_motion : List Row

@@ -1,7 +1,7 @@
 -- The room operating panels (EnOcean Equipment Profiles 2.6, "A5-10: Room Operating Panel").
 use Rattle.std.specs.Prelude.{pos, List, [], ◌∷◌, ◌++◌, codes}
-use Rattle.profiles_rps.specs.Rows.{Row, range, words, number, always}
-use Rattle.profiles_rps.specs.Profile.{Profiles}
+use Rattle.profile_rows.specs.Rows.{Row, range, words, number, always}
+use Rattle.profile_rows.specs.Profile.{Profiles}
 use Rattle.profiles_4bs.specs.OccupancyButton.{pressed_or_released}
 
 -- the set point as the number itself, and the temperature, whose number falls from 255 to 0 as it rises

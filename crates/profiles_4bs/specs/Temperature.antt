@@ -1,7 +1,7 @@
 -- The temperature sensors (EnOcean Equipment Profiles 2.6, "A5-02: Temperature Sensors").
 use Rattle.std.specs.Prelude.{ℕ, ◌-◌, ◌*◌, ℤ, pos, ◌+ℤ◌, ◌-ℤ◌, List, [], ◌∷◌, ◌++◌, map, codes}
-use Rattle.profiles_rps.specs.Rows.{Row, range, always}
-use Rattle.profiles_rps.specs.Profile.{Profiles}
+use Rattle.profile_rows.specs.Rows.{Row, range, always}
+use Rattle.profile_rows.specs.Profile.{Profiles}
 use Rattle.profiles_4bs.specs.Tenths.{minus}
 
 -- a number of 8 bits, which falls from 255 to 0 as the temperature rises from one end to the other, in tenths

@@ -2,13 +2,13 @@
 
 ghost use Rattle.std.specs.Prelude.{◌≡◌, option_map};
 ghost use Rattle.std.specs.Bool.{OnFalse};
-ghost use Rattle.profiles_rps.specs.Answer.{told_if};
-ghost use Rattle.profiles_rps.specs.Profile.{rows_in};
-ghost use Rattle.profiles_rps.specs.Rows.{entries_of};
+ghost use Rattle.profile_rows.specs.Answer.{told_if};
+ghost use Rattle.profile_rows.specs.Profile.{rows_in};
+ghost use Rattle.profile_rows.specs.Rows.{entries_of};
 ghost use Rattle.profiles_4bs.specs.Occupancy.{occupancy};
 
 use erp1_telegrams::Eep;
-use profiles_rps::{Readings, read_profiles};
+use profile_rows::{Readings, read_profiles};
 
 /// Sets `readings` to what the rows of a profile A5-07 read in a payload, and returns whether the profile has rows.
 pub(crate) fn read_into(eep: Eep, bytes: &[u8; 4], readings: &mut Readings) -> bool

@@ -1,22 +1,21 @@
 //! The 4BS profiles, and what a telegram says by one of them.
 
-ghost use Rattle.std.specs.Prelude.{◌≡◌, List, Ok, Err, option_map, MatchResult, OnErr};
+ghost use Rattle.std.specs.Prelude.{◌≡◌, option_map, OnErr};
 ghost use Rattle.std.specs.Bool.{OnFalse};
-ghost use Rattle.profiles_rps.specs.Answer.{told, told_if};
-ghost use Rattle.profiles_rps.specs.Rows.{Row, entries_of};
-ghost use Rattle.profiles_4bs.specs.Profiles.{rows_of, supported, read_by, readings_of};
+ghost use Rattle.profile_rows.specs.Answer.{told, told_if};
+ghost use Rattle.profile_rows.specs.Rows.{entries_of};
+ghost use Rattle.profiles_4bs.specs.Profiles.{rows_of, supported, readings_of};
 
 use crate::{
     gas, humidity, light, light_temperature_occupancy, meter, occupancy, room_operating_panel,
     temperature,
 };
-use bit_fields::get;
-use erp1_telegrams::{Eep, Telegram, lrn_bit};
-use profiles_rps::{Readings, Unreadable};
+use erp1_telegrams::{Eep, Telegram};
+use profile_rows::{Readings, Unreadable, payload_of};
 
 /// Sets `readings` to what the rows of a profile read in a payload, and returns whether the profile has rows. Each
 /// function has the profiles of one FUNC.
-#[tactic(auto, unfolding(crate::specs::Profiles::rows_of, profiles_rps::specs::Profile::is_one_of))]
+#[tactic(auto, unfolding(crate::specs::Profiles::rows_of, profile_rows::specs::Profile::is_one_of))]
 fn read_into(eep: Eep, bytes: &[u8; 4], readings: &mut Readings) -> bool
     ensures exact { told_if result readings.new.items ≡ option_map (entries_of bytes.now) (rows_of eep) }
     ensures none { OnFalse result (readings.new ≡ readings.old) }
@@ -34,31 +33,13 @@ fn read_into(eep: Eep, bytes: &[u8; 4], readings: &mut Readings) -> bool
     }
 }
 
-/// Whether telegrams of a profile are read: A5-02-01 to A5-02-0B, A5-02-10 to A5-02-1B, A5-02-20, A5-02-30, A5-04-01,
-/// A5-04-02, A5-06-01, A5-06-02, A5-07-01, A5-08-01 to A5-08-03, A5-09-04, A5-10-03, A5-10-05 and A5-12-01 to A5-12-03.
-/// `read` answers `NotSupported` exactly where they are not.
+/// Whether telegrams of a profile are read: whether the profile stands in `table` of `specs/Profiles.antt`. `read`
+/// answers `NotSupported` exactly where it does not. The rows are read in zeros, and what they read is dropped: so the
+/// code has each profile once, in the functions `read_into`.
 pub fn supports(eep: Eep) -> bool
     ensures { result ≡ supported eep }
 {
     read_into(eep, &[0; 4], &mut Readings::new())
-}
-
-/// The bytes of a data telegram of this RORG, or the first refusal.
-fn data_of(rorg: u8, telegram: &Telegram) -> Result<&[u8; 4], Unreadable>
-    ensures { MatchResult result (λ bytes. (rows : List Row) →
-        read_by rorg rows telegram.now ≡ Ok (entries_of bytes.now rows))
-        (λ refusal. (rows : List Row) → read_by rorg rows telegram.now ≡ Err refusal) }
-{
-    if telegram.rorg() != rorg {
-        return Err(Unreadable::WrongKind);
-    }
-    let Ok(bytes) = <&[u8; 4]>::try_from(telegram.payload()) else {
-        return Err(Unreadable::WrongLength);
-    };
-    if get::<4, { lrn_bit::FOUR_BS }, 1>(bytes) == 0 {
-        return Err(Unreadable::OtherMessage);
-    }
-    Ok(bytes)
 }
 
 /// Reads a telegram by a profile: `readings` is what it says, in the order of the profile's rows (EnOcean Equipment
@@ -69,15 +50,9 @@ pub fn read(eep: Eep, telegram: &Telegram, readings: &mut Readings) -> Result<()
     ensures exact { told result readings.new.items ≡ readings_of eep telegram.now }
     ensures err { OnErr result (readings.new ≡ readings.old) }
 {
-    match data_of(eep.rorg, telegram) {
-        Ok(bytes) => {
-            if read_into(eep, bytes, readings) {
-                Ok(())
-            } else {
-                Err(Unreadable::NotSupported)
-            }
-        }
+    match payload_of(eep.rorg, telegram) {
+        Ok(bytes) if read_into(eep, bytes, readings) => Ok(()),
         Err(refusal) if supports(eep) => Err(refusal),
-        Err(_) => Err(Unreadable::NotSupported),
+        _ => Err(Unreadable::NotSupported),
     }
 }

@@ -2,14 +2,14 @@
 
 ghost use Rattle.std.specs.Prelude.{◌≡◌, option_map};
 ghost use Rattle.std.specs.Bool.{OnFalse};
-ghost use Rattle.profiles_rps.specs.Answer.{told_if};
-ghost use Rattle.profiles_rps.specs.Profile.{rows_in};
-ghost use Rattle.profiles_rps.specs.Rows.{entries_of};
+ghost use Rattle.profile_rows.specs.Answer.{told_if};
+ghost use Rattle.profile_rows.specs.Profile.{rows_in};
+ghost use Rattle.profile_rows.specs.Rows.{entries_of};
 ghost use Rattle.profiles_4bs.specs.Temperature.{of_10_bits_each, spans_of_40_degrees};
 ghost use Rattle.profiles_4bs.specs.Temperature.{spans_of_80_degrees, temperature};
 
 use erp1_telegrams::Eep;
-use profiles_rps::{Readings, read_profiles};
+use profile_rows::{Readings, read_profiles};
 
 /// Sets `readings` to what the rows of a profile A5-02 read in a payload, and returns whether the profile has rows.
 /// Each of the three functions has a part of the profiles: one of all would cost more than the three to prove.

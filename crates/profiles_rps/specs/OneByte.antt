@@ -1,6 +1,6 @@
 -- The rows of the 1BS profiles (EnOcean Equipment Profiles 2.6, "1BS Telegram").
 use Rattle.std.specs.Prelude.{ℕ, List, [], ◌∷◌, codes}
-use Rattle.profiles_rps.specs.Rows.{Row, words, where_field}
+use Rattle.profile_rows.specs.Rows.{Row, words, where_field}
 
 -- the words of a contact
 abbrev pub open_or_closed : List (ℕ × List ℕ)

@@ -1,17 +1,14 @@
 -- What RPS and 1BS telegrams say.
-use Rattle.std.specs.Prelude.{ℕ, Bool, true, List, [], ◌∷◌, length, is_some, not, ◌==◌, if◌then◌else◌, Option, Result}
-use Rattle.std.specs.Prelude.{Ok, Err}
-use Rattle.std.specs.Option.{option_map_or}
-use Rattle.bit_fields.specs.Bits.{field}
+use Rattle.std.specs.Prelude.{Bool, List, [], ◌∷◌, is_some, Option, Result}
 use Rattle.erp1_telegrams.specs.declared.eep.Eep.{Eep}
 use Rattle.erp1_telegrams.specs.Telegram.{Telegram}
-use Rattle.profiles_rps.specs.Reading.{Entry}
-use Rattle.profiles_rps.specs.Rows.{Row, rows_entries}
-use Rattle.profiles_rps.specs.Profile.{Profiles, rows_in}
+use Rattle.profile_rows.specs.Reading.{Entry}
+use Rattle.profile_rows.specs.Rows.{Row, rows_entries}
+use Rattle.profile_rows.specs.Profile.{Profiles, rows_in}
+use Rattle.profile_rows.specs.Payload.{payload_of, readings_by}
 use Rattle.profiles_rps.specs.Rps.{push_button, two_rockers, four_rockers}
 use Rattle.profiles_rps.specs.OneByte.{single_contact}
-use Rattle.profiles_rps.specs.declared.unreadable.Unreadable.{Unreadable}
-use Rattle.profiles_rps.specs.declared.unreadable.Unreadable.TheVariants as refusals
+use Rattle.profile_rows.specs.declared.unreadable.Unreadable.{Unreadable}
 
 -- the profiles that are read (own choice), and their rows
 abbrev pub table : List Profiles
@@ -30,19 +27,6 @@ rows_of eep = rows_in table eep
 abbrev pub supported : Eep → Bool
 supported eep = is_some (rows_of eep)
 
--- The message of a profile of this RORG is data, and no teach-in: at 1BS the learn bit is 1, and RPS has no teach-in
--- (EnOcean Equipment Profiles 2.6, "1BS Telegram" and "RPS Telegram").
-abbrev pub is_data : ℕ → List ℕ → Bool
-is_data rorg payload = if rorg == 0xD5 then field payload 4 1 == 1 else true
-
--- what the rows of a profile of this RORG read in a telegram, or the first refusal
-abbrev pub read_by : ℕ → List Row → Telegram → Result (List Entry) Unreadable
-read_by rorg rows t =
-    if not (t.rorg == rorg) then Err refusals.WrongKind
-    else if not (length t.payload == 1) then Err refusals.WrongLength
-    else if not (is_data rorg t.payload) then Err refusals.OtherMessage
-    else Ok (rows_entries t.status t.payload rows)
-
--- what a profile reads in a telegram, or the first refusal (own choice: the order of the refusals)
+-- what a profile reads in a telegram, or the first refusal
 abbrev pub readings_of : Eep → Telegram → Result (List Entry) Unreadable
-readings_of eep t = option_map_or (λ rows. read_by eep.rorg rows t) (rows_of eep) (Err refusals.NotSupported)
+readings_of eep t = readings_by (rows_entries t.status) (rows_of eep) (payload_of eep.rorg 1 t)

@@ -1,6 +1,6 @@
 -- The rows of the RPS profiles (EnOcean Equipment Profiles 2.6, "RPS Telegram").
 use Rattle.std.specs.Prelude.{ℕ, List, [], ◌∷◌, codes}
-use Rattle.profiles_rps.specs.Rows.{Row, words, number, always, where_field, where_nu, both}
+use Rattle.profile_rows.specs.Rows.{Row, words, number, always, where_field, where_nu, both}
 
 -- the words of a button, and of the energy bow
 abbrev pub released_or_pressed : List (ℕ × List ℕ)

@@ -1,14 +1,14 @@
 //! The RPS and 1BS profiles, and what a telegram says by one of them.
 
-ghost use Rattle.std.specs.Prelude.{◌≡◌, List, Ok, Err, option_map, MatchResult, OnErr};
+ghost use Rattle.std.specs.Prelude.{◌≡◌, option_map, OnErr};
 ghost use Rattle.std.specs.Bool.{OnFalse};
-ghost use Rattle.profiles_rps.specs.Rows.{Row, rows_entries};
-ghost use Rattle.profiles_rps.specs.Answer.{told, told_if};
-ghost use Rattle.profiles_rps.specs.Profiles.{rows_of, supported, read_by, readings_of};
+ghost use Rattle.profile_rows.specs.Answer.{told, told_if};
+ghost use Rattle.profile_rows.specs.Rows.{rows_entries};
+ghost use Rattle.profiles_rps.specs.Profiles.{rows_of, supported, readings_of};
 
-use crate::{Readings, Unreadable, read_profiles};
 use bit_fields::get;
-use erp1_telegrams::{Eep, Telegram, lrn_bit, rorg};
+use erp1_telegrams::{Eep, Telegram};
+use profile_rows::{Readings, Unreadable, payload_of, read_profiles};
 
 const RELEASED_OR_PRESSED: [(u32, &str); 2] = [(0, "released"), (1, "pressed")];
 
@@ -55,29 +55,12 @@ fn read_into(eep: Eep, status: u8, bytes: &[u8; 1], readings: &mut Readings) -> 
 }
 
 /// Whether telegrams of a profile are read: whether the profile stands in `table` of `specs/Profiles.antt`. `read`
-/// answers `NotSupported` exactly where it does not.
+/// answers `NotSupported` exactly where it does not. The rows are read in zeros, and what they read is dropped: so the
+/// code has each profile once, in `read_into`.
 pub fn supports(eep: Eep) -> bool
     ensures { result ≡ supported eep }
 {
     read_into(eep, 0, &[0], &mut Readings::new())
-}
-
-/// The byte of a data telegram of this RORG, or the first refusal.
-fn data_of(rorg: u8, telegram: &Telegram) -> Result<&[u8; 1], Unreadable>
-    ensures { MatchResult result (λ bytes. (rows : List Row) →
-        read_by rorg rows telegram.now ≡ Ok (rows_entries telegram.now.status bytes.now rows))
-        (λ refusal. (rows : List Row) → read_by rorg rows telegram.now ≡ Err refusal) }
-{
-    if telegram.rorg() != rorg {
-        return Err(Unreadable::WrongKind);
-    }
-    let Ok(bytes) = <&[u8; 1]>::try_from(telegram.payload()) else {
-        return Err(Unreadable::WrongLength);
-    };
-    if rorg == rorg::ONE_BS && get::<1, { lrn_bit::ONE_BS }, 1>(bytes) == 0 {
-        return Err(Unreadable::OtherMessage);
-    }
-    Ok(bytes)
 }
 
 /// Reads a telegram by a profile: `readings` is what it says, in the order of the profile's rows (EnOcean Equipment
@@ -88,15 +71,9 @@ pub fn read(eep: Eep, telegram: &Telegram, readings: &mut Readings) -> Result<()
     ensures exact { told result readings.new.items ≡ readings_of eep telegram.now }
     ensures err { OnErr result (readings.new ≡ readings.old) }
 {
-    match data_of(eep.rorg, telegram) {
-        Ok(bytes) => {
-            if read_into(eep, telegram.status(), bytes, readings) {
-                Ok(())
-            } else {
-                Err(Unreadable::NotSupported)
-            }
-        }
+    match payload_of(eep.rorg, telegram) {
+        Ok(bytes) if read_into(eep, telegram.status(), bytes, readings) => Ok(()),
         Err(refusal) if supports(eep) => Err(refusal),
-        Err(_) => Err(Unreadable::NotSupported),
+        _ => Err(Unreadable::NotSupported),
     }
 }

@@ -1,7 +1,7 @@
 -- The rows of the message of D2-05-00 that is read (EnOcean Equipment Profiles 2.6, "D2-05-00", the command 4: Blinds
 -- Control for Position and Angle).
 use Rattle.std.specs.Prelude.{List, [], ◌∷◌, codes}
-use Rattle.profiles_rps.specs.Rows.{Row, percent_or, number, always}
+use Rattle.profile_rows.specs.Rows.{Row, percent_or, number, always}
 
 -- Reply Position and Angle (CMD 4): position, angle, locking mode, channel
 abbrev pub position_and_angle : List Row

@@ -1,7 +1,7 @@
 -- The rows of the messages of D2-01 that are read (EnOcean Equipment Profiles 2.6, "D2-01", the commands 4 and 7:
 -- Electronic Switches and Dimmers with Local Control). Own choice: all types of D2-01 are read by these rows.
 use Rattle.std.specs.Prelude.{ℕ, List, [], ◌∷◌, codes}
-use Rattle.profiles_rps.specs.Rows.{Row, words, percent_or, over, number, reserved, always, where_field, where_above}
+use Rattle.profile_rows.specs.Rows.{Row, words, percent_or, over, number, reserved, always, where_field, where_above}
 
 -- the words of the error level
 abbrev pub error_levels : List (ℕ × List ℕ)

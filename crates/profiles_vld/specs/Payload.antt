@@ -1,9 +1,9 @@
 -- What rows read in the payload of a message.
 use Rattle.std.specs.Prelude.{ℕ, List, length, ◌==◌, if◌then◌else◌, Result, Ok, Err}
-use Rattle.profiles_rps.specs.Reading.{Entry}
-use Rattle.profiles_rps.specs.Rows.{Row, entries_of}
-use Rattle.profiles_rps.specs.declared.unreadable.Unreadable.{Unreadable}
-use Rattle.profiles_rps.specs.declared.unreadable.Unreadable.TheVariants as refusals
+use Rattle.profile_rows.specs.Reading.{Entry}
+use Rattle.profile_rows.specs.Rows.{Row, entries_of}
+use Rattle.profile_rows.specs.declared.unreadable.Unreadable.{Unreadable}
+use Rattle.profile_rows.specs.declared.unreadable.Unreadable.TheVariants as refusals
 
 -- what rows read in a payload of so many bytes; another length is refused
 abbrev pub of_length : ℕ → List ℕ → List Row → Result (List Entry) Unreadable

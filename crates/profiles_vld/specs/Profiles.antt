@@ -5,10 +5,10 @@ use Rattle.std.specs.Option.{option_map_or}
 use Rattle.bit_fields.specs.Bits.{field}
 use Rattle.erp1_telegrams.specs.declared.eep.Eep.{Eep}
 use Rattle.erp1_telegrams.specs.Telegram.{Telegram}
-use Rattle.profiles_rps.specs.Reading.{Entry}
-use Rattle.profiles_rps.specs.declared.unreadable.Unreadable.{Unreadable}
-use Rattle.profiles_rps.specs.declared.unreadable.Unreadable.TheVariants as refusals
-use Rattle.profiles_rps.specs.Rows.{entries_of}
+use Rattle.profile_rows.specs.Reading.{Entry}
+use Rattle.profile_rows.specs.declared.unreadable.Unreadable.{Unreadable}
+use Rattle.profile_rows.specs.declared.unreadable.Unreadable.TheVariants as refusals
+use Rattle.profile_rows.specs.Rows.{entries_of}
 use Rattle.profiles_vld.specs.Payload.{of_length}
 use Rattle.profiles_vld.specs.ElectronicSwitches.{status_response, measurement_response}
 use Rattle.profiles_vld.specs.BlindsControl.{position_and_angle}

@@ -1,11 +1,11 @@
 //! Blinds control for position and angle: the profile D2-05-00.
 
 ghost use Rattle.std.specs.Prelude.{◌≡◌, OnErr};
-ghost use Rattle.profiles_rps.specs.Answer.{told};
+ghost use Rattle.profile_rows.specs.Answer.{told};
 ghost use Rattle.profiles_vld.specs.Profiles.{blinds_control_says};
 
 use bit_fields::get;
-use profiles_rps::{Readings, Unreadable, read_rows};
+use profile_rows::{Readings, Unreadable, read_rows};
 
 /// Sets `readings` to what a payload says, or returns the first refusal: `WrongLength` if it has not four bytes, and
 /// `OtherMessage` if its command is not 4.

@@ -2,13 +2,13 @@
 
 ghost use Rattle.std.specs.Prelude.{◌≡◌, OnErr};
 ghost use Rattle.bit_fields.specs.Bits.{field};
-ghost use Rattle.profiles_rps.specs.Answer.{told};
+ghost use Rattle.profile_rows.specs.Answer.{told};
 ghost use Rattle.profiles_vld.specs.ElectronicSwitches.{status_response, measurement_response};
 ghost use Rattle.profiles_vld.specs.Payload.{of_length};
 ghost use Rattle.profiles_vld.specs.Profiles.{electronic_switches_say};
 
 use bit_fields::get;
-use profiles_rps::{Readings, Unreadable, read_rows};
+use profile_rows::{Readings, Unreadable, read_rows};
 
 /// Sets `readings` to what a payload says, or returns the first refusal: `OtherMessage` if its command is neither 4 nor
 /// 7, and `WrongLength` if it has not the length of its command's message.

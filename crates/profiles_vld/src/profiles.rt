@@ -1,12 +1,12 @@
 //! The VLD profiles, and what a telegram says by one of them.
 
 ghost use Rattle.std.specs.Prelude.{◌≡◌, option_map, IfNone, IfSome, OnErr};
-ghost use Rattle.profiles_rps.specs.Answer.{told};
+ghost use Rattle.profile_rows.specs.Answer.{told};
 ghost use Rattle.profiles_vld.specs.Profiles.{profile_says, supported, readings_of};
 
 use crate::{blinds_control, electronic_switches};
 use erp1_telegrams::{Eep, Telegram, rorg};
-use profiles_rps::{Readings, Unreadable};
+use profile_rows::{Readings, Unreadable};
 
 /// Sets `readings` to what a payload says by a profile, or returns the first refusal; None if the profile is not read.
 fn read_into(eep: Eep, payload: &[u8], readings: &mut Readings) -> Option<Result<(), Unreadable>>
@@ -22,7 +22,9 @@ fn read_into(eep: Eep, payload: &[u8], readings: &mut Readings) -> Option<Result
     }
 }
 
-/// Whether telegrams of a profile are read: D2-01-00 to D2-01-12 and D2-05-00.
+/// Whether telegrams of a profile are read: whether `profile_says` of `specs/Profiles.antt` has the profile. `read`
+/// answers `NotSupported` exactly where it has not. A payload of no bytes is read, and the answer to it is dropped: so
+/// the code has each profile once, in `read_into`.
 pub fn supports(eep: Eep) -> bool
     ensures { result ≡ supported eep }
 {

@@ -19,7 +19,7 @@ use erp1_telegrams::{Telegram, is_passed_over};
 use esp3_frames::PacketRef;
 use json_lines::{reading_line, response_line};
 use learned_devices::{Device, DeviceStore};
-use profiles_rps::Readings;
+use profile_rows::Readings;
 use std::alloc::{AllocError, Global};
 use teach_in::{Teach, Why};
 

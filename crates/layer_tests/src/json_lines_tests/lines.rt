@@ -5,7 +5,7 @@ use json_lines::{
     Count, Counts, ErrorName, device_lines, done_line, reading_line, response_line, status_line,
 };
 use learned_devices::{Device, Label};
-use profiles_rps::{Reading, Readings, What};
+use profile_rows::{Reading, Readings, What};
 use std::test::Fail;
 use teach_in::Mode;
 

@@ -3,7 +3,7 @@ use erp1_telegrams::{BROADCAST, Eep, Telegram};
 use exact_values::over;
 use json_lines::{device_lines, reading_line, response_line};
 use learned_devices::{Device, Label};
-use profiles_rps::{Reading, Readings, What};
+use profile_rows::{Reading, Readings, What};
 use std::alloc::{AllocError, Global};
 use std::test::Fail;
 

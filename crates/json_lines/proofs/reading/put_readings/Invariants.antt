@@ -1,6 +1,6 @@
 use Rattle.std.proofs.Common.{◌≡◌, ◌++◌, take, codes}
 use Rattle.std.specs.List.{flat_map}
-use Rattle.profiles_rps.specs.Reading.{entries}
+use Rattle.profile_rows.specs.Reading.{entries}
 use Rattle.json_lines.specs.Lines.{entry_text}
 use Rattle.json_lines.proofs.reading.put_readings.Given as goal
 

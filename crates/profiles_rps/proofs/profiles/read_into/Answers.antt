@@ -3,18 +3,18 @@ use Rattle.std.proofs.Common.{arith, rules}
 use Rattle.profiles_rps.specs.Profiles.{rows_of}
 use Rattle.profiles_rps.proofs.profiles.read_into.Goals as goal
 
-pub returns-then-is_one_of-clause-exact : goal.returns-then-is_one_of-clause-exact
+pub returns-clause-exact : goal.returns-clause-exact
 unfolding rows_of
-returns-then-is_one_of-clause-exact c = search rules
+returns-clause-exact c = search rules
 
-pub returns-then-nu-get-clause-exact : goal.returns-then-nu-get-clause-exact
+pub returns-2-clause-exact : goal.returns-2-clause-exact
 unfolding rows_of
-returns-then-nu-get-clause-exact c = grind (arith, common_steps)
+returns-2-clause-exact c = grind (arith, common_steps)
 
-pub returns-then-nu-get-2-clause-exact : goal.returns-then-nu-get-2-clause-exact
+pub returns-4-clause-exact : goal.returns-4-clause-exact
 unfolding rows_of
-returns-then-nu-get-2-clause-exact c = grind (arith, common_steps)
+returns-4-clause-exact c = grind (arith, common_steps)
 
-pub returns-then-get-eq1-clause-exact : goal.returns-then-get-eq1-clause-exact
+pub returns-6-clause-exact : goal.returns-6-clause-exact
 unfolding rows_of
-returns-then-get-eq1-clause-exact c = search rules
+returns-6-clause-exact c = search rules

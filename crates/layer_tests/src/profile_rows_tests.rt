@@ -1,0 +1,103 @@
+//! A number of each kind of row, with what it means, which profiles an arm reads, and the data of telegrams.
+use crate::readings::Wanted::{OutOfRange, Raw, Value, Word};
+use crate::readings::{is_said, telegram};
+use erp1_telegrams::Eep;
+use profile_rows::profile::is_one_of;
+use profile_rows::rows::{number, over, over_power, parted, percent_or, range, reserved, words};
+use profile_rows::{Reading, Readings, Unreadable, What, payload_of, read_rows};
+use std::test::Fail;
+
+#[test]
+fn numbers(rt: HostRuntime) {
+    let contact = [(0, "open"), (1, "closed")];
+    for (row, (found, wanted)) in [
+        // values
+        (range(0, 255, 0, 0, 400, "C"), Value(40, 1, "C")),
+        (range(127, 255, 0, 0, 400, "C"), Value(1024, 51, "C")),
+        (range(0, 1023, 0, -100, 412, "C"), Value(206, 5, "C")),
+        (percent_or(100, "not_applicable"), Value(100, 1, "%")),
+        (over(1234, 1, "W"), Value(1234, 1, "W")),
+        (over_power(16777215, 3, "kWh"), Value(3355443, 200, "kWh")),
+        // words
+        (words(1, &contact), Word("closed")),
+        (words(2, &contact), OutOfRange(2)),
+        (percent_or(127, "unknown"), Word("unknown")),
+        // parts of ranges
+        (parted(127, 128, "off", "on"), Word("off")),
+        (parted(128, 128, "off", "on"), Word("on")),
+        (range(251, 0, 250, 0, 1000, "%"), OutOfRange(251)),
+        // numbers as they are
+        (percent_or(101, "unknown"), OutOfRange(101)),
+        (number(255), Raw(255)),
+        (reserved(5), OutOfRange(5)),
+    ]
+    .into_iter()
+    .enumerate()
+    {
+        assert!(rt; is_said(found, wanted), "row {row}: {found:?}");
+    }
+}
+
+#[test]
+fn rows_that_hold(rt: HostRuntime) {
+    let first = Reading {
+        name: "PF",
+        what: What::Raw(0),
+    };
+    let last = Reading {
+        name: "LC",
+        what: What::Raw(1),
+    };
+    let bytes = &[0x01];
+    let mut readings = Readings::new();
+    readings.push(last);
+    read_rows! { readings, bytes, 1;
+        "PF" (0, 1) [] number();
+        "EL" (7, 1) [(7, 1) = 0] number();
+        "LC" (7, 1) [(7, 1) = 1] number();
+    }
+    assert_eq!(rt; readings.as_slice(), [first, last].as_slice());
+}
+
+#[test]
+fn two_types(rt: HostRuntime) {
+    let cases: [((u8, u8, u8), bool); 5] = [
+        ((0xA5, 0x12, 0x02), true),
+        ((0xA5, 0x12, 0x03), true),
+        ((0xA5, 0x12, 0x01), false),
+        ((0xA5, 0x10, 0x03), false),
+        ((0xD2, 0x12, 0x03), false),
+    ];
+    for ((rorg, func, typ), wanted) in cases {
+        let eep = Eep::new(rorg, func, typ);
+        assert_eq!(rt;
+            is_one_of(eep, 0xA5, 0x12, &[0x02, 0x03]),
+            wanted,
+            "{func} {typ}"
+        );
+    }
+}
+
+#[test]
+fn payloads(rt: HostRuntime) -> Result<(), Fail> {
+    // each telegram, and what its payload is for a profile of 4BS
+    let cases: [(u8, &[u8], Result<&[u8; 4], Unreadable>); 4] = [
+        (
+            0xA5,
+            &[0x00, 0x00, 0x80, 0x0F],
+            Ok(&[0x00, 0x00, 0x80, 0x0F]),
+        ),
+        (
+            0xA5,
+            &[0x08, 0x28, 0x46, 0x80],
+            Err(Unreadable::OtherMessage),
+        ),
+        (0xD2, &[0x00, 0x00, 0x80, 0x0F], Err(Unreadable::WrongKind)),
+        (0xD5, &[0x09], Err(Unreadable::WrongKind)),
+    ];
+    for (rorg, payload, wanted) in cases {
+        let telegram = telegram(rorg, payload, 0x00)?;
+        assert_eq!(rt; payload_of(0xA5, &telegram), wanted, "{rorg}");
+    }
+    Ok(())
+}

@@ -1,0 +1,14 @@
+-- What a call that reads answers, and leaves.
+use Rattle.std.specs.Prelude.{Bool, List, if◌then◌else◌, Option, Some, None, Result, Ok, Err}
+use Rattle.profile_rows.specs.Reading.{Entry, entries}
+use Rattle.profile_rows.specs.declared.reading.Reading.{Reading}
+use Rattle.profile_rows.specs.declared.unreadable.Unreadable.{Unreadable}
+
+-- a refusal, or else the readings that the call leaves
+abbrev pub told : Result (Unit {0}) Unreadable → List Reading → Result (List Entry) Unreadable
+told (Ok done) readings = Ok (entries readings)
+told (Err refusal) readings = Err refusal
+
+-- the readings that the call leaves, if it has read some
+abbrev pub told_if : Bool → List Reading → Option (List Entry)
+told_if has_read readings = if has_read then Some (entries readings) else None

@@ -1,0 +1,32 @@
+-- The data of a telegram, and what a profile reads in it.
+use Rattle.std.specs.Prelude.{ℕ, Bool, true, List, length, not, ◌==◌, if◌then◌else◌, Option, Some, None, Result, Ok, Err}
+use Rattle.bit_fields.specs.Bits.{field}
+use Rattle.erp1_telegrams.specs.Telegram.{Telegram}
+use Rattle.profile_rows.specs.Reading.{Entry}
+use Rattle.profile_rows.specs.Rows.{Row}
+use Rattle.profile_rows.specs.declared.unreadable.Unreadable.{Unreadable}
+use Rattle.profile_rows.specs.declared.unreadable.Unreadable.TheVariants as refusals
+
+-- A payload of this RORG is data, and no teach-in: at 1BS and 4BS the learn bit is 1, and the others have none
+-- (EnOcean Equipment Profiles 2.6, "RPS Telegram", "1BS Telegram" and "4BS Telegram").
+abbrev pub is_data : ℕ → List ℕ → Bool
+is_data rorg payload =
+    if rorg == 0xD5 then field payload 4 1 == 1
+    else if rorg == 0xA5 then field payload 28 1 == 1
+    else true
+
+-- the payload of a data telegram of this RORG, which has n bytes, or the first refusal
+abbrev pub payload_of : ℕ → ℕ → Telegram → Result (List ℕ) Unreadable
+payload_of rorg n t =
+    if not (t.rorg == rorg) then Err refusals.WrongKind
+    else if not (length t.payload == n) then Err refusals.WrongLength
+    else if not (is_data rorg t.payload) then Err refusals.OtherMessage
+    else Ok t.payload
+
+-- what rows read in such a payload, or the first refusal, where a profile has no rows too; `reads` is what rows read in
+-- a payload (own choice: the order of the refusals)
+abbrev pub readings_by :
+    (List ℕ → List Row → List Entry) → Option (List Row) → Result (List ℕ) Unreadable → Result (List Entry) Unreadable
+readings_by reads None payload = Err refusals.NotSupported
+readings_by reads (Some rows) (Ok payload) = Ok (reads payload rows)
+readings_by reads (Some rows) (Err refusal) = Err refusal

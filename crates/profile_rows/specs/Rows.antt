@@ -1,0 +1,116 @@
+-- The rows of a profile's table (EnOcean Equipment Profiles 2.6, the tables "Offset, Size, Data, ShortCut, .., Valid
+-- Range, Scale, Unit"): where a field stands, when it is read, and what its number means.
+use Rattle.std.specs.Prelude.{ℕ, ◌^◌, ℤ, pos, Bool, true, List, [], ◌∷◌, codes, Option, Some, None, ◌==◌, ◌&&◌}
+use Rattle.std.specs.Prelude.{nat_lt, if◌then◌else◌}
+use Rattle.std.specs.List.{find, flat_map}
+use Rattle.exact_values.specs.Ratio.{Ratio, lowest}
+use Rattle.exact_values.specs.Scale.{scaled}
+use Rattle.bit_fields.specs.Bits.{field}
+use Rattle.profile_rows.specs.Reading.{Meaning, value, word, raw, out_of_range, Entry}
+
+-- what the number in a field means
+pub data Kind : Type 0 where
+  -- a value: the first number stands for the third, in tenths, and the second for the fourth, in a unit; linear between
+  -- them
+  range : ℕ → ℕ → ℤ → ℤ → List ℕ → Kind
+  -- the word beside the number
+  words : List (ℕ × List ℕ) → Kind
+  -- one word below a number, another from it on
+  parted : ℕ → List ℕ → List ℕ → Kind
+  -- 0 to 100 percent, and a word for 127
+  percent_or : List ℕ → Kind
+  -- a value: the number over a divisor, in a unit
+  over : ℕ → List ℕ → Kind
+  -- a value: the number over ten to the power of another field, which has this offset and this length, in a unit
+  over_power : ℕ → ℕ → List ℕ → Kind
+  -- the number itself
+  number : Kind
+  -- all numbers are reserved: none means anything
+  reserved : Kind
+
+-- when a row is read
+pub data Condition : Type 0 where
+  always : Condition
+  -- the field of this offset and this length is this number
+  where_field : ℕ → ℕ → ℕ → Condition
+  -- the field of this offset and this length is above this number
+  where_above : ℕ → ℕ → ℕ → Condition
+  -- the bit NU of the status is this number
+  where_nu : ℕ → Condition
+  both : Condition → Condition → Condition
+
+-- a row: its name, the offset and the length of its field, when it is read, and what its number means
+pub record Row : Type 0 where
+  pub name : List ℕ
+  pub offset : ℕ
+  pub len : ℕ
+  pub condition : Condition
+  pub kind : Kind
+
+-- the bit NU of a status byte (ISO/IEC 14543-3-10, "Status": the fourth bit from the left)
+abbrev pub nu_of : ℕ → ℕ
+nu_of status = field (status ∷ []) 3 1
+
+-- a condition holds in a telegram of this status and this payload
+abbrev pub holds : Condition → ℕ → List ℕ → Bool
+holds always status payload = true
+holds (where_field offset len n) status payload = field payload offset len == n
+holds (where_above offset len n) status payload = nat_lt n (field payload offset len)
+holds (where_nu n) status payload = nu_of status == n
+holds (both a b) status payload = holds a status payload && holds b status payload
+
+-- a value in a unit, or none
+abbrev pub value_or_none : List ℕ → ℕ → Option Ratio → Meaning
+value_or_none unit n None = out_of_range n
+value_or_none unit n (Some ratio) = value ratio unit
+
+-- what n means where a stands for x tenths of a unit and b for y tenths
+abbrev pub value_in_range : ℕ → ℕ → ℤ → ℤ → List ℕ → ℕ → Meaning
+value_in_range a b x y unit n = value_or_none unit n (scaled n a b x y)
+
+-- a word that was found, or none
+abbrev pub word_or_none : ℕ → Option (ℕ × List ℕ) → Meaning
+word_or_none n None = out_of_range n
+word_or_none n (Some found) = word found.1
+
+-- the word beside n in a list of numbers and words
+abbrev pub word_beside : List (ℕ × List ℕ) → ℕ → Meaning
+word_beside list n = word_or_none n (find (λ entry. entry.0 == n) list)
+
+-- one word below a bound, another from it on
+abbrev pub word_by : ℕ → List ℕ → List ℕ → ℕ → Meaning
+word_by bound below from n = if nat_lt n bound then word below else word from
+
+-- a percentage, and a word for 127
+abbrev pub percentage_or : List ℕ → ℕ → Meaning
+percentage_or text n = if n == 127 then word text else value_in_range 0 100 (pos 0) (pos 1000) (codes "%") n
+
+-- n over a divisor, in a unit
+abbrev pub quotient : ℕ → List ℕ → ℕ → Meaning
+quotient divisor unit n = value (lowest (pos n) divisor) unit
+
+-- what the number n in a field of this payload means
+abbrev pub meant : Kind → List ℕ → ℕ → Meaning
+meant (range a b x y unit) payload n = value_in_range a b x y unit n
+meant (words list) payload n = word_beside list n
+meant (parted bound below from) payload n = word_by bound below from n
+meant (percent_or text) payload n = percentage_or text n
+meant (over divisor unit) payload n = quotient divisor unit n
+meant (over_power offset len unit) payload n = quotient (10 ^ field payload offset len) unit n
+meant number payload n = raw n
+meant reserved payload n = out_of_range n
+
+-- what a row reads in a telegram of this status and this payload: nothing where its condition does not hold
+abbrev pub row_entries : ℕ → List ℕ → Row → List Entry
+row_entries status payload row =
+    if holds row.condition status payload
+    then record { name = row.name; meaning = meant row.kind payload (field payload row.offset row.len) } ∷ []
+    else []
+
+-- what rows read, in their order
+abbrev pub rows_entries : ℕ → List ℕ → List Row → List Entry
+rows_entries status payload rows = flat_map (row_entries status payload) rows
+
+-- what rows read in a payload, where none of them asks for the status
+abbrev pub entries_of : List ℕ → List Row → List Entry
+entries_of payload rows = rows_entries 0 payload rows

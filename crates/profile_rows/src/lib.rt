@@ -1,0 +1,14 @@
+//! What the crates of profiles share: readings, refusals, the rows of a profile's table, the macros that write what
+//! rows read, and the data of a telegram.
+#![tactic(auto)]
+
+mod macros;
+mod payload;
+pub mod profile;
+mod reading;
+pub mod rows;
+mod unreadable;
+
+pub use crate::payload::payload_of;
+pub use crate::reading::{Reading, Readings, What};
+pub use crate::unreadable::Unreadable;

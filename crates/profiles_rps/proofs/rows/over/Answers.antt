@@ -1,5 +1,0 @@
-use Rattle.std.proofs.Common.{rules}
-use Rattle.profiles_rps.proofs.rows.over.Goals as goal
-
-pub returns : goal.returns
-returns c = search rules

@@ -1,9 +1,0 @@
-use Rattle.std.proofs.Common.{◌≡◌, drop, map}
-use Rattle.profiles_rps.specs.Rows.{word_beside}
-use Rattle.profiles_rps.proofs.rows.words.Given as goal
-
--- none of the numbers so far is the one that is sought
-abbrev pub invariant-loop-number : goal.invariant-loop-number
-invariant-loop-number l =
-    word_beside (map (λ entry. (entry.0, entry.1.now)) (drop l.number-index l.list)) l.raw
-    ≡ word_beside (map (λ entry. (entry.0, entry.1.now)) l.list) l.raw
