@@ -29,7 +29,7 @@ use Rattle.sqlite.proofs.Callers.{IsPlain, reads_as, one_permutation}
 use Rattle.device_registry.specs.Table.{count_others_text}
 use Rattle.sqlite.specs.Listing.{understood}
 use Rattle.device_registry.specs.Ready.{IsReady, Shows, Stays}
-use Rattle.learned_devices.specs.Devices.{Devices, is_full}
+use Rattle.learned_devices.specs.Devices.{Devices, is_full, max_devices}
 use Rattle.device_registry.specs.Stored.{Registers}
 use Rattle.device_registry.specs.Table.Rows.{IsDevice}
 use Rattle.device_registry.proofs.StatementTexts.{is_other, others_query, program_of}
@@ -157,14 +157,16 @@ shown_number v n row more is number = ap (λ (rows : List Row). column (get_or r
 same_number : (m n : ℕ) → ◌≡◌ {A = Value} (Int (pos m)) (Int (pos n)) → m ≡ n
 same_number m n e = cc
 
--- the count is that of the other senders, since they are at most 1,000
-full_told : (others n : ℕ) → count others ≡ Int (pos n) → others ≤ 1000 → nat_le 1000 n ≡ nat_le 1000 others
+-- the count is that of the other senders, since they are few
+full_told : (others n : ℕ) → count others ≡ Int (pos n) → others ≤ max_devices
+    → nat_le max_devices n ≡ nat_le max_devices others
 full_told others n is few =
-    let same : min others 9223372036854775807 ≡ n = same_number _ n is in ap (nat_le 1000) (omega (arith, same, few))
+    let same : min others 9223372036854775807 ≡ n = same_number _ n is in
+    ap (nat_le max_devices) (omega (arith, same, few))
 
 pub told_full : (old new : State) (id : ℕ) (rows : List Row) (n : ℕ) (row : Row) (more : List Row) (devices : Devices)
     → Shows old devices → Shown count_others_text (asked id) old new rows → rows ≡ row ∷ more
-    → column row 0 ≡ Int (pos n) → nat_le 1000 n ≡ is_full devices id
+    → column row 0 ≡ Int (pos n) → nat_le max_devices n ≡ is_full devices id
 told_full old new id rows n row more devices shows h are number =
     full_told (len (remove devices id)) n (shown_number (count (len (remove devices id))) n row more
     (sym (counts old new id rows devices shows.registers h) ∙ are) number)

@@ -129,7 +129,7 @@ module _ (before : Database) (registry : IsRegistry Second before) where
       })
 
 one_more : (b : Bool) (n with_it without : ℕ) → with_it ≡ cond b n (n + 1) → without ≡ cond b (n - 1) n
-    → nat_le 1000 without ≡ false → n ≤ 1000 → with_it ≤ 1000
+    → nat_le max_devices without ≡ false → n ≤ max_devices → with_it ≤ max_devices
 one_more true n with_it without more less room few = omega arith
 one_more false n with_it without more less room few = grind (arith, nat_tests)
 
@@ -141,10 +141,10 @@ all_without_once : (rows : List Row) (ids : List ℤ) → RowidsDiffer rows → 
 all_without_once rows [] h = h
 all_without_once rows (id ∷ ids) h = all_without_once (without_rowid id rows) ids (without_once id rows h)
 
-pub few_devices : (db : Database) (devices : Devices) → Registers db devices → len devices ≤ 1000
+pub few_devices : (db : Database) (devices : Devices) → Registers db devices → len devices ≤ max_devices
 few_devices db devices had =
-    let r = had.registry in subst (λ m. len m ≤ 1000) had.is
-    (subst (λ n. n ≤ 1000) (sym (len_is (db.trees r.tables.devices) r.whole.rows r.whole.once)) r.whole.few)
+    let r = had.registry in subst (λ m. len m ≤ max_devices) had.is
+    (subst (λ n. n ≤ max_devices) (sym (len_is (db.trees r.tables.devices) r.whole.rows r.whole.once)) r.whole.few)
 
 pub few_are_held : FewAreHeld
 few_are_held trees devices holds = few_devices holds.db devices holds.registers
@@ -152,8 +152,8 @@ few_are_held trees devices holds = few_devices holds.db devices holds.registers
 pub fewer : (devices : Devices) (id : ℕ) → len (remove devices id) ≤ len devices
 fewer devices id = not_more (contains_key devices id) (len devices) _ (len-remove nat_cmp_total devices id)
 
-one_less : (n without : ℕ) → without ≡ n - 1 → n ≤ 1000 → nat_le 1000 without ≡ false
-one_less n without less few = let low : without < 1000 = omega (arith, less, few) in grind (arith, nat_tests)
+one_less : (n without : ℕ) → without ≡ n - 1 → n ≤ max_devices → nat_le max_devices without ≡ false
+one_less n without less few = let low : without < max_devices = omega (arith, less, few) in grind (arith, nat_tests)
 
 -- there is room for a known sender
 pub room_for_known : (db : Database) (devices : Devices) (id : ℕ) (it : Learned) → Registers db devices
@@ -190,14 +190,14 @@ module _ (before after : Database) (devices : Devices) (had : Registers before d
         put.same ∙ ap (λ m. insert m id it) had.is in
         let size : length (after.trees r.tables.devices) ≡ len (insert devices id it) =
         sym (len_is (after.trees r.tables.devices) all once) ∙ ap len is in
-        let few : len (insert devices id it) ≤ 1000 =
+        let few : len (insert devices id it) ≤ max_devices =
         one_more (contains_key devices id) (len devices) _ _ (len-insert nat_cmp_total devices id it)
         (len-remove nat_cmp_total devices id) room (few_devices before devices had) in
         registers_after before r after (insert devices id it) schema
         (put.others.objects devices_beside (no_index_there before.schema before.trees sound)) r.whole.row
         (put.others.tables r.tables.meta_at (meta_table r.tables.meta) r.tables.meta_stands.there r.tables.apart
         ∙ r.whole.one)
-        r.whole.numbered all once (subst (λ n. n ≤ 1000) (sym size) few) is
+        r.whole.numbered all once (subst (λ n. n ≤ max_devices) (sym size) few) is
 
     pub forgotten_registers : (id : ℕ) → after.schema ≡ before.schema
         → IsForgotten id (before.trees had.registry.tables.devices) (after.trees had.registry.tables.devices)
@@ -209,12 +209,13 @@ module _ (before after : Database) (devices : Devices) (had : Registers before d
         gone.map_is ∙ ap (λ m. remove m id) had.is in
         let size : length (after.trees r.tables.devices) ≡ len (remove devices id) =
         sym (len_is (after.trees r.tables.devices) gone.rows gone.once) ∙ ap len is in
-        let few : len (remove devices id) ≤ 1000 = omega (arith, fewer devices id, few_devices before devices had) in
+        let few : len (remove devices id) ≤ max_devices =
+        omega (arith, fewer devices id, few_devices before devices had) in
         registers_after before r after (remove devices id) schema
         (others.objects devices_beside (no_index_there before.schema before.trees sound)) r.whole.row
         (others.tables r.tables.meta_at (meta_table r.tables.meta) r.tables.meta_stands.there r.tables.apart
         ∙ r.whole.one)
-        r.whole.numbered gone.rows gone.once (subst (λ n. n ≤ 1000) (sym size) few) is
+        r.whole.numbered gone.rows gone.once (subst (λ n. n ≤ max_devices) (sym size) few) is
 
     pub renewed_registers : after.schema ≡ before.schema → after.trees had.registry.tables.meta ≡ version_row ∷ []
         → SparesOthers before.schema had.registry.tables.meta before.trees after.trees → Registers after devices

@@ -1,10 +1,8 @@
 -- What a registry holds is in range.
 use Rattle.std.proofs.Common.{inl, inr, ℤ, pos, negsuc, ◌<◌, ◌^◌, List, [], ◌∷◌}
-use Rattle.std.proofs.Common.{Option, Some, nat_cmp, sym, subst, arith}
-use Rattle.std.specs.Prelude.{◌≤ℤ◌, IfSome}
+use Rattle.std.proofs.Common.{Some, sym, subst, arith}
+use Rattle.std.specs.Prelude.{◌≤ℤ◌}
 use Rattle.std.specs.List.{AllByRecursion}
-use Rattle.std.specs.Option.{option_map}
-use Rattle.std.specs.FinMap.{empty, get-empty}
 use Rattle.std.proofs.lemmas.Int.{ints}
 use Rattle.std.proofs.lemmas.Bool.Decides.{nat_tests}
 use Rattle.sqlite.specs.declared.types.Value.{Value}
@@ -14,7 +12,7 @@ use Rattle.sqlite.specs.Effect.{Database}
 use Rattle.sqlite.specs.Order.{Row}
 use Rattle.sqlite_trees.specs.Tree.{Trees}
 use Rattle.device_registry.specs.Holding.{Finds}
-use Rattle.learned_devices.specs.Devices.{Learned, Devices, device}
+use Rattle.learned_devices.specs.Devices.{Devices, device}
 use Rattle.device_registry.specs.Stored.{RegistersAs}
 use Rattle.device_registry.specs.declared.table.Version.{Version}
 use Rattle.device_registry.specs.Table.{max_maker}

@@ -41,6 +41,7 @@ pub mod TablesAdded
 pub mod TablesAlone
 pub mod TablesRecognized
 pub mod TextMeaning
+pub mod TransactionEnd
 pub mod TransactionSteps
 pub mod VersionMeaning
 pub mod VersionWrites

@@ -1,6 +1,6 @@
 -- From the statements that make the two tables to a registry of no devices.
-use Rattle.std.proofs.Common.{◌≡◌, ℕ, List, [], ◌∷◌, length, ◌≤◌, ◌<◌, false, None, Option, Ok, Err}
-use Rattle.std.proofs.Common.{OnOk, IfErr, OnErr, true, Result, arith, IsTrue, MatchBool, refl, sym, ap, subst, ◌∙◌}
+use Rattle.std.proofs.Common.{◌≡◌, ℕ, List, [], ◌∷◌, length, ◌≤◌, ◌<◌, false, None, Option, Ok}
+use Rattle.std.proofs.Common.{OnOk, IfErr, true, Result, arith, IsTrue, MatchBool, refl, sym, ap, subst, ◌∙◌}
 use Rattle.std.specs.List.{AllByRecursion}
 use Rattle.std.specs.FinMap.{empty}
 use Rattle.sqlite.specs.Schema.{Schema}
@@ -16,7 +16,6 @@ use Rattle.sqlite.specs.Does.{Tally, Does, MakesTable, sequence_text, lacks_sequ
 use Rattle.sqlite.specs.Rows.{Gives}
 use Rattle.sqlite.specs.Listing.{understood}
 use Rattle.sqlite.specs.State.{State, HasCleanDisk, Survives, ExecutesInside, mode_of}
-use Rattle.sqlite.specs.State.{Shows as IsShowing, KeepsCounts}
 use Rattle.sqlite.specs.Steps.{FailsToCommit}
 use Rattle.sqlite.specs.Held.{Held, state}
 use Rattle.sqlite_trees.specs.declared.store.Store.{Ghosts}
@@ -24,12 +23,10 @@ use Rattle.sqlite.proofs.Callers.{runs_as, statement_of}
 use Rattle.device_registry.specs.declared.table.Version.TheVariants.{Second}
 use Rattle.device_registry.specs.Table.{meta_text, device_text, write_version_text}
 use Rattle.device_registry.specs.Table.{device_name, meta_table, device_table}
-use Rattle.device_registry.specs.Stored.{HasTables, AreListed, Registers, Holds}
+use Rattle.device_registry.specs.Stored.{HasTables, AreListed, Registers}
 use Rattle.device_registry.specs.Table.Rows.{RowidsDiffer, IsDevice, devices_in}
-use Rattle.device_registry.specs.Ready.{Shows, KeepsOthers}
-use Rattle.learned_devices.specs.Devices.{Devices, max_devices}
+use Rattle.learned_devices.specs.Devices.{max_devices}
 use Rattle.device_registry.specs.Stored.{IsClear}
-use Rattle.device_registry.specs.Opening.{Remains}
 use Rattle.device_registry.specs.Places.{is_clear}
 use Rattle.device_registry.specs.private.Transaction.{IsInside, IsListedInside}
 use Rattle.device_registry.proofs.TableTexts.{meta_is, device_is}
@@ -41,7 +38,8 @@ use Rattle.device_registry.proofs.TablesAdded.{still_counted, lows, owners_below
 use Rattle.device_registry.proofs.TablesAlone.{meta_alone}
 use Rattle.device_registry.proofs.RenewEffect.{version_row}
 use Rattle.device_registry.proofs.SchemaTests.{cleared}
-use Rattle.device_registry.proofs.TransactionSteps.{since, leaves, uncommitted_remains}
+use Rattle.device_registry.proofs.TransactionEnd.{Commits, Ends, Shown, ends}
+use Rattle.device_registry.proofs.TransactionSteps.{since}
 use Rattle.device_registry.proofs.VersionWrites.{numbers, has_at}
 use Rattle.device_registry.proofs.TablesMigrated.{has_before}
 use Rattle.sqlite_catalog.proofs.StepLemmas.{table_below}
@@ -211,27 +209,6 @@ makes a b c d i j k clear sound first second third =
 
 -- ---- the transaction
 
--- it is committed as it stands
-abbrev pub Commits : State → State → Type 0
-Commits d e = IsTrue d.in_transaction × IsShowing d e d.now d.now false × KeepsCounts d e × (e.marks ≡ [])
-
-pub shows_committed : (d e : State) (devices : Devices) → Registers d.now devices → IsDatabase d.now → Commits d e
-    → Shows e devices
-shows_committed d e devices registers sound ends =
-    let shown = ends.1 in
-    record {
-      is_open = shown.is_open;
-      idle = shown.mode;
-      settled = shown.now_is ∙ sym shown.committed_is;
-      sound = subst IsDatabase (sym shown.now_is) sound;
-      registers = subst (λ db. Registers db devices) (sym shown.now_is) registers;
-    }
-
-pub ok_committed : {V : Type 0} (d e : State) (r : Result V Error) (P : Type 0) → (Commits d e → P)
-    → OnOk r (Commits d e) → OnOk r P
-ok_committed d e (Ok v) P so ends = so ends
-ok_committed d e (Err x) P so ends = tt
-
 abbrev pub making : List (List ℕ)
 making = meta_text ∷ device_text Second ∷ write_version_text ∷ []
 
@@ -265,41 +242,18 @@ module _ {S : Type 0} (g : Ghosts S) (old start last : Held S) (is : start ≡ r
     (free : HasCleanDisk (state g old) → IsTrue (is_clear (state g old).now.schema)
     × IsDatabase (state g old).now) where
   -- what it shows before the commit
-  shows : HasCleanDisk (state g last) → Registers (state g last).now empty × IsDatabase (state g last).now
-      × KeepsAll (state g old).now (state g last).now
+  shows : HasCleanDisk (state g last) → Shown (λ devices. devices ≡ empty) (state g old).now (state g last).now
   shows clean =
       let done = ran g old start is free it.mid it.made (it.clean clean) in
-      let here = subst (IsMade (state g old).now) (sym (it.same clean)) done in
-      (here.0 (it.listed clean here.1), here.1, here.2)
+      let here = subst (IsMade (state g old).now) (sym (it.same clean)) done in (
+        λ devices are. subst (Registers (state g last).now) (sym are) (here.0 (it.listed clean here.1)),
+        here.1,
+        λ table has _ _. here.2 table has,
+      )
 
-  module _ {V : Type 0} (r : Result V Error) (e : State)
-      (commits : Survives (state g last) e (λ trees. trees ≡ (state g last).now.trees)) where
-    pub made : (HasCleanDisk e → OnOk r (Commits (state g last) e)) → HasCleanDisk e → OnOk r (Shows e empty)
-    made ends clean =
-        let db = shows (omega (arith, clean, commits.clean)) in
-        ok_committed (state g last) e r (Shows e empty) (shows_committed (state g last) e empty db.0 db.1) (ends clean)
-
-    pub made_others : (HasCleanDisk e → OnOk r (Commits (state g last) e)) → HasCleanDisk e
-        → OnOk r (KeepsOthers (state g old).now e.now)
-    made_others ends clean =
-        let db = shows (omega (arith, clean, commits.clean)) in
-        ok_committed (state g last) e r (KeepsOthers (state g old).now e.now)
-        (λ done table has _ _. subst (λ (db : Database). Has db.schema.tables table
-        × (db.trees table.tree ≡ (state g old).now.trees table.tree)) (sym done.1.now_is) (db.2 table has)) (ends clean)
-
-    pub made_stop : Survives (state g old) e (λ trees. Holds trees empty)
-    made_stop =
-        leaves (state g old) (state g last) e (since g old start (state g last) is it.uncommitted)
-        commits (λ trees. Holds trees empty)
-        (λ clean. let db = shows clean in record {
-          db = (state g last).now;
-          same = refl;
-          sound = db.1;
-          registers = db.0;
-        })
-
-    pub made_not : (HasCleanDisk e → IfErr r (FailsToCommit (state g last) e)) → HasCleanDisk e
-        → OnErr r (Remains (state g old) e)
-    made_not failed =
-        uncommitted_remains (state g old) (state g last) e (since g old start (state g last) is it.uncommitted) commits
-        r it.inside failed
+  pub make_ends : {V : Type 0} (r : Result V Error) (gone new : Held S) → gone ≡ new
+      → Survives (state g last) (state g gone) (λ trees. trees ≡ (state g last).now.trees)
+      → (HasCleanDisk (state g gone) → OnOk r (Commits (state g last) (state g gone)))
+      → (HasCleanDisk (state g gone) → IfErr r (FailsToCommit (state g last) (state g gone)))
+      → Ends (λ devices. devices ≡ empty) (state g old) (state g new) r
+  make_ends r = ends g making old start last is it (λ devices. devices ≡ empty) shows r

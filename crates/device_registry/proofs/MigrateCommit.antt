@@ -1,5 +1,5 @@
 -- The transaction of the migration, from its begin to its end.
-use Rattle.std.proofs.Common.{◌≡◌, ◌≢◌, ◌∙◌, false, ℕ, List, [], ◌∷◌, Result, OnOk, IfErr, OnErr, true, refl, sym}
+use Rattle.std.proofs.Common.{◌≡◌, ◌≢◌, ◌∙◌, false, ℕ, List, [], ◌∷◌, Result, OnOk, IfErr, true, refl, sym}
 use Rattle.std.proofs.Common.{subst}
 use Rattle.std.proofs.Common.{arith}
 use Rattle.sqlite.specs.declared.error.Error.{Error}
@@ -9,36 +9,21 @@ use Rattle.sqlite.specs.Steps.{FailsToCommit}
 use Rattle.sqlite.specs.Held.{Held, state}
 use Rattle.sqlite_trees.specs.declared.store.Store.{Ghosts}
 use Rattle.device_registry.specs.declared.table.Version.TheVariants.{First, Second}
-use Rattle.learned_devices.specs.Devices.{Devices}
 use Rattle.device_registry.specs.Table.{meta_name, device_name, device_text, copy_text, drop_text, renew_text}
 use Rattle.device_registry.specs.Table.Rows.{devices_in, rows_of}
-use Rattle.device_registry.specs.Stored.{KeepsTree, IsRegistry, AreListed, RegistersAs, Registers, Holds}
+use Rattle.device_registry.specs.Stored.{KeepsTree, IsRegistry, AreListed, RegistersAs, Registers}
 use Rattle.sqlite.specs.Table.{Table}
 use Rattle.sqlite_schema.specs.Names.{same_name}
 use Rattle.sqlite_rules.proofs.ListLemmas.{all_has}
-use Rattle.device_registry.specs.Ready.{Shows, KeepsOthers}
-use Rattle.device_registry.specs.Opening.{Remains}
+use Rattle.device_registry.specs.Ready.{KeepsOthers}
 use Rattle.device_registry.specs.private.Transaction.{IsUncommitted, IsInside, IsListedInside}
 use Rattle.device_registry.proofs.DevicesHeld.{registers_by}
-use Rattle.device_registry.proofs.MakeEffect.{Commits, shows_committed, ok_committed}
 use Rattle.device_registry.proofs.MigrateEffect.{migrates, others_kept}
-use Rattle.device_registry.proofs.TransactionSteps.{since, leaves, uncommitted_remains}
+use Rattle.device_registry.proofs.TransactionEnd.{Commits, Ends, Shown, ends}
+use Rattle.device_registry.proofs.TransactionSteps.{since}
 
 abbrev pub migration : List (List ℕ)
 migration = device_text Second ∷ copy_text ∷ drop_text ∷ renew_text ∷ []
-
--- a database that shows a registry of the second version with the devices of a first
-record IsMigrated (old : Database) (new : Database) : Type 0 where
-  registry : IsRegistry First old
-  registers : Registers new (devices_in (rows_of First (old.trees registry.tables.devices)))
-  sound : IsDatabase new
-  others : KeepsOthers old new
-
--- it registers whatever the first did
-same_devices : (old new : Database) → IsMigrated old new → (devices : Devices) → RegistersAs First old devices
-    → Registers new devices
-same_devices old new it devices were = subst (Registers new)
-    (registers_by First old _ devices (record { registry = it.registry; is = refl }) were) it.registers
 
 -- where the tables are listed with our texts, the database is a registry of those devices
 abbrev IsMade : (old : Database) → IsRegistry First old → Database → Type 0
@@ -92,46 +77,22 @@ module _ {S : Type 0} (g : Ghosts S) (old start last : Held S) (is : start ≡ r
     (it : IsListedInside g Second migration start last)
     (first : HasCleanDisk (state g old) → IsRegistry First (state g old).now × IsDatabase (state g old).now) where
   -- what it shows before the commit
-  shows : HasCleanDisk (state g last) → IsMigrated (state g old).now (state g last).now
+  shows : HasCleanDisk (state g last)
+      → Shown (RegistersAs First (state g old).now) (state g old).now (state g last).now
   shows clean =
       let was = before g old start is first (state g last) it.uncommitted clean in
       let done = ran g old start it.mid is it.made was.0 was.1 (it.clean clean) in
-      let here = subst (IsMade (state g old).now was.0) (sym (it.same clean)) done in
-      record { registry = was.0; registers = here.0 (it.listed clean here.1); sound = here.1; others = here.2 }
+      let here = subst (IsMade (state g old).now was.0) (sym (it.same clean)) done in (
+        λ devices were. subst (Registers (state g last).now)
+            (registers_by First (state g old).now _ devices (record { registry = was.0; is = refl }) were)
+            (here.0 (it.listed clean here.1)),
+        here.1,
+        here.2,
+      )
 
-  module _ {V : Type 0} (r : Result V Error) (e : State)
-      (commits : Survives (state g last) e (λ trees. trees ≡ (state g last).now.trees)) where
-    pub made : (HasCleanDisk e → OnOk r (Commits (state g last) e)) → HasCleanDisk e
-        → OnOk r ((devices : Devices) → RegistersAs First (state g old).now devices → Shows e devices)
-    made ends clean =
-        let db = shows (omega (arith, clean, commits.clean)) in
-        ok_committed (state g last) e r
-        ((devices : Devices) → RegistersAs First (state g old).now devices → Shows e devices)
-        (λ done devices were. shows_committed (state g last) e devices
-        (same_devices (state g old).now (state g last).now db devices were) db.sound done)
-        (ends clean)
-
-    pub made_others : (HasCleanDisk e → OnOk r (Commits (state g last) e)) → HasCleanDisk e
-        → OnOk r (KeepsOthers (state g old).now e.now)
-    made_others ends clean =
-        let db = shows (omega (arith, clean, commits.clean)) in
-        ok_committed (state g last) e r (KeepsOthers (state g old).now e.now)
-        (λ done. subst (KeepsOthers (state g old).now) (sym done.1.now_is) db.others) (ends clean)
-
-    pub made_stop : Survives (state g old) e
-        (λ trees. (devices : Devices) → RegistersAs First (state g old).now devices → Holds trees devices)
-    made_stop =
-        leaves (state g old) (state g last) e (since g old start (state g last) is it.uncommitted) commits
-        (λ trees. (devices : Devices) → RegistersAs First (state g old).now devices → Holds trees devices)
-        (λ clean. let db = shows clean in λ devices were. record {
-          db = (state g last).now;
-          same = refl;
-          sound = db.sound;
-          registers = same_devices (state g old).now (state g last).now db devices were;
-        })
-
-    pub made_not : (HasCleanDisk e → IfErr r (FailsToCommit (state g last) e)) → HasCleanDisk e
-        → OnErr r (Remains (state g old) e)
-    made_not failed =
-        uncommitted_remains (state g old) (state g last) e (since g old start (state g last) is it.uncommitted) commits
-        r it.inside failed
+  pub migrate_ends : {V : Type 0} (r : Result V Error) (gone new : Held S) → gone ≡ new
+      → Survives (state g last) (state g gone) (λ trees. trees ≡ (state g last).now.trees)
+      → (HasCleanDisk (state g gone) → OnOk r (Commits (state g last) (state g gone)))
+      → (HasCleanDisk (state g gone) → IfErr r (FailsToCommit (state g last) (state g gone)))
+      → Ends (RegistersAs First (state g old).now) (state g old) (state g new) r
+  migrate_ends r = ends g migration old start last is it (RegistersAs First (state g old).now) shows r

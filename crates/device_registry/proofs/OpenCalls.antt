@@ -23,10 +23,10 @@ use Rattle.device_registry.specs.Stored.{HasTables, IsWhole, IsRegistry, AreList
 use Rattle.device_registry.specs.Stored.{IsHeld, IsFree}
 use Rattle.device_registry.specs.Table.Rows.{devices_in, rows_of}
 use Rattle.sqlite_rules.specs.Lists.{Has}
-use Rattle.device_registry.specs.Holding.{AreRegistries, Finds, Opens}
+use Rattle.device_registry.specs.Holding.{AreRegistries, Finds, IsRenewed, Opens}
 use Rattle.device_registry.specs.Ready.{Shows, IsReady, KeepsOthers, KeepsRows}
 use Rattle.device_registry.specs.Opening.{IsAtRest, IsPrepared, IsOwn, KeepsFound, IsOther, RegistriesAreRecognized}
-use Rattle.device_registry.specs.Opening.{OnlyOthersAreRefused, CrashedFilesAreFound}
+use Rattle.device_registry.specs.Opening.{IsOpened, OnlyOthersAreRefused, CrashedFilesAreFound}
 use Rattle.device_registry.specs.Opening.{RefusesToOpen, FoundAgain, HandedOn, RefusedOpensKeep, ClosedFilesAreFound}
 use Rattle.device_registry.specs.Places.{is_clear}
 use Rattle.sqlite_catalog.specs.Listing.{IsSound}
@@ -334,21 +334,18 @@ another old mid same rest other = subst IsOther (last old mid same rest) other
 abbrev pub Settles : State → Type 0
 Settles s = (trees : Trees) → IsTrue s.is_open → s.may_leave trees → trees ≡ s.committed.trees
 
-module _ {T : Type 0} (old mid new : State) (law : Settles new) where
-  pub opens_if : (r : Result T OpenFault) → IsUnchanged old mid × IsAtRest old
-      → OnOk r ((devices : Devices) × IsPrepared mid new devices) → OnOk r ((devices : Devices) × Opens old new devices)
-  opens_if (Ok v) was it = (it.0, opened old mid new it.0 was.0 was.1 it.1 (λ trees. law trees it.1.shows.is_open))
-  opens_if (Err e) was it = tt
-
-  pub registries_if : (r : Result T OpenFault) → OnOk r ((devices : Devices) × IsPrepared mid new devices)
-      → OnOk r (AreRegistries new.may_leave)
-  registries_if (Ok v) it = registries new it.0 it.1.shows (λ trees. law trees it.1.shows.is_open)
-  registries_if (Err e) it = tt
-
-pub ready_if : {T : Type 0} (mid new : State) (r : Result T OpenFault)
-    → OnOk r ((devices : Devices) × IsPrepared mid new devices) → OnOk r (IsReady new)
-ready_if mid new (Ok v) it = record { devices = it.0; shows = it.1.shows }
-ready_if mid new (Err e) it = tt
+pub opened_if : {T : Type 0} (old mid new : State) → Settles new → (r : Result T OpenFault)
+    → IsUnchanged old mid × IsAtRest old → OnOk r ((devices : Devices) × IsPrepared mid new devices)
+    → OnOk r (IsHeld old.committed.trees → IsRenewed old new) → OnOk r (IsOpened old new)
+opened_if old mid new law (Ok v) was it written =
+    let leaves : LeavesLast new = λ trees. law trees it.1.shows.is_open in
+    record {
+      registries = registries new it.0 it.1.shows leaves;
+      opens = (it.0, opened old mid new it.0 was.0 was.1 it.1 leaves);
+      ready = record { devices = it.0; shows = it.1.shows };
+      written = written;
+    }
+opened_if old mid new law (Err e) was it written = tt
 
 -- what a stop leaves after a refusal
 pub leaves : (old mid new : State) → (HasCleanDisk mid → IsUnchanged old mid × IsAtRest old) → Survives old mid (λ _. ⊥)

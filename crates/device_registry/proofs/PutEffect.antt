@@ -2,7 +2,7 @@
 use Rattle.std.proofs.Common.{◌≡◌, ◌≢◌, inl, inr, ℕ, ℤ, pos, Bool, true, false, not, List, [], ◌∷◌, Some, None}
 use Rattle.std.proofs.Common.{Option, Ok, refl, sym, ap, subst, ◌∙◌, ◌&&◌, ◌||◌, slice_get}
 use Rattle.std.specs.List.{AllByRecursion}
-use Rattle.sqlite.specs.declared.types.Value.TheVariants.{Int, Text}
+use Rattle.sqlite.specs.declared.types.Value.TheVariants.{Int}
 use Rattle.sqlite.specs.Order.{Row, column}
 use Rattle.sqlite_value.specs.Keys.{first_key}
 use Rattle.sqlite_schema.specs.Rules.{equal}
@@ -30,7 +30,7 @@ use Rattle.learned_devices.specs.Labels.{is_label}
 use Rattle.device_registry.specs.declared.table.Version.TheVariants.{Second}
 use Rattle.device_registry.specs.Table.{device_table}
 use Rattle.learned_devices.specs.Devices.{Learned}
-use Rattle.device_registry.specs.Table.Rows.{IsDevice, put_params, stored, maker_number, eep_number}
+use Rattle.device_registry.specs.Table.Rows.{IsDevice, put_params, stored}
 use Rattle.device_registry.proofs.StatementTexts.{put_terms}
 use Rattle.device_registry.proofs.SenderTests.{equal_ids}
 use Rattle.device_registry.proofs.DeviceChecks.{checked}

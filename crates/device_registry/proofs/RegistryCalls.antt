@@ -16,11 +16,11 @@ use Rattle.learned_devices.specs.declared.fault.LearnFault.TheVariants.{Full, Re
 use Rattle.learned_devices.specs.declared.fault.StoreFault.{StoreFault}
 use Rattle.learned_devices.specs.declared.fault.LearnFault.{LearnFault}
 use Rattle.learned_devices.specs.Devices.{Devices, Learned, Learn, Relabel, Change}
-use Rattle.learned_devices.specs.Devices.{entered, changed, after, learned, forgotten}
+use Rattle.learned_devices.specs.Devices.{entered, changed, after, learned}
 use Rattle.learned_devices.specs.Devices.{relabelled, kept_label, known_of, device, device_of, all_of, is_full}
 use Rattle.learned_devices.specs.Kept.{Keeps, Commits, Pends}
 use Rattle.learned_devices.specs.StoreCalls.{RefusesToLearn, LooksUp, Updates, Learns, Relabels, ListsAll}
-use Rattle.device_registry.specs.Holding.{HasDevices, HoldsSome, AreRegistries, HandsOn, IsRenewed, WritesRow, kept}
+use Rattle.device_registry.specs.Holding.{HasDevices, HoldsSome, AreRegistries, HandsOn, WritesRow, kept}
 use Rattle.device_registry.specs.private.TableCalls.{Adds}
 use Rattle.device_registry.specs.Ready.{Shows, IsReady, StaysReady, GoesOn, Stays, Turns}
 use Rattle.device_registry.specs.Table.Rows.{listed}

@@ -1,7 +1,7 @@
 -- The version row, as it is written once, and as it is written again.
 use Rattle.std.proofs.Common.{◌≢◌, drop, ◌&&◌, ◌==◌, Bool, true, false, suc, arith, ◌≡◌, inl, inr, ℕ, List, []}
 use Rattle.std.proofs.Common.{◌∷◌, Some, None, Option, Ok, Err, Result, OnOk, refl, sym, ap, subst, ◌∙◌, slice_get}
-use Rattle.std.proofs.Common.{unwrap_or, IfOk}
+use Rattle.std.proofs.Common.{unwrap_or}
 use Rattle.sqlite.specs.Schema.{Schema}
 use Rattle.sqlite.specs.Table.{Table}
 use Rattle.sqlite.specs.Command.TheVariants.{Insert, Update}

@@ -17,8 +17,8 @@ use Rattle.device_registry.specs.declared.fault.OpenFault.TheVariants.{NotARegis
 use Rattle.device_registry.specs.declared.table.Version.{Version}
 use Rattle.learned_devices.specs.Devices.{Devices, max_devices}
 use Rattle.device_registry.specs.Stored.{IsRegistry, Holds, IsHeld}
-use Rattle.device_registry.specs.Ready.{Shows}
-use Rattle.device_registry.specs.Holding.{AreRegistries, HasDevices, IsCommitted, MayFind, Finds, Opens}
+use Rattle.device_registry.specs.Ready.{Shows, IsReady}
+use Rattle.device_registry.specs.Holding.{AreRegistries, HasDevices, IsCommitted, IsRenewed, MayFind, Finds, Opens}
 
 -- the most looked-up senders that a registry may remember. Own choice
 abbrev pub max_cached : ℕ
@@ -39,6 +39,17 @@ Remains old new = IsTrue new.is_open → IsAtRest old → IsAtRest new × (new.n
 pub record IsPrepared (old new : State) (devices : Devices) : Type 0 where
   pub found : Finds old.now.trees devices
   pub shows : Shows new devices
+
+-- An open has made a registry of the database, or taken the one that it is.
+pub record IsOpened (old new : State) : Type 0 where
+  -- whatever a crash leaves is a registry
+  pub registries : AreRegistries new.may_leave
+  -- it has the devices that were committed last, and a crash leaves these
+  pub opens : (devices : Devices) × Opens old new devices
+  -- it is open, between two transactions
+  pub ready : IsReady new
+  -- a registry of version 2 was changed by the text that writes its version row unchanged, and by nothing else
+  pub written : IsHeld old.committed.trees → IsRenewed old new
 
 -- a registry of this version as this program leaves it
 pub record IsOwn (version : Version) (trees : Trees) : Type 0 where
@@ -67,6 +78,12 @@ pub record RefusesToOpen (old new : State) (fault : OpenFault) : Type 0 where
       × ((trees : Trees) → new.may_leave trees → old.may_leave trees)
   pub stop : HasCleanDisk new → (trees : Trees) → new.may_leave trees
       → old.may_leave trees ⊎ (IsTrue old.is_open × KeepsFound old.committed.trees trees)
+
+-- An open drops its connection. If it told that the database is no registry, the relation of a refusal held of the last
+-- state of the connection.
+abbrev pub RefusesAndDrops : {C : Type 0} → (C → State) → C → OpenFault → Type 0
+RefusesAndDrops {C} state conn fault =
+    fault ≡ NotARegistry → (last : C) × RefusesToOpen (state conn) (state last) fault
 
 -- ---- laws
 

@@ -1,7 +1,6 @@
 //! Laws of the definitions, and of every registry. Each function does nothing: its contract is the law.
 ghost use Rattle.std.specs.Prelude.{◌≡◌};
-ghost use Rattle.learned_devices.specs.Devices.{max_devices};
-ghost use Rattle.device_registry.specs.declared.limits.TheConstants.{MAX_CACHED, MAX_DEVICES};
+ghost use Rattle.device_registry.specs.declared.limits.TheConstants.{MAX_CACHED};
 ghost use Rattle.device_registry.specs.Opening.{max_cached};
 ghost use Rattle.device_registry.specs.Holding.{HoldsSome};
 ghost use Rattle.device_registry.specs.Opening.{ClosedFilesAreFound, FewAreHeld, FoundAgain, HandedOn};
@@ -13,10 +12,9 @@ use crate::registry::RegistryOver;
 use crate::sql_connection::SqlConnection;
 use sqlite_disk::Disk;
 
-/// The limits of the code are those of the definitions.
+/// The limit of the cache is that of the definitions.
 pub fn limits()
-    ensures devices { MAX_DEVICES ≡ max_devices }
-    ensures cached { MAX_CACHED ≡ max_cached }
+    ensures { MAX_CACHED ≡ max_cached }
 {}
 
 /// A registry has at most 1,000 devices.

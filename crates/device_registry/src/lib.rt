@@ -26,8 +26,10 @@ mod tests;
 mod transaction;
 
 pub use fault::OpenFault;
-pub use learned_devices::{Device, DeviceStore, Label, LearnFault, MAX_LABEL, Receipt, StoreFault};
-pub use limits::{DEFAULT_CACHED, MAX_CACHED, MAX_DEVICES};
+pub use learned_devices::{
+    Device, DeviceStore, Label, LearnFault, MAX_DEVICES, MAX_LABEL, Receipt, StoreFault,
+};
+pub use limits::{DEFAULT_CACHED, MAX_CACHED};
 pub use opening::prepare;
 pub use registry::{Registry, RegistryOver};
 pub use sql_connection::SqlConnection;

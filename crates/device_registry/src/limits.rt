@@ -1,7 +1,4 @@
-//! The limits of the registry: of its devices, of the numbers of its table, and of its cache.
-
-/// The most devices that are kept. Own choice.
-pub const MAX_DEVICES: usize = 1000;
+//! The limits of the numbers of the table, and of the cache.
 
 /// The greatest ID of a sender: FFFFFFFF is none (EnOcean Serial Protocol 3, "Packet type 1: RADIO_ERP1").
 pub(crate) const MAX_SENDER: u32 = 4_294_967_294;

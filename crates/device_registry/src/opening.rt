@@ -4,11 +4,11 @@ ghost use Rattle.sqlite.specs.State.{HasCleanDisk, Survives, IsUnchanged};
 ghost use Rattle.sqlite_trees.specs.Tree.{Trees};
 ghost use Rattle.learned_devices.specs.Devices.{Devices};
 ghost use Rattle.device_registry.specs.Opening.{max_cached};
-ghost use Rattle.device_registry.specs.Holding.{AreRegistries, IsRenewed, Opens};
+ghost use Rattle.device_registry.specs.Holding.{IsRenewed};
 ghost use Rattle.device_registry.specs.Stored.{IsHeld};
-ghost use Rattle.device_registry.specs.Ready.{IsReady, KeepsOthers, KeepsRows};
+ghost use Rattle.device_registry.specs.Ready.{KeepsOthers, KeepsRows};
 ghost use Rattle.device_registry.specs.Opening.{IsAtRest, Remains, IsPrepared, KeepsFound, IsOther};
-ghost use Rattle.device_registry.specs.Opening.{RefusesToOpen};
+ghost use Rattle.device_registry.specs.Opening.{IsOpened, RefusesAndDrops, RefusesToOpen};
 
 use crate::cache::new_cache;
 use crate::device_table::DeviceTable;
@@ -90,15 +90,9 @@ fn make_or_take<C: SqlConnection>(conn: &mut C) -> Result<(), OpenFault>
 pub fn prepare<C: SqlConnection>(conn: &mut C) -> Result<(), OpenFault>
     requires idle { (C.state conn.old).in_transaction ≡ false }
     ensures clean { HasCleanDisk (C.state conn.new) → HasCleanDisk (C.state conn.old) }
-    ensures registries { HasCleanDisk (C.state conn.new) → OnOk result (AreRegistries
-        (C.state conn.new).may_leave) }
-    ensures opens { HasCleanDisk (C.state conn.new) → OnOk result ((devices : Devices) × Opens
-        (C.state conn.old) (C.state conn.new) devices) }
-    ensures ready { HasCleanDisk (C.state conn.new) → OnOk result (IsReady (C.state conn.new)) }
+    ensures opened { HasCleanDisk (C.state conn.new) → OnOk result (IsOpened (C.state conn.old) (C.state conn.new)) }
     ensures rows { HasCleanDisk (C.state conn.new) → OnOk result (IsHeld
         (C.state conn.old).committed.trees → KeepsRows (C.state conn.old) (C.state conn.new)) }
-    ensures written { HasCleanDisk (C.state conn.new) → OnOk result (IsHeld
-        (C.state conn.old).committed.trees → IsRenewed (C.state conn.old) (C.state conn.new)) }
     ensures others { HasCleanDisk (C.state conn.new) → OnOk result (KeepsOthers (C.state conn.old).now
         (C.state conn.new).now) }
     ensures kept { HasCleanDisk (C.state conn.new) → OnErr result (IsTrue (C.state conn.new).is_open →
@@ -113,15 +107,8 @@ impl<C: SqlConnection + Drop> RegistryOver<C> {
     /// `open_with` a cache of `DEFAULT_CACHED` senders.
     pub fn open(alloc: Global, conn: C) -> Result<RegistryOver<C>, OpenFault>
         requires idle { (C.state conn).in_transaction ≡ false }
-        ensures registries { IfOk result (λ r. HasCleanDisk (C.state r) → AreRegistries
-            (C.state r).may_leave) }
-        ensures opens { IfOk result (λ r. HasCleanDisk (C.state r) → (devices : Devices) × Opens
-            (C.state conn) (C.state r) devices) }
-        ensures ready { IfOk result (λ r. HasCleanDisk (C.state r) → IsReady (C.state r)) }
-        ensures written { IfOk result (λ r. HasCleanDisk (C.state r) → IsHeld (C.state conn).committed.trees →
-            IsRenewed (C.state conn) (C.state r)) }
-        ensures refused { IfErr result (λ fault. fault ≡ OpenFault.NotARegistry → (last : C) ×
-            RefusesToOpen (C.state conn) (C.state last) fault) }
+        ensures opened { IfOk result (λ r. HasCleanDisk (C.state r) → IsOpened (C.state conn) (C.state r)) }
+        ensures refused { IfErr result (RefusesAndDrops C.state conn) }
     {
         RegistryOver::open_with(alloc, conn, DEFAULT_CACHED)
     }
@@ -132,15 +119,8 @@ impl<C: SqlConnection + Drop> RegistryOver<C> {
     pub fn open_with(alloc: Global, conn: C, cache: usize) -> Result<RegistryOver<C>, OpenFault>
         requires idle { (C.state conn).in_transaction ≡ false }
         requires cached { (1 ≤ cache) × (cache ≤ max_cached) }
-        ensures registries { IfOk result (λ r. HasCleanDisk (C.state r) → AreRegistries
-            (C.state r).may_leave) }
-        ensures opens { IfOk result (λ r. HasCleanDisk (C.state r) → (devices : Devices) × Opens
-            (C.state conn) (C.state r) devices) }
-        ensures ready { IfOk result (λ r. HasCleanDisk (C.state r) → IsReady (C.state r)) }
-        ensures written { IfOk result (λ r. HasCleanDisk (C.state r) → IsHeld (C.state conn).committed.trees →
-            IsRenewed (C.state conn) (C.state r)) }
-        ensures refused { IfErr result (λ fault. fault ≡ OpenFault.NotARegistry → (last : C) ×
-            RefusesToOpen (C.state conn) (C.state last) fault) }
+        ensures opened { IfOk result (λ r. HasCleanDisk (C.state r) → IsOpened (C.state conn) (C.state r)) }
+        ensures refused { IfErr result (RefusesAndDrops C.state conn) }
     {
         let cache = new_cache(alloc, cache)?;
         let mut conn = conn;

@@ -13,11 +13,10 @@ ghost use Rattle.device_registry.specs.Opening.{Remains};
 ghost use Rattle.device_registry.specs.Ready.{Shows, IsReady, StaysReady, Stays, Turns, KeepsRows};
 ghost use Rattle.device_registry.specs.Table.Rows.{AreFound, listed, put_params};
 
-use crate::limits::MAX_DEVICES;
 use crate::sql_connection::SqlConnection;
 use crate::table::rows::{number, number_of, number_of_maker};
 use crate::table::statements::{COUNT_OTHERS, FIND, FIND_ALL, FORGET, PUT, RENEW};
-use learned_devices::Device;
+use learned_devices::{Device, MAX_DEVICES};
 use sqlite::{Error, Row, Statement, params};
 
 /// A text, compiled, which writes nothing. It is refused on a connection that a failure has shut.

@@ -7,13 +7,13 @@ ghost use Rattle.sqlite.specs.Effect.{IsDatabase};
 ghost use Rattle.device_registry.specs.Stored.{HasTables, IsWhole, IsRegistry, AreListed};
 ghost use Rattle.device_registry.specs.Opening.{IsAtRest, Remains, IsOwn};
 
-use crate::limits::MAX_DEVICES;
 use crate::listing::are_ours;
 use crate::places::trees_in;
 use crate::sql_connection::SqlConnection;
 use crate::table::Version;
 use crate::table::rows::{devices_rise, is_version};
 use crate::table::statements::{LIST_OBJECTS, READ_VERSION};
+use learned_devices::MAX_DEVICES;
 use sqlite::{Error, Row};
 
 /// The rows that a query with no parameters shows.

@@ -4,9 +4,8 @@ use Rattle.std.specs.Prelude.{if◌then◌else◌}
 use Rattle.sqlite.specs.State.{State, HasCleanDisk}
 use Rattle.esp3_frames.proofs.ForCallers.{empty_may_become}
 use Rattle.learned_devices.specs.Devices.{Devices}
-use Rattle.device_registry.specs.Holding.{AreRegistries, Finds, Opens, kept_by}
-use Rattle.device_registry.specs.Ready.{IsReady}
-use Rattle.device_registry.specs.Opening.{RefusesToOpen}
+use Rattle.device_registry.specs.Holding.{Finds, kept_by}
+use Rattle.device_registry.specs.Opening.{IsOpened, RefusesAndDrops}
 use Rattle.device_registry.specs.declared.fault.OpenFault.{OpenFault}
 use Rattle.device_registry.specs.declared.fault.OpenFault.TheVariants.{NotARegistry, Refused}
 use Rattle.gateway_core.specs.Calls.{Value, new_value}
@@ -23,38 +22,38 @@ idle_at_first {S} base registry new is = let P : Value S → Type 0 = λ v. IsId
 
 pub starts : {C : Type 0} (state : C → State) (database registry : C) (base : ℕ) (new : Value C)
     → new ≡ new_value base registry
-    → (HasCleanDisk (state registry) → AreRegistries (state registry).may_leave)
-    → (HasCleanDisk (state registry) → (devices : Devices) × Opens (state database) (state registry) devices)
+    → (HasCleanDisk (state registry) → IsOpened (state database) (state registry))
     → HasCleanDisk (state new.handler.registry) → Starts state database base new.handler
-starts {C} state database registry base new is registries opens =
+starts {C} state database registry base new is opened =
     let P : Value C → Type 0 = λ v. HasCleanDisk (state v.handler.registry) → Starts state database base v.handler in
     subst P (sym is) (λ clean.
-    let opened = opens clean in
+    let it = opened clean in
+    let opens = it.opens.1 in
     record {
-      found = opened.0;
-      finds = opened.1.found;
+      found = it.opens.0;
+      finds = opens.found;
       base_is = refl;
-      begins = record { at = (refl, refl, opened.1.now, refl); stop = opened.1.stop };
-      registries = registries clean;
+      begins = record { at = (refl, refl, opens.now, refl); stop = opens.stop };
+      registries = it.registries;
     })
 
 pub new_gateway : {C : Type 0} (state : C → State) (database registry : C) (base : ℕ) (new : Value C)
     → new ≡ new_value base registry
-    → (HasCleanDisk (state registry) → AreRegistries (state registry).may_leave)
-    → (HasCleanDisk (state registry) → (devices : Devices) × Opens (state database) (state registry) devices)
-    → (HasCleanDisk (state registry) → IsReady (state registry)) → HasCleanDisk (state new.handler.registry)
+    → (HasCleanDisk (state registry) → IsOpened (state database) (state registry))
+    → HasCleanDisk (state new.handler.registry)
     → (found : Devices) × Finds (state database).committed.trees found × IsNew (kept_by state) base found new
     × IsTrue (state new.handler.registry).is_open
-new_gateway {C} state database registry base new is registries opens ready =
+new_gateway {C} state database registry base new is opened =
     let P : Value C → Type 0 = λ v. HasCleanDisk (state v.handler.registry)
     → (found : Devices) × Finds (state database).committed.trees found × IsNew (kept_by state) base found v
     × IsTrue (state v.handler.registry).is_open in
     subst P (sym is) (λ clean.
-    let opened = opens clean in (
-      opened.0,
-      opened.1.found,
-      record { value = refl; known = opened.1.now; registries = registries clean; left = opened.1.stop },
-      (ready clean).shows.is_open,
+    let it = opened clean in
+    let opens = it.opens.1 in (
+      it.opens.0,
+      opens.found,
+      record { value = refl; known = opens.now; registries = it.registries; left = opens.stop },
+      it.ready.shows.is_open,
     ))
 
 memory_or_store : {C : Type 0} (state : C → State) (database : C) (is_memory : Bool)
@@ -64,7 +63,6 @@ memory_or_store state database false = tt
 
 -- a refused open is told as what it was refused for
 pub refuses_as_open : {C : Type 0} (state : C → State) (database : C) (why : OpenFault)
-    → (why ≡ NotARegistry → (last : C) × RefusesToOpen (state database) (state last) why)
-    → RefusesToStart state database (fault_of_open why)
+    → RefusesAndDrops state database why → RefusesToStart state database (fault_of_open why)
 refuses_as_open state database NotARegistry refused = refused refl
 refuses_as_open state database (Refused fault) refused = memory_or_store state database fault.is_memory

@@ -15,7 +15,7 @@ pub use device_store::{DeviceStore, Receipt};
 use erp1_telegrams::Eep;
 pub use fault::{LearnFault, StoreFault};
 pub use label::{Label, is_name};
-pub use limits::MAX_LABEL;
+pub use limits::{MAX_DEVICES, MAX_LABEL};
 
 /// What is known of a sender: plain numbers and a label, none of which takes memory.
 #[derive(Clone, Debug, Drop, PartialEq, Eq)]

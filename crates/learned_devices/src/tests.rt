@@ -1,5 +1,5 @@
 //! Which texts are labels, how devices are copied, and what faults print.
-use crate::{Device, Label, LearnFault, MAX_LABEL, StoreFault, is_name};
+use crate::{Device, Label, LearnFault, MAX_DEVICES, MAX_LABEL, StoreFault, is_name};
 use erp1_telegrams::Eep;
 use std::alloc::AllocError;
 use std::test::Fail;
@@ -101,5 +101,14 @@ fn each_fault_says_why(rt: HostRuntime) -> Result<(), Fail> {
         let written = format!(in rt.alloc(); "{fault}")?;
         assert_eq!(rt; written.as_str(), printed);
     }
+    Ok(())
+}
+
+#[test]
+fn full_says_the_limit(rt: HostRuntime) -> Result<(), Fail> {
+    let (thousands, rest) = (MAX_DEVICES / 1000, MAX_DEVICES % 1000);
+    let printed = format!(in rt.alloc(); "{thousands},{rest:03} other devices are learned")?;
+    let full = format!(in rt.alloc(); "{}", LearnFault::Full)?;
+    assert_eq!(rt; full.as_str(), printed.as_str());
     Ok(())
 }

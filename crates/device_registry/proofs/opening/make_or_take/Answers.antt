@@ -57,31 +57,22 @@ returns-in_err-migrate_tables-in-Some-First-clause-stop g c =
     c.version_of.ensures.stop c.in_ok-version_of.ensures.found)
     c.version_of.ensures.stop c.migrate_tables.ensures.stop
 
-pub returns-in_ok-migrate_tables-in-Some-First-clause-prepared :
-    goal.returns-in_ok-migrate_tables-in-Some-First-clause-prepared
-returns-in_ok-migrate_tables-in-Some-First-clause-prepared g c =
-    migrated (took First c.in-Some-First.is c.in-Some-First.field-0-is c.requires.rest
-    c.version_of.ensures.stop c.in_ok-version_of.ensures.found)
-    c.migrate_tables.ensures.stop c.in_ok-migrate_tables-in-Some-First.ensures.made
-
-pub returns-in_ok-migrate_tables-in-Some-First-clause-stop : goal.returns-in_ok-migrate_tables-in-Some-First-clause-stop
-returns-in_ok-migrate_tables-in-Some-First-clause-stop g c =
-    migrated_stop (took First c.in-Some-First.is c.in-Some-First.field-0-is c.requires.rest
-    c.version_of.ensures.stop c.in_ok-version_of.ensures.found)
-    c.version_of.ensures.stop c.migrate_tables.ensures.stop
-
-pub returns-in_ok-migrate_tables-in-Some-First-clause-rows : goal.returns-in_ok-migrate_tables-in-Some-First-clause-rows
-returns-in_ok-migrate_tables-in-Some-First-clause-rows g c =
-    migrated_other (took First c.in-Some-First.is c.in-Some-First.field-0-is c.requires.rest
-    c.version_of.ensures.stop c.in_ok-version_of.ensures.found)
-    c.migrate_tables.ensures.stop
-
-pub returns-in_ok-migrate_tables-in-Some-First-clause-written :
-    goal.returns-in_ok-migrate_tables-in-Some-First-clause-written
-returns-in_ok-migrate_tables-in-Some-First-clause-written g c =
-    migrated_other (took First c.in-Some-First.is c.in-Some-First.field-0-is c.requires.rest
-    c.version_of.ensures.stop c.in_ok-version_of.ensures.found)
-    c.migrate_tables.ensures.stop
+pub returns-in_ok-migrate_tables-in-Some-First : goal.returns-in_ok-migrate_tables-in-Some-First
+returns-in_ok-migrate_tables-in-Some-First g c =
+    let asked = took First c.in-Some-First.is c.in-Some-First.field-0-is c.requires.rest c.version_of.ensures.stop
+    c.in_ok-version_of.ensures.found in
+    let stop = c.migrate_tables.ensures.stop in
+    let done = c.in_ok-migrate_tables-in-Some-First.ensures in
+    record {
+      prepared = migrated asked stop done.made;
+      refused = search rules;
+      unchanged = search rules;
+      stop = migrated_stop asked c.version_of.ensures.stop stop;
+      rows = migrated_other asked stop;
+      written = migrated_other asked stop;
+      others = migrated_others asked stop done.others;
+      remains = search rules;
+    }
 
 -- ---- it is a registry of the second version
 
@@ -95,40 +86,19 @@ returns-in_err-renew-in-Some-Second-clause-stop g c =
     c.version_of.ensures.stop c.in_ok-version_of.ensures.found)
     c.version_of.ensures.stop c.renew.ensures.stop
 
-pub returns-in_ok-renew-in-Some-Second-clause-prepared : goal.returns-in_ok-renew-in-Some-Second-clause-prepared
-returns-in_ok-renew-in-Some-Second-clause-prepared g c =
-    taken (took Second c.in-Some-Second.is c.in-Some-Second.field-0-is c.requires.rest
-    c.version_of.ensures.stop c.in_ok-version_of.ensures.found)
-    c.renew.ensures.stop c.in_ok-renew-in-Some-Second.ensures.renewed
-
-pub returns-in_ok-renew-in-Some-Second-clause-stop : goal.returns-in_ok-renew-in-Some-Second-clause-stop
-returns-in_ok-renew-in-Some-Second-clause-stop g c =
-    taken_stop (took Second c.in-Some-Second.is c.in-Some-Second.field-0-is c.requires.rest
-    c.version_of.ensures.stop c.in_ok-version_of.ensures.found)
-    c.version_of.ensures.stop c.renew.ensures.stop
-
-pub returns-in_ok-renew-in-Some-Second-clause-rows : goal.returns-in_ok-renew-in-Some-Second-clause-rows
-returns-in_ok-renew-in-Some-Second-clause-rows g c =
-    taken_rows (took Second c.in-Some-Second.is c.in-Some-Second.field-0-is c.requires.rest
-    c.version_of.ensures.stop c.in_ok-version_of.ensures.found)
-    c.renew.ensures.stop c.in_ok-renew-in-Some-Second.ensures.rows
-
-pub returns-in_ok-renew-in-Some-Second-clause-written : goal.returns-in_ok-renew-in-Some-Second-clause-written
-returns-in_ok-renew-in-Some-Second-clause-written g c =
-    renewed_by c.in_ok-renew-in-Some-Second.field-0 (took Second c.in-Some-Second.is c.in-Some-Second.field-0-is
-    c.requires.rest
-    c.version_of.ensures.stop c.in_ok-version_of.ensures.found)
-    c.version_of.ensures.stop c.renew.ensures.stop c.in_ok-renew-in-Some-Second.ensures.runs
-
-pub returns-in_ok-renew-in-Some-Second-clause-others : goal.returns-in_ok-renew-in-Some-Second-clause-others
-returns-in_ok-renew-in-Some-Second-clause-others g c =
-    taken_others (took Second c.in-Some-Second.is c.in-Some-Second.field-0-is c.requires.rest
-    c.version_of.ensures.stop c.in_ok-version_of.ensures.found)
-    c.renew.ensures.stop c.in_ok-renew-in-Some-Second.ensures.rows
-
-pub returns-in_ok-migrate_tables-in-Some-First-clause-others :
-    goal.returns-in_ok-migrate_tables-in-Some-First-clause-others
-returns-in_ok-migrate_tables-in-Some-First-clause-others g c =
-    migrated_others (took First c.in-Some-First.is c.in-Some-First.field-0-is c.requires.rest
-    c.version_of.ensures.stop c.in_ok-version_of.ensures.found)
-    c.migrate_tables.ensures.stop c.in_ok-migrate_tables-in-Some-First.ensures.others
+pub returns-in_ok-renew-in-Some-Second : goal.returns-in_ok-renew-in-Some-Second
+returns-in_ok-renew-in-Some-Second g c =
+    let asked = took Second c.in-Some-Second.is c.in-Some-Second.field-0-is c.requires.rest c.version_of.ensures.stop
+    c.in_ok-version_of.ensures.found in
+    let stop = c.renew.ensures.stop in
+    let done = c.in_ok-renew-in-Some-Second.ensures in
+    record {
+      prepared = taken asked stop done.renewed;
+      refused = search rules;
+      unchanged = search rules;
+      stop = taken_stop asked c.version_of.ensures.stop stop;
+      rows = taken_rows asked stop done.rows;
+      written = renewed_by c.in_ok-renew-in-Some-Second.field-0 asked c.version_of.ensures.stop stop done.runs;
+      others = taken_others asked stop done.rows;
+      remains = search rules;
+    }

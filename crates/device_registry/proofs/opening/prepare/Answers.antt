@@ -1,31 +1,21 @@
 use Rattle.std.proofs.Common.{arith, sym, ◌∙◌}
 use Rattle.std.proofs.lemmas.Result.{err_from_is_err_and}
 use Rattle.sqlite.specs.State.{HasCleanDisk}
-use Rattle.device_registry.proofs.OpenCalls.{opens_if, registries_if, ready_if, rows_on}
-use Rattle.device_registry.proofs.OpenCalls.{others_then, refused_first, refused_then}
+use Rattle.device_registry.proofs.OpenCalls.{opened_if, rows_on, others_then, refused_first, refused_then}
 use Rattle.device_registry.proofs.OpenRenews.{renewed_if}
 use Rattle.device_registry.proofs.opening.prepare.Goals as goal
 
-pub returns-clause-registries : goal.returns-clause-registries
-returns-clause-registries g c clean =
-    let old = g.C.SqlConnection.state c.args.conn.now in
-    let mid = g.C.SqlConnection.state c.check_open.new.conn in
-    let new = g.C.SqlConnection.state c.make_or_take.new.conn in
-    registries_if old mid new (λ trees is_open. g.met.C.SqlConnection.settled c.make_or_take.new.conn trees is_open)
-    c.make_or_take.result (c.make_or_take.ensures.prepared clean)
-
-pub returns-clause-opens : goal.returns-clause-opens
-returns-clause-opens g c clean =
+pub returns-clause-opened : goal.returns-clause-opened
+returns-clause-opened g c clean =
     let old = g.C.SqlConnection.state c.args.conn.now in
     let mid = g.C.SqlConnection.state c.check_open.new.conn in
     let new = g.C.SqlConnection.state c.make_or_take.new.conn in
     let early : HasCleanDisk mid = omega (arith, clean, c.make_or_take.ensures.stop.clean) in
-    opens_if old mid new (λ trees is_open. g.met.C.SqlConnection.settled c.make_or_take.new.conn trees is_open)
-    c.make_or_take.result (c.in_ok-check_open.ensures.same early) (c.make_or_take.ensures.prepared clean)
-
-pub returns-clause-ready : goal.returns-clause-ready
-returns-clause-ready g c clean = ready_if (g.C.SqlConnection.state c.check_open.new.conn)
-    (g.C.SqlConnection.state c.make_or_take.new.conn) c.make_or_take.result (c.make_or_take.ensures.prepared clean)
+    let was = c.in_ok-check_open.ensures.same early in
+    opened_if old mid new (λ trees is_open. g.met.C.SqlConnection.settled c.make_or_take.new.conn trees is_open)
+    c.make_or_take.result was (c.make_or_take.ensures.prepared clean)
+    (renewed_if c.make_or_take.result old mid new was.0 was.1 c.check_open.ensures.stop
+    (c.make_or_take.ensures.written clean))
 
 pub returns-clause-rows : goal.returns-clause-rows
 returns-clause-rows g c clean =
@@ -50,15 +40,6 @@ returns-clause-refused g c =
     (g.C.SqlConnection.state c.make_or_take.new.conn)
     c.in_ok-check_open.ensures.same c.check_open.ensures.stop c.make_or_take.ensures.stop c.make_or_take.ensures.refused
     c.make_or_take.ensures.unchanged
-
-pub returns-clause-written : goal.returns-clause-written
-returns-clause-written g c clean =
-    let old = g.C.SqlConnection.state c.args.conn.now in
-    let mid = g.C.SqlConnection.state c.check_open.new.conn in
-    let early : HasCleanDisk mid = omega (arith, clean, c.make_or_take.ensures.stop.clean) in
-    let was = c.in_ok-check_open.ensures.same early in
-    renewed_if c.make_or_take.result old mid (g.C.SqlConnection.state c.make_or_take.new.conn) was.0 was.1
-    c.check_open.ensures.stop (c.make_or_take.ensures.written clean)
 
 pub returns-clause-others : goal.returns-clause-others
 returns-clause-others g c clean =

@@ -9,48 +9,36 @@ use Rattle.device_registry.proofs.StatementSteps.{compiled_query_stays, query_su
 use Rattle.device_registry.proofs.FindAnswer.{find_plain, looked_up}
 use Rattle.device_registry.proofs.store_calls.look_up.Goals as goal
 
-pub returns-clause-stays : goal.returns-clause-stays
-returns-clause-stays g c =
-    let mid = g.C.SqlConnection.state c.compiled.new.conn in
-    compiled_query_stays find_text c.in_ok-find.find.text (asked c.args.id) (g.C.SqlConnection.state c.args.conn.now)
-    mid
-    (g.C.SqlConnection.state c.rows_for.new.conn) (λ v. v.items) c.rows_for.result c.compiled.ensures.stays
-    c.in_ok-find.ensures.text (λ clean. find_plain mid (c.in_ok-find.ensures.ready clean))
-    c.rows_for.ensures.survives c.rows_for.ensures.shown c.rows_for.ensures.failed
-
-pub returns-clause-found : goal.returns-clause-found
-returns-clause-found g c clean =
+pub returns : goal.returns
+returns g c =
     let old = g.C.SqlConnection.state c.args.conn.now in
     let mid = g.C.SqlConnection.state c.compiled.new.conn in
     let new = g.C.SqlConnection.state c.rows_for.new.conn in
     let id = c.args.id in
     let text = c.in_ok-find.find.text in
-    let early : HasCleanDisk mid = omega (arith, clean, c.rows_for.ensures.survives.clean) in
-    let ready = c.in_ok-find.ensures.ready early in
-    ok_then (λ v. Shown text (asked id) mid new v.items)
-    (λ v. IsReady new × ((devices : Devices) → Shows old devices → AreFound (device_of devices id) v.items))
-    c.rows_for.result
-    (λ v shown.
-    let all = subst (λ t. Shown t (asked id) mid new v.items) (c.in_ok-find.ensures.text early) shown in
-    let found = looked_up mid new id v.items ready all in (
-      found.0,
-      λ devices shows.
-          found.1 devices ((c.compiled.ensures.stays.goes_on early ready.shows.is_open).1 devices shows),
-    ))
-    (c.rows_for.ensures.shown clean)
-
-pub returns-clause-survives : goal.returns-clause-survives
-returns-clause-survives g c =
-    let mid = g.C.SqlConnection.state c.compiled.new.conn in
-    query_survives find_text c.in_ok-find.find.text (asked c.args.id) (g.C.SqlConnection.state c.args.conn.now) mid
-    (g.C.SqlConnection.state c.rows_for.new.conn) c.compiled.ensures.survives c.in_ok-find.ensures.text
-    (λ clean. find_plain mid (c.in_ok-find.ensures.ready clean)) c.rows_for.ensures.survives
-
-pub returns-clause-same : goal.returns-clause-same
-returns-clause-same g c clean =
-    let mid = g.C.SqlConnection.state c.compiled.new.conn in
-    let early : HasCleanDisk mid = omega (arith, clean, c.rows_for.ensures.survives.clean) in
-    answered_same find_text c.in_ok-find.find.text (asked c.args.id) (g.C.SqlConnection.state c.args.conn.now) mid
-    (g.C.SqlConnection.state c.rows_for.new.conn) (λ v. v.items) c.rows_for.result (c.in_ok-find.ensures.same early)
-    (c.in_ok-find.ensures.text early) (find_plain mid (c.in_ok-find.ensures.ready early))
-    (c.rows_for.ensures.shown clean)
+    let find = c.in_ok-find.ensures in
+    let rows = c.rows_for.ensures in
+    let plain = λ (clean : HasCleanDisk mid). find_plain mid (find.ready clean) in
+    let before = λ (clean : HasCleanDisk new).
+    let early : HasCleanDisk mid = omega (arith, clean, rows.survives.clean) in early in
+    record {
+      stays = compiled_query_stays find_text text (asked id) old mid new (λ v. v.items) c.rows_for.result
+          c.compiled.ensures.stays find.text plain rows.survives rows.shown rows.failed;
+      same = λ clean. answered_same find_text text (asked id) old mid new (λ v. v.items) c.rows_for.result
+          (find.same (before clean)) (find.text (before clean)) (plain (before clean)) (rows.shown clean);
+      survives = query_survives find_text text (asked id) old mid new c.compiled.ensures.survives find.text plain
+          rows.survives;
+      found = λ clean.
+          let ready = find.ready (before clean) in
+          ok_then (λ v. Shown text (asked id) mid new v.items)
+          (λ v. IsReady new × ((devices : Devices) → Shows old devices → AreFound (device_of devices id) v.items))
+          c.rows_for.result
+          (λ v shown.
+          let all = subst (λ t. Shown t (asked id) mid new v.items) (find.text (before clean)) shown in
+          let found = looked_up mid new id v.items ready all in (
+            found.0,
+            λ devices shows. found.1 devices
+                ((c.compiled.ensures.stays.goes_on (before clean) ready.shows.is_open).1 devices shows),
+          ))
+          (rows.shown clean);
+    }

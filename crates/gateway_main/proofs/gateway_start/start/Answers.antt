@@ -17,10 +17,9 @@ returns-clause-idle g c =
 pub returns-clause-starts : goal.returns-clause-starts
 returns-clause-starts g c =
     starts g.C.SqlConnection.state c.args.conn c.in_ok-registry.registry c.args.base c.in_ok-gateway_over.field-0
-    c.in_ok-gateway_over.ensures c.in_ok-registry.ensures.registries c.in_ok-registry.ensures.opens
+    c.in_ok-gateway_over.ensures c.in_ok-registry.ensures.opened
 
 pub returns-clause-begins : goal.returns-clause-begins
 returns-clause-begins g c =
     new_gateway g.C.SqlConnection.state c.args.conn c.in_ok-registry.registry c.args.base
-    c.in_ok-gateway_over.field-0 c.in_ok-gateway_over.ensures c.in_ok-registry.ensures.registries
-    c.in_ok-registry.ensures.opens c.in_ok-registry.ensures.ready
+    c.in_ok-gateway_over.field-0 c.in_ok-gateway_over.ensures c.in_ok-registry.ensures.opened

@@ -15,19 +15,17 @@ pub invariant_of-self-2 : goal.invariant_of-self-2
 invariant_of-self-2 g c = keeps_well (g.C.SqlConnection.state c.self.inside.conn)
     (g.C.SqlConnection.state c.list.new.conn) c.list.ensures.stays c.self.invariant
 
-pub returns-clause-lists : goal.returns-clause-lists
-returns-clause-lists g c =
+pub returns : goal.returns
+returns g c =
     let old = g.C.SqlConnection.state c.self.inside.conn in
     let new = g.C.SqlConnection.state c.list.new.conn in
-    rw (← c.self.view_is) (lists_all old new c.list.ensures.stays c.self.invariant c.all_listed.result
-    (λ clean devices has.
-    let rows = c.in_ok-rows.ensures.all clean in
-    told_all c.all_listed.result c.deref.result.now c.in_ok-rows.rows.items devices c.all_listed.ensures.listed
-    c.deref.ensures.value (rows.1 devices
-    (had old new c.list.ensures.stays c.self.invariant clean rows.0 devices has))))
-
-pub returns-clause-ready : goal.returns-clause-ready
-returns-clause-ready g c clean =
-    rw (← c.self.view_is) (ready_if c.all_listed.result (g.C.SqlConnection.state c.self.inside.conn)
-    (g.C.SqlConnection.state c.list.new.conn) c.list.ensures.stays c.self.invariant clean
-    (c.in_ok-rows.ensures.all clean).0)
+    let stays = c.list.ensures.stays in
+    let well = c.self.invariant in
+    let listed = c.in_ok-rows.ensures.all in
+    record {
+      lists = rw (← c.self.view_is) (lists_all old new stays well c.all_listed.result (λ clean devices has.
+          let rows = listed clean in
+          told_all c.all_listed.result c.deref.result.now c.in_ok-rows.rows.items devices c.all_listed.ensures.listed
+          c.deref.ensures.value (rows.1 devices (had old new stays well clean rows.0 devices has))));
+      ready = λ clean. rw (← c.self.view_is) (ready_if c.all_listed.result old new stays well clean (listed clean).0);
+    }

@@ -16,18 +16,17 @@ pub invariant_of-self-2 : goal.invariant_of-self-2
 invariant_of-self-2 g c = keeps_well (g.C.SqlConnection.state c.self.inside.conn)
     (g.C.SqlConnection.state c.look_up.new.conn) c.look_up.ensures.stays c.self.invariant
 
-pub returns-clause-looks_up : goal.returns-clause-looks_up
-returns-clause-looks_up g c =
+pub returns : goal.returns
+returns g c =
     let old = g.C.SqlConnection.state c.self.inside.conn in
     let new = g.C.SqlConnection.state c.look_up.new.conn in
-    rw (← c.self.view_is) (looks_up old new c.look_up.ensures.stays c.self.invariant c.args.id c.found.result
-    (λ clean devices has.
-    let rows = c.in_ok-rows.ensures.found clean in
-    rw c.deref.ensures.value at c.found.ensures.found (device_of devices c.args.id)
-    (rows.1 devices (had old new c.look_up.ensures.stays c.self.invariant clean rows.0 devices has))))
-
-pub returns-clause-ready : goal.returns-clause-ready
-returns-clause-ready g c clean =
-    rw (← c.self.view_is) (ready_if c.found.result (g.C.SqlConnection.state c.self.inside.conn)
-    (g.C.SqlConnection.state c.look_up.new.conn) c.look_up.ensures.stays c.self.invariant clean
-    (c.in_ok-rows.ensures.found clean).0)
+    let stays = c.look_up.ensures.stays in
+    let well = c.self.invariant in
+    let asked = c.in_ok-rows.ensures.found in
+    record {
+      looks_up = rw (← c.self.view_is) (looks_up old new stays well c.args.id c.found.result (λ clean devices has.
+          let rows = asked clean in
+          rw c.deref.ensures.value at c.found.ensures.found (device_of devices c.args.id)
+          (rows.1 devices (had old new stays well clean rows.0 devices has))));
+      ready = λ clean. rw (← c.self.view_is) (ready_if c.found.result old new stays well clean (asked clean).0);
+    }

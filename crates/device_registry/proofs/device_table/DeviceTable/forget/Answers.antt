@@ -53,39 +53,29 @@ invariant_of-self-2 g c =
     c.look_up.ensures.stays c.self.invariant c.forget_or_renew.ensures.turns c.in_ok-forget_or_renew.ensures.turns.made
     (λ clean. (c.in_ok-rows.ensures.found clean).0)
 
-pub returns-clause-forgets : goal.returns-clause-forgets
-returns-clause-forgets g c =
+pub returns : goal.returns
+returns g c =
     let old = g.C.SqlConnection.state c.self.inside.conn in
     let mid = g.C.SqlConnection.state c.look_up.new.conn in
     let new = g.C.SqlConnection.state c.forget_or_renew.new.conn in
-    rw (← c.self.view_is)
-    (update_made old mid new c.forget_or_renew.result c.look_up.ensures.stays c.self.invariant _
-    (forgotten c.args.id) c.forget_or_renew.ensures.turns c.in_ok-forget_or_renew.ensures.turns.made
-    (λ clean. (c.in_ok-rows.ensures.found clean).0)
-    (λ trees is_open. g.met.C.SqlConnection.settled c.forget_or_renew.new.conn trees is_open))
-
-pub returns-clause-written : goal.returns-clause-written
-returns-clause-written g c =
-    let old = g.C.SqlConnection.state c.self.inside.conn in
-    let mid = g.C.SqlConnection.state c.look_up.new.conn in
-    let new = g.C.SqlConnection.state c.forget_or_renew.new.conn in
+    let change = forgotten c.args.id in
+    let stays = c.look_up.ensures.stays in
     let turns = c.forget_or_renew.ensures.turns in
-    rw (← c.self.view_is)
-    (λ clean devices has none.
-    let early = turns.clean clean in
-    let found = c.in_ok-rows.ensures.found early in
-    let shows = had old mid c.look_up.ensures.stays c.self.invariant early found.0 devices has in
-    let no_rows = subst (λ o. AreFound (option_map (device c.args.id) o) c.in_ok-rows.rows.items) none
-    (found.1 devices shows) in
-    written_by old mid new c.in_ok-forget_or_renew.field-0 devices shows (c.in_ok-rows.ensures.same early)
-    c.look_up.ensures.survives found.0
-    (c.in_ok-forget_or_renew.ensures.written clean (c.deref.ensures.value ∙ no_rows)))
-
-pub returns-clause-ready : goal.returns-clause-ready
-returns-clause-ready g c clean =
-    rw (← c.self.view_is) (ready_made (g.C.SqlConnection.state c.self.inside.conn)
-    (g.C.SqlConnection.state c.look_up.new.conn)
-    (g.C.SqlConnection.state c.forget_or_renew.new.conn) (forgotten c.args.id) c.forget_or_renew.result
-    c.look_up.ensures.stays c.self.invariant c.forget_or_renew.ensures.turns
-    (c.in_ok-forget_or_renew.ensures.turns.made clean)
-    clean (c.in_ok-rows.ensures.found (c.forget_or_renew.ensures.turns.clean clean)).0)
+    let made = c.in_ok-forget_or_renew.ensures.turns.made in
+    let found = c.in_ok-rows.ensures.found in
+    record {
+      forgets = rw (← c.self.view_is) (update_made old mid new c.forget_or_renew.result stays c.self.invariant _ change
+          turns made (λ clean. (found clean).0)
+          (λ trees is_open. g.met.C.SqlConnection.settled c.forget_or_renew.new.conn trees is_open));
+      written = rw (← c.self.view_is) (λ clean devices has none.
+          let early = turns.clean clean in
+          let it = found early in
+          let shows = had old mid stays c.self.invariant early it.0 devices has in
+          let no_rows = subst (λ o. AreFound (option_map (device c.args.id) o) c.in_ok-rows.rows.items) none
+          (it.1 devices shows) in
+          written_by old mid new c.in_ok-forget_or_renew.field-0 devices shows (c.in_ok-rows.ensures.same early)
+          c.look_up.ensures.survives it.0
+          (c.in_ok-forget_or_renew.ensures.written clean (c.deref.ensures.value ∙ no_rows)));
+      ready = λ clean. rw (← c.self.view_is) (ready_made old mid new change c.forget_or_renew.result stays
+          c.self.invariant turns (made clean) clean (found (turns.clean clean)).0);
+    }

@@ -1,4 +1,4 @@
-use Rattle.std.proofs.Common.{◌∙◌, sym, ap, subst, Err}
+use Rattle.std.proofs.Common.{◌∙◌, sym}
 use Rattle.learned_devices.specs.Devices.{learned, known_of}
 use Rattle.device_registry.specs.Holding.{WritesRow}
 use Rattle.device_registry.proofs.RegistryCalls.{puts_it, had, shown_before, keeps, keeps_well}
@@ -62,8 +62,7 @@ invariant_of-self-in_err-put g c =
     let stays = c.has_no_room.ensures.stays in
     let makes = puts_it old mid stays c.self.invariant change (known_of c.args.device)
     (rw (← c.self.view_is) at c.requires) in
-    let turns = c.put.ensures.turns change makes in
-    refused_well old mid new change c.put.result stays c.self.invariant turns
+    refused_well old mid new change c.put.result stays c.self.invariant (c.put.ensures.turns change makes)
     (c.in_err-put.ensures.turns change makes).refused
 
 pub returns-in_err-put-clause-adds : goal.returns-in_err-put-clause-adds
@@ -75,9 +74,8 @@ returns-in_err-put-clause-adds g c =
     let stays = c.has_no_room.ensures.stays in
     let makes = puts_it old mid stays c.self.invariant change (known_of c.args.device)
     (rw (← c.self.view_is) at c.requires) in
-    let turns = c.put.ensures.turns change makes in
     rw (← c.self.view_is) (add_refused old mid new c.put.result stays c.self.invariant c.args.device
-    c.from_residual-in_err-put.result c.from_residual-in_err-put.ensures.0 turns
+    c.from_residual-in_err-put.result c.from_residual-in_err-put.ensures.0 (c.put.ensures.turns change makes)
     (c.in_err-put.ensures.turns change makes).refused
     (λ clean devices has.
     let told = c.in_ok-has_no_room.ensures.full clean in
@@ -93,60 +91,39 @@ invariant_of-self-2 g c =
     let stays = c.has_no_room.ensures.stays in
     let makes = puts_it old mid stays c.self.invariant change (known_of c.args.device)
     (rw (← c.self.view_is) at c.requires) in
-    let turns = c.put.ensures.turns change makes in
-    made_well old mid new change c.put.result stays c.self.invariant turns
+    made_well old mid new change c.put.result stays c.self.invariant (c.put.ensures.turns change makes)
     (c.in_ok-put.ensures.turns change makes).made
     (λ clean. (c.in_ok-has_no_room.ensures.full clean).0)
 
-pub returns-clause-adds : goal.returns-clause-adds
-returns-clause-adds g c =
+pub returns : goal.returns
+returns g c =
     let old = g.C.SqlConnection.state c.self.inside.conn in
     let mid = g.C.SqlConnection.state c.has_no_room.new.conn in
     let new = g.C.SqlConnection.state c.put.new.conn in
     let change = learned c.args.device in
-    let stays = c.has_no_room.ensures.stays in
-    let makes = puts_it old mid stays c.self.invariant change (known_of c.args.device)
-    (rw (← c.self.view_is) at c.requires) in
-    let turns = c.put.ensures.turns change makes in
-    rw (← c.self.view_is)
-    (add_made old mid new c.put.result stays c.self.invariant c.args.device turns
-    (c.in_ok-put.ensures.turns change makes).made
-    (λ clean. (c.in_ok-has_no_room.ensures.full clean).0)
-    (λ trees is_open. g.met.C.SqlConnection.settled c.put.new.conn trees is_open)
-    (λ clean devices has.
-    let told = c.in_ok-has_no_room.ensures.full clean in
-    sym (told.1 devices (had old mid stays c.self.invariant clean told.0 devices has))
-    ∙ c.if-branch.false))
-
-pub returns-clause-written : goal.returns-clause-written
-returns-clause-written g c =
-    let old = g.C.SqlConnection.state c.self.inside.conn in
-    let mid = g.C.SqlConnection.state c.has_no_room.new.conn in
     let stays = c.has_no_room.ensures.stays in
     let asked = rw (← c.self.view_is) at c.requires in
-    let makes = puts_it old mid stays c.self.invariant (learned c.args.device) (known_of c.args.device) asked in
-    let turns = c.put.ensures.turns (learned c.args.device) makes in
-    rw (← c.self.view_is) (λ clean devices has.
-    let early = turns.clean clean in
-    λ _. let row : WritesRow g.C.SqlConnection.state c.put.new.conn (learned c.args.device) devices = record {
-      row = known_of c.args.device;
-      is = asked (stays.clean early) devices has;
-      before = c.has_no_room.new.conn;
-      had = (keeps old mid stays c.self.invariant early devices has).now;
-      count = c.in_ok-put.field-0;
-      executed = c.in_ok-put.ensures.written clean;
-    } in row)
-
-pub returns-clause-ready : goal.returns-clause-ready
-returns-clause-ready g c clean =
-    let old = g.C.SqlConnection.state c.self.inside.conn in
-    let mid = g.C.SqlConnection.state c.has_no_room.new.conn in
-    let new = g.C.SqlConnection.state c.put.new.conn in
-    let change = learned c.args.device in
-    let stays = c.has_no_room.ensures.stays in
-    let makes = puts_it old mid stays c.self.invariant change (known_of c.args.device)
-    (rw (← c.self.view_is) at c.requires) in
+    let makes = puts_it old mid stays c.self.invariant change (known_of c.args.device) asked in
     let turns = c.put.ensures.turns change makes in
-    rw (← c.self.view_is) (ready_made old mid new change c.put.result stays c.self.invariant turns
-    ((c.in_ok-put.ensures.turns change makes).made clean) clean
-    (c.in_ok-has_no_room.ensures.full (turns.clean clean)).0)
+    let made = (c.in_ok-put.ensures.turns change makes).made in
+    let full = c.in_ok-has_no_room.ensures.full in
+    record {
+      adds = rw (← c.self.view_is) (add_made old mid new c.put.result stays c.self.invariant c.args.device turns made
+          (λ clean. (full clean).0)
+          (λ trees is_open. g.met.C.SqlConnection.settled c.put.new.conn trees is_open)
+          (λ clean devices has.
+          let told = full clean in
+          sym (told.1 devices (had old mid stays c.self.invariant clean told.0 devices has)) ∙ c.if-branch.false));
+      written = rw (← c.self.view_is) (λ clean devices has.
+          let early = turns.clean clean in
+          λ _. let row : WritesRow g.C.SqlConnection.state c.put.new.conn change devices = record {
+            row = known_of c.args.device;
+            is = asked (stays.clean early) devices has;
+            before = c.has_no_room.new.conn;
+            had = (keeps old mid stays c.self.invariant early devices has).now;
+            count = c.in_ok-put.field-0;
+            executed = c.in_ok-put.ensures.written clean;
+          } in row);
+      ready = λ clean. rw (← c.self.view_is) (ready_made old mid new change c.put.result stays c.self.invariant turns
+          (made clean) clean (full (turns.clean clean)).0);
+    }

@@ -19,8 +19,7 @@ invariant_of-self g c =
     let change = relabelled c.args.device.id c.args.device.label in
     let makes = puts_it old old (stays_itself old) c.self.invariant change (known_of c.args.device)
     (rw (← c.self.view_is) at c.requires.known) in
-    let turns = c.put.ensures.turns change makes in
-    refused_well old old new change c.put.result (stays_itself old) c.self.invariant turns
+    refused_well old old new change c.put.result (stays_itself old) c.self.invariant (c.put.ensures.turns change makes)
     (c.in_err-put.ensures.turns change makes).refused
 
 pub returns-in_err-put-clause-updates : goal.returns-in_err-put-clause-updates
@@ -30,9 +29,9 @@ returns-in_err-put-clause-updates g c =
     let change = relabelled c.args.device.id c.args.device.label in
     let makes = puts_it old old (stays_itself old) c.self.invariant change (known_of c.args.device)
     (rw (← c.self.view_is) at c.requires.known) in
-    let turns = c.put.ensures.turns change makes in
     rw (← c.self.view_is) (update_refused old old new c.put.result (stays_itself old) c.self.invariant change
-    c.from_residual.result c.from_residual.ensures.0 turns (c.in_err-put.ensures.turns change makes).refused)
+    c.from_residual.result c.from_residual.ensures.0 (c.put.ensures.turns change makes)
+    (c.in_err-put.ensures.turns change makes).refused)
 
 pub invariant_of-self-2 : goal.invariant_of-self-2
 invariant_of-self-2 g c =
@@ -41,47 +40,31 @@ invariant_of-self-2 g c =
     let change = relabelled c.args.device.id c.args.device.label in
     let makes = puts_it old old (stays_itself old) c.self.invariant change (known_of c.args.device)
     (rw (← c.self.view_is) at c.requires.known) in
-    let turns = c.put.ensures.turns change makes in
-    made_well old old new change c.put.result (stays_itself old) c.self.invariant turns
+    made_well old old new change c.put.result (stays_itself old) c.self.invariant (c.put.ensures.turns change makes)
     (c.in_ok-put.ensures.turns change makes).made (rw (← c.self.view_is) at c.requires.ready)
 
-pub returns-clause-updates : goal.returns-clause-updates
-returns-clause-updates g c =
+pub returns : goal.returns
+returns g c =
     let old = g.C.SqlConnection.state c.self.inside.conn in
     let new = g.C.SqlConnection.state c.put.new.conn in
-    let change = relabelled c.args.device.id c.args.device.label in
-    let makes = puts_it old old (stays_itself old) c.self.invariant change (known_of c.args.device)
-    (rw (← c.self.view_is) at c.requires.known) in
-    let turns = c.put.ensures.turns change makes in
-    rw (← c.self.view_is) (update_made old old new c.put.result (stays_itself old) c.self.invariant _ change turns
-    (c.in_ok-put.ensures.turns change makes).made (rw (← c.self.view_is) at c.requires.ready)
-    (λ trees is_open. g.met.C.SqlConnection.settled c.put.new.conn trees is_open))
-
-pub returns-clause-written : goal.returns-clause-written
-returns-clause-written g c =
-    let old = g.C.SqlConnection.state c.self.inside.conn in
     let change = relabelled c.args.device.id c.args.device.label in
     let known = rw (← c.self.view_is) at c.requires.known in
+    let ready = rw (← c.self.view_is) at c.requires.ready in
     let makes = puts_it old old (stays_itself old) c.self.invariant change (known_of c.args.device) known in
     let turns = c.put.ensures.turns change makes in
-    rw (← c.self.view_is) (λ clean devices has.
-    let row : WritesRow g.C.SqlConnection.state c.put.new.conn change devices = record {
-      row = known_of c.args.device;
-      is = known (turns.clean clean) devices has;
-      before = c.self.inside.conn;
-      had = has;
-      count = c.in_ok-put.field-0;
-      executed = c.in_ok-put.ensures.written clean;
-    } in row)
-
-pub returns-clause-ready : goal.returns-clause-ready
-returns-clause-ready g c clean =
-    let old = g.C.SqlConnection.state c.self.inside.conn in
-    let new = g.C.SqlConnection.state c.put.new.conn in
-    let change = relabelled c.args.device.id c.args.device.label in
-    let makes = puts_it old old (stays_itself old) c.self.invariant change (known_of c.args.device)
-    (rw (← c.self.view_is) at c.requires.known) in
-    let turns = c.put.ensures.turns change makes in
-    let ready = rw (← c.self.view_is) at c.requires.ready in
-    rw (← c.self.view_is) (ready_made old old new change c.put.result (stays_itself old) c.self.invariant turns
-    ((c.in_ok-put.ensures.turns change makes).made clean) clean (ready (turns.clean clean)))
+    let made = (c.in_ok-put.ensures.turns change makes).made in
+    record {
+      updates = rw (← c.self.view_is) (update_made old old new c.put.result (stays_itself old) c.self.invariant _ change
+          turns made ready (λ trees is_open. g.met.C.SqlConnection.settled c.put.new.conn trees is_open));
+      written = rw (← c.self.view_is) (λ clean devices has.
+          let row : WritesRow g.C.SqlConnection.state c.put.new.conn change devices = record {
+            row = known_of c.args.device;
+            is = known (turns.clean clean) devices has;
+            before = c.self.inside.conn;
+            had = has;
+            count = c.in_ok-put.field-0;
+            executed = c.in_ok-put.ensures.written clean;
+          } in row);
+      ready = λ clean. rw (← c.self.view_is) (ready_made old old new change c.put.result (stays_itself old)
+          c.self.invariant turns (made clean) clean (ready (turns.clean clean)));
+    }

@@ -1,4 +1,4 @@
-use Rattle.std.proofs.Common.{◌≡◌, ◌∙◌, true, false, Some, Ok, option_map, ap, sym, subst}
+use Rattle.std.proofs.Common.{◌∙◌, true, false, Some, Ok, option_map, ap, sym, subst}
 use Rattle.learned_devices.specs.Devices.{device, learned}
 use Rattle.device_registry.specs.Holding.{kept}
 use Rattle.device_registry.specs.private.TableCalls.{Adds}

@@ -21,9 +21,15 @@ returns-in_err-prepare-clause-refused g c =
           (sym why.2) c.in_err-prepare.ensures.refused,
     ))
 
+pub invariant_of-result : goal.invariant_of-result
+invariant_of-result g c = (
+  λ clean. (c.in_ok-prepare.ensures.opened clean).registries,
+  λ clean is_open. (c.in_ok-prepare.ensures.opened clean).ready,
+)
+
 pub invariant_of-result-2 : goal.invariant_of-result-2
 invariant_of-result-2 g c = (
-  c.in_ok-prepare.ensures.registries,
+  λ clean. (c.in_ok-prepare.ensures.opened clean).registries,
   none_recalled (g.C.SqlConnection.state c.prepare.new.conn) c.in_ok-cache.cache.entries c.in_ok-cache.ensures,
 )
 

@@ -23,30 +23,28 @@ learn_kept-requires g c =
     c.in_ok-known.ensures.ready c.keeping_label.result c.args.device.eep c.args.device.maker c.keeping_label.ensures.0
     c.keeping_label.ensures.1
 
-pub returns-clause-learns : goal.returns-clause-learns
-returns-clause-learns g c =
+pub returns : goal.returns
+returns g c =
     let old = g.C.SqlConnection.state c.args.self.now in
     let mid = g.C.SqlConnection.state c.known.new.self in
-    let new = g.C.SqlConnection.state c.learn_kept.new.self in
+    let last = c.learn_kept.new.self in
+    let new = g.C.SqlConnection.state last in
+    let r = c.learn_kept.result in
+    let known = c.in_ok-known.known in
+    let looks = c.in_ok-known.ensures.looks_up in
+    let at = c.keeping_label.ensures.0 in
     let is = c.keeping_label.ensures.1 in
-    learns_alike old new c.args.device c.keeping_label.result c.learn_kept.result c.keeping_label.ensures.0
-    (ap (λ (l : Learned). l.eep) is) (ap (λ (l : Learned). l.maker) is)
-    (learns_after old mid c.args.device.id c.in_ok-known.known c.in_ok-known.ensures.looks_up new
-    c.keeping_label.result c.learn_kept.result c.learn_kept.ensures.learns)
-
-pub returns-clause-written : goal.returns-clause-written
-returns-clause-written g c clean =
-    let old = g.C.SqlConnection.state c.args.self.now in
-    let mid = g.C.SqlConnection.state c.known.new.self in
-    let is = c.keeping_label.ensures.1 in
+    let eep = ap (λ (l : Learned). l.eep) is in
+    let maker = ap (λ (l : Learned). l.maker) is in
     let same : learned c.keeping_label.result ≡ learned c.args.device =
-    λ i. record {
-      sender = c.keeping_label.ensures.0 i;
-      deed = Learn (ap (λ (l : Learned). l.eep) is i) (ap (λ (l : Learned). l.maker) is i);
-    } in
-    subst (λ change. (devices : Devices) → HasDevices old devices → OnOk c.learn_kept.result (WritesRow
-    g.C.SqlConnection.state c.learn_kept.new.self change devices)) same
-    (written_after old mid c.args.device.id c.in_ok-known.known c.in_ok-known.ensures.looks_up
-    (g.C.SqlConnection.state c.learn_kept.new.self) g.C.SqlConnection.state c.learn_kept.new.self
-    (learned c.keeping_label.result) c.learn_kept.result
-    (λ _. c.learn_kept.ensures.written clean) (c.learn_kept.ensures.learns.clean clean))
+    λ i. record { sender = at i; deed = Learn (eep i) (maker i) } in
+    record {
+      learns = learns_alike old new c.args.device c.keeping_label.result r at eep maker
+          (learns_after old mid c.args.device.id known looks new c.keeping_label.result r c.learn_kept.ensures.learns);
+      written = λ clean.
+          subst (λ change. (devices : Devices) → HasDevices old devices → OnOk r (WritesRow
+          g.C.SqlConnection.state last change devices)) same
+          (written_after old mid c.args.device.id known looks new g.C.SqlConnection.state last
+          (learned c.keeping_label.result) r (λ _. c.learn_kept.ensures.written clean)
+          (c.learn_kept.ensures.learns.clean clean));
+    }

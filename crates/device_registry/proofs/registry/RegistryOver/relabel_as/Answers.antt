@@ -1,4 +1,4 @@
-use Rattle.std.proofs.Common.{◌≡◌, ◌∙◌, Some, Ok, Err, OnOk, ap, sym, subst, subst₂}
+use Rattle.std.proofs.Common.{◌≡◌, ◌∙◌, Some, Ok, Err, ap, sym, subst, subst₂}
 use Rattle.std.specs.FinMap.{get}
 use Rattle.std.proofs.lemmas.Result.{err_from_is_err_and}
 use Rattle.learned_devices.specs.declared.fault.StoreFault.{StoreFault}
@@ -47,21 +47,33 @@ returns-in_err-relabel_known-in-Some-clause-relabels g c =
     (subst₂ (λ id label. Updates (kept mid) (kept new) (relabelled id label)
     (Err c.in_err-relabel_known-in-Some.field-0.0)) at label c.in_err-relabel_known-in-Some.ensures.updates))
 
-pub returns-in_ok-relabel_known-in-Some-clause-relabels : goal.returns-in_ok-relabel_known-in-Some-clause-relabels
-returns-in_ok-relabel_known-in-Some-clause-relabels g c =
+pub returns-in_ok-relabel_known-in-Some : goal.returns-in_ok-relabel_known-in-Some
+returns-in_ok-relabel_known-in-Some g c =
     let old = g.C.SqlConnection.state c.args.self.now in
     let mid = g.C.SqlConnection.state c.known.new.self in
-    let new = g.C.SqlConnection.state c.relabel_known.new.self in
+    let last = c.relabel_known.new.self in
+    let new = g.C.SqlConnection.state last in
+    let known = c.in_ok-known.field-0 in
+    let looks = c.in_ok-known.ensures.looks_up in
     let it = c.with_label.result in
     let at = c.with_label.ensures.0 in
     let label = ap (λ (l : Learned). l.label) c.with_label.ensures.1 in
-    relabels_known old mid c.args.id c.in_ok-known.field-0 c.in_ok-known.ensures.looks_up new c.args.label _
-    (known_of it)
-    (λ clean devices has. subst₂ (λ i l. after (get devices i) (Relabel l) ≡ Some (known_of it)) at label
-    (gets_label old mid c.args.id c.in_ok-known.field-0 c.in_ok-known.ensures.looks_up mid c.in_ok-known.ensures.ready
-    c.in-Some.known it c.args.label c.in-Some.is at c.with_label.ensures.1 clean devices has))
-    (subst₂ (λ id label. Updates (kept mid) (kept new) (relabelled id label)
-    (Ok c.in_ok-relabel_known-in-Some.field-0)) at label c.in_ok-relabel_known-in-Some.ensures.updates)
+    let done = c.in_ok-relabel_known-in-Some.ensures in
+    let same : relabelled it.id it.label ≡ relabelled c.args.id c.args.label =
+    λ i. record { sender = at i; deed = Relabel (label i) } in
+    record {
+      relabels = relabels_known old mid c.args.id known looks new c.args.label _ (known_of it)
+          (λ clean devices has. subst₂ (λ i l. after (get devices i) (Relabel l) ≡ Some (known_of it)) at label
+          (gets_label old mid c.args.id known looks mid c.in_ok-known.ensures.ready c.in-Some.known it c.args.label
+          c.in-Some.is at c.with_label.ensures.1 clean devices has))
+          (subst₂ (λ id label. Updates (kept mid) (kept new) (relabelled id label)
+          (Ok c.in_ok-relabel_known-in-Some.field-0)) at label done.updates);
+      written = λ clean devices has _.
+          subst (λ change. WritesRow g.C.SqlConnection.state last change devices) same
+          (written_after old mid c.args.id known looks new g.C.SqlConnection.state last (relabelled it.id it.label)
+          {E = StoreFault} (Ok c.in_ok-relabel_known-in-Some.field-0) (λ _. done.written clean)
+          (done.updates.clean clean) devices has);
+    }
 
 pub returns-in-None-clause-relabels : goal.returns-in-None-clause-relabels
 returns-in-None-clause-relabels g c =
@@ -72,19 +84,3 @@ returns-in-None-clause-relabels g c =
 
 pub returns-in-None-clause-written : goal.returns-in-None-clause-written
 returns-in-None-clause-written g c clean devices has known = absurd (let e = known in cc)
-
-pub returns-in_ok-relabel_known-in-Some-clause-written : goal.returns-in_ok-relabel_known-in-Some-clause-written
-returns-in_ok-relabel_known-in-Some-clause-written g c clean devices has known =
-    let old = g.C.SqlConnection.state c.args.self.now in
-    let mid = g.C.SqlConnection.state c.known.new.self in
-    let last = c.relabel_known.new.self in
-    let it = c.with_label.result in
-    let label = ap (λ (l : Learned). l.label) c.with_label.ensures.1 in
-    let same : relabelled it.id it.label ≡ relabelled c.args.id c.args.label =
-    λ i. record { sender = c.with_label.ensures.0 i; deed = Relabel (label i) } in
-    subst (λ change. WritesRow g.C.SqlConnection.state last change devices) same
-    (written_after old mid c.args.id c.in_ok-known.field-0 c.in_ok-known.ensures.looks_up
-    (g.C.SqlConnection.state last) g.C.SqlConnection.state last (relabelled it.id it.label) {E = StoreFault}
-    (Ok c.in_ok-relabel_known-in-Some.field-0)
-    (λ _. c.in_ok-relabel_known-in-Some.ensures.written clean)
-    (c.in_ok-relabel_known-in-Some.ensures.updates.clean clean) devices has)

@@ -1,0 +1,96 @@
+-- What the commit of a transaction of ours leaves.
+use Rattle.std.proofs.Common.{◌≡◌, ℕ, List, [], Ok, Err, Result, OnOk, IfErr, OnErr, IsTrue, false, true, refl, sym, subst}
+use Rattle.std.proofs.Common.{◌∙◌, arith}
+use Rattle.std.specs.FinMap.{empty}
+use Rattle.sqlite.specs.declared.error.Error.{Error}
+use Rattle.sqlite.specs.Effect.{Database, IsDatabase}
+use Rattle.sqlite.specs.State.{State, HasCleanDisk, Survives}
+use Rattle.sqlite.specs.State.{Shows as IsShowing, KeepsCounts}
+use Rattle.sqlite.specs.Steps.{FailsToCommit}
+use Rattle.sqlite.specs.Held.{Held, state}
+use Rattle.sqlite.proofs.StateLemmas.{survives_weaker}
+use Rattle.sqlite_trees.specs.declared.store.Store.{Ghosts}
+use Rattle.device_registry.specs.declared.table.Version.TheVariants.{Second}
+use Rattle.learned_devices.specs.Devices.{Devices}
+use Rattle.device_registry.specs.Stored.{Registers, Holds}
+use Rattle.device_registry.specs.Ready.{Shows, KeepsOthers}
+use Rattle.device_registry.specs.Opening.{Remains}
+use Rattle.device_registry.specs.private.Transaction.{IsListedInside}
+use Rattle.device_registry.proofs.TransactionSteps.{since, leaves, uncommitted_remains}
+
+-- it is committed as it stands
+abbrev pub Commits : State → State → Type 0
+Commits d e = IsTrue d.in_transaction × IsShowing d e d.now d.now false × KeepsCounts d e × (e.marks ≡ [])
+
+shows_committed : (d e : State) (devices : Devices) → Registers d.now devices → IsDatabase d.now → Commits d e
+    → Shows e devices
+shows_committed d e devices registers sound ends =
+    let shown = ends.1 in
+    record {
+      is_open = shown.is_open;
+      idle = shown.mode;
+      settled = shown.now_is ∙ sym shown.committed_is;
+      sound = subst IsDatabase (sym shown.now_is) sound;
+      registers = subst (λ db. Registers db devices) (sym shown.now_is) registers;
+    }
+
+on_ok : {V E : Type 0} (r : Result V E) (P Q : Type 0) → (P → Q) → OnOk r P → OnOk r Q
+on_ok (Ok v) P Q so p = so p
+on_ok (Err e) P Q so p = tt
+
+-- a transaction that was to make a registry of such devices has ended
+pub record Ends {V : Type 0} (Are : Devices → Type 0) (old new : State) (r : Result V Error) : Type 0 where
+  pub made : HasCleanDisk new → OnOk r ((devices : Devices) → Are devices → Shows new devices)
+  pub others : HasCleanDisk new → OnOk r (KeepsOthers old.now new.now)
+  pub stop : Survives old new (λ trees. (devices : Devices) → Are devices → Holds trees devices)
+  pub remains : HasCleanDisk new → OnErr r (Remains old new)
+
+-- what the transaction shows before its commit
+abbrev pub Shown : (Devices → Type 0) → Database → Database → Type 0
+Shown Are old new =
+    ((devices : Devices) → Are devices → Registers new devices) × IsDatabase new × KeepsOthers old new
+
+module _ {S V : Type 0} (g : Ghosts S) (texts : List (List ℕ)) (old start last : Held S)
+    (is : start ≡ record old { in_transaction = true }) (it : IsListedInside g Second texts start last)
+    (Are : Devices → Type 0) (shows : HasCleanDisk (state g last) → Shown Are (state g old).now (state g last).now)
+    (r : Result V Error) where
+  ends_at : (new : State) → Survives (state g last) new (λ trees. trees ≡ (state g last).now.trees)
+      → (HasCleanDisk new → OnOk r (Commits (state g last) new))
+      → (HasCleanDisk new → IfErr r (FailsToCommit (state g last) new)) → Ends Are (state g old) new r
+  ends_at new commits ok err =
+      let was = since g old start (state g last) is it.uncommitted in
+      let db = λ (clean : HasCleanDisk new). shows (omega (arith, clean, commits.clean)) in
+      record {
+        made = λ clean. on_ok r (Commits (state g last) new) ((devices : Devices) → Are devices → Shows new devices)
+            (λ done devices are. let it = db clean in
+            shows_committed (state g last) new devices (it.0 devices are) it.1 done) (ok clean);
+        others = λ clean. on_ok r (Commits (state g last) new) (KeepsOthers (state g old).now new.now)
+            (λ done. subst (KeepsOthers (state g old).now) (sym done.1.now_is) (db clean).2) (ok clean);
+        stop = leaves (state g old) (state g last) new was commits
+            (λ trees. (devices : Devices) → Are devices → Holds trees devices)
+            (λ clean devices are. let it = shows clean in record {
+              db = (state g last).now;
+              same = refl;
+              sound = it.1;
+              registers = it.0 devices are;
+            });
+        remains = uncommitted_remains (state g old) (state g last) new was commits r it.inside err;
+      }
+
+  pub ends : (gone new : Held S) → gone ≡ new
+      → Survives (state g last) (state g gone) (λ trees. trees ≡ (state g last).now.trees)
+      → (HasCleanDisk (state g gone) → OnOk r (Commits (state g last) (state g gone)))
+      → (HasCleanDisk (state g gone) → IfErr r (FailsToCommit (state g last) (state g gone)))
+      → Ends Are (state g old) (state g new) r
+  ends gone new same commits ok err =
+      subst (λ (h : Held S). Ends Are (state g old) (state g h) r) same (ends_at (state g gone) commits ok err)
+
+-- if it was to make a registry of no devices
+module _ {V : Type 0} {old new : State} {r : Result V Error} (it : Ends (λ devices. devices ≡ empty) old new r) where
+  pub made_empty : HasCleanDisk new → OnOk r (Shows new empty)
+  made_empty clean = on_ok r ((devices : Devices) → devices ≡ empty → Shows new devices) (Shows new empty)
+      (λ shows. shows empty refl) (it.made clean)
+
+  pub stop_empty : Survives old new (λ trees. Holds trees empty)
+  stop_empty = survives_weaker old new (λ trees. (devices : Devices) → devices ≡ empty → Holds trees devices)
+      (λ trees. Holds trees empty) (λ clean trees holds. holds empty refl) it.stop
