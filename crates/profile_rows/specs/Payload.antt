@@ -15,7 +15,7 @@ is_data rorg payload =
     else if rorg == 0xA5 then field payload 28 1 == 1
     else true
 
--- the payload of a data telegram of this RORG, which has n bytes, or the first refusal
+-- the payload of a data telegram of this RORG, which has n bytes, or the first refusal (own choice: their order)
 abbrev pub payload_of : ℕ → ℕ → Telegram → Result (List ℕ) Unreadable
 payload_of rorg n t =
     if not (t.rorg == rorg) then Err refusals.WrongKind
@@ -23,8 +23,8 @@ payload_of rorg n t =
     else if not (is_data rorg t.payload) then Err refusals.OtherMessage
     else Ok t.payload
 
--- what rows read in such a payload, or the first refusal, where a profile has no rows too; `reads` is what rows read in
--- a payload (own choice: the order of the refusals)
+-- what a profile reads in a telegram: what its rows read in the payload, which is `reads`, or the first refusal. Own
+-- choice: that the profile has no rows is the first of the refusals
 abbrev pub readings_by :
     (List ℕ → List Row → List Entry) → Option (List Row) → Result (List ℕ) Unreadable → Result (List Entry) Unreadable
 readings_by reads None payload = Err refusals.NotSupported

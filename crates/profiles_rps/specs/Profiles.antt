@@ -6,9 +6,9 @@ use Rattle.profile_rows.specs.Reading.{Entry}
 use Rattle.profile_rows.specs.Rows.{Row, rows_entries}
 use Rattle.profile_rows.specs.Profile.{Profiles, rows_in}
 use Rattle.profile_rows.specs.Payload.{payload_of, readings_by}
+use Rattle.profile_rows.specs.declared.unreadable.Unreadable.{Unreadable}
 use Rattle.profiles_rps.specs.Rps.{push_button, two_rockers, four_rockers}
 use Rattle.profiles_rps.specs.OneByte.{single_contact}
-use Rattle.profile_rows.specs.declared.unreadable.Unreadable.{Unreadable}
 
 -- the profiles that are read (own choice), and their rows
 abbrev pub table : List Profiles

@@ -23,8 +23,8 @@ fn read_into(eep: Eep, payload: &[u8], readings: &mut Readings) -> Option<Result
 }
 
 /// Whether telegrams of a profile are read: whether `profile_says` of `specs/Profiles.antt` has the profile. `read`
-/// answers `NotSupported` exactly where it has not. A payload of no bytes is read, and the answer to it is dropped: so
-/// the code has each profile once, in `read_into`.
+/// answers `NotSupported` exactly where it has not. The reader runs on a payload of no bytes, and its answer to it is
+/// dropped, so the code names each profile once, in `read_into`.
 pub fn supports(eep: Eep) -> bool
     ensures { result ≡ supported eep }
 {
