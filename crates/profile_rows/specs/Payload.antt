@@ -1,5 +1,6 @@
 -- The data of a telegram, and what a profile reads in it.
-use Rattle.std.specs.Prelude.{ℕ, Bool, true, List, length, not, ◌==◌, if◌then◌else◌, Option, Some, None, Result, Ok, Err}
+use Rattle.std.specs.Prelude.{ℕ, Bool, true, List, length, not, ◌==◌, if◌then◌else◌, Option, Some, None, Result}
+use Rattle.std.specs.Prelude.{Ok, Err}
 use Rattle.bit_fields.specs.Bits.{field}
 use Rattle.erp1_telegrams.specs.Telegram.{Telegram}
 use Rattle.profile_rows.specs.Reading.{Entry}

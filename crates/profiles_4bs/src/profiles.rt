@@ -34,8 +34,8 @@ fn read_into(eep: Eep, bytes: &[u8; 4], readings: &mut Readings) -> bool
 }
 
 /// Whether telegrams of a profile are read: whether the profile stands in `table` of `specs/Profiles.antt`. `read`
-/// answers `NotSupported` exactly where it does not. The reader runs on zeros, and what it reads is dropped, so the code
-/// names each profile once, in the functions `read_into`.
+/// answers `NotSupported` exactly where it does not. The reader runs on zeros, and what it reads is dropped, so the
+/// code names each profile once, in the functions `read_into`.
 pub fn supports(eep: Eep) -> bool
     ensures { result ≡ supported eep }
 {
