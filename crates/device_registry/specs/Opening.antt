@@ -48,7 +48,7 @@ pub record IsOpened (old new : State) : Type 0 where
   pub opens : (devices : Devices) × Opens old new devices
   -- the connection is open, between two transactions
   pub ready : IsReady new
-  -- if the database was a registry of version 2, it was changed exactly by the text that writes its version row unchanged
+  -- if it was a registry of version 2, it was changed exactly by the text that writes its version row unchanged
   pub written : IsHeld old.committed.trees → IsRenewed old new
 
 -- a registry of this version as this program leaves it
@@ -79,7 +79,7 @@ pub record RefusesToOpen (old new : State) (fault : OpenFault) : Type 0 where
   pub stop : HasCleanDisk new → (trees : Trees) → new.may_leave trees
       → old.may_leave trees ⊎ (IsTrue old.is_open × KeepsFound old.committed.trees trees)
 
--- An open failed, and dropped its connection. After `NotARegistry`, `RefusesToOpen` held of the connection's last state.
+-- An open failed, and dropped its connection. After `NotARegistry`, `RefusesToOpen` held of its last state.
 abbrev pub RefusesAndDrops : {C : Type 0} → (C → State) → C → OpenFault → Type 0
 RefusesAndDrops {C} state conn fault =
     fault ≡ NotARegistry → (last : C) × RefusesToOpen (state conn) (state last) fault
