@@ -1,6 +1,6 @@
 -- What the commit of a transaction of ours leaves.
-use Rattle.std.proofs.Common.{◌≡◌, ℕ, List, [], Ok, Err, Result, OnOk, IfErr, OnErr, IsTrue, false, true, refl, sym, subst}
-use Rattle.std.proofs.Common.{◌∙◌, arith}
+use Rattle.std.proofs.Common.{◌≡◌, ℕ, List, [], Ok, Err, Result, OnOk, IfErr, OnErr, IsTrue, false, true, refl, sym}
+use Rattle.std.proofs.Common.{subst, ◌∙◌, arith}
 use Rattle.std.specs.FinMap.{empty}
 use Rattle.sqlite.specs.declared.error.Error.{Error}
 use Rattle.sqlite.specs.Effect.{Database, IsDatabase}

@@ -40,15 +40,15 @@ pub record IsPrepared (old new : State) (devices : Devices) : Type 0 where
   pub found : Finds old.now.trees devices
   pub shows : Shows new devices
 
--- An open has made a registry of the database, or taken the one that it is.
+-- An open succeeded: the database was a registry, or the open made it one.
 pub record IsOpened (old new : State) : Type 0 where
   -- whatever a crash leaves is a registry
   pub registries : AreRegistries new.may_leave
-  -- it has the devices that were committed last, and a crash leaves these
+  -- the registry has the devices that were committed last, and a crash leaves these and no others
   pub opens : (devices : Devices) × Opens old new devices
-  -- it is open, between two transactions
+  -- the connection is open, between two transactions
   pub ready : IsReady new
-  -- a registry of version 2 was changed by the text that writes its version row unchanged, and by nothing else
+  -- if it was a registry of version 2, it was changed exactly by the text that writes its version row unchanged
   pub written : IsHeld old.committed.trees → IsRenewed old new
 
 -- a registry of this version as this program leaves it
@@ -79,8 +79,7 @@ pub record RefusesToOpen (old new : State) (fault : OpenFault) : Type 0 where
   pub stop : HasCleanDisk new → (trees : Trees) → new.may_leave trees
       → old.may_leave trees ⊎ (IsTrue old.is_open × KeepsFound old.committed.trees trees)
 
--- An open drops its connection. If it told that the database is no registry, the relation of a refusal held of the last
--- state of the connection.
+-- An open failed, and dropped its connection. After `NotARegistry`, `RefusesToOpen` held of its last state.
 abbrev pub RefusesAndDrops : {C : Type 0} → (C → State) → C → OpenFault → Type 0
 RefusesAndDrops {C} state conn fault =
     fault ≡ NotARegistry → (last : C) × RefusesToOpen (state conn) (state last) fault
