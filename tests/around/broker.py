@@ -1,0 +1,148 @@
+"""A broker that requires passwords, and on a second port TLS with certificates: mosquitto, with its stock clients."""
+from __future__ import annotations
+
+import os
+import pathlib
+import pwd
+import re
+import socket
+import subprocess
+
+from programs import Program, lines_of, wait_for
+
+GUIDE = pathlib.Path(__file__).resolve().parents[2] / "docs" / "guide" / "mqtt.md"
+PEOPLE = ("people", "people-secret")
+BRIDGE = ("bridge", "bridge-secret")
+# A subscription to this topic, as the last one, is answered after everything else that is retained.
+END = "test/end"
+PROBE = "test/probe"
+KEY = ["-newkey", "ec", "-pkeyopt", "ec_paramgen_curve:P-256", "-nodes"]
+
+
+def free_ports(count: int) -> list[int]:
+    """Ports of this computer that nobody uses."""
+    sockets = [socket.create_server(("127.0.0.1", 0)) for _ in range(count)]
+    ports = [one.getsockname()[1] for one in sockets]
+    for one in sockets:
+        one.close()
+    return ports
+
+
+class Certificates:
+    """Certificates in a folder, as NAME.crt with the key NAME.key."""
+
+    def __init__(self, folder: pathlib.Path):
+        self.folder = folder
+
+    def openssl(self, *words: str) -> None:
+        subprocess.run(["openssl", *words], cwd=self.folder, check=True, capture_output=True)
+
+    def add_authority(self, name: str) -> None:
+        """A certificate that signs itself."""
+        self.openssl("req", "-x509", *KEY, "-days", "2", "-subj", f"/CN={name}", "-keyout", f"{name}.key",
+                     "-out", f"{name}.crt")
+
+    def add(self, name: str, host: str, authority: str) -> None:
+        """A certificate for this host, which the authority signs."""
+        self.openssl("req", *KEY, "-keyout", f"{name}.key", "-out", f"{name}.csr", "-subj", f"/CN={host}")
+        (self.folder / f"{name}.ext").write_text(f"subjectAltName=DNS:{host}\n")
+        self.openssl("x509", "-req", "-in", f"{name}.csr", "-CA", f"{authority}.crt", "-CAkey", f"{authority}.key",
+                     "-CAcreateserial", "-days", "2", "-extfile", f"{name}.ext", "-out", f"{name}.crt")
+
+    def path(self, file: str) -> str:
+        return str(self.folder / file)
+
+
+def rights() -> str:
+    """The bridge has the rights that the guide lists, and no others."""
+    found = re.search(r"^user enogate\n((?:topic .*\n)+)```$", GUIDE.read_text(), re.MULTILINE)
+    assert found, f"{GUIDE} lists no rights"
+    return f"user {PEOPLE[0]}\ntopic readwrite #\nuser {BRIDGE[0]}\n{found[1]}"
+
+
+class Broker(Program):
+    """The broker, with its files in a folder. It retains nothing across a restart."""
+
+    def __init__(self, work: pathlib.Path):
+        super().__init__(work / "broker.journal")
+        self.work, self.config = work, work / "broker.conf"
+        self.port, self.tls_port = free_ports(2)
+        for number, (user, password) in enumerate((PEOPLE, BRIDGE)):
+            words = ["mosquitto_passwd", *([] if number else ["-c"]), "-b", str(work / "users"), user, password]
+            subprocess.run(words, check=True, capture_output=True)
+        (work / "rights").write_text(rights())
+        self.config.write_text(
+            f"user {pwd.getpwuid(os.geteuid()).pw_name}\nper_listener_settings false\nallow_anonymous false\n"
+            f"password_file {work}/users\nacl_file {work}/rights\npersistence false\nlistener {self.port} localhost\n")
+
+    def require_certificates(self, folder: pathlib.Path) -> None:
+        """At the second port, it requires certificates of the authority `ca`."""
+        with self.config.open("a") as config:
+            config.write(f"listener {self.tls_port} localhost\ncafile {folder}/ca.crt\ncertfile {folder}/broker.crt\n"
+                         f"keyfile {folder}/broker.key\nrequire_certificate true\n")
+
+    def start(self) -> None:
+        self.run(["mosquitto", "-c", self.config])
+        answered = wait_for(lambda: self.client("pub", "-r", "-t", END, "-m", "end"), lambda run: run.returncode == 0)
+        assert answered.returncode == 0, (answered, self.journal())
+
+    def words(self, kind: str, *words: str) -> list[str]:
+        """The command of a client of the user `people`."""
+        return [f"mosquitto_{kind}", "-p", str(self.port), "-u", PEOPLE[0], "-P", PEOPLE[1], *words]
+
+    def client(self, kind: str, *words: str, payload: bytes = b"") -> subprocess.CompletedProcess[bytes]:
+        return subprocess.run(self.words(kind, *words), input=payload, capture_output=True)
+
+    def publish(self, topic: str, payload: str | bytes, *words: str) -> None:
+        """Publishes a message; `-r` retains it."""
+        payload = payload.encode() if isinstance(payload, str) else payload
+        self.client("pub", "-t", topic, "-s" if payload else "-n", *words, payload=payload).check_returncode()
+
+    def retained(self) -> dict[str, str]:
+        """What the broker retains, by topic."""
+        filters = [word for topic in ("enogate/#", "homeassistant/#", END) for word in ("-t", topic)]
+        words = self.words("sub", "--retained-only", "-W", "10", "-F", "%t %x", *filters)
+        found = {}
+        with subprocess.Popen(words, stdout=subprocess.PIPE, text=True) as client:
+            assert client.stdout is not None
+            for line in client.stdout:
+                topic, payload = message(line)
+                if topic == END:
+                    client.kill()
+                    return found
+                found[topic] = payload
+        raise AssertionError(f"not everything that is retained was received: {found}")
+
+
+def message(line: str) -> tuple[str, str]:
+    """The topic and the payload in a line of a subscriber, which has the payload in hexadecimal digits."""
+    topic, _, digits = line.partition(" ")
+    return topic, bytes.fromhex(digits).decode(errors="backslashreplace")
+
+
+class Listener(Program):
+    """What is published while it listens, without what was retained before."""
+
+    def __init__(self, broker: Broker, work: pathlib.Path):
+        super().__init__(work / "listener.journal")
+        self.broker, self.path, self.forgotten = broker, work / "published", 0
+
+    def start(self) -> None:
+        """Starts to listen, and forgets earlier messages."""
+        self.path.write_bytes(b"")
+        self.run(self.broker.words("sub", "-R", "-t", "#", "-F", "%t %x"), out=self.path)
+        assert wait_for(self.hears, bool), self.journal()
+        self.forget()
+
+    def hears(self) -> bool:
+        self.broker.publish(PROBE, "")
+        return bool(lines_of(self.path))
+
+    def forget(self) -> None:
+        """Forgets the messages that have come until now."""
+        self.forgotten = len(lines_of(self.path))
+
+    def messages(self) -> list[str]:
+        """The messages, each as TOPIC PAYLOAD, in their sequence."""
+        found = map(message, lines_of(self.path)[self.forgotten:])
+        return [" ".join(one) for one in found if one[0] != PROBE]

@@ -1,0 +1,67 @@
+"""Programs that a test runs in the background, and how it waits for what they do."""
+from __future__ import annotations
+
+import os
+import pathlib
+import signal
+import subprocess
+import time
+from typing import Callable, Self, Sequence, TypeVar
+
+# How long a test waits for an event, and how long a program runs if the test is killed, in seconds.
+WITHIN = 10.0
+LIFE = 200
+PAUSE = 0.02
+Seen = TypeVar("Seen")
+
+
+def wait_for(see: Callable[[], Seen], is_so: Callable[[Seen], object]) -> Seen:
+    """What `see` returns once it is so, or what it returns after ten seconds."""
+    end = time.monotonic() + WITHIN
+    while not is_so(seen := see()) and time.monotonic() < end:
+        time.sleep(PAUSE)
+    return seen
+
+
+def lines_of(path: pathlib.Path) -> list[str]:
+    """The complete lines of a file that grows; none if there is no file."""
+    return path.read_bytes().decode(errors="backslashreplace").split("\n")[:-1] if path.exists() else []
+
+
+class Program:
+    """A program that can be started again. Its process group gets the signals, as in a unit of systemd. Its standard
+    error is the file `journal`, which is emptied at each start."""
+
+    def __init__(self, journal: pathlib.Path):
+        self.journal_path = journal
+        self.process: subprocess.Popen[bytes] | None = None
+
+    def __enter__(self) -> Self:
+        return self
+
+    def __exit__(self, *_: object) -> None:
+        self.end(signal.SIGKILL)
+
+    def run(self, words: Sequence[str | pathlib.Path], out: str | pathlib.Path = os.devnull, **variables: str) -> None:
+        """Starts it with these words and environment variables. Its standard output is appended to the file `out`."""
+        words = ["timeout", str(LIFE), *words]
+        with open(out, "ab") as output, open(self.journal_path, "wb") as journal:
+            self.process = subprocess.Popen(words, stdin=subprocess.DEVNULL, stdout=output, stderr=journal,
+                                            env={**os.environ, **variables}, process_group=0)
+
+    def is_running(self) -> bool:
+        return self.process is not None and self.process.poll() is None
+
+    def send(self, number: signal.Signals) -> None:
+        """Sends a signal to each of its processes."""
+        assert self.process is not None
+        os.killpg(self.process.pid, number)
+
+    def end(self, number: signal.Signals = signal.SIGTERM) -> None:
+        """Ends it with a signal, if it runs."""
+        if self.process is not None and self.is_running():
+            self.send(number)
+            self.process.wait(WITHIN)
+
+    def journal(self) -> list[str]:
+        return lines_of(self.journal_path)

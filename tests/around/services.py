@@ -1,0 +1,122 @@
+"""A stick, and the gateway and the bridge `hall` as their units run them, in folders below one folder."""
+from __future__ import annotations
+
+import os
+import pathlib
+import sqlite3
+import subprocess
+import sys
+
+from broker import BRIDGE, Broker
+from oracle.esp3 import packet, telegram
+from programs import Program, lines_of, wait_for
+
+HERE = pathlib.Path(__file__).resolve().parent
+ROOT = HERE.parents[1]
+CONTRIB = ROOT / "contrib"
+PROGRAM = ROOT / os.environ.get("TESTED_PROGRAM", "crates/enogate/out/enogate")
+COMMANDS = {"enogate": PROGRAM, **{name: CONTRIB / name for name in ("enogate-mqtt", "enogate-port", "enogate-check")}}
+BASE = "FF800000"
+
+
+class Stick(Program):
+    """A stick with a radio module, which reports its base ID."""
+
+    def __init__(self, work: pathlib.Path):
+        super().__init__(work / "stick.journal")
+        self.path, self.brought, self.sent_path = work / "stick", work / "brought", work / "sent"
+
+    def start(self) -> None:
+        self.brought.touch()
+        self.sent_path.touch()
+        answer = packet(2, bytes.fromhex("00" + BASE)).hex()
+        self.run([sys.executable, HERE / "stick.py", self.path, self.brought, self.sent_path, answer])
+        assert wait_for(self.path.exists, bool), self.journal()
+
+    def bring(self, device: str, *telegrams: str) -> None:
+        """Receives telegrams of a device, each as RORG PAYLOAD or RORG PAYLOAD STATUS in hexadecimal digits."""
+        for words in map(str.split, telegrams):
+            rorg, payload, status = (*words, "0")[:3]
+            self.bring_packet(telegram(int(rorg, 16), bytes.fromhex(payload), int(device, 16), int(status, 16)))
+
+    def bring_packet(self, received: bytes) -> None:
+        with self.brought.open("a") as file:
+            file.write(received.hex() + "\n")
+
+    def sent(self) -> str:
+        """All bytes that the gateway has sent to the stick, except for the question for its base ID."""
+        return self.sent_path.read_text()
+
+
+class Unit(Program):
+    """A program that is run by the commands of its unit."""
+
+    def __init__(self, work: pathlib.Path, unit: str):
+        super().__init__(work / f"{unit}.journal")
+        self.work, self.script = work, work / f"{unit}.sh"
+        self.desk, self.lines_path = work / "run/enogate/hall/desk", work / "log/enogate/hall.lines"
+        self.state = work / "lib/enogate-mqtt/hall.db"
+        for folder in (self.desk.parent, self.lines_path.parent, self.state.parent, work / "lib/enogate", work / "bin"):
+            folder.mkdir(parents=True, exist_ok=True)
+        for name, program in COMMANDS.items():
+            if not (work / "bin" / name).exists():
+                (work / "bin" / name).symlink_to(program)
+        words = [sys.executable, HERE / "unit.py", CONTRIB / f"{unit}@.service", work, "hall"]
+        self.script.write_bytes(subprocess.run(words, check=True, stdout=subprocess.PIPE).stdout)
+
+    def run_unit(self, **variables: str) -> None:
+        """Starts the unit. With PAHO in the environment, it finds paho-mqtt in that folder."""
+        path = f"{self.work / 'bin'}:{os.environ['PATH']}"
+        self.run(["sh", self.script], PATH=path, PYTHONPATH=os.environ.get("PAHO", ""), **variables)
+
+
+class Gateway(Unit):
+    """The gateway, at a stick."""
+
+    def __init__(self, work: pathlib.Path):
+        super().__init__(work, "enogate")
+
+    def start(self, stick: Stick) -> None:
+        self.run_unit(BASE=BASE, SERIAL=str(stick.path), TURNS="4000", EXPLAIN="")
+        assert wait_for(self.desk.exists, bool), self.journal()
+
+    def order(self, *orders: str) -> None:
+        """Gives orders at the desk itself."""
+        with self.desk.open("a") as desk:
+            desk.writelines(f"{order}\n" for order in orders)
+
+    def lines(self) -> list[str]:
+        """What it has printed, since its lines were rotated."""
+        return lines_of(self.lines_path)
+
+    def append(self, text: str) -> None:
+        """Appends this to its lines, as the gateway does."""
+        with self.lines_path.open("a") as lines:
+            lines.write(text)
+
+    def rotate(self) -> None:
+        """Renames the file of its lines, as logrotate does."""
+        self.lines_path.rename(f"{self.lines_path}.1")
+
+
+class Bridge(Unit):
+    """The bridge, at a broker."""
+
+    def __init__(self, work: pathlib.Path, broker: Broker):
+        super().__init__(work, "enogate-mqtt")
+        self.broker = broker
+        self.password = work / "bridge.password"
+        self.password.write_text(BRIDGE[1] + "\n")
+
+    def start(self, **settings: str) -> None:
+        """Starts it with the user and the password that it has at the broker, and these settings besides."""
+        login = {"MQTT_PORT": str(self.broker.port), "MQTT_USER": BRIDGE[0], "MQTT_PASSWORD_FILE": str(self.password)}
+        self.run_unit(**{"MQTT_EXPIRE_AFTER": "7200", **login, **settings})
+
+    def saved(self) -> int:
+        """Up to which offset of the lines its state is stored."""
+        connection = sqlite3.connect(f"file:{self.state}?mode=ro", uri=True)
+        try:
+            return int(connection.execute("SELECT offset FROM place").fetchone()[0])
+        finally:
+            connection.close()

@@ -1,0 +1,74 @@
+"""The bridge at a broker: it reads each line of the gateway once, also if the file is rotated, cut or incomplete."""
+from __future__ import annotations
+
+import os
+
+from testcase import OWN, GatewayTest
+
+DEVICE = f"{OWN}/01800A02"
+TORN = '{"dbm":-45,"eep":"D5-0'
+
+
+class Lines(GatewayTest):
+    """A gateway whose device was heard before the bridge runs for the first time, and a broker that retains an order.
+    While the bridge runs, other programs change the file of lines."""
+
+    def setUp(self):
+        super().setUp()
+        self.broker.publish(f"{OWN}/orders", "level 5 40 10", "-r")
+        self.order("add 01800A02 A5-02-05")
+        self.bring("01800A02", "A5 00007F08")
+        self.start_bridge()
+
+    def test_the_first_run_a_torn_line_a_rotation_and_a_cut(self):
+        with self.subTest("the first run"):
+            self.first_run()
+        with self.subTest("an order that is retained"):
+            self.assert_logged(f"message on '{OWN}/orders' ignored: it is retained")
+            self.assert_seen(self.stick.sent(), "")
+        self.heard.forget()
+        with self.subTest("a torn line"):
+            self.torn()
+        with self.subTest("a rotation"):
+            self.gateway.rotate()
+            self.pass_a_cycle()
+            self.bring_temperature("A5 0000FF08", "0")
+        with self.subTest("a cut"):
+            os.truncate(self.gateway.lines_path, 0)
+            self.assert_logged(self.reason_of_a_cut())
+            self.bring_temperature("A5 00007F08", "20.0784")
+        self.settle()
+        with self.subTest("each reading is published once"):
+            seen = [message for message in self.heard.messages() if message.startswith(f"{DEVICE}/TMP ")]
+            self.assert_seen(seen, [f"{DEVICE}/TMP {value}" for value in ("40", "0", "20.0784")])
+        with self.subTest("the journal"):
+            self.assert_seen(self.bridge.journal()[2:], [
+                f"enogate-mqtt: invalid line ignored: b'{TORN}'", f"enogate-mqtt: {self.reason_of_a_cut()}"])
+
+    def first_run(self) -> None:
+        """What the device has said is published, but none of its lines. The name of the device is asked for."""
+        self.assert_lines('{"eep":"A5-02-05","id":"01800A02","label":"","maker":null,"type":"device"}',
+                          '{"count":1,"type":"list"}')
+        self.assert_published(f"{DEVICE}/TMP 20.0784")
+        self.settle()
+        self.assert_seen(self.published_lines("reading"), [])
+        retained = {topic: text for topic, text in self.retained().items() if topic.startswith(OWN)}
+        self.assert_seen(retained, {
+            f"{DEVICE}/TMP": "20.0784", f"{DEVICE}/dbm": "-45", f"{OWN}/gateway": "online", f"{OWN}/learn": "OFF",
+            f"{OWN}/module": "online", f"{OWN}/orders": "level 5 40 10", f"{OWN}/status": "online"})
+
+    def torn(self) -> None:
+        """The first part of a line is read, and then its end. The next line is not affected."""
+        self.gateway.append(TORN)
+        self.pass_a_cycle()
+        self.gateway.append("\n")
+        self.assert_logged(f"invalid line ignored: b'{TORN}'")
+        self.bring_temperature("A5 00000008", "40")
+
+    def bring_temperature(self, telegram: str, value: str) -> None:
+        """The device sends this telegram, and its value is published."""
+        self.bring("01800A02", telegram)
+        self.assert_published(f"{DEVICE}/TMP {value}")
+
+    def reason_of_a_cut(self) -> str:
+        return f"{self.gateway.lines_path}: file truncated, reading from the beginning"

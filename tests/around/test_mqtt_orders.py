@@ -1,0 +1,106 @@
+"""The bridge at a broker: which messages are given to the gateway as orders, and what the gateway sends for them."""
+from __future__ import annotations
+
+from oracle.esp3 import sent
+from programs import lines_of
+from services import BASE
+from testcase import OWN, BridgeTest, GatewayTest
+
+# A topic and a payload, and the packet that is sent. Packets of the guide and of the golden tests are given as they
+# are there.
+COMMANDS = (
+    ("01800ABC/OV/0", "ON", "550009070156d2010064ff800000000301800abcff0024"),
+    ("01800ABC/OV/0", "OFF", "550009070156d2010000ff800000000301800abcff007f"),
+    ("01800ABC/OV/0", "50", "550009070156d2010032ff800000000301800abcff00d1"),
+    ("01800ABC/OV/1", "ON", "010164"),
+    ("01800A10/OV/0", "100", "010064"),
+    ("01800ABD/POS/0", "50", "55000a0701ebd2327f0001ff800000000301800abdff0003"),
+    ("01800ABD/POS/0", "STOP", "55000707017ad202ff800000000301800abdff00ac"),
+    ("01800ABD/POS/0", "OPEN", "007F0001"),
+    ("01800ABD/POS/0", "CLOSE", "647F0001"),
+)
+# A topic and a payload, and why they are no command.
+NO_COMMANDS = (
+    ("0/OV/0", "ON", "the topic is not ID/OV/CHANNEL/set or ID/POS/0/set (with ID in upper case)"),
+    ("01800ABC/OV/0", "101", "b'101' is not ON, OFF or 0 to 100"),
+    ("01800ABC/OV/0", "toggle", "b'toggle' is not ON, OFF or 0 to 100"),
+    ("01800ABD/POS/1", "OPEN", "the topic is not ID/OV/CHANNEL/set or ID/POS/0/set (with ID in upper case)"),
+    ("01800ABC/TMP/0", "20", "the topic is not ID/OV/CHANNEL/set or ID/POS/0/set (with ID in upper case)"),
+)
+# The orders that the bridge gives by itself.
+OWN_ORDERS = ("list", "status", "base")
+OK = '{"type":"ok"}'
+
+
+class Orders(GatewayTest):
+    """Orders and commands to actuators that the gateway knows."""
+
+    def setUp(self):
+        super().setUp()
+        self.order("add 01800ABC D2-01-12", "add 01800A10 D2-01-02", "add 01800ABD D2-05-00")
+        self.start_bridge()
+
+    def given(self) -> list[str]:
+        """The orders at the desk, without those that the bridge gives by itself."""
+        return [order for order in lines_of(self.gateway.desk) if order not in OWN_ORDERS]
+
+    def answers(self) -> list[str]:
+        """The lines that were published since messages were forgotten, without the status."""
+        return [line for line in self.published_lines() if '"type":"status"' not in line]
+
+    def test_commands_become_packets_and_invalid_orders_are_answered(self):
+        self.each_command()
+        with self.subTest("invalid orders"):
+            self.invalid_orders()
+
+    def each_command(self) -> None:
+        """Each is sent as one packet."""
+        for place, command, packet in COMMANDS:
+            if not packet.startswith("55"):
+                packet = sent(0xD2, bytes.fromhex(packet), int(BASE, 16), int(place[:8], 16)).hex()
+            with self.subTest(place=place, command=command):
+                before = self.stick.sent()
+                self.broker.publish(f"{OWN}/{place}/set", command)
+                self.assert_soon(lambda: self.stick.sent().removeprefix(before), packet)
+
+    def invalid_orders(self) -> None:
+        """The broker does not send a message of 1 MB to the bridge."""
+        self.settle()
+        self.heard.forget()
+        before = len(self.given())
+        orders = f"{OWN}/orders"
+        self.broker.publish(orders, "x" * 20000)
+        self.broker.publish(orders, bytes(1000000))
+        self.broker.publish(orders, "0" * 300 + "\nli\0st\nlearn on\r\nlearn off")
+        self.assert_logged(f"message on '{orders}' ignored: 20000 bytes, the maximum is 16384")
+        with self.subTest("the answers"):
+            errors = [f'{{"error":"{error}","type":"error"}}' for error in ("too_long", "syntax")]
+            self.assert_soon(self.answers, [*errors, OK, OK])
+        with self.subTest("the orders"):
+            self.assert_seen(self.given()[before:], ["0" * 202, "li\0st", "learn on\r", "learn off"])
+        with self.subTest("the journal"):
+            self.assert_seen(self.bridge.journal()[2:], [])
+
+
+class NoOrders(BridgeTest):
+    """Messages that are not given as orders. There is a desk, but no gateway."""
+
+    def setUp(self):
+        super().setUp()
+        self.start_broker()
+        self.bridge.desk.touch()
+        self.start_bridge()
+
+    def test_messages_that_are_no_commands(self):
+        for place, command, why in NO_COMMANDS:
+            with self.subTest(place=place, command=command):
+                topic = f"{OWN}/{place}/set"
+                self.broker.publish(topic, command)
+                self.assert_logged(f"message on '{topic}' ignored: {why}")
+        given = [order for order in lines_of(self.bridge.desk) if order not in OWN_ORDERS]
+        self.assert_seen(given, [])
+
+    def test_an_order_without_a_desk_is_lost(self):
+        self.bridge.desk.unlink()
+        self.broker.publish(f"{OWN}/orders", "status")
+        self.assert_logged(f"message on '{OWN}/orders' lost: {self.bridge.desk}: No such file or directory")

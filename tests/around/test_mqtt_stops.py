@@ -1,0 +1,98 @@
+"""The bridge at a broker: nothing is lost or published twice if the bridge or the broker is stopped or killed."""
+from __future__ import annotations
+
+import signal
+
+from kinds import END_OF_LIST, KindsTest
+from testcase import OFFLINE, ONLINE, OWN
+
+
+class Stops(KindsTest):
+    """The bridge has published readings of a device of each kind."""
+
+    def setUp(self):
+        super().setUp()
+        self.start_all()
+
+    def restart_bridge(self) -> None:
+        """Starts the bridge, and waits until it has published what it has to."""
+        self.start_bridge()
+        self.assert_lines(END_OF_LIST)
+        self.settle()
+
+    def test_a_bridge_that_was_stopped_or_killed_publishes_what_changed_once(self):
+        with self.subTest("stopped"):
+            self.stop_and_restart()
+        with self.subTest("killed"):
+            self.kill_and_restart()
+        with self.subTest("the broker publishes the last will of an earlier connection late"):
+            self.heard.forget()
+            self.broker.publish(f"{OWN}/status", "offline", "-r")
+            self.assert_published(ONLINE)
+
+    def stop_and_restart(self) -> None:
+        """Meanwhile lines are rotated. A press of then is not published as an event."""
+        self.bridge.end()
+        self.assert_published(OFFLINE)
+        self.bring("01800A01", "D5 08")
+        self.bring("01800A0D", "F6 30 30")
+        rotated = self.gateway.lines()
+        self.gateway.rotate()
+        self.bring("01800A02", "A5 00000008")
+        self.heard.forget()
+        self.restart_bridge()
+        with self.subTest("what changed"):
+            self.assert_seen(self.published(), [
+                f"{OWN}/01800A01/CO open", f"{OWN}/01800A02/TMP 40", f"{OWN}/01800A0D/EB pressed",
+                f"{OWN}/01800A0D/R1 A0", f"{OWN}/01800A0D/buttons ", ONLINE])
+        with self.subTest("the lines of then, each once"):
+            self.assert_seen(self.published_lines("reading"), [*rotated[-2:], self.gateway.lines()[0]])
+
+    def kill_and_restart(self) -> None:
+        """Meanwhile nothing changes."""
+        self.assert_soon(self.bridge.saved, self.gateway.lines_path.stat().st_size)
+        self.heard.forget()
+        self.bridge.end(signal.SIGKILL)
+        self.assert_published(OFFLINE)
+        with self.subTest("its last will is retained"):
+            self.assert_seen(self.retained()[f"{OWN}/status"], "offline")
+        self.restart_bridge()
+        with self.subTest("what is published"):
+            self.assert_seen(self.published(), [OFFLINE, ONLINE])
+        with self.subTest("the lines that are published"):
+            self.assert_seen(self.published_lines("reading"), [])
+
+    def test_a_broker_that_was_killed_gets_everything_again(self):
+        """Meanwhile two devices are heard, and the bridge is started again. Its second start has no connection."""
+        before = self.retained()
+        self.kill_broker()
+        self.bring("01800A01", "D5 08")
+        self.bring("01800A0D", "F6 10 30")
+        line = self.gateway.lines()[-1]
+        self.gateway.append("an invalid line, which shows that those before it were read\n")
+        self.assert_logged("invalid line ignored: b'an invalid line, which shows")
+        self.bridge.end()
+        self.bridge.start()
+        self.assert_no_connection()
+        self.bridge.send(signal.SIGSTOP)
+        self.start_broker()
+        self.bridge.send(signal.SIGCONT)
+        self.assert_published(ONLINE)
+        self.assert_lines(line)
+        self.settle()
+        with self.subTest("what is retained"):
+            del before[f"{OWN}/01800A0D/buttons"]
+            changed = {"01800A01/CO": "open", "01800A0D/EB": "pressed", "01800A0D/R1": "AI"}
+            self.assert_seen(self.retained(), before | {f"{OWN}/{place}": text for place, text in changed.items()})
+        with self.subTest("no press of then"):
+            self.assert_seen([message for message in self.heard.messages() if "/press " in message], [])
+        with self.subTest("the journal has the reason once"):
+            self.assert_seen(len([line for line in self.bridge.journal() if "no connection" in line]), 1)
+
+    def kill_broker(self) -> None:
+        self.broker.end(signal.SIGKILL)
+        self.heard.end()
+        self.assert_no_connection()
+
+    def assert_no_connection(self) -> None:
+        self.assert_logged(f"no connection to localhost:{self.broker.port}: ")

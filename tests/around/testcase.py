@@ -1,0 +1,188 @@
+"""The base classes of the tests of the bridge at a broker."""
+from __future__ import annotations
+
+import difflib
+import functools
+import os
+import pathlib
+import shutil
+import subprocess
+import tempfile
+import unittest
+from typing import Callable, TypeVar
+
+from broker import Broker, Listener
+from programs import lines_of, wait_for
+from services import BASE, Bridge, Gateway, Stick
+
+PYTHON = "/usr/bin/python3"
+MAY_SKIP = not os.environ.get("SKIP_NOTHING")
+OWN = "enogate/hall"
+ONLINE, OFFLINE = f"{OWN}/status online", f"{OWN}/status offline"
+RESPONSE = f'{{"code":0,"data":"{BASE}","name":"OK","type":"response"}}'
+# What a failure shows of each journal and of what was published: the last lines, and their first characters.
+MOST, WIDEST = 12, 200
+# These are not compared: they depend on the time, or on how often the bridge has asked.
+VARYING = ("/last_seen", "/counters")
+Seen = TypeVar("Seen")
+
+
+def has_module(name: str) -> bool:
+    """Whether the Python of the bridge has this module."""
+    environment = {**os.environ, "PYTHONPATH": os.environ.get("PAHO", "")}
+    words = [PYTHON, "-c", f"import {name}"]
+    return os.access(PYTHON, os.X_OK) and subprocess.run(words, env=environment, capture_output=True).returncode == 0
+
+
+@functools.cache
+def is_missing() -> str:
+    """Why the bridge cannot be tried at a broker on this computer; empty if it can."""
+    for program in (PYTHON, "mosquitto", "mosquitto_pub", "mosquitto_sub", "mosquitto_passwd", "openssl", "bash"):
+        if not shutil.which(program):
+            return f"{program} is not installed"
+    return "" if has_module("paho.mqtt.client") else "python3-paho-mqtt is not installed"
+
+
+def short(lines: list[str]) -> str:
+    """The last lines, in a few columns."""
+    return "".join(f"    {line[:WIDEST]}\n" for line in lines[-MOST:])
+
+
+def rows(value: object) -> list[str]:
+    """A value as lines: each member of a list or a dictionary is one."""
+    if isinstance(value, dict):
+        return [f"{key} {value[key]}" for key in sorted(value)]
+    return list(map(str, value)) if isinstance(value, list) else str(value).splitlines()
+
+
+def difference(wanted: object, seen: object) -> str:
+    """The lines that are different, each with the lines next to it."""
+    return "\n".join(difflib.unified_diff(rows(wanted), rows(seen), "wanted", "seen", n=1, lineterm=""))
+
+
+class BridgeTest(unittest.TestCase):
+    """Each test has a broker, a bridge that is not started, and a new folder for both, `work`."""
+
+    maxDiff = None
+
+    @classmethod
+    def setUpClass(cls) -> None:
+        if MAY_SKIP and is_missing():
+            raise unittest.SkipTest(is_missing())
+
+    def shortDescription(self) -> None:
+        """Only the names of tests are printed, without their docstrings."""
+
+    def setUp(self) -> None:
+        self.work = pathlib.Path(self.enterContext(tempfile.TemporaryDirectory()))
+        self.broker = self.enterContext(Broker(self.work))
+        self.heard = self.enterContext(Listener(self.broker, self.work))
+        self.bridge = self.enterContext(Bridge(self.work, self.broker))
+
+    def start_broker(self) -> None:
+        self.broker.start()
+        self.heard.start()
+
+    def start_bridge(self, **settings: str) -> None:
+        """Starts the bridge, and waits until it is connected and has compared what the broker retains."""
+        self.bridge.start(**settings)
+        self.assert_published(ONLINE)
+
+    def context(self) -> str:
+        """What a failure shows besides the difference."""
+        parts = {"published": self.heard.messages()}
+        parts |= {path.name: lines_of(path) for path in sorted(self.work.glob("enogate*.journal"))}
+        return "".join(f"last lines of {name}:\n{short(lines)}" for name, lines in parts.items() if lines)
+
+    def assert_soon(self, see: Callable[[], Seen], wanted: Seen) -> None:
+        """`see` returns this within ten seconds."""
+        self.assert_seen(wait_for(see, lambda seen: seen == wanted), wanted)
+
+    def assert_seen(self, seen: object, wanted: object) -> None:
+        if seen != wanted:
+            self.fail(f"this is not what was wanted:\n{difference(wanted, seen)}\n{self.context()}")
+
+    def assert_published(self, *wanted: str) -> None:
+        """Each of these messages was published. If not, what was published on their topics is shown."""
+        def is_complete(messages: list[str]) -> bool:
+            return set(wanted) <= set(messages)
+
+        messages = wait_for(self.heard.messages, is_complete)
+        if not is_complete(messages):
+            topics = {message.split(" ")[0] for message in wanted}
+            seen = [message for message in messages if message.split(" ")[0] in topics]
+            self.assert_seen(seen[-MOST:], list(wanted))
+
+    def assert_lines(self, *lines: str) -> None:
+        """Each of these lines of the gateway was published."""
+        self.assert_published(*(f"{OWN}/lines {line}" for line in lines))
+
+    def assert_logged(self, text: str) -> None:
+        """A line of the bridge's journal begins with this text."""
+        wanted = f"enogate-mqtt: {text}"
+
+        def has_it(journal: list[str]) -> bool:
+            return any(line.startswith(wanted) for line in journal)
+
+        journal = wait_for(self.bridge.journal, has_it)
+        if not has_it(journal):
+            self.assert_seen(journal[-MOST:], [wanted])
+
+    def published(self) -> list[str]:
+        """What was published besides lines and counters, sorted."""
+        others = (f"{OWN}/lines ", f"{OWN}/counters ")
+        return sorted(message for message in self.heard.messages() if not message.startswith(others))
+
+    def published_lines(self, kind: str = "") -> list[str]:
+        """The lines of the gateway that were published: those of this type, or all."""
+        start, end = f"{OWN}/lines ", f'"type":"{kind}"}}' if kind else ""
+        lines = [message.removeprefix(start) for message in self.heard.messages() if message.startswith(start)]
+        return [line for line in lines if line.endswith(end)]
+
+    def retained(self) -> dict[str, str]:
+        """What the broker retains, by topic, without what varies."""
+        return {topic: text for topic, text in self.broker.retained().items() if not topic.endswith(VARYING)}
+
+    def pass_a_cycle(self) -> None:
+        """Waits until the bridge has looked at its lines: it handles messages before them, in each of its cycles."""
+        for _ in range(2):
+            before = self.heard.messages().count(ONLINE)
+            self.broker.publish(f"{OWN}/status", "offline")
+            self.assert_soon(lambda: self.heard.messages().count(ONLINE) - before, 1)
+
+
+class GatewayTest(BridgeTest):
+    """A bridge test with a gateway at a stick, which runs, as does the broker."""
+
+    def setUp(self) -> None:
+        super().setUp()
+        self.stick = self.enterContext(Stick(self.work))
+        self.gateway = self.enterContext(Gateway(self.work))
+        self.stick.start()
+        self.gateway.start(self.stick)
+        self.start_broker()
+
+    def start_bridge(self, **settings: str) -> None:
+        """Starts the bridge, and waits until the last order is answered that it gives at its start."""
+        super().start_bridge(**settings)
+        self.assert_lines(RESPONSE)
+
+    def order(self, *orders: str) -> None:
+        """Gives orders at the desk itself, and waits for a line for each."""
+        self.print_lines(lambda: self.gateway.order(*orders), len(orders))
+
+    def bring(self, device: str, *telegrams: str) -> None:
+        """A device sends telegrams. Waits for a line for each."""
+        self.print_lines(lambda: self.stick.bring(device, *telegrams), len(telegrams))
+
+    def print_lines(self, act: Callable[[], None], count: int) -> None:
+        """Does something, and waits until the gateway has printed so many lines, or more."""
+        end = len(self.gateway.lines()) + count
+        act()
+        self.assert_soon(lambda: len(self.gateway.lines()) >= end, True)
+
+    def settle(self) -> None:
+        """Waits until the bridge has handled all that the gateway has printed: an order that is none is answered."""
+        before = len(self.published_lines("error"))
+        self.gateway.order("settle")
+        self.assert_soon(lambda: len(self.published_lines("error")) - before, 1)
