@@ -98,6 +98,11 @@ class Broker(Program):
         payload = payload.encode() if isinstance(payload, str) else payload
         self.client("pub", "-t", topic, "-s" if payload else "-n", *words, payload=payload).check_returncode()
 
+    def has_client(self, name: str) -> bool:
+        """Whether a client of this name is connected."""
+        lines = [line for line in self.journal() if f" as {name} " in line or f" Client {name} " in line]
+        return bool(lines) and f" as {name} " in lines[-1]
+
     def retained(self) -> dict[str, str]:
         """What the broker retains, by topic."""
         filters = [word for topic in ("enogate/#", "homeassistant/#", END) for word in ("-t", topic)]

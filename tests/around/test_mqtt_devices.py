@@ -92,11 +92,12 @@ class Devices(KindsTest):
         self.assert_seen([topic for topic in self.retained() if "01800A0D" in topic], [])
 
     def remove_while_stopped(self) -> None:
-        """Everything else stays retained."""
+        """Everything else stays retained. Since lines are rotated, only the broker still has the readings."""
         before = self.retained()
         self.bridge.end()
         for file in self.bridge.state.parent.iterdir():
             file.unlink()
+        self.gateway.rotate()
         self.order("remove 01800A0E")
         self.heard.forget()
         self.start_bridge()

@@ -33,7 +33,8 @@ class Stops(KindsTest):
     def stop_and_restart(self) -> None:
         """Meanwhile lines are rotated. A press of then is not published as an event."""
         self.bridge.end()
-        self.assert_published(OFFLINE)
+        with self.subTest("it says that it is away"):
+            self.assert_published(OFFLINE)
         self.bring("01800A01", "D5 08")
         self.bring("01800A0D", "F6 30 30")
         rotated = self.gateway.lines()
@@ -53,8 +54,8 @@ class Stops(KindsTest):
         self.assert_soon(self.bridge.saved, self.gateway.lines_path.stat().st_size)
         self.heard.forget()
         self.bridge.end(signal.SIGKILL)
-        self.assert_published(OFFLINE)
-        with self.subTest("its last will is retained"):
+        with self.subTest("its last will"):
+            self.assert_published(OFFLINE)
             self.assert_seen(self.retained()[f"{OWN}/status"], "offline")
         self.restart_bridge()
         with self.subTest("what is published"):

@@ -19,9 +19,12 @@ PYTHON = "/usr/bin/python3"
 MAY_SKIP = not os.environ.get("SKIP_NOTHING")
 OWN = "enogate/hall"
 ONLINE, OFFLINE = f"{OWN}/status online", f"{OWN}/status offline"
+# The client as which the bridge reads what the broker retains.
+READER = "enogate-hall.reader"
 RESPONSE = f'{{"code":0,"data":"{BASE}","name":"OK","type":"response"}}'
-# What a failure shows of each journal and of what was published: the last lines, and their first characters.
-MOST, WIDEST = 12, 200
+# What a failure shows: the first lines of a difference, the last lines of each journal and of what was published, and
+# of all these the first characters.
+MOST_DIFFERENT, MOST, WIDEST = 60, 12, 240
 # These are not compared: they depend on the time, or on how often the bridge has asked.
 VARYING = ("/last_seen", "/counters")
 Seen = TypeVar("Seen")
@@ -43,9 +46,9 @@ def is_missing() -> str:
     return "" if has_module("paho.mqtt.client") else "python3-paho-mqtt is not installed"
 
 
-def short(lines: list[str]) -> str:
-    """The last lines, in a few columns."""
-    return "".join(f"    {line[:WIDEST]}\n" for line in lines[-MOST:])
+def shown(line: str) -> str:
+    """A line as a failure shows it: the first characters, without line breaks and control characters."""
+    return "".join(it if it.isprintable() else repr(it)[1:-1] for it in line[:WIDEST])
 
 
 def rows(value: object) -> list[str]:
@@ -57,7 +60,9 @@ def rows(value: object) -> list[str]:
 
 def difference(wanted: object, seen: object) -> str:
     """The lines that are different, each with the lines next to it."""
-    return "\n".join(difflib.unified_diff(rows(wanted), rows(seen), "wanted", "seen", n=1, lineterm=""))
+    lines = list(difflib.unified_diff(rows(wanted), rows(seen), "wanted", "seen", n=1, lineterm=""))
+    more = [f"({len(lines) - MOST_DIFFERENT} more lines)"] if len(lines) > MOST_DIFFERENT else []
+    return "\n".join([*map(shown, lines[:MOST_DIFFERENT]), *more])
 
 
 class BridgeTest(unittest.TestCase):
@@ -90,9 +95,10 @@ class BridgeTest(unittest.TestCase):
 
     def context(self) -> str:
         """What a failure shows besides the difference."""
-        parts = {"published": self.heard.messages()}
+        parts = {"what was published": self.heard.messages(), "the gateway": lines_of(self.bridge.lines_path)}
         parts |= {path.name: lines_of(path) for path in sorted(self.work.glob("enogate*.journal"))}
-        return "".join(f"last lines of {name}:\n{short(lines)}" for name, lines in parts.items() if lines)
+        return "\n".join(line for name, lines in parts.items() if lines
+                         for line in (f"last lines of {name}:", *(f"    {shown(line)}" for line in lines[-MOST:])))
 
     def assert_soon(self, see: Callable[[], Seen], wanted: Seen) -> None:
         """`see` returns this within ten seconds."""
@@ -177,12 +183,15 @@ class GatewayTest(BridgeTest):
 
     def print_lines(self, act: Callable[[], None], count: int) -> None:
         """Does something, and waits until the gateway has printed so many lines, or more."""
-        end = len(self.gateway.lines()) + count
+        before = len(self.gateway.lines())
         act()
-        self.assert_soon(lambda: len(self.gateway.lines()) >= end, True)
+        printed = wait_for(lambda: len(self.gateway.lines()) - before, lambda printed: printed >= count)
+        self.assert_seen(f"{min(printed, count)} new lines of the gateway", f"{count} new lines of the gateway")
 
     def settle(self) -> None:
-        """Waits until the bridge has handled all that the gateway has printed: an order that is none is answered."""
+        """Waits until the bridge has handled all that the gateway has printed (an order that is none is answered), and
+        has compared what the broker retains."""
         before = len(self.published_lines("error"))
         self.gateway.order("settle")
         self.assert_soon(lambda: len(self.published_lines("error")) - before, 1)
+        self.assert_soon(lambda: self.broker.has_client(READER), False)
