@@ -37,7 +37,7 @@ class KindsTest(GatewayTest):
             for device, _, telegrams in KINDS:
                 self.stick.bring(device, *telegrams)
 
-        self.print_lines(bring, sum(len(telegrams) for _, _, telegrams in KINDS))
+        self.print_lines(bring, sum(len(telegrams) for _, _, telegrams in KINDS), "reading")
         self.settle()
 
     def start_all(self) -> None:

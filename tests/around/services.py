@@ -1,6 +1,7 @@
 """A stick, and the gateway and the bridge `hall` as their units run them, in folders below one folder."""
 from __future__ import annotations
 
+import contextlib
 import os
 import pathlib
 import sqlite3
@@ -17,6 +18,11 @@ CONTRIB = ROOT / "contrib"
 PROGRAM = ROOT / os.environ.get("TESTED_PROGRAM", "crates/enogate/out/enogate")
 COMMANDS = {"enogate": PROGRAM, **{name: CONTRIB / name for name in ("enogate-mqtt", "enogate-port", "enogate-check")}}
 BASE = "FF800000"
+
+
+def of_type(lines: list[str], kind: str) -> list[str]:
+    """The lines of a gateway that are of this type; all of them without a type."""
+    return [line for line in lines if not kind or line.endswith(f'"type":"{kind}"}}')]
 
 
 class Stick(Program):
@@ -89,6 +95,10 @@ class Gateway(Unit):
         """What it has printed, since its lines were rotated."""
         return lines_of(self.lines_path)
 
+    def size(self) -> int:
+        """How many bytes of lines it has printed, since they were rotated."""
+        return self.lines_path.stat().st_size
+
     def append(self, text: str) -> None:
         """Appends this to its lines, as the gateway does."""
         with self.lines_path.open("a") as lines:
@@ -114,9 +124,7 @@ class Bridge(Unit):
         self.run_unit(**{"MQTT_EXPIRE_AFTER": "7200", **login, **settings})
 
     def saved(self) -> int:
-        """Up to which offset of the lines its state is stored."""
-        connection = sqlite3.connect(f"file:{self.state}?mode=ro", uri=True)
-        try:
-            return int(connection.execute("SELECT offset FROM place").fetchone()[0])
-        finally:
-            connection.close()
+        """Up to which offset its state file says that the lines were read; 0 if it does not say it yet."""
+        with contextlib.closing(sqlite3.connect(f"file:{self.state}?mode=ro", uri=True)) as connection:
+            row = connection.execute("SELECT offset FROM place").fetchone()
+        return int(row[0]) if row else 0

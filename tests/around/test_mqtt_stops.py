@@ -51,7 +51,8 @@ class Stops(KindsTest):
 
     def kill_and_restart(self) -> None:
         """Meanwhile nothing changes."""
-        self.assert_soon(self.bridge.saved, self.gateway.lines_path.stat().st_size)
+        self.assert_soon(lambda: f"{self.gateway.size() - self.bridge.saved()} bytes of lines are not saved",
+                         "0 bytes of lines are not saved")
         self.heard.forget()
         self.bridge.end(signal.SIGKILL)
         with self.subTest("its last will"):

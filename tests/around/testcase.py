@@ -13,7 +13,7 @@ from typing import Callable, TypeVar
 
 from broker import Broker, Listener
 from programs import lines_of, wait_for
-from services import BASE, Bridge, Gateway, Stick
+from services import BASE, Bridge, Gateway, Stick, of_type
 
 PYTHON = "/usr/bin/python3"
 MAY_SKIP = not os.environ.get("SKIP_NOTHING")
@@ -141,9 +141,9 @@ class BridgeTest(unittest.TestCase):
 
     def published_lines(self, kind: str = "") -> list[str]:
         """The lines of the gateway that were published: those of this type, or all."""
-        start, end = f"{OWN}/lines ", f'"type":"{kind}"}}' if kind else ""
-        lines = [message.removeprefix(start) for message in self.heard.messages() if message.startswith(start)]
-        return [line for line in lines if line.endswith(end)]
+        start = f"{OWN}/lines "
+        messages = [message for message in self.heard.messages() if message.startswith(start)]
+        return of_type([message.removeprefix(start) for message in messages], kind)
 
     def retained(self) -> dict[str, str]:
         """What the broker retains, by topic, without what varies."""
@@ -178,14 +178,14 @@ class GatewayTest(BridgeTest):
         self.print_lines(lambda: self.gateway.order(*orders), len(orders))
 
     def bring(self, device: str, *telegrams: str) -> None:
-        """A device sends telegrams. Waits for a line for each."""
-        self.print_lines(lambda: self.stick.bring(device, *telegrams), len(telegrams))
+        """A device sends telegrams. Waits for a reading line for each."""
+        self.print_lines(lambda: self.stick.bring(device, *telegrams), len(telegrams), "reading")
 
-    def print_lines(self, act: Callable[[], None], count: int) -> None:
-        """Does something, and waits until the gateway has printed so many lines, or more."""
-        before = len(self.gateway.lines())
+    def print_lines(self, act: Callable[[], None], count: int, kind: str = "") -> None:
+        """Does something, and waits until the gateway has printed so many lines of this type, or more."""
+        before = len(of_type(self.gateway.lines(), kind))
         act()
-        printed = wait_for(lambda: len(self.gateway.lines()) - before, lambda printed: printed >= count)
+        printed = wait_for(lambda: len(of_type(self.gateway.lines(), kind)) - before, lambda printed: printed >= count)
         self.assert_seen(f"{min(printed, count)} new lines of the gateway", f"{count} new lines of the gateway")
 
     def settle(self) -> None:
