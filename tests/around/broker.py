@@ -49,9 +49,6 @@ class Certificates:
         self.openssl("x509", "-req", "-in", f"{name}.csr", "-CA", f"{authority}.crt", "-CAkey", f"{authority}.key",
                      "-CAcreateserial", "-days", "2", "-extfile", f"{name}.ext", "-out", f"{name}.crt")
 
-    def path(self, file: str) -> str:
-        return str(self.folder / file)
-
 
 def rights() -> str:
     """The bridge has the rights that the guide lists, and no others."""
