@@ -7,6 +7,7 @@ import os
 import pathlib
 import signal
 import subprocess
+import tempfile
 import time
 from typing import Callable, Iterable
 
@@ -15,7 +16,7 @@ from runs import PROGRAM
 from testcase import LiveTest, text_of
 
 # In seconds: how long a test waits for an event, which only a failure takes, and how long between two looks.
-WITHIN = 30.0
+WITHIN = 60.0
 PAUSE = 0.02
 # Turns of a silent line take a tenth of a second each, so only a gateway whose reads return at once ends within a test.
 AN_HOUR = 36000
@@ -64,6 +65,7 @@ class TerminalTest(LiveTest):
     def setUp(self) -> None:
         super().setUp()
         self.orders, self.lines = self.desk, self.answers
+        self.outputs = pathlib.Path(self.enterContext(tempfile.TemporaryDirectory()))
         self.programs: dict[str, Program] = {}
         self.plug_in()
 
@@ -75,14 +77,19 @@ class TerminalTest(LiveTest):
 
     def begin(self, name: str, *words: str | pathlib.Path, output: pathlib.Path | None = None) -> Program:
         """Starts a program in the background, in place of an earlier one of this name."""
-        program = self.enterContext(Program(*words, output=output or self.work / f"{name}.output"))
+        program = self.enterContext(Program(*words, output=output or self.outputs / name))
         self.programs[name] = program
         return program
 
-    def start(self, *options: str | pathlib.Path, turns: int = AN_HOUR) -> None:
+    def launch(self, *options: str | pathlib.Path, turns: int = AN_HOUR) -> None:
         """Starts a gateway."""
         self.wanted_lines = ""
         self.gateway = self.begin("the gateway", PROGRAM, *self.live_words(*options, turns=turns))
+
+    def start(self, *options: str | pathlib.Path, turns: int = AN_HOUR) -> None:
+        """Starts a gateway, and waits until there is a file of answers, which it opens last."""
+        self.launch(*options, turns=turns)
+        self.assert_made(self.answers)
 
     def order(self, text: str, *lines: str, sent: bytes = b"") -> None:
         """Writes this text to the desk. It is answered with these lines, and these bytes are sent to the stick."""
