@@ -1,7 +1,7 @@
 """A device of each kind, and what it sends: a row of the guide's profiles for each."""
 from __future__ import annotations
 
-from testcase import GatewayTest
+from bridge_testcase import GatewayTest
 
 # The ID and the profile of each device, and its telegrams as RORG PAYLOAD or RORG PAYLOAD STATUS.
 KINDS: tuple[tuple[str, str, tuple[str, ...]], ...] = (

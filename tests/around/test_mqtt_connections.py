@@ -3,9 +3,9 @@ from __future__ import annotations
 
 import socket
 
+from bridge_testcase import OWN, BridgeTest
 from broker import PEOPLE, Certificates, free_ports
 from programs import WITHIN, lines_of
-from testcase import OWN, BridgeTest
 
 
 class Connections(BridgeTest):

@@ -4,9 +4,9 @@ from __future__ import annotations
 import re
 import subprocess
 
+from bridge_testcase import MAY_SKIP, OWN, PYTHON, has_module
 from kinds import ADDED, END_OF_LIST, KINDS, KindsTest
 from services import HERE
-from testcase import MAY_SKIP, OWN, PYTHON, has_module
 
 # The teach-in of a device with universal teach-in, the reply of the gateway, and its line.
 TEACH_IN = bytes.fromhex("55000D0701FDD4A00146001201D201800ABC0001FFFFFFFF2D008A")

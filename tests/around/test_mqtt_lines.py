@@ -3,7 +3,7 @@ from __future__ import annotations
 
 import os
 
-from testcase import OWN, GatewayTest
+from bridge_testcase import OWN, GatewayTest
 
 DEVICE = f"{OWN}/01800A02"
 TORN = '{"dbm":-45,"eep":"D5-0'

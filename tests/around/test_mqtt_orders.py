@@ -1,10 +1,10 @@
 """The bridge at a broker: which messages are given to the gateway as orders, and what the gateway sends for them."""
 from __future__ import annotations
 
+from bridge_testcase import OWN, BridgeTest, GatewayTest
 from oracle.esp3 import sent
 from programs import lines_of
 from services import BASE
-from testcase import OWN, BridgeTest, GatewayTest
 
 # A topic and a payload, and the packet that is sent. Packets of the guide and of the golden tests are given as they
 # are there.

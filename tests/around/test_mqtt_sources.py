@@ -6,8 +6,8 @@ import subprocess
 import sys
 import unittest
 
+from bridge_testcase import MAY_SKIP, PYTHON, has_module
 from services import CONTRIB, HERE
-from testcase import MAY_SKIP, PYTHON, has_module
 
 COMMAND, MODULES = CONTRIB / "enogate-mqtt", CONTRIB / "enogate_mqtt"
 

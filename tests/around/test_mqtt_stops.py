@@ -3,8 +3,8 @@ from __future__ import annotations
 
 import signal
 
+from bridge_testcase import OFFLINE, ONLINE, OWN
 from kinds import END_OF_LIST, KindsTest
-from testcase import OFFLINE, ONLINE, OWN
 
 
 class Stops(KindsTest):

@@ -1,5 +1,5 @@
 """The built program as `live`, over plain files: what it reads and writes, and in which order it opens its files.
-tests/around shows what it does at a terminal."""
+tests/around/terminals shows what it does at a terminal."""
 import os
 import resource
 import shutil
@@ -7,7 +7,7 @@ import subprocess
 import unittest
 
 from runs import ACCEPTED, OK, PROGRAM, READING, ROOT
-from testcase import ProgramTest
+from testcase import LiveTest
 
 FOLDER = ROOT / "docs"
 CONTACT = bytes.fromhex("55000707017AD50901800ABC0001FFFFFFFF2D001F")
@@ -27,21 +27,6 @@ EARLIER = "an earlier line\n"
 def in_a_minute():
     """Limits a process to a minute of a processor, which only a run that hangs takes."""
     resource.setrlimit(resource.RLIMIT_CPU, (60, 60))
-
-
-class LiveTest(ProgramTest):
-    """Each test has a serial line and a desk, which are empty files. The file of answers is new."""
-
-    def setUp(self):
-        super().setUp()
-        self.line, self.desk, self.answers = self.file("line"), self.file("desk"), self.work / "answers"
-
-    def live(self, *options, turns=1, line=None, desk=None, answers=None, **settings):
-        """Runs `live` with these options. The defaults are the files of the test."""
-        line, desk = self.line if line is None else line, self.desk if desk is None else desk
-        answers = self.answers if answers is None else answers
-        words = ["--base", "FF800000", "--serial", line, "--desk", desk, "--out", answers, "--turns", str(turns)]
-        return self.run_program("live", *words, *options, **settings)
 
 
 class Gateway(LiveTest):

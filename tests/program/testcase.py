@@ -1,4 +1,4 @@
-"""The base class of the unit tests of the built program."""
+"""The base classes of the unit tests of the built program."""
 import os
 import pathlib
 import subprocess
@@ -88,3 +88,23 @@ class ProgramTest(unittest.TestCase):
     def assert_content(self, path, text):
         """The file has exactly this text."""
         self.assert_text(text_of(path.read_bytes()), text)
+
+
+class LiveTest(ProgramTest):
+    """Each test has a serial line and a desk, which are empty files. The file of answers is new."""
+
+    def setUp(self):
+        super().setUp()
+        self.line, self.desk, self.answers = self.file("line"), self.file("desk"), self.work / "answers"
+
+    def live_words(self, *options, turns=1, line=None, desk=None, answers=None):
+        """The command line of `live` with these options. The defaults are the files of the test."""
+        line, desk = self.line if line is None else line, self.desk if desk is None else desk
+        answers = self.answers if answers is None else answers
+        words = ["live", "--base", "FF800000", "--serial", line, "--desk", desk, "--out", answers]
+        return [*words, "--turns", str(turns), *options]
+
+    def live(self, *options, turns=1, line=None, desk=None, answers=None, **settings):
+        """Runs `live` to its end."""
+        words = self.live_words(*options, turns=turns, line=line, desk=desk, answers=answers)
+        return self.run_program(*words, **settings)

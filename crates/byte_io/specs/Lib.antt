@@ -1,3 +1,3 @@
 pub mod Counts
-pub mod Reads
+pub mod Limits
 pub mod Writes

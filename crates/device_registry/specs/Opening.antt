@@ -79,7 +79,8 @@ pub record RefusesToOpen (old new : State) (fault : OpenFault) : Type 0 where
   pub stop : HasCleanDisk new → (trees : Trees) → new.may_leave trees
       → old.may_leave trees ⊎ (IsTrue old.is_open × KeepsFound old.committed.trees trees)
 
--- An open failed, and dropped its connection. After `NotARegistry`, `RefusesToOpen` held of its last state.
+-- An open failed, and dropped its connection. After `NotARegistry` there is a state of which `RefusesToOpen` holds. No
+-- contract says that it is the last state of the connection.
 abbrev pub RefusesAndDrops : {C : Type 0} → (C → State) → C → OpenFault → Type 0
 RefusesAndDrops {C} state conn fault =
     fault ≡ NotARegistry → (last : C) × RefusesToOpen (state conn) (state last) fault

@@ -6,16 +6,17 @@
 #![tactic(auto)]
 
 mod cache;
+mod cache_limits;
 mod device_store;
 mod device_table;
 mod fault;
 pub mod laws;
-mod limits;
 mod listing;
 mod making;
 mod migrating;
 mod opening;
 mod places;
+mod ranges;
 mod registry;
 mod sql_connection;
 mod store_calls;
@@ -25,11 +26,11 @@ mod taking;
 mod tests;
 mod transaction;
 
+pub use cache_limits::{DEFAULT_CACHED, MAX_CACHED};
 pub use fault::OpenFault;
 pub use learned_devices::{
     Device, DeviceStore, Label, LearnFault, MAX_DEVICES, MAX_LABEL, Receipt, StoreFault,
 };
-pub use limits::{DEFAULT_CACHED, MAX_CACHED};
 pub use opening::prepare;
 pub use registry::{Registry, RegistryOver};
 pub use sql_connection::SqlConnection;

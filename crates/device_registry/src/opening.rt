@@ -11,9 +11,9 @@ ghost use Rattle.device_registry.specs.Opening.{IsAtRest, Remains, IsPrepared, K
 ghost use Rattle.device_registry.specs.Opening.{IsOpened, RefusesAndDrops, RefusesToOpen};
 
 use crate::cache::new_cache;
+use crate::cache_limits::DEFAULT_CACHED;
 use crate::device_table::DeviceTable;
 use crate::fault::OpenFault;
-use crate::limits::DEFAULT_CACHED;
 use crate::places::is_clear;
 use crate::registry::RegistryOver;
 use crate::sql_connection::SqlConnection;

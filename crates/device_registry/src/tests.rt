@@ -1,6 +1,7 @@
 //! What the calls do to a database, what is remembered, and what a refusal or a stop leaves.
 mod acts;
 mod cache;
+mod crashes;
 mod databases;
 mod devices;
 mod disks;
@@ -10,4 +11,3 @@ mod looking;
 mod prepared;
 mod remembering;
 mod steps;
-mod stops;

@@ -11,7 +11,7 @@ use Rattle.std.proofs.lemmas.List.Concat.{concat_is, flat_map-append}
 use Rattle.byte_io.specs.declared.tally.Failed.{Failed}
 use Rattle.byte_io.specs.Counts.{counted, one_more}
 use Rattle.gateway_loop.specs.Reads.{AreReads, IsRead, MakesReads, ReadsFail, ReadsWell}
-use Rattle.byte_io.specs.Reads.{max_read}
+use Rattle.byte_io.specs.Limits.{max_read}
 use Rattle.gateway_loop.specs.Streams.{SourceValue}
 use Rattle.gateway_loop.proofs.CallCountLemmas.{made_at, made_more, made_none}
 

@@ -3,7 +3,7 @@ use Rattle.std.specs.Prelude.{◌≡◌, ◌≤◌, ◌+◌, ◌⊎◌, ⊤, IfS
 use Rattle.std.specs.Io.KnownBytes.{Consumes}
 use Rattle.std.specs.List.{concat}
 use Rattle.byte_io.specs.Counts.{Made, NoneFailed, OneMoreFailed}
-use Rattle.byte_io.specs.Reads.{max_read}
+use Rattle.byte_io.specs.Limits.{max_read}
 use Rattle.gateway_loop.specs.Streams.{SourceValue}
 
 -- The bytes of one read: `left` is what the source had left before all reads, where that is known, and `before` what

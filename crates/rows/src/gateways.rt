@@ -162,7 +162,7 @@ fn reads_next<S: DeviceStore>(gateway: &mut GatewayOver<S>) -> bool {
     }
 }
 
-/// Whether it is, as `handle_next` returns it.
+/// Whether the next packet is the contact's, which is read, as `handle_next` returns it.
 fn handles_next<S: DeviceStore>(gateway: &mut GatewayOver<S>) -> bool {
     match gateway.handle_next() {
         Some(handled) => tells(&handled.reply, READ),

@@ -11,7 +11,7 @@ ghost use Rattle.device_registry.specs.Table.Rows.{shows_device, devices_rise, e
 ghost use Rattle.device_registry.specs.Table.Rows.{maker_in, label_in};
 
 use super::{KEY, NO_MAKER, Version};
-use crate::limits::{MAX_MAKER, MAX_PROFILE, MAX_SENDER};
+use crate::ranges::{MAX_MAKER, MAX_PROFILE, MAX_SENDER};
 use erp1_telegrams::Eep;
 use learned_devices::{Device, Label};
 use sqlite::types::ValueRef;

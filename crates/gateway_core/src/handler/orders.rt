@@ -1,5 +1,5 @@
 //! How a line of the desk is handled.
-ghost use Rattle.std.specs.Prelude.{◌≡◌, Ok};
+ghost use Rattle.std.specs.Prelude.{Ok};
 ghost use Rattle.teach_in.specs.declared.mode.Mode.TheVariants.{LearnAs};
 ghost use Rattle.actuator_commands.specs.Orders.{IsInRange};
 ghost use Rattle.gateway_core.specs.Step.{if_supported, line_effect, order_effect, sets};

@@ -1,16 +1,12 @@
 //! How the sender of a telegram is learned or forgotten, or told why it is not, and what it is replied.
-ghost use Rattle.std.specs.Prelude.{◌≡◌, ◌≢◌, [], ℕ, Bool, false, None, Some, IfOk, option_map};
+ghost use Rattle.std.specs.Prelude.{◌≡◌, ◌≢◌, [], false, IfOk, option_map};
 ghost use Rattle.learned_devices.specs.Devices.{Devices};
-ghost use Rattle.teach_in.specs.declared.outcome.Outcome as spec;
 ghost use Rattle.teach_in.specs.declared.outcome.Outcome.TheVariants as outcome;
 ghost use Rattle.teach_in.specs.Plans.{plan_of};
 ghost use Rattle.teach_in.specs.Telegrams.{teach_in_of};
 ghost use Rattle.gateway_core.specs.Replies.{answer_of};
-ghost use Rattle.teach_in.specs.declared.why.Why.TheVariants as why;
-ghost use Rattle.gateway_core.specs.Accounts.{because};
 ghost use Rattle.gateway_core.specs.Step;
-ghost use Rattle.gateway_core.specs.Step.{accepts, addition, deletes, line_with, plan_effect, radio_of, reply_of};
-ghost use Rattle.gateway_core.specs.Step.{told_of};
+ghost use Rattle.gateway_core.specs.Step.{accepts, addition, deletes, plan_effect, radio_of, reply_of, told_of};
 ghost use Rattle.gateway_core.specs.private.Tries.{Gives, MayReply, Tries, state_of};
 
 use crate::account::{Account, told_by, why_silent};

@@ -1,0 +1,157 @@
+"""The base class of the tests at terminals, and the programs that such a test starts in the background."""
+from __future__ import annotations
+
+import contextlib
+import difflib
+import os
+import pathlib
+import signal
+import subprocess
+import tempfile
+import time
+from typing import Callable, Iterable
+
+from pty_stick import Stick
+from runs import PROGRAM
+from testcase import LiveTest, text_of
+
+# In seconds: how long a test waits for an event, which only a failure takes, and how long between two looks.
+WITHIN = 60.0
+PAUSE = 0.02
+# Turns of a silent line take a tenth of a second each, so only a gateway whose reads return at once ends within a test.
+AN_HOUR = 36000
+
+
+class Program:
+    """A program in the background, which is killed at the end of the test. The file `output` gets what it prints."""
+
+    def __init__(self, *words: str | pathlib.Path, output: pathlib.Path):
+        self.output = output
+        with output.open("wb") as file:
+            self.process = subprocess.Popen(words, stdin=subprocess.DEVNULL, stdout=file, stderr=file)
+
+    def __enter__(self) -> Program:
+        return self
+
+    def __exit__(self, *_: object) -> None:
+        self.process.kill()
+        self.process.wait()
+
+    def has_ended(self) -> bool:
+        return self.process.poll() is not None
+
+    def state(self) -> str:
+        """The letter that Linux shows for the state of its process: S if it waits, T if it is stopped. Empty after its
+        end."""
+        if self.has_ended():
+            return ""
+        return pathlib.Path(f"/proc/{self.process.pid}/stat").read_text().rpartition(") ")[2][0]
+
+    def printed(self) -> str:
+        return text_of(self.output.read_bytes())
+
+    def ending(self) -> str:
+        """Whether it still runs, or its status, and what it has printed."""
+        status = "still runs" if not self.has_ended() else f"has ended with status {self.process.returncode}"
+        return f"{status}, and has printed {self.printed()!r}"
+
+
+class TerminalTest(LiveTest):
+    """The serial line is a stick. Orders are given in `orders`, which is the desk, and lines are read in `lines`, which
+    is the file of answers."""
+
+    gateway: Program
+
+    def setUp(self) -> None:
+        super().setUp()
+        self.orders, self.lines = self.desk, self.answers
+        self.outputs = pathlib.Path(self.enterContext(tempfile.TemporaryDirectory()))
+        self.programs: dict[str, Program] = {}
+        self.plug_in()
+
+    def plug_in(self, tenths: int = 1) -> None:
+        """A new stick is the serial line. A read of it waits for so many tenths of a second."""
+        self.stick = self.enterContext(Stick(tenths))
+        self.line = self.stick.path
+        self.wanted_sent = b""
+
+    def begin(self, name: str, *words: str | pathlib.Path, output: pathlib.Path | None = None) -> Program:
+        """Starts a program in the background, in place of an earlier one of this name."""
+        program = self.enterContext(Program(*words, output=output or self.outputs / name))
+        self.programs[name] = program
+        return program
+
+    def launch(self, *options: str | pathlib.Path, turns: int = AN_HOUR) -> None:
+        """Starts a gateway."""
+        self.wanted_lines = ""
+        self.gateway = self.begin("the gateway", PROGRAM, *self.live_words(*options, turns=turns))
+
+    def start(self, *options: str | pathlib.Path, turns: int = AN_HOUR) -> None:
+        """Starts a gateway, and waits until there is a file of answers, which it opens last."""
+        self.launch(*options, turns=turns)
+        self.assert_made(self.answers)
+
+    def order(self, text: str, *lines: str, sent: bytes = b"") -> None:
+        """Writes this text to the desk. It is answered with these lines, and these bytes are sent to the stick."""
+        desk = os.open(self.orders, os.O_WRONLY | os.O_APPEND | os.O_NOCTTY)
+        os.write(desk, text.encode())
+        os.close(desk)
+        self.expect(*lines, sent=sent)
+
+    def bring(self, received: bytes, *lines: str, sent: bytes = b"") -> None:
+        """The stick receives these bytes. They are answered with these lines and these bytes."""
+        self.stick.bring(received)
+        self.expect(*lines, sent=sent)
+
+    def expect(self, *lines: str, sent: bytes = b"") -> None:
+        """After what was expected before, exactly these lines are written, and these bytes are sent."""
+        self.wanted_lines += "".join(lines)
+        self.wanted_sent += sent
+        self.assert_comes("the lines", self.written, self.wanted_lines)
+        self.assert_comes("the bytes sent to the stick", lambda: self.stick.sent.hex(), self.wanted_sent.hex())
+
+    def written(self) -> str:
+        """The lines that the gateway has written."""
+        return text_of(self.lines.read_bytes()) if self.lines.exists() else ""
+
+    def assert_comes(self, what: str, see: Callable[[], str], wanted: str) -> None:
+        """`see` returns this text before the time is over or a program has ended."""
+        end = time.monotonic() + WITHIN
+        is_last = False
+        while (seen := see()) != wanted and not is_last:
+            self.stick.collect(PAUSE)
+            is_last = time.monotonic() > end or any(program.has_ended() for program in self.programs.values())
+        self.assert_seen(what, seen, wanted)
+
+    def assert_made(self, *paths: pathlib.Path) -> None:
+        """These files are there before the time is over."""
+        def names(some: Iterable[pathlib.Path]) -> str:
+            return "".join(f"{path.name}\n" for path in some)
+
+        self.assert_comes("the files", lambda: names(path for path in paths if path.exists()), names(paths))
+
+    def assert_seen(self, what: str, seen: str, wanted: str) -> None:
+        """These are the same. If not, the message has the lines that are different, and how each program is."""
+        if seen != wanted:
+            pair = wanted.splitlines(), seen.splitlines()
+            lines = difflib.unified_diff(*pair, "wanted", "seen", n=1, lineterm="")
+            endings = (f"{name} {program.ending()}" for name, program in self.programs.items())
+            self.fail("\n".join([f"{what}, wanted and seen:", *lines, *endings]))
+
+    def assert_end(self, status: int, printed: str = "") -> None:
+        """The gateway ends with this status, and has printed this text only."""
+        with contextlib.suppress(subprocess.TimeoutExpired):
+            self.gateway.process.wait(WITHIN)
+        wanted = f"has ended with status {status}, and has printed {printed!r}"
+        self.assert_seen("the end of the gateway", self.gateway.ending(), wanted)
+
+    def assert_nothing_else(self) -> None:
+        """The gateway, which has ended, has written no other line, and sent no other byte, than what was expected."""
+        self.stick.collect_all(WITHIN)
+        self.expect()
+
+    def end(self) -> None:
+        """A signal ends the gateway, and it has done nothing else than what was expected."""
+        self.gateway.process.terminate()
+        self.assert_end(-signal.SIGTERM)
+        self.assert_nothing_else()
