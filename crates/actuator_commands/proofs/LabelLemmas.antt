@@ -37,7 +37,7 @@ module _ {E : Type 0} (Bad : E → Type 0) where
   text-given text (Err e) some is cases bad = absurd (bad e cases (name-utf8 text is))
 
 -- and what is read behind the ID would be a label
-label_named : (more : List (List ℕ)) (text : List ℕ) → label_in more ≡ Some text → is_name text ≡ true
+pub label_named : (more : List (List ℕ)) (text : List ℕ) → label_in more ≡ Some text → is_name text ≡ true
 label_named [] text e = let none : [] ≡ text = cc in subst (λ t. is_name t ≡ true) none refl
 label_named (first ∷ more) text e =
     text-named text (text_spelled (join_with_byte 32 (first ∷ more)) text e).1

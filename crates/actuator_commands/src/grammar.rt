@@ -140,7 +140,7 @@ fn label_order(mut left: Option<&[u8]>) -> Result<Order, OrderFault>
     let digits = next_word(&mut left).ok_or(OrderFault::Syntax)?;
     let id = id_of(digits).ok_or(OrderFault::Syntax)?;
     let text = label_of(left).ok_or(OrderFault::Syntax)?;
-    match Label::new(text) {
+    match Label::of_name(text) {
         Some(label) => in_range(Order::Label { id, label }),
         None => Err(OrderFault::Range),
     }

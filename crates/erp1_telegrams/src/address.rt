@@ -1,6 +1,7 @@
-//! Which IDs are the gateway's own, and which telegrams it passes over.
-ghost use Rattle.std.specs.Prelude.{◌≡◌};
+//! Which IDs are the gateway's own, and which telegrams it filters out.
+ghost use Rattle.std.specs.Prelude.{◌≡◌, true, false, MatchOption};
 ghost use Rattle.erp1_telegrams.specs.Address;
+ghost use Rattle.erp1_telegrams.specs.Address.{filter_reason, is_passed_over};
 
 use crate::telegram::{BROADCAST, Telegram};
 
@@ -23,11 +24,28 @@ pub fn is_own(base: u32, id: u32) -> bool
     base <= id && id - base <= 127
 }
 
-/// Whether a gateway with this base ID passes a telegram over, since its sender is the broadcast ID, or since it is
-/// neither for all nor for one of the 128 IDs from `base` on. Own choice.
-pub fn is_passed_over(base: u32, telegram: &Telegram) -> bool
-    ensures { result ≡ Address.is_passed_over base telegram.now }
+/// Why a telegram is filtered out. Own choice.
+#[derive(Clone, Copy, Debug, PartialEq, Eq)]
+pub enum FilterReason {
+    /// Its sender is the broadcast ID.
+    FromBroadcast,
+    /// It is neither a broadcast nor for this gateway.
+    ForOthers,
+}
+
+/// Why a gateway with this base ID filters a telegram out, or `None` if it does not: the sender is the broadcast ID,
+/// or the destination is neither the broadcast ID nor one of the 128 IDs from `base` on. Own choice.
+pub fn filter_reason(base: u32, telegram: &Telegram) -> Option<FilterReason>
+    ensures { MatchOption result (is_passed_over base telegram.now ≡ false)
+        (λ reason. (is_passed_over base telegram.now ≡ true) × (reason ≡ filter_reason telegram.now)) }
 {
+    if telegram.sender() == BROADCAST {
+        return Some(FilterReason::FromBroadcast);
+    }
     let dest = telegram.dest();
-    telegram.sender() == BROADCAST || !(dest == BROADCAST || is_own(base, dest))
+    if dest == BROADCAST || is_own(base, dest) {
+        None
+    } else {
+        Some(FilterReason::ForOthers)
+    }
 }

@@ -10,7 +10,7 @@ pub mod rorg;
 mod serial;
 mod telegram;
 
-pub use address::{is_base, is_own, is_passed_over};
+pub use address::{FilterReason, filter_reason, is_base, is_own};
 pub use eep::Eep;
 pub use serial::{read, write};
 pub use telegram::{BROADCAST, Telegram, TelegramFault};

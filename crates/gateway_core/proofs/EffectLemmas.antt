@@ -5,7 +5,7 @@ use Rattle.std.specs.Prelude.{Result, Ok, Err, nat_lt, length, ◌==◌, if◌th
 use Rattle.esp3_frames.specs.Packet.{Packet}
 use Rattle.erp1_telegrams.specs.declared.eep.Eep.{Eep}
 use Rattle.erp1_telegrams.specs.declared.telegram.TelegramFault.{TelegramFault}
-use Rattle.erp1_telegrams.specs.Address.{is_passed_over}
+use Rattle.erp1_telegrams.specs.Address.{filter_reason, is_passed_over}
 use Rattle.erp1_telegrams.specs.Telegram.{Telegram, telegram_of}
 use Rattle.profile_rows.specs.Reading.{Entry}
 use Rattle.profile_rows.specs.declared.unreadable.Unreadable.{Unreadable}
@@ -41,7 +41,7 @@ use Rattle.actuator_commands.specs.Orders.{order_of}
 use Rattle.json_lines.specs.Lines.{Reading, StatusLine, ResponseLine, Error, ReadingLine, TeachLine, Response, listing}
 use Rattle.gateway_core.specs.declared.account.Account.{Account}
 use Rattle.gateway_core.specs.Accounts.{because, counted_as, of_device}
-use Rattle.gateway_core.specs.Accounts.{why_passed_over, why_silent, why_other, why_unread}
+use Rattle.gateway_core.specs.Accounts.{why_filtered, why_silent, why_other, why_unread}
 use Rattle.gateway_core.specs.Profiles.{read_by}
 use Rattle.gateway_core.specs.Responses.{response_in}
 use Rattle.gateway_core.specs.Step.{State, Item, Received, Ordered, Effect, unsaid}
@@ -100,8 +100,9 @@ other-ignores packet =
     let Ignores = λ (why : Why). counted_as why ≡ count.Ignored in
     either Ignores (packet.kind == 1) _ _ refl (either Ignores (packet.kind == 2) _ _ refl refl)
 
-passed-ignores : (t : Telegram) → counted_as (why_passed_over t) ≡ count.Ignored
-passed-ignores t = either (λ (why : Why). counted_as why ≡ count.Ignored) (t.sender == 0xFFFF_FFFF) _ _ refl refl
+filtered-ignores : (t : Telegram) → counted_as (why_filtered (filter_reason t)) ≡ count.Ignored
+filtered-ignores t =
+    either (λ reason. counted_as (why_filtered reason) ≡ count.Ignored) (t.sender == 0xFFFF_FFFF) _ _ refl refl
 
 silent-ignores : (asked : Bool) (mode : Mode) → counted_as (why_silent asked mode) ≡ count.Ignored
 silent-ignores true mode = refl
@@ -164,7 +165,7 @@ module _ (P : Effect → Type 0) (state : State) (t : Telegram) (each : OfTelegr
   of-case : (over : Bool)
       → P (case_effect state t
       (if over then PassedOver else kind_case (teach_in_of t) (device_of state.devices t.sender)))
-  of-case true = each.unsays false _ (passed-ignores t)
+  of-case true = each.unsays false _ (filtered-ignores t)
   of-case false = of-kind (teach_in_of t) (device_of state.devices t.sender)
 
   -- so it holds of the effect of this one

@@ -7,7 +7,8 @@ use Rattle.std.proofs.lemmas.Bool.Decides.{eqb_tells}
 use Rattle.esp3_frames.specs.Packet.{Packet}
 use Rattle.erp1_telegrams.specs.declared.eep.Eep.{Eep}
 use Rattle.erp1_telegrams.specs.declared.telegram.TelegramFault.{TelegramFault}
-use Rattle.erp1_telegrams.specs.Address.{is_own, is_passed_over}
+use Rattle.erp1_telegrams.specs.declared.address.FilterReason.TheVariants as reason
+use Rattle.erp1_telegrams.specs.Address.{filter_reason, is_own, is_passed_over}
 use Rattle.erp1_telegrams.specs.Telegram.{Telegram, telegram_of}
 use Rattle.profile_rows.specs.Reading.{Entry}
 use Rattle.profile_rows.specs.declared.unreadable.Unreadable.{Unreadable}
@@ -33,10 +34,11 @@ use Rattle.teach_in.specs.Ute.{request_in, deletion, not_used}
 use Rattle.teach_in.proofs.ForCallers.{IsOpen, LearnsByTold, either, hears-open, of_plan}
 use Rattle.teach_in.specs.declared.why.Why.{Why}
 use Rattle.teach_in.specs.declared.why.Why.TheVariants as why
+use Rattle.json_lines.specs.ToldTelegram.{destination_told}
 use Rattle.gateway_core.specs.declared.account.Account.{Account}
-use Rattle.gateway_core.specs.Accounts.{because, destination_told, eep_told, explanation, line_of, of_device}
+use Rattle.gateway_core.specs.Accounts.{because, eep_told, explanation, line_of, of_device}
 use Rattle.gateway_core.specs.Accounts.{told_packet}
-use Rattle.gateway_core.specs.Accounts.{why_other, why_passed_over, why_silent}
+use Rattle.gateway_core.specs.Accounts.{why_filtered, why_other, why_silent}
 use Rattle.gateway_core.specs.Profiles.{read_by}
 use Rattle.gateway_core.specs.Responses.{response_from, response_in}
 use Rattle.gateway_core.specs.Explaining.{DoesNotFit, ExplanationsAreTrue, IsHeard, IsDataOf, Means, IsTeachIn}
@@ -221,19 +223,19 @@ others false false true is isnt = absurd cc
 others false false false is isnt = (refl, refl)
 
 module _ (state : State) (packet : Packet) (t : Telegram) (carried : telegram_of packet ≡ Ok t) where
-  of-passed : is_passed_over state.base t ≡ true → Truth state packet (unsaid false (because (why_passed_over t)))
+  of-passed : is_passed_over state.base t ≡ true → Truth state packet (unsaid false (because (why_filtered (filter_reason t))))
   of-passed over = by (t.sender == 0xFFFF_FFFF) refl
     where
       by : (b : Bool) → (t.sender == 0xFFFF_FFFF) ≡ b
-          → Truth state packet (unsaid false (because (why_passed_over t)))
+          → Truth state packet (unsaid false (because (why_filtered (filter_reason t))))
       by true is =
-          of-word state packet (why_passed_over t) why.FromBroadcast
-          (ap (λ b. if b then why.FromBroadcast else why.ForOthers) is)
+          of-word state packet (why_filtered (filter_reason t)) why.FromBroadcast
+          (ap (λ b. why_filtered (if b then reason.FromBroadcast else reason.ForOthers)) is)
           (t, carried, eqb-true t.sender 0xFFFF_FFFF is, (refl, refl))
       by false is =
           let both = others (t.sender == 0xFFFF_FFFF) (t.dest == 0xFFFF_FFFF) (is_own state.base t.dest) over is in
-          of-word state packet (why_passed_over t) why.ForOthers
-          (ap (λ b. if b then why.FromBroadcast else why.ForOthers) is)
+          of-word state packet (why_filtered (filter_reason t)) why.ForOthers
+          (ap (λ b. why_filtered (if b then reason.FromBroadcast else reason.ForOthers)) is)
           (t, carried, eqb-false t.sender 0xFFFF_FFFF is, eqb-false t.dest 0xFFFF_FFFF both.0, both.1, (refl, refl))
 
   module _ (heard : IsHeard state packet t) where

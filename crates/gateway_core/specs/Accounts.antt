@@ -3,6 +3,8 @@ use Rattle.std.specs.Prelude.{ℕ, ◌==◌, Bool, true, false, List, [], length
 use Rattle.std.specs.Prelude.{Result, Ok, Err}
 use Rattle.std.specs.Option.{option_or}
 use Rattle.esp3_frames.specs.Packet.{Packet}
+use Rattle.erp1_telegrams.specs.declared.address.FilterReason.{FilterReason}
+use Rattle.erp1_telegrams.specs.declared.address.FilterReason.TheVariants as reason
 use Rattle.erp1_telegrams.specs.declared.eep.Eep.{Eep}
 use Rattle.erp1_telegrams.specs.declared.telegram.TelegramFault.{TelegramFault}
 use Rattle.erp1_telegrams.specs.Telegram.{Telegram, telegram_of}
@@ -27,7 +29,7 @@ use Rattle.teach_in.specs.declared.why.Why.TheVariants.{FromBroadcast, ForOthers
 use Rattle.teach_in.specs.declared.why.Why.TheVariants.{WindowClosed, OtherMode, UnknownSender}
 use Rattle.teach_in.specs.declared.why.Why.TheVariants.{WrongKind, WrongLength, OtherMessage}
 use Rattle.json_lines.specs.PacketLines.{packet_text}
-use Rattle.json_lines.specs.ToldTelegram.{ToldTelegram}
+use Rattle.json_lines.specs.ToldTelegram.{ToldTelegram, told_of}
 use Rattle.gateway_core.specs.declared.account.Account.{Account}
 
 -- ---- why
@@ -36,9 +38,10 @@ use Rattle.gateway_core.specs.declared.account.Account.{Account}
 abbrev pub why_other : Packet → Why
 why_other packet = if packet.kind == 1 then NoTelegram else if packet.kind == 2 then EmptyResponse else OtherType
 
--- of a telegram that is passed over
-abbrev pub why_passed_over : Telegram → Why
-why_passed_over t = if t.sender == 0xFFFF_FFFF then FromBroadcast else ForOthers
+-- of a telegram that is filtered out
+abbrev pub why_filtered : FilterReason → Why
+why_filtered reason.FromBroadcast = FromBroadcast
+why_filtered reason.ForOthers = ForOthers
 
 -- Of a telegram of which the plan is to do nothing: of data, whose sender is looked up, and is not learned; or of one
 -- of teach-in, by the mode. So data of a stranger are the same in every mode that does not learn by them.
@@ -96,22 +99,10 @@ maker_told (FourByte query) = Some (maker_in query)
 maker_told (Ute query) = Some (ute.maker_in query)
 maker_told kind = None
 
--- the ID of the device that a telegram is for, where it is not for all
-abbrev pub destination_told : ℕ → Option ℕ
-destination_told dest = if dest == 0xFFFF_FFFF then None else Some dest
-
--- what is told of a telegram, which at teach-in is this: of its sender what a query tells, and else what is known
+-- what is shown of a telegram, which at teach-in is this: about its sender what a query tells, or else what is known
 abbrev pub told_with : Telegram → Teach → Account → ToldTelegram
-told_with t kind account = record {
-  dbm = t.dbm;
-  dest = destination_told t.dest;
-  eep = option_or (eep_told kind) account.eep;
-  id = t.sender;
-  maker = option_or (maker_told kind) account.maker;
-  payload = t.payload;
-  rorg = t.rorg;
-  status = t.status;
-}
+told_with t kind account =
+    told_of t (option_or (eep_told kind) account.eep) (option_or (maker_told kind) account.maker)
 
 -- what a packet was, by the telegram that it carries, if it carries one
 abbrev pub told_packet : Packet → Result Telegram TelegramFault → Account → ToldPacket

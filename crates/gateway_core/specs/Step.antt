@@ -5,7 +5,7 @@ use Rattle.std.specs.Prelude.{Result, Ok, Err}
 use Rattle.esp3_frames.specs.Packet.{Packet, spelling}
 use Rattle.erp1_telegrams.specs.declared.eep.Eep.{Eep}
 use Rattle.erp1_telegrams.specs.declared.telegram.TelegramFault.{TelegramFault}
-use Rattle.erp1_telegrams.specs.Address.{is_passed_over}
+use Rattle.erp1_telegrams.specs.Address.{filter_reason, is_passed_over}
 use Rattle.erp1_telegrams.specs.Telegram.{Telegram, telegram_of, sent}
 use Rattle.profile_rows.specs.Reading.{Entry}
 use Rattle.profile_rows.specs.declared.unreadable.Unreadable.{Unreadable}
@@ -47,7 +47,7 @@ use Rattle.json_lines.specs.Lines.{DeskLine, Reading, Teach as TeachOf, StatusLi
 use Rattle.json_lines.specs.Lines.{TeachLine, Response, listing, texts}
 use Rattle.gateway_core.specs.declared.account.Account.{Account}
 use Rattle.gateway_core.specs.Accounts.{because, counted_as, eep_told, explanation, line_of, maker_told, of_device}
-use Rattle.gateway_core.specs.Accounts.{why_passed_over, why_silent, why_other, why_unread}
+use Rattle.gateway_core.specs.Accounts.{why_filtered, why_silent, why_other, why_unread}
 use Rattle.gateway_core.specs.Profiles.{read_by}
 use Rattle.gateway_core.specs.Responses.{response_in}
 
@@ -217,7 +217,7 @@ abbrev pub is_learned : Devices → ℕ → Bool
 is_learned devices id = is_some (device_of devices id)
 
 abbrev pub case_effect : State → Telegram → Case → Effect
-case_effect state t PassedOver = ignored (why_passed_over t)
+case_effect state t PassedOver = ignored (why_filtered (filter_reason t))
 case_effect state t Replies = ignored why.TeachInReply
 case_effect state t Teaches = plan_effect state t false (plan_of t state.mode (is_learned state.devices t.sender))
 case_effect state t (OfLearned known) = reading_effect t known (read_by known.eep t)

@@ -4,7 +4,7 @@ ghost use Rattle.esp3_frames.specs.Outcome.{packet_of};
 ghost use Rattle.gateway_core.specs.Accounts;
 ghost use Rattle.gateway_core.specs.Accounts.{because, eep_told, maker_told};
 
-use erp1_telegrams::{BROADCAST, Eep, Telegram};
+use erp1_telegrams::{Eep, FilterReason};
 use esp3_frames::PacketRef;
 use esp3_frames::packet_type::{RADIO_ERP1, RESPONSE};
 use json_lines::Count;
@@ -80,14 +80,13 @@ pub(crate) fn why_other(packet: &PacketRef<'_>) -> Why
     }
 }
 
-// Why a telegram is passed over.
-pub(crate) fn why_passed_over(telegram: &Telegram) -> Why
-    ensures { result ≡ Accounts.why_passed_over telegram.now }
+// Why a telegram that is filtered out is ignored.
+pub(crate) fn why_filtered(reason: FilterReason) -> Why
+    ensures { result ≡ Accounts.why_filtered reason }
 {
-    if telegram.sender() == BROADCAST {
-        Why::FromBroadcast
-    } else {
-        Why::ForOthers
+    match reason {
+        FilterReason::FromBroadcast => Why::FromBroadcast,
+        FilterReason::ForOthers => Why::ForOthers,
     }
 }
 

@@ -150,7 +150,7 @@ impl<S: DeviceStore> Handler<S> {
         let teach = classify(&telegram);
         let tried = self.try_telegram(&telegram, &teach);
         let (reply, account) = self.packet_reply(tried);
-        let line = line_of_telegram(&telegram, &teach, account);
+        let line = line_of_telegram(telegram, &teach, account);
         HandledPacket { reply, line }
     }
 

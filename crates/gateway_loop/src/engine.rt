@@ -104,7 +104,7 @@ impl<O: Outlet, S: DeviceStore> Engine<'_, O, S> {
         ensures loans { O.loans self.new.outlet ≡ O.loans self.old.outlet }
         ensures taken { TakesOrBreaks S.kept O.way result self.old self.new (event_of line.now) }
     {
-        if line.len() <= MAX_LINE && line.starts_with(b"S ".as_slice()) {
+        if line.starts_with(b"S ".as_slice()) && line.len() <= MAX_LINE {
             self.take_digits(line)
         } else {
             self.take_order(line)

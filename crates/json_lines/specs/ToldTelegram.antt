@@ -1,6 +1,7 @@
--- What a packet line tells of a telegram.
-use Rattle.std.specs.Prelude.{ℕ, List, Option}
+-- What a packet line shows of a telegram.
+use Rattle.std.specs.Prelude.{ℕ, ◌==◌, List, Option, Some, None, if◌then◌else◌}
 use Rattle.erp1_telegrams.specs.declared.eep.Eep.{Eep}
+use Rattle.erp1_telegrams.specs.Telegram.{Telegram}
 
 -- with which strength it was received, where that is known; the ID of the device that it is for, where it is not for
 -- all; its sender's profile, where that is known, ID, and maker's number, where that is known; its payload, kind and
@@ -14,3 +15,20 @@ pub record ToldTelegram : Type 0 where
   pub payload : List ℕ
   pub rorg : ℕ
   pub status : ℕ
+
+-- the ID of the device that a telegram is for, if it is not for all
+abbrev pub destination_told : ℕ → Option ℕ
+destination_told dest = if dest == 0xFFFF_FFFF then None else Some dest
+
+-- a telegram, and what is known about its sender
+abbrev pub told_of : Telegram → Option Eep → Option ℕ → ToldTelegram
+told_of t eep maker = record {
+  dbm = t.dbm;
+  dest = destination_told t.dest;
+  eep = eep;
+  id = t.sender;
+  maker = maker;
+  payload = t.payload;
+  rorg = t.rorg;
+  status = t.status;
+}

@@ -13,46 +13,28 @@ use crate::pieces::{
 };
 use crate::teach::word_of;
 use arrayvec::ArrayVec;
-use erp1_telegrams::Eep;
+use erp1_telegrams::{Eep, Telegram};
 use std::marker::Model;
 use teach_in::Why;
 
-/// What is told of a telegram. In contracts it is the record `ToldTelegram` of `specs/ToldTelegram.antt`.
+/// A telegram, and what is known about its sender. In contracts it is what the line shows of it, the record
+/// `ToldTelegram` of `specs/ToldTelegram.antt`.
 #[derive(Clone, Debug, Drop)]
 pub struct ToldTelegram {
-    /// How strongly it was received, in dBm without the minus, where that is known.
-    pub dbm: Option<u8>,
-    /// The ID of the device that it is for, where it is not for all.
-    pub dest: Option<u32>,
-    /// The profile of its sender, where that is known.
+    /// The telegram.
+    pub telegram: Telegram,
+    /// The profile of its sender, if it is known.
     pub eep: Option<Eep>,
-    /// The ID of its sender.
-    pub id: u32,
-    /// The number of its sender's maker, where that is known.
+    /// The manufacturer ID of its sender, if it is known.
     pub maker: Option<u16>,
-    /// What the sender says.
-    pub payload: ArrayVec<u8, 14>,
-    /// Its kind.
-    pub rorg: u8,
-    /// The status byte.
-    pub status: u8,
 }
 
 impl Model for ToldTelegram {
-    ghost use Rattle.json_lines.specs.ToldTelegram.{ToldTelegram as Said};
+    ghost use Rattle.json_lines.specs.ToldTelegram.{ToldTelegram as Said, told_of};
 
     ghost Value = { Said };
 
-    ghost view = { λ t. record {
-      dbm = t.dbm;
-      dest = t.dest;
-      eep = t.eep;
-      id = t.id;
-      maker = t.maker;
-      payload = t.payload.items;
-      rorg = t.rorg;
-      status = t.status;
-    } };
+    ghost view = { λ t. told_of t.telegram t.eep t.maker };
 }
 
 /// What a packet was.
@@ -104,35 +86,35 @@ fn why_word(why: Why) -> &'static str
 }
 
 // How a telegram came, and of whom.
-fn put_sender(telegram: &ToldTelegram, out: &mut Text)
+fn put_sender(shown: &ToldTelegram, out: &mut Text)
     requires { array_vec_len out.old + longest_sender ≤ max_packet_line }
-    ensures items { out.new.items ≡ out.old.items ++ members_text (sender_members telegram.now) }
+    ensures items { out.new.items ≡ out.old.items ++ members_text (sender_members shown.now) }
     ensures len { array_vec_len out.new ≤ array_vec_len out.old + longest_sender }
 {
     put(b"\"dbm\":", out);
-    put_dbm(telegram.dbm, out);
+    put_dbm(shown.telegram.dbm(), out);
     put(b",\"dest\":", out);
-    put_dest(telegram.dest, out);
+    put_dest(shown.telegram.dest(), out);
     put(b",\"eep\":", out);
-    put_known_profile(telegram.eep, out);
+    put_known_profile(shown.eep, out);
     put(b",\"id\":", out);
-    put_id(telegram.id, out);
+    put_id(shown.telegram.sender(), out);
     put(b",\"maker\":", out);
-    put_maker(telegram.maker, out);
+    put_maker(shown.maker, out);
 }
 
 // What a telegram carries.
-fn put_content(telegram: &ToldTelegram, out: &mut Text)
+fn put_content(shown: &ToldTelegram, out: &mut Text)
     requires { array_vec_len out.old + longest_content ≤ max_packet_line }
-    ensures items { out.new.items ≡ out.old.items ++ members_text (content_members telegram.now) }
+    ensures items { out.new.items ≡ out.old.items ++ members_text (content_members shown.now) }
     ensures len { array_vec_len out.new ≤ array_vec_len out.old + longest_content }
 {
     put(b"\"payload\":", out);
-    put_payload(&telegram.payload, out);
+    put_payload(shown.telegram.payload(), out);
     put(b",\"rorg\":", out);
-    put_byte(telegram.rorg, out);
+    put_byte(shown.telegram.rorg(), out);
     put(b",\"status\":", out);
-    put_byte(telegram.status, out);
+    put_byte(shown.telegram.status(), out);
 }
 
 // Another packet.
@@ -154,10 +136,10 @@ fn put_packet(packet: &ToldPacket, out: &mut Text)
     ensures len { array_vec_len out.new ≤ array_vec_len out.old + longest_sender + longest_content + 1 }
 {
     match packet {
-        ToldPacket::Telegram(telegram) => {
-            put_sender(telegram, out);
+        ToldPacket::Telegram(shown) => {
+            put_sender(shown, out);
             put(b",", out);
-            put_content(telegram, out);
+            put_content(shown, out);
         }
         ToldPacket::Other { kind, size } => put_other(*kind, *size, out),
     }

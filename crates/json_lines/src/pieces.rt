@@ -5,11 +5,12 @@ ghost use Rattle.arrayvec.specs.ArrayVec.{array_vec_len};
 ghost use Rattle.hex.specs.Hex.{encode_upper};
 ghost use Rattle.json_lines.specs.Lines.{byte_text, dbm_text, in_quotes, or_null, profile_text};
 ghost use Rattle.json_lines.specs.PacketLines.{id_string, max_packet_line};
+ghost use Rattle.json_lines.specs.ToldTelegram.{destination_told};
 
 use crate::digits::{byte_digits, eep_digits, id_digits};
 use crate::limits::MAX_PACKET_LINE;
 use arrayvec::ArrayVec;
-use erp1_telegrams::Eep;
+use erp1_telegrams::{BROADCAST, Eep};
 use itoa::Buffer;
 
 // What is written of a packet line.
@@ -54,15 +55,16 @@ pub(crate) fn put_id(id: u32, out: &mut Text)
     put_string(&id_digits(id), out);
 }
 
-// The ID of the device that a telegram is for, or null.
-pub(crate) fn put_dest(dest: Option<u32>, out: &mut Text)
+// The ID of the device that a telegram is for, or null for a broadcast.
+pub(crate) fn put_dest(dest: u32, out: &mut Text)
     requires { array_vec_len out.old + 10 ≤ max_packet_line }
-    ensures items { out.new.items ≡ out.old.items ++ or_null id_string dest }
+    ensures items { out.new.items ≡ out.old.items ++ or_null id_string (destination_told dest) }
     ensures len { array_vec_len out.new ≤ array_vec_len out.old + 10 }
 {
-    match dest {
-        Some(id) => put_id(id, out),
-        None => put(b"null", out),
+    if dest == BROADCAST {
+        put(b"null", out);
+    } else {
+        put_id(dest, out);
     }
 }
 
@@ -121,13 +123,14 @@ pub(crate) fn put_dbm(dbm: Option<u8>, out: &mut Text)
 }
 
 // The bytes of a payload.
-pub(crate) fn put_payload(payload: &ArrayVec<u8, 14>, out: &mut Text)
-    requires { array_vec_len out.old + 30 ≤ max_packet_line }
-    ensures items { out.new.items ≡ out.old.items ++ in_quotes (encode_upper payload.now.items) }
+pub(crate) fn put_payload(payload: &[u8], out: &mut Text)
+    requires short { length payload.now ≤ 14 }
+    requires fits { array_vec_len out.old + 30 ≤ max_packet_line }
+    ensures items { out.new.items ≡ out.old.items ++ in_quotes (encode_upper payload.now) }
     ensures len { array_vec_len out.new ≤ array_vec_len out.old + 30 }
 {
     out.push(b'"');
-    for byte in payload.as_slice() {
+    for byte in payload {
         put(&byte_digits(*byte), out);
     }
     out.push(b'"');

@@ -1,7 +1,8 @@
 //! Telegrams whose packets are known, each fault, the room that a packet needs, and the IDs of a gateway.
 use arrayvec::ArrayVec;
 use erp1_telegrams::{
-    BROADCAST, Eep, Telegram, TelegramFault, is_base, is_own, is_passed_over, read, write,
+    BROADCAST, Eep, FilterReason, Telegram, TelegramFault, filter_reason, is_base, is_own, read,
+    write,
 };
 use esp3_frames::{PacketFault, PacketRef, read_packet};
 use std::test::Fail;
@@ -228,12 +229,10 @@ fn max_packet(rt: HostRuntime) -> Result<(), Fail> {
     Ok(())
 }
 
-/// A question about an ID or a telegram.
+/// A question about an ID.
 enum Question {
     IsBase { id: u32 },
     IsOwn { base: u32, id: u32 },
-    /// For a gateway with the base ID FF800000.
-    IsPassedOver { sender: u32, dest: u32 },
 }
 
 struct Asked {
@@ -241,7 +240,7 @@ struct Asked {
     wanted: bool,
 }
 
-const ASKED: [Asked; 25] = [
+const ASKED: [Asked; 16] = [
     Asked {
         question: Question::IsBase { id: 0xFF80_0000 },
         wanted: true,
@@ -327,69 +326,61 @@ const ASKED: [Asked; 25] = [
         },
         wanted: false,
     },
-    // A telegram is looked at that is for all or for an ID of the gateway's own, whoever sent it but the broadcast ID.
-    Asked {
-        question: Question::IsPassedOver {
-            sender: 0x0180_0ABC,
-            dest: BROADCAST,
-        },
-        wanted: false,
+];
+
+/// A telegram, and why a gateway with the base ID FF800000 filters it out.
+struct Addressed {
+    sender: u32,
+    dest: u32,
+    wanted: Option<FilterReason>,
+}
+
+// A telegram is handled if it is for all or for one of the gateway's own IDs, unless its sender is the broadcast ID.
+const ADDRESSED: [Addressed; 9] = [
+    Addressed {
+        sender: 0x0180_0ABC,
+        dest: BROADCAST,
+        wanted: None,
     },
-    Asked {
-        question: Question::IsPassedOver {
-            sender: 0x0180_0ABC,
-            dest: 0xFF80_0000,
-        },
-        wanted: false,
+    Addressed {
+        sender: 0x0180_0ABC,
+        dest: 0xFF80_0000,
+        wanted: None,
     },
-    Asked {
-        question: Question::IsPassedOver {
-            sender: 0x0180_0ABC,
-            dest: 0xFF80_007F,
-        },
-        wanted: false,
+    Addressed {
+        sender: 0x0180_0ABC,
+        dest: 0xFF80_007F,
+        wanted: None,
     },
-    Asked {
-        question: Question::IsPassedOver {
-            sender: 0xFFFF_FFFE,
-            dest: BROADCAST,
-        },
-        wanted: false,
+    Addressed {
+        sender: 0xFFFF_FFFE,
+        dest: BROADCAST,
+        wanted: None,
     },
-    Asked {
-        question: Question::IsPassedOver {
-            sender: 0x0180_0ABC,
-            dest: 0xFF80_0080,
-        },
-        wanted: true,
+    Addressed {
+        sender: 0x0180_0ABC,
+        dest: 0xFF80_0080,
+        wanted: Some(FilterReason::ForOthers),
     },
-    Asked {
-        question: Question::IsPassedOver {
-            sender: 0x0180_0ABC,
-            dest: 0xFF7F_FFFF,
-        },
-        wanted: true,
+    Addressed {
+        sender: 0x0180_0ABC,
+        dest: 0xFF7F_FFFF,
+        wanted: Some(FilterReason::ForOthers),
     },
-    Asked {
-        question: Question::IsPassedOver {
-            sender: 0x0180_0ABC,
-            dest: 0x0102_0304,
-        },
-        wanted: true,
+    Addressed {
+        sender: 0x0180_0ABC,
+        dest: 0x0102_0304,
+        wanted: Some(FilterReason::ForOthers),
     },
-    Asked {
-        question: Question::IsPassedOver {
-            sender: BROADCAST,
-            dest: BROADCAST,
-        },
-        wanted: true,
+    Addressed {
+        sender: BROADCAST,
+        dest: BROADCAST,
+        wanted: Some(FilterReason::FromBroadcast),
     },
-    Asked {
-        question: Question::IsPassedOver {
-            sender: BROADCAST,
-            dest: 0xFF80_0000,
-        },
-        wanted: true,
+    Addressed {
+        sender: BROADCAST,
+        dest: 0xFF80_0000,
+        wanted: Some(FilterReason::FromBroadcast),
     },
 ];
 
@@ -401,17 +392,25 @@ fn profile_of_its_numbers(rt: HostRuntime) {
 }
 
 #[test]
-fn questions(rt: HostRuntime) -> Result<(), Fail> {
+fn questions(rt: HostRuntime) {
     for (row, case) in ASKED.iter().enumerate() {
         let found = match case.question {
             Question::IsBase { id } => is_base(id),
             Question::IsOwn { base, id } => is_own(base, id),
-            Question::IsPassedOver { sender, dest } => {
-                let telegram = Telegram::new(0xD5, &[0x09], sender, 0, dest, None)?;
-                is_passed_over(0xFF80_0000, &telegram)
-            }
         };
         assert_eq!(rt; found, case.wanted, "row {row}");
+    }
+}
+
+#[test]
+fn filtered_telegrams(rt: HostRuntime) -> Result<(), Fail> {
+    for (row, case) in ADDRESSED.iter().enumerate() {
+        let telegram = Telegram::new(0xD5, &[0x09], case.sender, 0, case.dest, None)?;
+        assert_eq!(rt;
+            filter_reason(0xFF80_0000, &telegram),
+            case.wanted,
+            "row {row}"
+        );
     }
     Ok(())
 }

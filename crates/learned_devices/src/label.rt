@@ -68,7 +68,16 @@ impl Label {
         if !is_name(text.as_bytes()) {
             return None;
         }
-        let text = ArrayString::from(text).ok()?;
+        Label::of_name(text)
+    }
+
+    /// The label with this name, which `is_name` accepts, or `None` if it is longer than `MAX_LABEL`.
+    pub fn of_name(name: &str) -> Option<Label>
+        requires { is_name name.now ≡ true }
+        ensures some { IfSome result (λ label. label ≡ name.now) }
+        ensures variant { IsSome result ↔ (is_label name.now ≡ true) }
+    {
+        let text = ArrayString::from(name).ok()?;
         Some(Label { text })
     }
 

@@ -8,14 +8,14 @@ ghost use Rattle.gateway_core.specs.Responses;
 ghost use Rattle.gateway_core.specs.Step.{case_effect, data_case, reading_effect, telegram_effect, other_effect};
 ghost use Rattle.gateway_core.specs.private.Tries.{Gives, Tries};
 
-use crate::account::{Account, why_other, why_passed_over, why_unread};
+use crate::account::{Account, why_filtered, why_other, why_unread};
 use crate::handler::Handler;
 use crate::handler::done::{PacketDone, accounted, ignored};
 use crate::profiles;
 use crate::refusal::Refusal;
 use crate::reply::Desk;
 use crate::response::response_in;
-use erp1_telegrams::{Telegram, is_passed_over};
+use erp1_telegrams::{Telegram, filter_reason};
 use esp3_frames::PacketRef;
 use json_lines::{reading_line, response_line};
 use learned_devices::{Device, DeviceStore};
@@ -56,7 +56,7 @@ impl<S: DeviceStore> Handler<S> {
         Ok(done)
     }
 
-    // Handles a telegram by the first of its five cases: it is passed over, it is a reply to a telegram of teach-in or
+    // Handles a telegram by the first of its five cases: it is filtered out, it is a reply to a telegram of teach-in or
     // such a telegram itself, or it is data, of a learned sender or of another.
     pub(crate) fn try_telegram(
         &mut self,
@@ -66,8 +66,8 @@ impl<S: DeviceStore> Handler<S> {
         requires { teach.now ≡ teach_in_of telegram.now }
         ensures { Tries S.kept self.old (λ state. telegram_effect state telegram.now) result self.new }
     {
-        if is_passed_over(self.base, telegram) {
-            return Ok(ignored(why_passed_over(telegram)));
+        if let Some(reason) = filter_reason(self.base, telegram) {
+            return Ok(ignored(why_filtered(reason)));
         }
         match teach {
             Teach::Answer => Ok(ignored(Why::TeachInReply)),

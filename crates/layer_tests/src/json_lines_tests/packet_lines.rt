@@ -1,6 +1,5 @@
 //! Packet lines whose bytes are known.
-use arrayvec::ArrayVec;
-use erp1_telegrams::Eep;
+use erp1_telegrams::{BROADCAST, Eep, Telegram};
 use json_lines::{MAX_PACKET_LINE, PacketLine, ToldPacket, ToldTelegram, packet_line};
 use std::test::Fail;
 use teach_in::{Outcome, Why};
@@ -8,7 +7,7 @@ use teach_in::{Outcome, Why};
 /// A telegram, and its line.
 struct OfTelegram {
     dbm: Option<u8>,
-    dest: Option<u32>,
+    dest: u32,
     eep: Option<Eep>,
     id: u32,
     maker: Option<u16>,
@@ -23,7 +22,7 @@ const OF_TELEGRAMS: [OfTelegram; 4] = [
     // A known contact.
     OfTelegram {
         dbm: Some(45),
-        dest: None,
+        dest: BROADCAST,
         eep: Some(Eep {
             rorg: 0xD5,
             func: 0x00,
@@ -41,7 +40,7 @@ const OF_TELEGRAMS: [OfTelegram; 4] = [
     // An unknown switch.
     OfTelegram {
         dbm: None,
-        dest: Some(0xFF80_0001),
+        dest: 0xFF80_0001,
         eep: None,
         id: 0x0000_00FE,
         maker: Some(0),
@@ -55,21 +54,21 @@ const OF_TELEGRAMS: [OfTelegram; 4] = [
     // The least of all.
     OfTelegram {
         dbm: Some(0),
-        dest: Some(0),
+        dest: 0,
         eep: None,
         id: 0,
         maker: None,
-        payload: &[],
-        rorg: 0,
+        payload: &[0],
+        rorg: 0xD2,
         status: 0,
         why: Why::Told(Outcome::Full),
         line: "{\"dbm\":0,\"dest\":\"00000000\",\"eep\":null,\"id\":\"00000000\",\"maker\":null,\
-            \"payload\":\"\",\"rorg\":\"00\",\"status\":\"00\",\"type\":\"packet\",\"why\":\"full\"}\n",
+            \"payload\":\"00\",\"rorg\":\"D2\",\"status\":\"00\",\"type\":\"packet\",\"why\":\"full\"}\n",
     },
     // No line is longer: each number, the payload and the word have as many characters as they can have.
     OfTelegram {
         dbm: Some(255),
-        dest: Some(0xFFAB_CDEF),
+        dest: 0xFFAB_CDEF,
         eep: Some(Eep {
             rorg: 0xD2,
             func: 0x3F,
@@ -93,19 +92,19 @@ const LONGEST: &str =
 #[test]
 fn telegrams(rt: HostRuntime) -> Result<(), Fail> {
     for case in &OF_TELEGRAMS {
-        let mut payload = ArrayVec::new();
-        payload.try_extend_from_slice(case.payload)?;
-        let telegram = ToldTelegram {
-            dbm: case.dbm,
-            dest: case.dest,
+        let telegram = Telegram::new(
+            case.rorg,
+            case.payload,
+            case.id,
+            case.status,
+            case.dest,
+            case.dbm,
+        )?;
+        let packet = ToldPacket::Telegram(ToldTelegram {
+            telegram,
             eep: case.eep,
-            id: case.id,
             maker: case.maker,
-            payload,
-            rorg: case.rorg,
-            status: case.status,
-        };
-        let packet = ToldPacket::Telegram(telegram);
+        });
         let line = packet_line(&PacketLine {
             packet,
             why: case.why,

@@ -1,7 +1,11 @@
 use Rattle.std.proofs.Common.{rules, sym}
 use Rattle.actuator_commands.specs.Words.{words_left}
-use Rattle.actuator_commands.proofs.LabelLemmas.{label-not_taken}
+use Rattle.actuator_commands.proofs.LabelLemmas.{label-not_taken, label_named}
 use Rattle.actuator_commands.proofs.grammar.label_order.Goals as goal
+
+pub of_name-requires : goal.of_name-requires
+of_name-requires c =
+    label_named (words_left c.next_word.new.left) c.in_ok-text.text.now (search rules)
 
 pub returns-in-None : goal.returns-in-None
 returns-in-None c =

@@ -9,8 +9,8 @@ loop-byte-init c = record { items = sym (append-nil _); len = omega arith }
 
 pub loop-byte-preserved : goal.loop-byte-preserved
 loop-byte-preserved c =
-    let bytes = c.as_slice-byte-items.result.now in
-    let fit : IsBytes bytes = λ i. omega (arith, c.type_inv.byte-items i) in
+    let bytes = c.args.payload.now in
+    let fit : IsBytes bytes = λ i. omega (arith, c.type_inv.payload i) in
     record {
       items = rw (
         c.put.ensures.items,

@@ -1,5 +1,8 @@
-use Rattle.std.proofs.Common.{◌≡◌, false, refl, sym, ap, ◌∙◌}
-use Rattle.erp1_telegrams.specs.Address.{is_passed_over}
+use Rattle.std.proofs.Common.{◌≡◌, ℕ, true, false, Option, Some, None, refl, sym, ap, subst, ◌∙◌}
+use Rattle.std.specs.Prelude.{MatchOption}
+use Rattle.erp1_telegrams.specs.Address.{filter_reason, is_passed_over}
+use Rattle.erp1_telegrams.specs.declared.address.FilterReason.{FilterReason}
+use Rattle.erp1_telegrams.specs.Telegram.{Telegram}
 use Rattle.learned_devices.specs.Devices.{device_of}
 use Rattle.gateway_core.specs.Step.{kind_case, plan_effect}
 use Rattle.gateway_core.specs.private.Tries.{state_of}
@@ -8,16 +11,31 @@ use Rattle.teach_in.proofs.ForCallers.{plan-unasked}
 use Rattle.gateway_core.proofs.TryLemmas.{tries-alone, tries-same}
 use Rattle.gateway_core.proofs.handler.Handler.try_telegram.Goals as goal
 
-pub returns-then-is_passed_over : goal.returns-then-is_passed_over
-returns-then-is_passed_over g c =
-    let over = sym c.is_passed_over.ensures ∙ c.if-is_passed_over.true in
+-- what the filter returns for a telegram
+abbrev Filters : ℕ → Telegram → Option FilterReason → Type 0
+Filters base t found =
+    MatchOption found (is_passed_over base t ≡ false)
+    (λ reason. (is_passed_over base t ≡ true) × (reason ≡ filter_reason t))
+
+filtered : (base : ℕ) (t : Telegram) (found : Option FilterReason) (reason : FilterReason) → Filters base t found
+    → found ≡ Some reason → (is_passed_over base t ≡ true) × (reason ≡ filter_reason t)
+filtered base t found reason filters is = subst (Filters base t) is filters
+
+heard : (base : ℕ) (t : Telegram) (found : Option FilterReason) → Filters base t found → found ≡ None
+    → is_passed_over base t ≡ false
+heard base t found filters is = subst (Filters base t) is filters
+
+pub returns-in-Some : goal.returns-in-Some
+returns-in-Some g c =
+    let found = filtered _ c.args.telegram.now c.filter_reason.result c.in-Some.reason c.filter_reason.ensures
+    c.in-Some.is in
     rw (← c.self.view_is)
     (tries-alone g.S.DeviceStore.kept _ _ _
-    (λ devices keeps. rw (over, ← c.why_passed_over.ensures) (c.ignored.ensures false, keeps)))
+    (λ devices keeps. rw (found.0, ← found.1, ← c.why_filtered.ensures) (c.ignored.ensures false, keeps)))
 
 pub returns-in-Answer : goal.returns-in-Answer
 returns-in-Answer g c =
-    let over = sym c.is_passed_over.ensures ∙ c.if-is_passed_over.false in
+    let over = heard _ c.args.telegram.now c.filter_reason.result c.filter_reason.ensures c.in_default.is in
     let kind = sym c.requires ∙ c.in-Answer.is in
     rw (← c.self.view_is)
     (tries-alone g.S.DeviceStore.kept _ _ _
@@ -26,7 +44,8 @@ returns-in-Answer g c =
 pub returns-in-Contact : goal.returns-in-Contact
 returns-in-Contact g c =
     let over : is_passed_over c.args.self.now.base c.args.telegram.now ≡ false =
-    rw (← c.self.view_is) (sym c.is_passed_over.ensures ∙ c.if-is_passed_over.false) in
+    rw (← c.self.view_is)
+    (heard _ c.args.telegram.now c.filter_reason.result c.filter_reason.ensures c.in_default.is) in
     tries-same g.S.DeviceStore.kept _ _ _ _ _
     (λ devices.
     let known = device_of devices c.args.telegram.now.sender in
@@ -41,6 +60,7 @@ returns-in-Contact g c =
 pub returns-in-Plain : goal.returns-in-Plain
 returns-in-Plain g c =
     let over : is_passed_over c.args.self.now.base c.args.telegram.now ≡ false =
-    rw (← c.self.view_is) (sym c.is_passed_over.ensures ∙ c.if-is_passed_over.false) in
+    rw (← c.self.view_is)
+    (heard _ c.args.telegram.now c.filter_reason.result c.filter_reason.ensures c.in_default.is) in
     let kind = sym c.requires ∙ c.in-Plain.is in
     tries-same g.S.DeviceStore.kept _ _ _ _ _ (λ devices. rw (over, kind) refl) c.try_data.ensures
