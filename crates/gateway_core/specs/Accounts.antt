@@ -29,7 +29,7 @@ use Rattle.teach_in.specs.declared.why.Why.TheVariants.{FromBroadcast, ForOthers
 use Rattle.teach_in.specs.declared.why.Why.TheVariants.{WindowClosed, OtherMode, UnknownSender}
 use Rattle.teach_in.specs.declared.why.Why.TheVariants.{WrongKind, WrongLength, OtherMessage}
 use Rattle.json_lines.specs.PacketLines.{packet_text}
-use Rattle.json_lines.specs.ToldTelegram.{ToldTelegram, told_of}
+use Rattle.json_lines.specs.ToldTelegram.{ToldTelegram, shown_of}
 use Rattle.gateway_core.specs.declared.account.Account.{Account}
 
 -- ---- why
@@ -102,7 +102,7 @@ maker_told kind = None
 -- what is shown of a telegram, which at teach-in is this: about its sender what a query tells, or else what is known
 abbrev pub told_with : Telegram → Teach → Account → ToldTelegram
 told_with t kind account =
-    told_of t (option_or (eep_told kind) account.eep) (option_or (maker_told kind) account.maker)
+    shown_of t (option_or (eep_told kind) account.eep) (option_or (maker_told kind) account.maker)
 
 -- what a packet was, by the telegram that it carries, if it carries one
 abbrev pub told_packet : Packet → Result Telegram TelegramFault → Account → ToldPacket

@@ -21,8 +21,8 @@ abbrev pub destination_told : ℕ → Option ℕ
 destination_told dest = if dest == 0xFFFF_FFFF then None else Some dest
 
 -- a telegram, and what is known about its sender
-abbrev pub told_of : Telegram → Option Eep → Option ℕ → ToldTelegram
-told_of t eep maker = record {
+abbrev pub shown_of : Telegram → Option Eep → Option ℕ → ToldTelegram
+shown_of t eep maker = record {
   dbm = t.dbm;
   dest = destination_told t.dest;
   eep = eep;

@@ -30,11 +30,11 @@ pub struct ToldTelegram {
 }
 
 impl Model for ToldTelegram {
-    ghost use Rattle.json_lines.specs.ToldTelegram.{ToldTelegram as Said, told_of};
+    ghost use Rattle.json_lines.specs.ToldTelegram.{ToldTelegram as Said, shown_of};
 
     ghost Value = { Said };
 
-    ghost view = { λ t. told_of t.telegram t.eep t.maker };
+    ghost view = { λ t. shown_of t.telegram t.eep t.maker };
 }
 
 /// What a packet was.
