@@ -329,55 +329,55 @@ const ASKED: [Asked; 16] = [
 ];
 
 /// A telegram, and why a gateway with the base ID FF800000 filters it out.
-struct Addressed {
+struct Filtered {
     sender: u32,
     dest: u32,
     wanted: Option<FilterReason>,
 }
 
 // A telegram is handled if it is for all or for one of the gateway's own IDs, unless its sender is the broadcast ID.
-const ADDRESSED: [Addressed; 9] = [
-    Addressed {
+const FILTERED: [Filtered; 9] = [
+    Filtered {
         sender: 0x0180_0ABC,
         dest: BROADCAST,
         wanted: None,
     },
-    Addressed {
+    Filtered {
         sender: 0x0180_0ABC,
         dest: 0xFF80_0000,
         wanted: None,
     },
-    Addressed {
+    Filtered {
         sender: 0x0180_0ABC,
         dest: 0xFF80_007F,
         wanted: None,
     },
-    Addressed {
+    Filtered {
         sender: 0xFFFF_FFFE,
         dest: BROADCAST,
         wanted: None,
     },
-    Addressed {
+    Filtered {
         sender: 0x0180_0ABC,
         dest: 0xFF80_0080,
         wanted: Some(FilterReason::ForOthers),
     },
-    Addressed {
+    Filtered {
         sender: 0x0180_0ABC,
         dest: 0xFF7F_FFFF,
         wanted: Some(FilterReason::ForOthers),
     },
-    Addressed {
+    Filtered {
         sender: 0x0180_0ABC,
         dest: 0x0102_0304,
         wanted: Some(FilterReason::ForOthers),
     },
-    Addressed {
+    Filtered {
         sender: BROADCAST,
         dest: BROADCAST,
         wanted: Some(FilterReason::FromBroadcast),
     },
-    Addressed {
+    Filtered {
         sender: BROADCAST,
         dest: 0xFF80_0000,
         wanted: Some(FilterReason::FromBroadcast),
@@ -404,7 +404,7 @@ fn questions(rt: HostRuntime) {
 
 #[test]
 fn filtered_telegrams(rt: HostRuntime) -> Result<(), Fail> {
-    for (row, case) in ADDRESSED.iter().enumerate() {
+    for (row, case) in FILTERED.iter().enumerate() {
         let telegram = Telegram::new(0xD5, &[0x09], case.sender, 0, case.dest, None)?;
         assert_eq!(rt;
             filter_reason(0xFF80_0000, &telegram),
