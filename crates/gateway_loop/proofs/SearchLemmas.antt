@@ -1,4 +1,4 @@
--- What a search for LF tells.
+-- What a search for LF shows.
 use Rattle.std.proofs.Common.{ℕ, ◌≤◌, ◌<◌, List, length, take, get_or, sym, ◌∙◌, arith, subst}
 use Rattle.std.proofs.lemmas.Bool.{eq-eqb}
 use Rattle.std.proofs.lemmas.List.{get_or_default, get_or-take, length-take}
