@@ -1,8 +1,9 @@
-//! The lines that the desk is sent: one JSON object each, with no space between its parts, the members in the byte
-//! order of their names, and a line feed at the end; and the counts that a status line tells.
+//! The lines for the desk: one JSON object each, with no space between its parts, the members in the byte order of
+//! their names, and a line feed at the end; and the counters in a status line.
 //!
-//! What a line tells is a value of `DeskLine`, in `specs/Lines.antt`, and its bytes are that value's `text`; what a
-//! packet line tells is a `PacketLine`, and its bytes are that value's `packet_text`, in `specs/PacketLines.antt`.
+//! The content of a line is a value of `DeskLine`, in `specs/Lines.antt`, and its bytes are that value's `text`. The
+//! content of a packet line is a `PacketLine`, and its bytes are that value's `packet_text`, in
+//! `specs/PacketLines.antt`.
 #![tactic(auto)]
 
 mod counts;
