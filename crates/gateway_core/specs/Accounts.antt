@@ -1,4 +1,4 @@
--- The disposition of a packet: why it was handled as it was, and the line that explains it. Own choice.
+-- The disposition of a packet, and the line that explains it. Own choice.
 use Rattle.std.specs.Prelude.{ℕ, ◌==◌, Bool, true, false, List, [], length, Option, Some, None, if◌then◌else◌}
 use Rattle.std.specs.Prelude.{Result, Ok, Err}
 use Rattle.std.specs.Option.{option_or}
@@ -43,8 +43,8 @@ abbrev pub why_filtered : FilterReason → Why
 why_filtered reason.FromBroadcast = FromBroadcast
 why_filtered reason.ForOthers = ForOthers
 
--- Of a telegram whose plan is to do nothing: data, whose sender was looked up and is not learned; or a teach-in
--- telegram, by the mode. Data of unknown senders have the same reason in every mode that does not learn by them.
+-- Of a telegram whose plan is to do nothing: data, whose sender was looked up and is not learned, or a teach-in
+-- telegram. The mode does not matter for data.
 abbrev pub why_silent : Bool → Mode → Why
 why_silent true mode = UnknownSender
 why_silent false Closed = WindowClosed
@@ -99,7 +99,7 @@ maker_told (FourByte query) = Some (maker_in query)
 maker_told (Ute query) = Some (ute.maker_in query)
 maker_told kind = None
 
--- what is shown of a telegram with this role in teach-in: about its sender the data of its query, or otherwise what is
+-- what is shown of a telegram with this role in teach-in: about its sender the data of its query, otherwise what is
 -- known
 abbrev pub told_with : Telegram → Teach → Account → ToldTelegram
 told_with t kind account =

@@ -33,9 +33,9 @@ pub record Acknowledges (life : Life) (line : TeachLine) : Type 0 where
   pub reported : answer.desk ≡ text (Teach line)
 
 -- The input asks for the acknowledged update of this device, in the state that the run reached before it. The line has
--- the text of this device's line. Every later execution finds the update, until an input changes that sender otherwise,
--- whether that input is applied, fails at its write, or is interrupted by a crash. If the devices found are in range
--- and the data of packets are bytes, the device is in range. A line in range is then the line of this device.
+-- the text of this device's line. Every later execution finds the update, until an input that changes that sender
+-- otherwise is applied, fails at its write, or is interrupted by a crash. If the devices found are in range and the
+-- data of packets are bytes, the device is in range, and a line in range is the line of this device.
 pub record IsDurable (life : Life) (line : TeachLine) (answered : Acknowledges life line) : Type 0 where
   pub at : State
   pub known : Device

@@ -8,7 +8,7 @@ use Rattle.json_lines.specs.Counts.{none_counted}
 use Rattle.gateway_core.specs.Step.{Item, Received, Ordered, Answer}
 use Rattle.gateway_core.specs.Handling.{HandlerValue, Handles}
 
--- what the gateway knows, the packets that are ready, and the rest of the stream, which may become one more packet
+-- what the gateway knows, the ready packets, and the rest of the stream, which may become one more packet
 pub record Value (S : Type 0) : Type 0 where
   pub handler : HandlerValue S
   pub ready : List Packet
@@ -76,9 +76,8 @@ AreItems (Next (Some answer) ∷ calls) (packet ∷ packets) (item ∷ items) =
 AreItems (Order line answer ∷ calls) packets (item ∷ items) = (item ≡ Ordered line) × AreItems calls packets items
 AreItems calls packets items = ⊥
 
--- The packets handled, followed by those that are ready, are the packets of the bytes given. So those handled are a
--- prefix of these, and all of them if none is ready. The answers are a run on packets and lines, in the order of the
--- calls.
+-- The packets handled, followed by the ready ones, are the packets of the bytes given; those handled are a prefix of
+-- these, and all of them if none is ready. The answers are a run on packets and lines, in the order of the calls.
 pub record IsARun {S : Type 0} (stored : S → Kept) (old : Value S) (calls : List Call) (new : Value S) : Type 0 where
   pub handled : List Packet
   pub items : List Item
@@ -97,7 +96,7 @@ abbrev pub one_by_one : List ℕ → List Call
 one_by_one [] = []
 one_by_one (byte ∷ bytes) = Bytes (byte ∷ []) ∷ one_by_one bytes
 
--- one call that takes several bytes, of which only the last may make a packet ready, does what one call for each does
+-- one call with several bytes, of which only the last may make a packet ready, does what one call for each does
 abbrev pub RunsAreBytes : {S : Type 0} → (S → Kept) → Type 0
 RunsAreBytes {S} stored = (old new : Value S) (bytes : List ℕ) → 0 < length bytes →
     ((k : ℕ) → k < length bytes → packets_in (old.rest ++ take k bytes) ≡ []) →

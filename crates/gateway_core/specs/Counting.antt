@@ -29,8 +29,8 @@ account_with state packet Taken = (effect state (Received packet)).account
 account_with state packet (Refused cause) = Some (because why.Refused)
 account_with state packet (RefusedAtWrite cause) = Some (because why.Refused)
 
--- what the desk receives for an applied packet besides the explanation, by the word of the reason: its reading if it
--- was read, the response if it is one, the outcome for a sender, and nothing for any other word
+-- what the desk receives for an applied packet besides the explanation, by the word of the reason: its reading, the
+-- response, the outcome for a sender, or nothing for any other word
 abbrev pub Says : Why → List DeskLine → Type 0
 Says why.Read lines = (line : ReadingLine) × (lines ≡ Reading line ∷ [])
 Says why.Response lines = (line : Response) × (lines ≡ ResponseLine line ∷ [])

@@ -48,7 +48,7 @@ CutsDoNotMatter = (stream : List ℕ) (events others : List Event) →
     lines_in events ≡ lines_in others → bytes_between events ≡ bytes_between others
     → items_of stream events ≡ items_of stream others
 
--- and if the same inputs fail, each for the same cause, the answers and the last state do not depend on it either
+-- and if the same inputs fail for the same causes, the answers and the last state do not depend on it either
 abbrev pub CutsAreAnsweredAlike : Type 0
 CutsAreAnsweredAlike =
     (stream : List ℕ) (events others : List Event) (old left right : State) (fates after : List Fate)

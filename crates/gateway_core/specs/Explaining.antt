@@ -134,7 +134,7 @@ Means state packet account (why.Told NoProfile) =
     (t : Telegram) × IsHeard state packet t × (state.mode ≢ Closed) × (teach_in_of t ≡ Bare)
     × IsPlanned state t (Refuse NoProfile) × (change_of state (Received packet) ≡ None) × NamesDevice account None
 
--- A telegram is shown with its parts. Its profile and maker are those of its query, if it is one, and otherwise those
+-- A telegram is shown with its parts, and with the profile and maker of its query, if it is one, otherwise with those
 -- of the disposition.
 pub record IsShown (t : Telegram) (account : Account) (shown : ToldTelegram) : Type 0 where
   pub id : shown.id ≡ t.sender

@@ -1,5 +1,5 @@
--- How the gateway handles inputs over its device store: its answers, what it knows afterwards, and what a crash may
--- leave. All this has one premise, about the device store: so far its medium has returned what was written.
+-- How the gateway handles inputs over its device store: its answers, what it then knows, and what a crash may leave.
+-- The only premise is about the device store: so far its medium has returned what was written.
 use Rattle.std.specs.Prelude.{◌≡◌, ℕ, List}
 use Rattle.learned_devices.specs.Kept.{Kept}
 use Rattle.learned_devices.specs.Devices.{Devices}
@@ -21,13 +21,13 @@ abbrev pub IsAt : {S : Type 0} → (S → Kept) → HandlerValue S → State →
 IsAt stored v s =
     (v.base ≡ s.base) × (v.mode ≡ s.mode) × (stored v.registry).holds s.devices × (v.counts ≡ s.counts)
 
--- while the medium has returned what was written and the device store is open, there is a state that the gateway knows
+-- while the medium has returned what was written and the device store is open, the gateway knows some state
 abbrev pub KnowsState : {S : Type 0} → (S → Kept) → HandlerValue S → Type 0
 KnowsState stored v = (stored v.registry).honest → (start : State) × IsAt stored v start
 
 module _ {S : Type 0} (stored : S → Kept) where
-  -- From what was known at the start, the inputs are handled with these answers and some results. The gateway then
-  -- knows the last state of that run, and what a crash leaves is crash-consistent with it.
+  -- From the first state, the inputs are handled with these answers and some results. The gateway then knows the last
+  -- state of that run, and what a crash leaves is crash-consistent with it.
   pub record Went (old : HandlerValue S) (start : State) (items : List Item) (answers : List Answer)
       (new : HandlerValue S) : Type 0 where
     pub fates : List Fate

@@ -82,9 +82,7 @@ pub record Tells (life : Life) (change : Change) : Type 0 where
   pub spared : Spares change (state_after at item) after more
   pub stop : StopSpares change life.last life.stopped
 
--- Every later execution finds what an acknowledged update guarantees, until an input overrides it: a profile and a
--- maker until the sender is learned otherwise or forgotten, that it is forgotten until it is learned, and a label until
--- the sender is labelled otherwise or forgotten.
+-- theorem `lives_keep`: every later execution finds what an acknowledged update guarantees, until an input overrides it
 abbrev pub LivesKeep : Type 0
 LivesKeep = (life : Life) (change : Change) (lives : List Life) (last : Devices) →
     IsLife life → Tells life change → AllByRecursion (LifeSpares change) lives → AreLives life.left lives last

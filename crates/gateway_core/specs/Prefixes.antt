@@ -30,8 +30,8 @@ IsYetDone state (item ∷ items) (RefusedAtWrite cause ∷ fates) devices =
     devices ≡ with_change state.devices (change_of state item)
 IsYetDone state items fates devices = ⊥
 
--- The devices are those after the inputs of the prefix, perhaps with the update of the next one, which failed at its
--- write. No input after the prefix was acknowledged.
+-- The devices after the inputs of the prefix, perhaps with the update of the next one, which failed at its write. No
+-- input after the prefix was acknowledged.
 pub record AfterPrefix (start : State) (items : List Item) (fates : List Fate) (devices : Devices) : Type 0 where
   pub before : List Item
   pub after : List Item

@@ -8,8 +8,8 @@ Promises (Learn eep maker) known = (it : Learned) × (known ≡ Some it) × (it.
 Promises Forget known = known ≡ None
 Promises (Relabel label) known = (it : Learned) × (known ≡ Some it) × (it.label ≡ label)
 
--- The second operation on the same sender keeps what the first one guarantees: an equal operation does, a label keeps
--- what was learned or forgotten, and learning again keeps the label.
+-- The second operation on the same sender keeps the guarantee of the first: an equal one does, a label keeps what was
+-- learned or forgotten, and learning again keeps the label.
 abbrev pub Leaves : Deed → Deed → Type 0
 Leaves (Learn eep maker) (Learn other by) = (other ≡ eep) × (by ≡ maker)
 Leaves (Learn eep maker) (Relabel label) = Unit {0}

@@ -1,4 +1,4 @@
--- The ranges of the numbers of devices: what is learned is in range, and so is the device that a teach line reports.
+-- The ranges of devices: learned devices, and those that teach lines report, are in range.
 use Rattle.std.specs.Prelude.{◌≡◌, ◌⊎◌, ℕ, ◌<◌, List, ◌++◌, Some, IfSome}
 use Rattle.std.specs.List.{All, AllByRecursion}
 use Rattle.learned_devices.specs.declared.Device.{Device}
@@ -21,7 +21,7 @@ IsModeInRange mode = Unit {0}
 abbrev pub IsStateInRange : State → Type 0
 IsStateInRange state = AreInRange state.devices × IsModeInRange state.mode
 
--- The data of a packet are bytes. A line needs no premise: whatever it is, the digits that are read in it spell bytes.
+-- The data of a packet are bytes. A line needs no premise: digits always spell bytes.
 abbrev pub IsOfBytes : Item → Type 0
 IsOfBytes (Received packet) = All (λ byte. byte < 256) packet.body
 IsOfBytes (Ordered line) = Unit {0}
@@ -41,8 +41,8 @@ abbrev pub LeavesInRange : Type 0
 LeavesInRange = (life : Life) → IsLife life → AreInRange life.found → AllByRecursion IsOfBytes life.items
     → IfSome life.stopped IsOfBytes → AreInRange life.left
 
--- The teach line has the text of the line of this device, which is in range. The input makes the update that the line
--- reports. If the numbers of the line are in range, it is the line of this device.
+-- The teach line has the text of the line of this device, which is in range, and the input makes the update that the
+-- line reports. If the numbers of the line are in range, it is the line of this device.
 pub record IsOfDevice (state : State) (item : Item) (line : TeachLine) : Type 0 where
   pub known : Device
   pub in_range : IsDeviceInRange known

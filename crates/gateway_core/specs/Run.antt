@@ -63,7 +63,7 @@ refused_for (RefusedAtWrite cause) = Some cause
 abbrev pub RefuseAlike : List Fate → List Fate → Type 0
 RefuseAlike fates others = map refused_for fates ≡ map refused_for others
 
--- if the same inputs fail, each for the same cause, the answers and the last state are the same
+-- if the same inputs fail for the same causes, the answers and the last state are the same
 abbrev pub SameRefusals : Type 0
 SameRefusals = (old left right : State) (items : List Item) (fates others : List Fate) (answers more : List Answer)
     → RefuseAlike fates others

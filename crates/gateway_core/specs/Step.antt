@@ -51,8 +51,8 @@ use Rattle.gateway_core.specs.Accounts.{why_filtered, why_silent, why_other, why
 use Rattle.gateway_core.specs.Profiles.{read_by}
 use Rattle.gateway_core.specs.Responses.{response_in}
 
--- what the gateway knows: the base ID of its radio module, which no input changes, the learn mode, the counters, and
--- the learned devices
+-- what the gateway knows: the base ID of its radio module, which never changes, the learn mode, the counters, and the
+-- learned devices
 pub record State : Type 0 where
   pub base : ℕ
   pub mode : Mode
@@ -81,8 +81,8 @@ Permits NeedsStore cause = Unit {0}
 Permits NeedsMemory Memory = Unit {0}
 Permits need cause = ⊥
 
--- what an applied input does: the bytes to send by radio, if any, the lines for the desk, the disposition of a packet,
--- the update of the devices and the mode that it sets, if any, and what it needs
+-- what an applied input does: the bytes to send by radio, the lines for the desk, the disposition of a packet, the
+-- update of the devices, the mode that it sets, and what it needs
 pub record Effect : Type 0 where
   pub radio : Option (List ℕ)
   pub desk : List DeskLine
@@ -158,8 +158,8 @@ reading_effect t known (Ok readings) =
     tells_of_packet NeedsStore (of_device known why.Read)
     (Reading (record { dbm = t.dbm; eep = known.eep; id = t.sender; readings = readings }))
 
--- the reply that is sent by radio for this outcome of a telegram's sender, if there is one: to a UTE query that waits
--- for one, and to a 4BS query in the mode `LearnAnswer`. For 4BS, the mode is own choice
+-- the reply by radio for this outcome of a telegram's sender: to a UTE query that waits for one, and to a 4BS query in
+-- the mode `LearnAnswer`. For 4BS, the mode is own choice
 abbrev pub reply_of : ℕ → Mode → Teach → Outcome → Option Telegram
 reply_of base mode (teach.Ute query) outcome = if wants_reply query then ute_reply query outcome base else None
 reply_of base LearnAnswer (teach.FourByte query) outcome = four_byte_reply query outcome base
@@ -169,8 +169,8 @@ reply_of base mode kind outcome = None
 abbrev pub radio_of : Option Telegram → Option (List ℕ)
 radio_of = option_map (λ t. spelling (sent t))
 
--- the outcome for a telegram's sender, for which the device store was asked, is reported to the desk, and replied to
--- the sender
+-- the outcome for a telegram's sender, for which the device store was asked: reported to the desk, and replied to the
+-- sender
 abbrev pub tells_sender : State → Teach → TeachLine → Effect
 tells_sender state kind line =
     record (tells_of_packet NeedsStore (because (why.Told line.outcome)) (TeachOf line)) {
@@ -191,8 +191,8 @@ accepts state kind known =
       mode = mode_after_one state.mode;
     }
 
--- the line with the outcome for a sender that this telegram does not teach in: with the profile and maker of its query,
--- if it has them
+-- the line with the outcome for a sender that this telegram does not teach in, with the profile and maker of its query,
+-- if any
 abbrev pub line_with : ℕ → Teach → Outcome → TeachLine
 line_with id kind outcome = record { eep = eep_told kind; id = id; maker = maker_told kind; outcome = outcome }
 
@@ -282,8 +282,8 @@ error_of Range = error.Range
 error_of UnknownDevice = error.UnknownDevice
 error_of WrongProfile = error.WrongProfile
 
--- The effect of an order to devices: its telegram is sent, or an error reports why there is none. The last case means
--- no order to devices: each of these has a telegram or a fault.
+-- The effect of an order to devices: its telegram is sent, or an error reports why there is none. The last case is that
+-- of no order to devices, since each of these has a telegram or a fault.
 abbrev pub telegram_sent : Bool → Option (Result Telegram OrderFault) → Effect
 telegram_sent asked (Some (Ok t)) = sends_packet asked (spelling (sent t))
 telegram_sent asked (Some (Err fault)) = record (denied (error_of fault)) { need = need_if asked }
@@ -303,8 +303,8 @@ sending_effect state order =
 abbrev pub base_query : Packet
 base_query = record { kind = 5; body = 0x08 ∷ []; opt = [] }
 
--- Own choice: if several errors apply, the first of these is reported: too long, syntax and range, which `order_of`
--- finds, an unsupported profile, an unknown device, a wrong profile, a full registry.
+-- Own choice: the first error of these is reported: too long, syntax and range, which `order_of` finds, an unsupported
+-- profile, an unknown device, a wrong profile, a full registry.
 abbrev pub order_effect : State → Result Order OrderFault → Effect
 order_effect state (Err fault) = denied (error_of fault)
 order_effect state (Ok LearnOn) = sets Learn

@@ -24,8 +24,8 @@ use Rattle.gateway_core.specs.Step.{State, Item, Received, Ordered, Effect, effe
 use Rattle.gateway_core.specs.Step.{base_query, known_of}
 use Rattle.gateway_core.specs.Run.{Fate, Taken, answer_with}
 
--- A device that is reported as deleted: with its stored profile and maker if the desk ordered it, and over the air with
--- those of its query, learned or not.
+-- A device that is reported as deleted: as stored if the desk ordered it; over the air with the profile and maker of
+-- its query, learned or not.
 abbrev pub IsDeleted : State → Item → Device → Type 0
 IsDeleted state (Ordered line) known = device_of state.devices known.id ≡ Some known
 IsDeleted state (Received packet) known =
@@ -33,8 +33,8 @@ IsDeleted state (Received packet) known =
     × (query : UteQuery) × (teach_in_of t ≡ Ute query) × (request_in query ≡ deletion)
     × (known.eep ≡ eep_in query) × (known.maker ≡ Some (maker_in query))
 
--- What a line with this outcome reports of an effect: that it learns a device, or forgets one for which this holds, or
--- that it changes neither the devices nor the mode.
+-- What a line with this outcome reports of an effect: it learns a device, forgets one for which this holds, or changes
+-- neither the devices nor the mode.
 abbrev pub Tells : (Device → Type 0) → Effect → TeachLine → Outcome → Type 0
 Tells Gone e line Accepted =
     (known : Device) × (text (Teach line) ≡ text (Teach (told_of known Accepted)))
@@ -74,9 +74,9 @@ ChangesAreTold = (state : State) (item : Item) (change : Change) → change_of s
     × Tells (IsDeleted state item) (effect state item) line line.outcome)
     ⊎ TellsLabel state item change
 
--- A line that spells a label and is answered `ok` is applied and labels a learned device. One that is answered
--- `unknown_device` is applied and changes nothing, and no device with its ID is learned. Each that is applied and not
--- too long gets one of these two answers.
+-- A line that spells a label and is answered `ok` is applied and labels a learned device; one answered `unknown_device`
+-- is applied and changes nothing, and no device with its ID is learned. Each that is applied and not too long gets one
+-- of these answers.
 pub record LabelIsTold (state : State) (line : List ℕ) (id : ℕ) (label : List ℕ) : Type 0 where
   pub done : (fate : Fate) → (answer_with state (Ordered line) fate).desk ≡ text Done
       → (fate ≡ Taken) × IsSome (device_of state.devices id)
@@ -91,8 +91,8 @@ abbrev pub LabelsAreTold : Type 0
 LabelsAreTold = (state : State) (line : List ℕ) (id : ℕ) (label : List ℕ) → order_of line ≡ Ok (Label id label)
     → LabelIsTold state line id label
 
--- the telegram that replies to a query with this outcome for its sender: to a 4BS query in the mode `LearnAnswer`, and
--- to a UTE query that waits for a reply, in a window for all senders
+-- the telegram that replies to a query with this outcome for its sender, in a window for all senders: to a 4BS query in
+-- the mode `LearnAnswer`, and to a UTE query that waits for a reply
 abbrev pub IsReply : State → Telegram → Outcome → Telegram → Type 0
 IsReply state t outcome reply =
     ((query : FourByteQuery) × (teach_in_of t ≡ FourByte query) × (state.mode ≡ LearnAnswer)
@@ -101,8 +101,8 @@ IsReply state t outcome reply =
     × ((state.mode ≡ Learn) ⊎ (state.mode ≡ LearnAnswer))
     × (ute_reply query outcome state.base ≡ Some reply))
 
--- The bytes are the reply to the query that a packet carries: the desk receives the query's teach line, and the reply
--- has the outcome of that line.
+-- The bytes are the reply to the packet's query: the desk receives the query's teach line, and the reply has the
+-- outcome of that line.
 pub record RepliesTo (state : State) (item : Item) (bytes : List ℕ) : Type 0 where
   pub packet : Packet
   pub received : item ≡ Received packet

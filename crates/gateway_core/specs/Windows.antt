@@ -13,8 +13,8 @@ use Rattle.teach_in.specs.Telegrams.{teach_in_of}
 use Rattle.teach_in.specs.Ute.{request_in, deletion}
 use Rattle.gateway_core.specs.Step.{State, Received, change_of, mode_set}
 
--- the packet carries a telegram, and its sender is learned in an open window; by a UTE query only in a window for all
--- senders. A window for one sender is then closed, and any other stays open
+-- the packet carries a telegram whose sender is learned in an open window; by a UTE query only in a window for all
+-- senders. A window for one sender then closes, and any other stays open
 pub record LearnsSender (state : State) (packet : Packet) : Type 0 where
   pub telegram : Telegram
   pub carried : telegram_of packet ≡ Ok telegram

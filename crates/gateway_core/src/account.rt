@@ -1,4 +1,4 @@
-//! The disposition of a packet: the reason for what was done with it, and what is known about its sender.
+//! The disposition of a packet.
 ghost use Rattle.std.specs.Prelude.{◌≡◌};
 ghost use Rattle.esp3_frames.specs.Outcome.{packet_of};
 ghost use Rattle.gateway_core.specs.Accounts;
@@ -12,8 +12,7 @@ use learned_devices::Device;
 use profile_rows::Unreadable;
 use teach_in::{Mode, Teach, Why};
 
-/// The disposition of a packet: the reason for what was done with it, and the profile and maker of its sender, if the
-/// device is known.
+/// Why a packet was handled the way it was, and the profile and maker of its sender, if the device is known.
 #[derive(Clone, Copy, Debug, PartialEq, Eq)]
 pub(crate) struct Account {
     pub(crate) why: Why,

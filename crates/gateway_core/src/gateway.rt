@@ -43,8 +43,8 @@ impl From<AllocError> for StartFault {
     }
 }
 
-/// A gateway over a device store: what it knows, the packets that are ready, and the rest of the byte stream, which may
-/// become one more packet.
+/// A gateway over a device store: what it knows, the ready packets, and the rest of the byte stream, which may become
+/// one more packet.
 #[derive(Drop)]
 pub struct GatewayOver<S> {
     pub(crate) handler: Handler<S>,
@@ -103,8 +103,8 @@ impl<S: DeviceStore> GatewayOver<S> {
         self.framer.push(b);
     }
 
-    /// Takes the next bytes of the serial line, up to the one that makes a packet ready, or all if none does. Returns
-    /// how many it took. Needs no memory.
+    /// Takes the next bytes of the serial line, at most up to the one that makes a packet ready, and returns how many.
+    /// Needs no memory.
     pub fn bytes(&mut self, bytes: &[u8]) -> usize
         requires { self.old.ready ≡ [] }
         ensures within { result ≤ length bytes.now }
@@ -116,9 +116,9 @@ impl<S: DeviceStore> GatewayOver<S> {
         self.framer.push_run(bytes)
     }
 
-    /// Handles the packet with which the next bytes of the serial line begin. Returns it and its length in bytes. Does
-    /// what `bytes` and then `handle_next` do, without a copy. Returns `None`, and takes nothing, if the gateway
-    /// already holds a byte, or if these bytes do not begin with a whole packet.
+    /// Handles the packet at the front of the next bytes of the serial line, without a copy, as `bytes` and then
+    /// `handle_next` do. Returns it and its length in bytes, or `None`, with nothing taken, if the gateway already
+    /// holds a byte or no whole packet is at the front.
     pub fn handle_first(&mut self, bytes: &[u8]) -> Option<(HandledPacket, usize)>
         requires { self.old.ready ≡ [] }
         ensures within { IfSome result (λ r. (0 < r.1) × (r.1 ≤ length bytes.now)) }
@@ -135,7 +135,7 @@ impl<S: DeviceStore> GatewayOver<S> {
         Some((self.handler.packet(&packet), count))
     }
 
-    /// Handles the first packet that is ready, and returns it. Returns `None` if none is.
+    /// Handles the first ready packet and returns it, or `None` if none is ready.
     pub fn handle_next(&mut self) -> Option<HandledPacket>
         ensures { Moves S.kept self.old (NextCall (option_map packet_answer result)) self.new }
     {
@@ -146,7 +146,7 @@ impl<S: DeviceStore> GatewayOver<S> {
         Some(self.handler.packet(&packet))
     }
 
-    /// Handles the first packet that is ready, and returns the reply to it. Returns `None` if none is.
+    /// Handles the first ready packet and returns the reply to it, or `None` if none is ready.
     pub fn next(&mut self) -> Option<Reply>
         ensures { (line : List ℕ) × Moves S.kept self.old
             (NextCall (option_map (λ reply. explained_by line (answer_of reply)) result)) self.new }

@@ -29,8 +29,7 @@ use std::alloc::Global;
 use std::marker::Model;
 use teach_in::{Mode, Why, classify};
 
-/// What the gateway knows: the base ID of its radio module, the learn mode, the counters, and the registry of learned
-/// devices.
+/// What the gateway knows: base ID of its radio module, learn mode, counters, and the registry of learned devices.
 #[derive(Drop)]
 pub struct Handler<S> {
     alloc: Global,
@@ -83,7 +82,7 @@ impl<S: DeviceStore> Handler<S> {
         registry
     }
 
-    // Increments the counter of a packet, handled or failed, sets the mode, and returns the reply and the disposition.
+    // Counts a packet, handled or failed, sets the mode, and returns the reply and the disposition.
     fn packet_reply(&mut self, tried: Result<PacketDone, Refusal>) -> (Reply, Account)
         ensures answer { answer_of result.0 ≡ answer_from tried }
         ensures account { Some result.1 ≡ account_from tried }

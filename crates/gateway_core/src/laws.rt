@@ -26,8 +26,8 @@ pub fn independent_of_cuts()
     ensures { CutsDoNotMatter }
 {}
 
-/// The inputs of events that arrive in two parts are those of the first part, and then those of the second part after
-/// the bytes of the first. The packets that a chunk completes depend only on the rest of the stream.
+/// The inputs of two consecutive lists of events are those of the first, and then those of the second after the bytes
+/// of the first. The packets that a chunk completes depend only on the rest of the stream.
 pub fn items_in_parts()
     ensures items { (stream : List ℕ) (events more : List Event) →
         items_of stream (events ++ more) ≡ items_of stream events ++ items_of (stream ++ bytes_in events) more }
@@ -42,14 +42,13 @@ pub fn handles_join<S: DeviceStore>()
         → Handles S.kept old (items ++ more) (answers ++ after) new }
 {}
 
-/// If the same inputs fail, each for the same cause, the answers are the same, whether they failed before their writes
-/// or at them.
+/// If the same inputs fail for the same causes, before their writes or at them, the answers are the same.
 pub fn same_refusals()
     ensures { SameRefusals }
 {}
 
-/// If the same inputs fail, each for the same cause, the answers do not depend on how the bytes between two lines are
-/// split into chunks.
+/// If the same inputs fail for the same causes, the answers do not depend on how the bytes between two lines are split
+/// into chunks.
 pub fn cuts_are_answered_alike()
     ensures { CutsAreAnsweredAlike }
 {}
@@ -59,36 +58,35 @@ pub fn refusals_are_counted()
     ensures { RefusalsAreCounted }
 {}
 
-/// An applied packet increments one counter. That is the counter of teach-in exactly when the packet is answered with a
-/// teach line. A line increments none, even if it is answered with a teach line.
+/// An applied packet increments one counter, that of teach-in exactly when it is answered with a teach line. A line
+/// increments none, even if it is answered with a teach line.
 pub fn taken_are_counted()
     ensures { TakenAreCounted }
 {}
 
-/// One line explains each packet, applied or failed, and one word of it is the reason. The word is `read` exactly when
-/// the desk receives a reading, `response` when it receives a response, the outcome of the teach line when it receives
-/// one, and `refused` when the packet failed. For any other word the desk receives no other line. The packet increments
-/// only the counter of this word: `readings`, `responses`, `teach` and `refused` for these words, in this order, and
-/// `ignored` for any other. No order is explained.
+/// One line explains each packet, applied or failed, and gives the reason in one word: `read` exactly when the desk
+/// receives a reading, `response` for a response, the outcome for a teach line, `refused` for a failed packet, and any
+/// other word when the desk receives no other line. The packet increments only the counter of this word: `readings`,
+/// `responses`, `teach` and `refused`, in this order, and `ignored` for any other. No order is explained.
 pub fn explanations_are_counted()
     ensures { ExplanationsAreCounted }
 {}
 
-/// The line that explains an applied packet is true: its word holds for the packet and for what was known. The line
-/// shows the profile and maker of the query if the packet is one. Otherwise it shows those of the device that the
-/// packet teaches in, or whose data was looked at, and no others.
+/// The line that explains an applied packet is true: its word holds for the packet and for what was known. It shows the
+/// profile and maker of the query, if the packet is one, and otherwise only those of the device that the packet teaches
+/// in, or whose data was looked at.
 pub fn explanations_are_true()
     ensures { ExplanationsAreTrue }
 {}
 
-/// For any calls of a new gateway, in any order: the handled packets, followed by those that are ready, are the packets
-/// of the bytes given, and the answers are a run on packets and lines in the order of the calls.
+/// Any calls of a new gateway, in any order, are a run on packets and lines in the order of the calls. The handled
+/// packets, followed by the ready ones, are the packets of the bytes given.
 pub fn calls_are_a_run<S: DeviceStore>()
     ensures { CallsAreARun S.kept }
 {}
 
-/// A call that takes several bytes does what one call for each of them does, if none before the last makes a packet
-/// ready. So `GatewayOver::bytes` does what `GatewayOver::byte` does for each byte that it takes.
+/// A call with several bytes does what one call for each of them does, if none before the last makes a packet ready. So
+/// `GatewayOver::bytes` does what `GatewayOver::byte` does for each byte that it takes.
 pub fn runs_are_bytes<S: DeviceStore>()
     ensures { RunsAreBytes S.kept }
 {}
@@ -115,23 +113,23 @@ pub fn safe_joins_from_any<M: Maps>()
     ensures { SafeJoins M.are }
 {}
 
-/// Every later execution finds what an acknowledged update guarantees about its sender, until an input overrides it:
-/// the profile and maker that were learned, until the sender is learned otherwise or forgotten; that the sender is
-/// forgotten, until it is learned; and its label, until it is labelled otherwise or forgotten.
+/// Every later execution finds what an acknowledged update guarantees, until an input overrides it: the learned profile
+/// and maker, until the sender is learned otherwise or forgotten; that it is forgotten, until it is learned; its label,
+/// until it is labelled otherwise or forgotten.
 pub fn lives_keep()
     ensures { LivesKeep }
 {}
 
 /// An update acknowledged with `accepted` or `deleted` holds in every later execution, until an input changes that
-/// sender otherwise. If the devices found are in range and the data of packets are bytes, the device is in range. A
-/// line in range is then the line of this device.
+/// sender otherwise. If the devices found are in range and the data of packets are bytes, the device is in range, and a
+/// line in range is the line of this device.
 pub fn acknowledged_is_durable()
     ensures { AcknowledgedIsDurable }
 {}
 
-/// If the stream consists of bytes, so does the data of each packet. Then the state stays in range if it was; an
-/// execution leaves devices in range if those that it found were; and in a state in range, a teach line with `accepted`
-/// or `deleted` has the text of the line of a device in range.
+/// The packets of a stream of bytes consist of bytes. Then a state in range stays in range, an execution that found
+/// devices in range leaves devices in range, and in a state in range, a teach line with `accepted` or `deleted` has the
+/// text of the line of a device in range.
 pub fn numbers_stay_in_range()
     ensures items { ItemsAreOfBytes }
     ensures stays { StaysInRange }
@@ -140,8 +138,7 @@ pub fn numbers_stay_in_range()
 {}
 
 /// A crash state is what was known after a prefix of the inputs, perhaps with the update of the next one, whose write
-/// failed. The prefix contains every acknowledged input: wherever the inputs are split at an acknowledged one, it is in
-/// the prefix.
+/// failed. The prefix contains every acknowledged input.
 pub fn safe_is_prefix()
     ensures safe { SafeIsPrefix }
     ensures told { ToldStandBefore }
@@ -153,38 +150,35 @@ pub fn left_is_prefix()
     ensures { LeftIsPrefix }
 {}
 
-/// Only an applied input is answered with a teach line. With `accepted`, the input learns the device in the line. With
-/// `deleted`, it forgets that device: a line forgets the learned device, and a packet the sender of its telegram,
-/// learned or not, with the profile and maker of its query. With any other outcome, the input changes neither the
-/// devices nor the mode.
+/// Only an applied input is answered with a teach line. With `accepted` it learns the device in the line. With
+/// `deleted` it forgets that device: a line a learned one, a packet the sender of its telegram, learned or not, with
+/// the profile and maker of its query. With any other outcome it changes neither the devices nor the mode.
 pub fn teach_lines_are_told()
     ensures { TeachLinesAreTold }
 {}
 
-/// An applied input that changes the devices is answered with the teach line that reports it: `accepted` with the
-/// device that it learns, `deleted` with the one that it forgets. Or it is a line that labels a learned device, and is
-/// answered `ok`.
+/// An applied input that changes the devices reports it: with the teach line `accepted` or `deleted` of the device that
+/// it learns or forgets, or, if it is a line that labels a learned device, with `ok`.
 pub fn changes_are_told()
     ensures { ChangesAreTold }
 {}
 
-/// A line that spells a label labels a learned device if it is answered `ok`. If it is answered `unknown_device`, no
-/// such device is learned, and nothing changes. If it is applied and not too long, it gets one of these two answers.
+/// A line that spells a label labels a learned device if it is answered `ok`; if it is answered `unknown_device`, no
+/// such device is learned, and nothing changes. If it is applied and not too long, it gets one of these answers.
 pub fn labels_are_told()
     ensures { LabelsAreTold }
 {}
 
-/// Only an applied input sends bytes by radio. The bytes of a packet are the reply to the query that it carries, with
-/// the outcome of the teach line for the desk: a 4BS query in the mode `LearnAnswer`, or a UTE query that waits for a
-/// reply, in a window for all senders. The bytes of a line are the packet of the order that it spells, and the desk
-/// receives `ok`.
+/// Only an applied input sends bytes by radio. Those of a packet are the reply to its query, with the outcome of the
+/// teach line, in a window for all senders: to a 4BS query in the mode `LearnAnswer`, or to a UTE query that waits for
+/// a reply. Those of a line are the packet of its order, which is answered `ok`.
 pub fn radio_is_told()
     ensures { RadioIsTold }
 {}
 
-/// A packet changes the devices only in an open window: it learns the sender of its telegram, or forgets it if the
-/// telegram is a query for that and the window is for all senders. It changes the mode only if it learns and the window
-/// is for one sender, which then closes.
+/// A packet changes the devices only in an open window: it learns its sender, or forgets it if it is a query for that
+/// and the window is for all senders. It changes the mode only if it learns and the window is for one sender, which
+/// then closes.
 pub fn packets_change_in_windows()
     ensures { PacketsChangeInWindows }
 {}
@@ -194,8 +188,8 @@ pub fn calls_leave_a_life<S: DeviceStore>()
     ensures { CallsLeaveALife S.kept }
 {}
 
-/// What a crash leaves from the write of the next input on, also after its commit and before its answer, is what an
-/// execution that crashed in that input may leave.
+/// From the write of the next input on, also after its commit and before its answer, a crash leaves what an execution
+/// that crashed in that input may leave.
 pub fn stops_leave_a_life<S: DeviceStore>()
     ensures { StopsLeaveALife S.kept }
 {}

@@ -1,6 +1,6 @@
-//! One gateway, between the serial line of a radio module and the control desk of a building. It takes the bytes of the
-//! line and the orders of the desk, and answers them. The learned devices are kept in its registry, and every change is
-//! committed before it is reported.
+//! One gateway, between the serial line of a radio module and the control desk of a building: it answers the bytes of
+//! the line and the orders of the desk. Its registry keeps the learned devices. Every change is committed before it is
+//! reported.
 #![tactic(auto)]
 
 mod account;

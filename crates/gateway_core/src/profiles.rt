@@ -6,8 +6,8 @@ ghost use Rattle.profile_rows.specs.Answer.{told};
 use erp1_telegrams::{Eep, Telegram, rorg};
 use profile_rows::{Readings, Unreadable};
 
-/// Sets `readings` to those of the telegram, by the profile of its sender, or returns why the profile cannot read it.
-/// Each RORG has its own crate of profiles.
+/// Sets `readings` to those of the telegram by this profile, that of its sender, or returns why the profile cannot read
+/// it. Each RORG has its own crate of profiles.
 pub fn read(eep: Eep, telegram: &Telegram, readings: &mut Readings) -> Result<(), Unreadable>
     ensures { told result readings.new.items ≡ Profiles.read_by eep telegram.now }
 {

@@ -4,7 +4,7 @@ ghost use Rattle.std.specs.Prelude.{◌≡◌};
 use learned_devices::StoreFault;
 use std::alloc::AllocError;
 
-/// Whether an input failed before its write to the registry or at that write, and for which cause: memory or the store.
+/// Whether an input failed before its write to the registry or at it, and for which cause.
 #[derive(Clone, Copy)]
 pub enum Refusal {
     /// Nothing was written.

@@ -26,8 +26,8 @@ use Rattle.gateway_core.specs.private.Refusals.{cause_in, cause_of}
 use Rattle.gateway_core.specs.Run.{cause_text}
 use Rattle.gateway_core.specs.Handling.{HandlerValue}
 
--- what is done for an input: the answer, before its packet is explained, the disposition of a packet, and the mode that
--- is set, if any
+-- what is done for an input: the answer, without the explanation, the disposition of a packet, and the mode that is
+-- set, if any
 pub record Done : Type 0 where
   pub answer : Answer
   pub account : Option Account

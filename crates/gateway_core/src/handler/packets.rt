@@ -43,8 +43,7 @@ fn reading(alloc: Global, telegram: &Telegram, device: &Device) -> Result<Packet
 }
 
 impl<S: DeviceStore> Handler<S> {
-    // Reports the readings of a data telegram from a learned sender. From another sender, learns the sender if that is
-    // planned.
+    // Reports the readings of data from a learned sender, and learns another sender if that is planned.
     fn try_data(&mut self, telegram: &Telegram, teach: &Teach) -> Result<PacketDone, Refusal>
         requires { teach.now ≡ teach_in_of telegram.now }
         ensures { Tries S.kept self.old (λ state. case_effect state telegram.now
@@ -57,8 +56,8 @@ impl<S: DeviceStore> Handler<S> {
         Ok(done)
     }
 
-    // Handles a telegram by the first of five cases that applies: it is filtered out, a teach-in reply, a teach-in
-    // telegram, data of a learned sender, or data of another sender.
+    // Handles a telegram by the first case that applies: filtered out, teach-in reply, teach-in telegram, data of a
+    // learned sender, data of another sender.
     pub(crate) fn try_telegram(
         &mut self,
         telegram: &Telegram,

@@ -34,8 +34,8 @@ fn mode_after_one(mode: Mode) -> Option<Mode>
 }
 
 impl<S: DeviceStore> Handler<S> {
-    // The packet that replies to a teach-in telegram, if it gets one: a UTE query does if it waits for one, and a 4BS
-    // query in the mode `LearnAnswer`.
+    // The packet that replies to a teach-in telegram: to a UTE query that waits for one, or to a 4BS query in the mode
+    // `LearnAnswer`.
     fn reply_packet(&self, teach: &Teach, verdict: &Verdict) -> Option<ArrayVec<u8, 64>>
         requires { MayReply teach.now verdict.now.id verdict.now.outcome }
         ensures { option_map (λ bytes. bytes.items) result
@@ -128,8 +128,8 @@ impl<S: DeviceStore> Handler<S> {
         })
     }
 
-    // Does what is planned about the sender of a telegram: of a teach-in telegram, or of data whose sender was looked
-    // up and is not learned.
+    // Carries out the plan for the sender of a teach-in telegram, or of data whose sender was looked up and is not
+    // learned.
     pub(crate) fn try_plan(
         &mut self,
         telegram: &Telegram,
