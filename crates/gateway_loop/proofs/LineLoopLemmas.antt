@@ -25,7 +25,6 @@ use Rattle.gateway_loop.proofs.LongLineLemmas.{kept_last_line_alike}
 use Rattle.gateway_loop.proofs.PlayLemmas.{takes_none, takes-append, plays-break}
 use Rattle.gateway_loop.proofs.LineLemmas.{only_line, script-last}
 
--- nothing is kept of nothing
 pub keeps_none : Keeps [] []
 keeps_none = record { one = All-nil (λ byte. byte ≢ 10); is = refl }
 
@@ -62,7 +61,6 @@ whole_behind a b first second rest last whole more =
     ∙ ap (λ s. s ++ last) (sym (flat_map-append with_end first second))
 
 module _ {O S : Type 0} (stored : S → Kept) (way : Way O) (lines : Lines) where
-  -- the player at the start
   abbrev pub first_player : {old new : Player O S} {bytes : List ℕ} → TakesBytes stored way lines old new bytes
       → Player O S
   first_player {old = old} taken = old
@@ -78,7 +76,6 @@ module _ {O S : Type 0} (stored : S → Kept) (way : Way O) (lines : Lines) wher
     taken = takes_none stored way old.engine idle fits;
   }
 
-  -- bytes after bytes
   pub bytes_behind : (old mid new : Player O S) (a b : List ℕ) → (p : TakesBytes stored way lines old mid a)
       → TakesBytes stored way lines mid new (p.rest ++ b) → TakesBytes stored way lines old new (a ++ b)
   bytes_behind old mid new a b p q = record {
@@ -108,7 +105,6 @@ module _ {O S : Type 0} (stored : S → Kept) (way : Way O) (lines : Lines) wher
         (event_by lines (strip_carriage_return q.line)) p.taken.played q.broken);
   }
 
-  -- bytes that end no line
   pub bytes_without_end : (old mid new : Player O S) (bytes more : List ℕ) → IsOneLine more
       → new.engine ≡ mid.engine → new.unended ≡ take max_kept (mid.unended ++ more)
       → TakesBytes stored way lines old mid bytes → TakesBytes stored way lines old new (bytes ++ more)

@@ -51,7 +51,6 @@ reads_none source = record {
   well = refl;
 }
 
--- one more read
 pub reads_more : (old mid new : SourceValue) (reads : List (List ℕ)) (n : ℕ) (buffer : List ℕ) → ReadsWell old mid reads
     → n ≤ length buffer → length buffer ≡ max_read → ReadConsumes {E = Failed} mid.left new.left (Ok n) buffer
     → new.counts ≡ counted {E = Failed} mid.counts (Ok n) → ReadsWell old new (reads ++ take n buffer ∷ [])
@@ -88,7 +87,6 @@ one_read_more old mid new reads n turn turns buffer p count below within room by
   ),
 )
 
--- a read that fails
 pub reads_fail : (old mid new : SourceValue) (reads : List (List ℕ)) (error : Failed) → ReadsWell old mid reads
     → Keeps mid.left new.left → new.counts ≡ counted {E = Failed} mid.counts (Err error) → ReadsFail old new reads
 reads_fail old mid new reads error p kept told = record {

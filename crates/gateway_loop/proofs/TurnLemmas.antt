@@ -139,7 +139,6 @@ module _ {O S : Type 0} (stored : S → Kept) (way : Way O) where
     pub keeps : Keeps rest new.unended
     pub taken : Takes stored way old.engine new.engine (events_of_turns read)
 
-  -- the player at the start
   abbrev pub first_player : {old new : Player O S} {read : List Turn} → TakesTurns old new read → Player O S
   first_player {old = old} taken = old
 

@@ -23,9 +23,8 @@ pub record IsExplainedBehind (before : Answer → List ℕ) (answers : List Answ
   pub explained_is : explained ≡ held ++ more
   pub lines : IsExplained before answers added more
 
--- A replay that explains packets writes what one that does not writes for the same answers, plus the lines that explain
--- them, each directly before the text for the desk. The same holds for what a live gateway writes to the desk; what it
--- writes to the serial line is the same in both cases.
+-- theorem `explanations_stand_apart`: explaining adds the lines that explain packets, each directly before the text for
+-- the desk, and changes nothing else in what a replay writes, or a live gateway to the desk and to the serial line
 pub record ExplanationsStandApart : Type 0 where
   pub replay : (answers : List Answer) (held plain explained : List ℕ)
       → WritesAll false (Some held) (Some plain) answers → WritesAll true (Some held) (Some explained) answers

@@ -76,8 +76,8 @@ module _ {S : Type 0} (stored : S → Kept) where
 
   -- `replay`, for a new gateway, a reader that has this input left, and a writer that holds these bytes. At `Ok` the
   -- input was read to its end, and the writer received exactly the text of the answers to the inputs of the script. At
-  -- a fault it received a prefix of the text of the answers to some prefix of the inputs. (The postconditions `err`,
-  -- `read`, `write` and `too_many` of `replay` say which prefix, and when each fault is returned.)
+  -- a fault it received a prefix of the text for some prefix of these inputs. (The postconditions `err`, `read`,
+  -- `write` and `too_many` of `replay` say which prefix, and when each fault is returned.)
   pub record ReplaySpecified {R W : Type 0} (source : sources.Ghosts R) (sink : sinks.Ghosts W) (explains : Bool)
       (result : Result Summary RunFault) (base : ℕ) (found : Devices) (input held : List ℕ) (new : Value S × R × W)
       : Type 0 where

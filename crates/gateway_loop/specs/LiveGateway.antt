@@ -87,8 +87,8 @@ module _ {S : Type 0} (stored : S → Kept) where
 
 -- Below, `at` is the state of the live gateway before and after the call, and `explains` whether packets are explained.
 module _ {S T : Type 0} (stored : S → Kept) (at : T → LiveValue S) (explains : Bool) where
-  -- this many turns were read, the inputs of their events, and no others, were handled and counted, and the radio bytes
-  -- and texts of their answers were written
+  -- this many turns were read, exactly the inputs of their events were handled and counted, and the radio bytes and
+  -- texts of their answers were written
   pub record Serves (old new : T) (turns : ℕ) (summary : Summary) : Type 0 where
     pub read : List Turn
     pub count : length read ≡ turns

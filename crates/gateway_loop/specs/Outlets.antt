@@ -67,8 +67,8 @@ module _ {A B : Type 0} (one : Way A) (other : Way B) where
   abbrev pub PutsBoth : A × B → A × B → List Answer → Type 0
   PutsBoth old new answers = one.puts old.0 new.0 answers × other.puts old.1 new.1 answers
 
-  -- the last answer is written incompletely to the first output, and not to the second; or it is written to the first,
-  -- and incompletely to the second
+  -- the last answer is written incompletely to the first output and not to the second, or whole to the first and
+  -- incompletely to the second
   abbrev pub BreaksBoth : A × B → A × B → List Answer → Answer → Type 0
   BreaksBoth old new answers last =
       (one.breaks old.0 new.0 answers last × other.puts old.1 new.1 answers)

@@ -36,14 +36,14 @@ module _ {S : Type 0} (stored : S → Kept) where
     pub handled : Handles stored old items (answers ++ last ∷ []) new
     pub out : breaks answers last
 
-  -- the events' inputs, and no others, were handled and answered
+  -- exactly the events' inputs were handled and answered
   pub record Plays (old new : Value S) (events : List Event) (puts : List Answer → Type 0) : Type 0 where
     pub answered : Answers old.handler new.handler (items_of old.rest events) puts
     pub rest : new.rest ≡ rest_of (old.rest ++ bytes_in events)
     pub idle : IsIdle new
 
-  -- after these events one event was begun, and an answer to one of its inputs was not written completely: the inputs
-  -- so far were handled, and the packets that its bytes completed after them are ready
+  -- after these events, one event was begun, and an answer to one of its inputs was not written completely: the inputs
+  -- so far were handled, and the packets that the event's bytes completed after them are ready
   pub record Breaks (old new : Value S) (events : List Event) (event : Event) (breaks : List Answer → Answer → Type 0)
       : Type 0 where
     pub begun : Event

@@ -27,8 +27,8 @@ replay_at source sink now =
 
 -- Below, `at` is the state of the replay before and after the call, and `explains` whether packets are explained.
 module _ {S T : Type 0} (stored : S → Kept) (at : T → ReplayValue S) (explains : Bool) where
-  -- the source was read to its end, the inputs of the script, and no others, were handled and counted, and the text of
-  -- their answers was written
+  -- the source was read to its end, exactly the inputs of the script were handled and counted, and the text of their
+  -- answers was written
   pub record Replays (old new : T) (summary : Summary) : Type 0 where
     pub input : List ℕ
     pub read : Consumes (at old).source.left (at new).source.left input

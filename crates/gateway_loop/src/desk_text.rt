@@ -10,8 +10,8 @@ use byte_io::{Failed, Sink, write_text};
 use gateway_core::Reply;
 use json_lines::{PacketLine, packet_line};
 
-/// Writes a reply's text for the desk. If packets are explained, the line that explains its packet, if there is one,
-/// comes before it. Needs no memory.
+/// Writes a reply's text for the desk; if packets are explained, the line that explains its packet comes first. Needs
+/// no memory.
 pub fn write_desk_text<W: Sink>(
     writer: &mut W,
     explains: bool,

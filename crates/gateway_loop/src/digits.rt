@@ -31,7 +31,7 @@ fn value_of(digit: u8) -> u8
 }
 
 /// Writes the bytes that hexadecimal digits spell, two digits for each. Returns false if a byte is not a digit or the
-/// number of digits is odd; some of the bytes may then be written.
+/// number of digits is odd; then some bytes may be written.
 pub fn decode(digits: &[u8], bytes: &mut [u8]) -> bool
     requires { length bytes.old ≡ length digits.now / 2 }
     ensures { MatchBool result (decode_of digits.now ≡ Ok bytes.new) (IsErr (decode_of digits.now)) }

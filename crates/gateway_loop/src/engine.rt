@@ -43,8 +43,8 @@ impl<O: Outlet, S: DeviceStore> Engine<'_, O, S> {
         Ok(())
     }
 
-    /// Takes the whole packet with which these bytes begin, or, if they begin with none, the bytes up to the one that
-    /// makes packets ready. Answers the packets that they complete, and returns how many bytes it took.
+    /// Takes the whole packet at the front of these bytes, or, if there is none, the bytes up to the one that makes
+    /// packets ready. Answers the packets that they complete, and returns how many bytes it took.
     fn take_run(&mut self, bytes: &[u8]) -> Result<usize, Failed>
         requires idle { IsIdle self.old.gateway.now }
         requires some { 0 < length bytes.now }

@@ -8,6 +8,6 @@ pub const MAX_READ: usize = 256;
 /// `MAX_LINE`.
 pub(crate) const MAX_PIECE: usize = (MAX_LINE - 2) / 2;
 
-/// The maximum number of bytes kept of a partial line. It is enough: with CR it distinguishes each line of at most
-/// `MAX_LINE` bytes from all longer ones, which are treated alike. Own choice, like `MAX_LINE`.
+/// The maximum number of bytes kept of a partial line: enough, with CR, to distinguish each line of at most `MAX_LINE`
+/// bytes from all longer ones, which are treated alike. Own choice, like `MAX_LINE`.
 pub(crate) const MAX_KEPT: usize = MAX_LINE + 2;

@@ -13,17 +13,17 @@ use crate::wires::Wires;
 use byte_io::{Sink, Source};
 use gateway_core::{DeviceStore, GatewayOver};
 
-/// Serves a serial line and a desk: reads from both, handles what arrives, and writes the gateway's answers.
+/// Serves a serial line and a desk: reads from both, and writes the gateway's answers.
 ///
-/// A turn is one read of at most `MAX_READ` bytes from the serial line, which are a chunk of its stream, and then one
-/// such read of the desk. Each line that LF ends in the desk's bytes is an order, without one CR before LF. A read of 0
-/// bytes adds nothing. For each packet and each order the radio bytes go to `serial_out`, and then the desk's text to
-/// `desk_out`. If packets are explained, the line that explains a packet comes before that text.
+/// A turn is one read of at most `MAX_READ` bytes from the serial line, a chunk of its stream, and then one such read
+/// of the desk. Each line of the desk that LF ends is an order, without one CR before LF. A read of 0 bytes adds
+/// nothing. For each packet and each order the radio bytes go to `serial_out`. Then the line that explains the packet,
+/// if packets are explained, and the desk's text go to `desk_out`.
 ///
 /// Returns `Ok` after `turns` turns, and drops a partial line of the desk. At `Read`, all packets and lines that
-/// arrived were handled and answered. At `Write`, no read was made after the failed write, and the output ends within
-/// the answer to one packet or order: all answers before it are written, and packets may still be ready in the gateway.
-/// Never returns `TooManyTurns`.
+/// arrived were handled and answered. At `Write`, no read followed, and the output ends within the answer to one packet
+/// or order: all answers before it are written, and packets may still be ready in the gateway. Never returns
+/// `TooManyTurns`.
 pub fn live<P: Source, Q: Source, R: Sink, D: Sink, S: DeviceStore>(
     serial_in: &mut P,
     desk_in: &mut Q,

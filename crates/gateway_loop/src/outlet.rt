@@ -17,8 +17,8 @@ pub trait Outlet {
     /// The names of what it borrows.
     ghost loans: { Self → List ℕ };
 
-    /// Writes a reply. The line that explains its packet, if there is one and packets are explained, comes before the
-    /// text for the desk. On `Failed`, at most a proper prefix was written.
+    /// Writes a reply. If packets are explained, the line that explains its packet comes before the text for the desk.
+    /// On `Failed`, at most a proper prefix was written.
     fn put(&mut self, line: Option<&PacketLine>, reply: &Reply) -> Result<(), Failed>
         ensures loans { loans self.new ≡ loans self.old }
         ensures put { Puts way result self.old self.new

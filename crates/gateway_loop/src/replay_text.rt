@@ -10,8 +10,8 @@ use byte_io::{Failed, Sink, write_text};
 use gateway_core::Reply;
 use json_lines::PacketLine;
 
-/// The text of a replay: for each reply its radio bytes as a serial chunk, if there are any, and then the text for the
-/// desk, after the line that explains its packet if packets are explained.
+/// The text of a replay: for each reply its radio bytes, if any, as a serial chunk, then the line that explains its
+/// packet, if packets are explained, and then the text for the desk.
 #[derive(Drop)]
 pub struct ReplayText<'w, W> {
     pub sink: &'w mut W,

@@ -16,13 +16,13 @@ use crate::unended_line::UnendedLine;
 use byte_io::{Sink, Source};
 use gateway_core::{DeviceStore, GatewayOver};
 
-/// Replays a script: reads its lines, handles them, and writes the gateway's answers.
+/// Replays a script: reads its lines, and writes the gateway's answers.
 ///
-/// A line ends with LF or with the end of the input, without one CR before LF; there is no line after the last LF if
-/// nothing follows it. A line of at most `MAX_LINE` bytes that is `S`, one space and an even number of hexadecimal
-/// digits is a chunk of the serial stream. Any other line is an order of the desk. For each packet and each order the
-/// radio bytes are written as such a chunk, in lower case and with LF, and then the desk's text. If packets are
-/// explained, the line that explains a packet comes before its text for the desk.
+/// A line ends with LF or with the end of the input, without one CR before LF; there is no empty line after the last
+/// LF. A line of at most `MAX_LINE` bytes that is `S`, one space and an even number of hexadecimal digits is a chunk of
+/// the serial stream. Any other line is an order of the desk. For each packet and each order the radio bytes are
+/// written as such a chunk, in lower case and with LF, then the line that explains the packet, if packets are
+/// explained, and then the desk's text.
 ///
 /// A turn is one read of at most `MAX_READ` bytes, and at most `turns` reads are made. A read of 0 bytes ends the
 /// input. At `Read` and `TooManyTurns`, the lines that LF ended were handled and answered, and nothing of a partial

@@ -8,8 +8,8 @@ use byte_io::{Failed, Sink, write_text};
 use gateway_core::Reply;
 use json_lines::PacketLine;
 
-/// The two outputs of a live gateway: for each reply its radio bytes go to the serial line, if there are any, and then
-/// its text goes to the desk, after the line that explains its packet if packets are explained.
+/// The two outputs of a live gateway: for each reply its radio bytes, if any, go to the serial line. Then the line that
+/// explains its packet, if packets are explained, and its text go to the desk.
 #[derive(Drop)]
 pub struct Wires<'r, 'd, R, D> {
     pub serial: &'r mut R,
