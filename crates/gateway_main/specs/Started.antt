@@ -20,7 +20,7 @@ pub record Starts {C : Type 0} (state : C → State) (database : C) (base : ℕ)
   pub registries : AreRegistries (state now.registry).may_leave
 
 -- Why a start fails: the database is not a registry, as its open defines it; or the device store fails; or out of
--- memory. No postcondition says which of the latter two it is, nor what is left. Nothing has been read or written yet.
+-- memory. No postcondition says which of the latter two it is, nor what is left. Nothing has been read or written.
 abbrev pub RefusesToStart : {C : Type 0} → (C → State) → C → Fault → Type 0
 RefusesToStart {C} state database NotARegistry =
     (last : C) × RefusesToOpen (state database) (state last) opening.NotARegistry

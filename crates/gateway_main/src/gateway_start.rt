@@ -16,8 +16,8 @@ use gateway_core::{GatewayOver, StartFault};
 use std::alloc::{AllocError, Global};
 
 /// Returns a new gateway for a radio module with this base ID, over the registry in the database: all counters are 0,
-/// no packet is ready, and no byte has arrived. A database without the registry's tables gets them. The registry caches
-/// this many looked-up senders, 1 to `MAX_CACHED`; no postcondition says so.
+/// no packet is ready, and no byte has arrived. Creates the registry's tables if the database has none of them. The
+/// registry caches this many looked-up senders, 1 to `MAX_CACHED`; no postcondition says so.
 ///
 /// Fails as opening the registry does, or if out of memory, and then drops the connection. Which of `Store` and
 /// `Memory` is returned is tested, not proved.

@@ -29,8 +29,8 @@ pub fn closes_leave_a_life<C: SqlConnection>()
     ensures { ClosesLeaveALife C.state }
 {}
 
-/// What a crash leaves after `replay` or `live`, by a gateway that `start` made, is what an execution may leave that
-/// found the devices that were committed last and handled the inputs read.
+/// After `replay` or `live`, by a gateway that `start` made, a crash leaves what an execution may leave that found the
+/// devices that were committed last and handled the inputs read.
 pub fn engines_leave_lives<R: Sink, D: Sink, C: SqlConnection>()
     ensures replay { (explains : Bool) (held now : Option (List ℕ))
         → PlaysAreLives C.state (WritesAll explains held now) }
@@ -44,8 +44,8 @@ pub fn engines_leave_lives<R: Sink, D: Sink, C: SqlConnection>()
         (sink_value R.Sink serial_now, sink_value D.Sink desk_now)) }
 {}
 
-/// After `replay` or `live`, by a gateway that `start` made and that is then closed, what the next open finds is what
-/// such an execution may leave, and is what was known at its end.
+/// After `replay` or `live`, by a gateway that `start` made and that is then closed, the next open finds what such an
+/// execution may leave, which is what was known at its end.
 pub fn closed_engines_leave_lives<R: Sink, D: Sink, C: SqlConnection>()
     ensures replay { (explains : Bool) (held now : Option (List ℕ))
         → ClosedPlaysAreLives C.state (WritesAll explains held now) }
