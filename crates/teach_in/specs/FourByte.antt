@@ -16,9 +16,9 @@ eep_in query = record { rorg = 0xA5; func = field query.payload 0 6; typ = field
 abbrev pub maker_in : FourByteQuery → ℕ
 maker_in query = field query.payload 13 11
 
--- DB0 of a reply with this outcome, if there is one: the learn bit DB0.3 is 0, DB0.4 is 1 since it is a reply, DB0.7 is
--- 1 since there is a profile, DB0.6 is 1 if the profile is supported, and DB0.5 is 1 if the sender is learned. Own
--- choice: the other bits are 0
+-- DB0 of a reply with this outcome, if there is one: the learn bit DB0.3 is 0; DB0.4 is 1, for a reply; DB0.7 is 1, for
+-- a profile; DB0.6 is 1 if the profile is supported, and DB0.5 if the sender is learned. Own choice: the other bits are
+-- 0
 abbrev pub four_byte_code : Outcome → Option ℕ
 four_byte_code Accepted = Some 0xF0
 four_byte_code Unsupported = Some 0x90

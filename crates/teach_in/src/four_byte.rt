@@ -57,7 +57,7 @@ fn four_byte_code(outcome: Outcome) -> u8
 }
 
 /// The reply to a query, given the verdict on its sender: addressed to that sender, from the base ID, with the query's
-/// own bytes except for DB0. `base` is a base ID, and the outcome is `Accepted`, `Unsupported` or `Full`.
+/// bytes except for DB0. `base` is a base ID, and the outcome is `Accepted`, `Unsupported` or `Full`.
 ///
 /// EnOcean Equipment Profiles 2.6, "4BS Telegram", variation 3.
 pub fn four_byte_reply(query: &FourByteQuery, verdict: &Verdict, base: u32) -> Telegram

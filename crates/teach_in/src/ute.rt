@@ -90,8 +90,8 @@ fn reply_first_byte(query: &UteQuery, code: u32) -> u8
 }
 
 /// The reply to a query, given the verdict on its sender: addressed to that sender, from the base ID, with the query's
-/// own bytes except for DB6. `base` is a base ID, and the outcome is any except `NoProfile`. `wants_reply` returns
-/// whether the query waits for a reply.
+/// bytes except for DB6. `base` is a base ID, and the outcome is any except `NoProfile`. `wants_reply` returns whether
+/// the query waits for a reply.
 ///
 /// EnOcean Equipment Profiles 2.6, "Universal Uni- and Bidirectional Teach-in".
 pub fn ute_reply(query: &UteQuery, verdict: &Verdict, base: u32) -> Telegram
