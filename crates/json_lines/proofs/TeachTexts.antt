@@ -75,7 +75,6 @@ from-maker a b x y s t in_s in_t e =
 
 -- ---- one line and more
 
--- a teach line, and more
 pub teach-more : (line told : TeachLine) (more : List ℕ) → text (Teach line) ++ more ≡ text (Teach told) ++ []
     → (line.outcome ≡ told.outcome) × (more ≡ [])
 teach-more line told more e = one line.eep told.eep e
@@ -108,7 +107,6 @@ teach-goes_on : (eep : Eep) (line : TeachLine)
 unfolding encode_with
 teach-goes_on eep line = refl
 
--- a device's line, and more
 device-more : (known : Device) (told : TeachLine) (more : List ℕ)
     → text (DeviceLine known) ++ more ≢ text (Teach told) ++ []
 device-more known told more e = one told.eep e
@@ -131,7 +129,6 @@ no_lines (line ∷ lines) e = absurd cc
 abbrev pub IsTeachLine : List DeskLine → TeachLine → Type 0
 IsTeachLine lines told = (line : TeachLine) × (lines ≡ Teach line ∷ []) × (line.outcome ≡ told.outcome)
 
--- the fourth byte
 fourth : (t : List ℕ) (told : TeachLine) → t ≡ text (Teach told) ++ [] → slice_index_or t 3 0 ≡ 101
 fourth t told e = ap (λ (u : List ℕ). slice_index_or u 3 0) e
 

@@ -1,9 +1,8 @@
 //! The lines for the desk: one JSON object each, with no space between its parts, the members in the byte order of
 //! their names, and a line feed at the end; and the counters in a status line.
 //!
-//! The content of a line is a value of `DeskLine`, in `specs/Lines.antt`, and its bytes are that value's `text`. The
-//! content of a packet line is a `PacketLine`, and its bytes are that value's `packet_text`, in
-//! `specs/PacketLines.antt`.
+//! A line is a value of `DeskLine`, in `specs/Lines.antt`, whose `text` is its bytes. A packet line is a `PacketLine`,
+//! whose `packet_text`, in `specs/PacketLines.antt`, is its bytes.
 #![tactic(auto)]
 
 mod counts;

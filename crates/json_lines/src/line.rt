@@ -55,7 +55,7 @@ impl Line {
 }
 
 // The line of a value that serializes itself. serde_json has other errors than out of memory, and no postcondition
-// excludes them here. So any error is returned as out of memory.
+// excludes them here, so any error is returned as out of memory.
 pub(crate) fn line_of<T: Serialize>(alloc: Global, object: &T) -> Result<Line, AllocError>
     ensures { IfOk result (IsLineOf (T.writes object.now)) }
 {

@@ -155,9 +155,9 @@ fn put_end(why: Why, out: &mut Text)
 }
 
 /// The line that shows what a packet was, and one word for why it was handled the way it was. For a telegram: the
-/// signal strength in dBm, the destination ID (`null` for a broadcast), the profile, the ID and the manufacturer ID of
-/// its sender, its payload, its kind and its status; `null` if something is not known. For any other packet: its type,
-/// and the number of bytes of its data.
+/// signal strength in dBm, the destination ID (`null` for a broadcast), its sender's profile, ID and manufacturer ID,
+/// its payload, kind and status; `null` if something is not known. For any other packet: its type, and the number of
+/// bytes of its data.
 ///
 /// `{"dbm":-45,"dest":null,"eep":"D5-00-01","id":"01800ABC","maker":null,"payload":"09","rorg":"D5","status":"00",`
 /// `"type":"packet","why":"read"}`, `{"kind":4,"size":12,"type":"packet","why":"other_type"}`

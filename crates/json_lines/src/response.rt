@@ -51,8 +51,8 @@ impl Serialize for ResponseObject<'_> {
     }
 }
 
-/// The line of a response of the radio module: the return code, the bytes after it as hexadecimal digits, and the name
-/// of the code, or `null` if it has none.
+/// The line of a response of the radio module: the return code, the bytes after it as hexadecimal digits, and the
+/// code's name, `null` if it has none.
 ///
 /// `{"code":0,"data":"FF800000","name":"OK","type":"response"}`
 ///

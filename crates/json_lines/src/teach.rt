@@ -87,8 +87,8 @@ impl Draft {
     }
 }
 
-/// The draft of the line with the outcome for a sender: its profile, its ID and its manufacturer ID, `null` if they are
-/// not known, and the outcome.
+/// The draft of the line with the outcome for a sender: its profile, ID and manufacturer ID, `null` if not known, and
+/// the outcome.
 ///
 /// `{"eep":"D5-00-01","id":"01800ABC","maker":null,"result":"accepted","type":"teach"}`
 ///

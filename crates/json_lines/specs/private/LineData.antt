@@ -40,17 +40,14 @@ or_null data_of (Some known) = data_of known
 abbrev pub number_data : ℕ → Data
 number_data n = number (unsigned n)
 
--- an ID
 abbrev pub id_data : ℕ → Data
 id_data id = string (id_text id)
 
--- a profile
 abbrev pub profile_data : Eep → Data
 profile_data eep = string (eep_text eep)
 
 -- ---- the members of the lines
 
--- a teach line
 abbrev pub teach_members : TeachLine → List (List ℕ × Data)
 teach_members line =
     (codes "eep", or_null profile_data line.eep)
@@ -59,7 +56,6 @@ teach_members line =
     ∷ (codes "result", string (outcome_word line.outcome))
     ∷ (codes "type", string (codes "teach")) ∷ []
 
--- the line of a device
 abbrev pub device_members : Device → List (List ℕ × Data)
 device_members known =
     (codes "eep", profile_data known.eep)
@@ -72,7 +68,6 @@ device_members known =
 abbrev pub list_members : ℕ → List (List ℕ × Data)
 list_members count = (codes "count", number_data count) ∷ (codes "type", string (codes "list")) ∷ []
 
--- a status line
 abbrev pub status_members : Counts → Mode → List (List ℕ × Data)
 status_members counts mode =
     (codes "ignored", number_data counts.ignored)
