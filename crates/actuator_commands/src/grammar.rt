@@ -146,12 +146,11 @@ fn label_order(mut left: Option<&[u8]>) -> Result<Order, OrderFault>
     }
 }
 
-/// Parses a line of the desk, without its line end, as an order: the words that `Order` shows, literally, with exactly
-/// one space between two of them, and nothing before or after. An ID is what `id_of` reads, from `00000000` to
-/// `FFFFFFFE`; a profile is three pairs of hexadecimal digits, in upper or lower case, with `-` between them; a number
-/// is `0` or up to five decimal digits that do not begin with 0. The text of a label is everything after the ID and one
-/// space, with the spaces in it: at least one byte and at most `MAX_LABEL`, from space to `~` of ASCII, neither the
-/// first nor the last of which is a space.
+/// Parses a line of the desk, without its line end, as an order: the words that `Order` shows, with exactly one space
+/// between two of them, and nothing before or after. An ID is what `id_of` reads, from `00000000` to `FFFFFFFE`; a
+/// profile is three pairs of hexadecimal digits, in upper or lower case, with `-` between them; a number is `0` or up
+/// to five decimal digits that do not begin with 0. The text of a label is everything after the ID and one space: 1 to
+/// `MAX_LABEL` bytes from space to `~` of ASCII, neither the first nor the last of which is a space.
 ///
 /// A line that is no order is rejected as `Range` if it has the shape of one, and otherwise as `Syntax`.
 pub fn parse(line: &[u8]) -> Result<Order, OrderFault>

@@ -103,9 +103,8 @@ fn to_all(offset: u32, payload: [u8; 4], base: u32) -> Result<Telegram, OrderFau
     }
 }
 
-/// The telegram of an order to devices, that is, of an order for which `Order::sends` returns true. `device` is the
-/// order's device, if it is learned (its own ID is not used), and `base` is a base ID. The order's numbers are in
-/// range, as `parse` returns them.
+/// The telegram of an order for which `Order::sends` returns true. `device` is the order's device, if it is learned
+/// (its own ID is not used), and `base` is a base ID. The order's numbers are in range, as `parse` returns them.
 ///
 /// An order that names a device is a VLD telegram to it, from the base ID: of "D2-01" to its profiles, of "D2-05-00" to
 /// blinds. An order with an offset is a 4BS telegram of "A5-38-08" to all, from the base ID plus the offset (EnOcean

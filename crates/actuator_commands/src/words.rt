@@ -135,8 +135,8 @@ fn text_of(text: &[u8]) -> Option<&str>
     str::from_utf8(text).ok()
 }
 
-/// Reads the rest of a line, with its spaces, as the text of a label, of any length. If there is no rest, the text is
-/// empty; if nothing follows a last space, there is no text.
+/// Reads the rest of a line as the text of a label, of any length and with its spaces. The text is empty if there is no
+/// rest, and there is none if nothing follows a last space.
 pub(crate) fn label_of(left: Option<&[u8]>) -> Option<&str>
     ensures { option_map (λ label. label.now) result ≡ label_in (words_left left.entry) }
 {
