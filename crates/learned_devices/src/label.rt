@@ -89,7 +89,7 @@ impl Label {
         self.text.as_str()
     }
 
-    /// The same label. Unlike `clone`, which by its type may be out of memory, it has no error.
+    /// The same label. Unlike `clone`, it cannot fail.
     pub fn copied(&self) -> Label
         ensures { result ≡ self.now }
     {

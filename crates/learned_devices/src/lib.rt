@@ -32,7 +32,7 @@ pub struct Device {
 }
 
 impl Device {
-    /// The same device. Unlike `clone`, which by its type may be out of memory, it has no error.
+    /// The same device. Unlike `clone`, it cannot fail.
     pub fn copied(&self) -> Device
         ensures { result ≡ self.now }
     {
