@@ -14,7 +14,7 @@ device_of-id devices id known is = one (get devices id) is
     one None is = absurd cc
     one (Some it) is = ap (λ (d : Device). d.id) (ap (λ o. unwrap_or o known) is)
 
--- so it is found under its ID
+-- and it is found under this ID
 pub device_of-known : (devices : Devices) (id : ℕ) (known : Device) → device_of devices id ≡ Some known
     → device_of devices known.id ≡ Some known
 device_of-known devices id known is = ap (device_of devices) (device_of-id devices id known (sym is)) ∙ is

@@ -23,7 +23,7 @@ pub record LeavesALife (base : ℕ) (found : Devices) (items : List Item) (answe
     left = left;
   })
 
--- an execution that found these devices, handled these inputs and was closed leaves these: what is known at its end
+-- an execution that found these devices, handled these inputs and was closed leaves these, the devices known at its end
 pub record ClosesALife (base : ℕ) (found : Devices) (items : List Item) (answers : List Answer) (left : Devices)
     : Type 0 where
   pub life : LeavesALife base found items answers None left
@@ -35,7 +35,7 @@ module _ {S : Type 0} (stored : S → Kept) where
     pub at : IsAt stored v (begun v.base found)
     pub stop : (left : Devices) → (stored v.registry).may_recover left → left ≡ found
 
-  -- whatever is handled from there on, what a crash then leaves is what an execution may leave
+  -- after anything that is handled from there on, a crash leaves what an execution may leave
   abbrev pub CallsLeaveALife : Type 0
   CallsLeaveALife = (old new : HandlerValue S) (found : Devices) (items : List Item) (answers : List Answer)
       → (stored new.registry).honest → BeginsAt old found → Handles stored old items answers new

@@ -16,7 +16,7 @@ pub record HandlerValue (S : Type 0) : Type 0 where
   pub counts : Counts
   pub registry : S
 
--- this is what the gateway knows
+-- the gateway knows this state
 abbrev pub IsAt : {S : Type 0} → (S → Kept) → HandlerValue S → State → Type 0
 IsAt stored v s =
     (v.base ≡ s.base) × (v.mode ≡ s.mode) × (stored v.registry).holds s.devices × (v.counts ≡ s.counts)
@@ -42,7 +42,7 @@ module _ {S : Type 0} (stored : S → Kept) where
       (new : HandlerValue S) : Type 0 where
     pub base : new.base ≡ old.base
     pub clean : (stored new.registry).honest → (stored old.registry).honest
-    -- what a crash leaves stays sound
+    -- the device store stays sound
     pub registries : (stored new.registry).honest → (stored old.registry).sound
         → (stored new.registry).sound
     pub went : (stored new.registry).honest → (start : State) → IsAt stored old start

@@ -1,5 +1,5 @@
--- What a crash leaves is what was known after a prefix of the inputs, perhaps with the update of the next one. The
--- prefix contains every acknowledged input.
+-- A crash leaves what was known after a prefix of the inputs, perhaps with the update of the next one. The prefix
+-- contains every acknowledged input.
 use Rattle.std.specs.Prelude.{◌≡◌, ◌<◌, ◌⊎◌, length, IsSome, List, [], ◌∷◌, ◌++◌, Option, Some, None}
 use Rattle.learned_devices.specs.Devices.{Devices}
 use Rattle.gateway_core.specs.Step.{State, Item, change_of, with_change}
@@ -66,8 +66,8 @@ abbrev pub StopIsDone : State → Option Item → Devices → Type 0
 StopIsDone state None devices = ⊥
 StopIsDone state (Some item) devices = devices ≡ with_change state.devices (change_of state item)
 
--- What an execution leaves is what was known after a prefix of its inputs that contains every acknowledged one, or
--- after all of them and the one in progress.
+-- An execution leaves what was known after a prefix of its inputs that contains every acknowledged one, or after all of
+-- them and the one in progress.
 abbrev pub LeftIsPrefix : Type 0
 LeftIsPrefix = (life : Life) → IsLife life
     → AfterPrefix (begun life.base life.found) life.items life.fates life.left

@@ -89,7 +89,7 @@ pub(crate) fn why_filtered(reason: FilterReason) -> Why
     }
 }
 
-// Why nothing is done about the sender of a data telegram, or otherwise of a teach-in telegram.
+// Why nothing is done about the sender of a data telegram, if `is_data`, or of a teach-in telegram.
 pub(crate) fn why_silent(is_data: bool, mode: Mode) -> Why
     ensures { result ≡ Accounts.why_silent is_data mode }
 {

@@ -144,15 +144,15 @@ pub fn safe_is_prefix()
     ensures told { ToldStandBefore }
 {}
 
-/// What an execution leaves is what was known after a prefix of its inputs that contains every acknowledged one, or
-/// after all of them and the one in progress.
+/// An execution leaves what was known after a prefix of its inputs that contains every acknowledged one, or after all
+/// of them and the one in progress.
 pub fn left_is_prefix()
     ensures { LeftIsPrefix }
 {}
 
 /// Only an applied input is answered with a teach line. With `accepted` it learns the device in the line. With
-/// `deleted` it forgets that device: a line a learned one, a packet the sender of its telegram, learned or not, with
-/// the profile and maker of its query. With any other outcome it changes neither the devices nor the mode.
+/// `deleted` it forgets that device: a line forgets a learned one; a packet forgets the sender of its telegram, learned
+/// or not, with the profile and maker of its query. With any other outcome it changes neither the devices nor the mode.
 pub fn teach_lines_are_told()
     ensures { TeachLinesAreTold }
 {}
@@ -176,14 +176,14 @@ pub fn radio_is_told()
     ensures { RadioIsTold }
 {}
 
-/// A packet changes the devices only in an open window: it learns its sender, or forgets it if it is a query for that
-/// and the window is for all senders. It changes the mode only if it learns and the window is for one sender, which
-/// then closes.
+/// A packet changes the devices only in an open window: it learns its sender, or forgets its sender if it is a query
+/// for that and the window is for all senders. It changes the mode only if it learns and the window is for one sender,
+/// which then closes.
 pub fn packets_change_in_windows()
     ensures { PacketsChangeInWindows }
 {}
 
-/// What a crash leaves after the calls of an execution is what an execution may leave.
+/// After the calls of an execution, a crash leaves what an execution may leave.
 pub fn calls_leave_a_life<S: DeviceStore>()
     ensures { CallsLeaveALife S.kept }
 {}
