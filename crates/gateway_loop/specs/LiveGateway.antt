@@ -58,8 +58,8 @@ module _ {S : Type 0} (old new : LiveValue S) where
     pub serial_well : NoneFailed old.serial.counts new.serial.counts
     pub desk_well : NoneFailed old.desk.counts new.desk.counts
 
--- the counters have room for this many reads of both sources, and, for all four, for one more call that fails and one
--- more that returns 0 bytes
+-- the counters can count this many more reads of both sources, and, for all four, one more call that fails and one more
+-- that returns 0 bytes
 pub record HasRoomForTurns {S : Type 0} (now : LiveValue S) (turns : ℕ) : Type 0 where
   pub serial_in : HasRoom now.serial.counts turns
   pub desk_in : HasRoom now.desk.counts turns

@@ -42,7 +42,7 @@ module _ {O S : Type 0} (stored : S → Kept) (way : Way O) where
     pub played : EnginePlays old new events
     pub counted : new.items ≡ count_with old.items (length (items_of old.gateway.now.rest events))
 
-  -- a call that takes events: it does so at `Ok`, and at `Err` stops at one of them
+  -- a call that takes events: it does so at `Ok`, and breaks off at one of them at `Err`
   abbrev pub TakesOrStops : {A E : Type 0} → Result A E → Engine O S → Engine O S → List Event → Type 0
   TakesOrStops result old new events =
       MatchResult result (λ _. Takes old new events)
