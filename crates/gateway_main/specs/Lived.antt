@@ -1,4 +1,4 @@
--- From an open to a crash: what a crash leaves after `replay` or `live` is what an execution of the gateway may leave.
+-- From an open to a crash: after `replay` or `live`, a crash leaves what an execution of the gateway may leave.
 use Rattle.std.specs.Prelude.{ℕ, List, [], ◌∷◌, ◌++◌, None}
 use Rattle.sqlite.specs.State.{State, HasCleanDisk}
 use Rattle.learned_devices.specs.Devices.{Devices}
@@ -58,7 +58,7 @@ module _ {C : Type 0} (state : C → State) where
 
 -- ---- theorems about a gateway over a registry
 
--- what an open finds on the connection that was closed and returned is what an execution that is closed leaves
+-- on the connection that was closed and returned, an open finds what a closed execution leaves
 abbrev pub ClosesLeaveALife : {C : Type 0} → (C → State) → Type 0
 ClosesLeaveALife {C} state =
     (old new : HandlerValue C) (opened : C) (found next : Devices) (items : List Item) (answers : List Answer)

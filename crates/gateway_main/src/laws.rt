@@ -23,8 +23,8 @@ pub fn a_state_is_known<C: SqlConnection>(gateway: &GatewayOver<RegistryOver<C>>
     devices_are_held(gateway.store());
 }
 
-/// An execution may end by `close`: what the next open finds on the connection that was returned is what the execution
-/// may leave, and is what was known at its end.
+/// An execution may end by `close`: on the connection that was returned, the next open finds what the execution may
+/// leave, which is what was known at its end.
 pub fn closes_leave_a_life<C: SqlConnection>()
     ensures { ClosesLeaveALife C.state }
 {}
