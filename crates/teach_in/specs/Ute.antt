@@ -1,6 +1,6 @@
--- UTE (universal teach-in): queries by which devices are taught in and out, and the replies to them (EnOcean Equipment
--- Profiles 2.6, "Universal Uni- and Bidirectional Teach-in"). A telegram has seven bytes, DB6 to DB0. DB5 is the number
--- of channels, which has no effect.
+-- UTE (universal teach-in): queries that teach devices in and out, and the replies to them (EnOcean Equipment Profiles
+-- 2.6, "Universal Uni- and Bidirectional Teach-in"). A telegram has seven bytes, DB6 to DB0. DB5 is the number of
+-- channels, which has no effect.
 use Rattle.std.specs.Prelude.{ℕ, Bool, ◌+◌, ◌*◌, ◌==◌, ◌∷◌, drop, Option, Some, None, option_map}
 use Rattle.bit_fields.specs.Bits.{field}
 use Rattle.erp1_telegrams.specs.declared.eep.Eep.{Eep}

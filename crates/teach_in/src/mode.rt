@@ -1,7 +1,7 @@
 //! The learn modes of the gateway.
 use erp1_telegrams::Eep;
 
-/// The learn mode: the telegrams by which the gateway learns. A gateway begins closed, and the desk opens and closes
+/// The learn mode: the telegrams from which the gateway learns. A gateway begins closed, and the desk opens and closes
 /// it. Own choice.
 #[derive(Clone, Copy, Debug, PartialEq, Eq)]
 pub enum Mode {

@@ -1,4 +1,4 @@
-//! UTE (universal teach-in): queries by which devices are taught in and out, and the replies to them.
+//! UTE (universal teach-in): queries that teach devices in and out, and the replies to them.
 ghost use Rattle.std.specs.Prelude.{◌≡◌, true, ◌==◌, ◌<◌, Some, IsSome};
 ghost use Rattle.erp1_telegrams.specs.Address.{is_base};
 ghost use Rattle.teach_in.specs.Ute.{eep_in, reply_first_byte, maker_in, request_in, ute_code, ute_reply, wants_reply};
