@@ -40,7 +40,7 @@ id_string id = in_quotes (id_text id)
 
 -- ---- the members of a line, in the byte order of their names
 
--- how a telegram was received, and from whom. Own choice
+-- how a telegram was received, and its sender. Own choice
 abbrev pub sender_members : ToldTelegram → List (List ℕ × List ℕ)
 sender_members telegram =
     (codes "dbm", or_null dbm_text telegram.dbm)

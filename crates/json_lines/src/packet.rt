@@ -85,7 +85,7 @@ fn why_word(why: Why) -> &'static str
     }
 }
 
-// How a telegram was received, and from whom.
+// How a telegram was received, and its sender.
 fn put_sender(shown: &ToldTelegram, out: &mut Text)
     requires { array_vec_len out.old + longest_sender ≤ max_packet_line }
     ensures items { out.new.items ≡ out.old.items ++ members_text (sender_members shown.now) }
