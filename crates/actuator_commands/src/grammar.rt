@@ -150,9 +150,9 @@ fn label_order(mut left: Option<&[u8]>) -> Result<Order, OrderFault>
 /// between two of them, and nothing before or after. An ID is what `id_of` reads, from `00000000` to `FFFFFFFE`; a
 /// profile is three pairs of hexadecimal digits, in upper or lower case, with `-` between them; a number is `0` or up
 /// to five decimal digits that do not begin with 0. The text of a label is everything after the ID and one space: 1 to
-/// `MAX_LABEL` bytes from space to `~` of ASCII, neither the first nor the last of which is a space.
+/// `MAX_LABEL` bytes from space to `~` of ASCII, neither beginning nor ending with a space.
 ///
-/// A line that is no order is rejected as `Range` if it has the shape of one, and otherwise as `Syntax`.
+/// A line that is no order is rejected as `Range` if it has the form of one, and otherwise as `Syntax`.
 pub fn parse(line: &[u8]) -> Result<Order, OrderFault>
     ensures { result ≡ order_of line.now }
 {

@@ -102,10 +102,10 @@ pub enum Quantity {
 /// Why a line is no order, or an order has no telegram.
 #[derive(Clone, Copy, Debug, PartialEq, Eq, Error)]
 pub enum OrderFault {
-    /// The line does not have the shape of an order.
+    /// The line does not have the form of an order.
     #[error("not an order")]
     Syntax,
-    /// The line has the shape of an order, but a number is out of its range, a label is too long, or the ID is
+    /// The line has the form of an order, but a number is out of its range, a label is too long, or the ID is
     /// `FFFFFFFF`, which no device has; or the base ID plus the offset of an order is this ID.
     #[error("a number out of range")]
     Range,
