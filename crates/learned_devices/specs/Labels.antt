@@ -13,11 +13,11 @@ is_shown byte = nat_le 0x20 byte && nat_le byte 0x7E
 abbrev pub space : List ℕ
 space = 0x20 ∷ []
 
--- a label of any length: shown bytes, neither the first nor the last of which is a space
+-- a label of any length: shown bytes, neither beginning nor ending with a space
 abbrev pub is_name : List ℕ → Bool
 is_name text =
     list_all is_shown text && not (starts_with nat_eq text space) && not (ends_with nat_eq text space)
 
--- a text by which people know a device, or the empty one
+-- the name of a device for people, or the empty text
 abbrev pub is_label : List ℕ → Bool
 is_label text = is_name text && nat_le (length text) max_label

@@ -25,7 +25,7 @@ impl Receipt {
     }
 }
 
-/// A store of at most 1,000 devices, each under the ID of its sender.
+/// Stores at most 1,000 devices, each under the ID of its sender.
 pub trait DeviceStore {
     /// What it keeps.
     ghost kept: { Self → Kept };

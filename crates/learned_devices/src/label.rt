@@ -12,8 +12,8 @@ use std::alloc::AllocError;
 use std::fmt;
 use std::marker::Model;
 
-/// A text by which people know a device, or the empty one: at most `MAX_LABEL` bytes from space to `~` of ASCII,
-/// neither the first nor the last of which is a space. It is stored in a fixed array. Own choice.
+/// The name of a device for people, or the empty text: at most `MAX_LABEL` bytes from space to `~` of ASCII, neither
+/// beginning nor ending with a space. It is stored in a fixed array. Own choice.
 #[derive(Drop)]
 pub struct Label {
     text: ArrayString<MAX_LABEL>,
@@ -42,8 +42,8 @@ fn are_shown(text: &[u8]) -> bool
     text.iter().all(is_shown)
 }
 
-/// Whether a text is a valid label, ignoring its length: bytes from space to `~` of ASCII, neither the first nor the
-/// last of which is a space. The empty text is one.
+/// Whether a text is a valid label, ignoring its length: bytes from space to `~` of ASCII, neither beginning nor ending
+/// with a space. The empty text is one.
 pub fn is_name(text: &[u8]) -> bool
     ensures { result ≡ is_name text.now }
 {

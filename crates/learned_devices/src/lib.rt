@@ -27,7 +27,7 @@ pub struct Device {
     pub eep: Eep,
     /// Its manufacturer ID, 0 to 2047, if known.
     pub maker: Option<u16>,
-    /// The text by which people know it, or the empty one.
+    /// Its name for people, or the empty text.
     pub label: Label,
 }
 
