@@ -159,7 +159,7 @@ fn filled<C: SqlConnection + Drop>(alloc: Global, conn: C, others: u32) -> Resul
     Ok(conn)
 }
 
-/// Whether the database is prepared, or the store fails. `None`: it fails for another cause.
+/// Whether the database is prepared; false if it fails, and `None` if it is rejected for another cause.
 fn is_prepared<C: SqlConnection>(conn: &mut C) -> Option<bool> {
     if !conn.is_autocommit() {
         return None;
@@ -171,7 +171,7 @@ fn is_prepared<C: SqlConnection>(conn: &mut C) -> Option<bool> {
     }
 }
 
-/// A gateway, unless the store fails.
+/// A gateway, unless the database fails.
 fn started<C: SqlConnection + Drop>(
     alloc: Global,
     conn: C,
@@ -266,7 +266,7 @@ fn run_script<S: DeviceStore>(
     Ok(course)
 }
 
-/// Follows an input with this answer. An input that needs the store may fail, only with the word `store`.
+/// Follows an input with this answer. An input that needs the database may fail, only with the word `store`.
 fn follow(alloc: Global, course: &mut Course, item: Item, text: &[u8]) -> Result<()> {
     let change = item.change(course.state.known);
     if text == STORE && item.asks_store() {

@@ -28,7 +28,7 @@ pub enum Item {
     Status,
 }
 
-/// The script. With enough memory and a store that does not fail its second `Remove` finds nobody.
+/// The script. With enough memory and a database that does not fail its second `Remove` finds nobody.
 pub const ITEMS: [Item; 10] = [
     Item::Add,
     Item::Contact,
@@ -42,8 +42,8 @@ pub const ITEMS: [Item; 10] = [
     Item::Status,
 ];
 
-/// The script with labels. With enough memory and a store that does not fail its second `Add` keeps the label, and its
-/// second `Label` finds nobody.
+/// The script with labels. With enough memory and a database that does not fail its second `Add` keeps the label, and
+/// its second `Label` finds nobody.
 pub const LABELS: [Item; 9] = [
     Item::Add,
     Item::Label,
@@ -56,7 +56,7 @@ pub const LABELS: [Item; 9] = [
     Item::Label,
 ];
 
-/// What is known of the sender.
+/// What is known about the sender.
 #[derive(Clone, Copy, PartialEq, Eq)]
 pub enum Known {
     Nothing,
@@ -114,7 +114,7 @@ impl Item {
         self.line().strip_prefix(b"S ".as_slice())
     }
 
-    /// Whether its answer may need the store.
+    /// Whether its answer may need the database.
     pub(crate) fn asks_store(self) -> bool {
         match self {
             Item::Open | Item::Response | Item::Status => false,
@@ -122,7 +122,8 @@ impl Item {
         }
     }
 
-    /// What is known of the sender once it was acknowledged that this input learned, forgot or labelled it, if it does.
+    /// What is known about the sender once an acknowledgement says that this input learned, forgot or labelled it, if
+    /// it does.
     pub(crate) fn change(self, known: Known) -> Option<Known> {
         match self {
             Item::Add if known == Known::Labelled => Some(known),
@@ -161,7 +162,7 @@ impl Answer {
 /// What the gateway knows.
 #[derive(Clone, Copy)]
 pub struct State {
-    /// What it knows of the sender.
+    /// What it knows about the sender.
     pub known: Known,
     /// How many other senders it knows. They are contacts, and have the IDs from 1 on.
     pub others: u32,
@@ -174,7 +175,7 @@ pub struct State {
 }
 
 impl State {
-    /// The state of a new gateway that finds this of the sender.
+    /// The state of a new gateway that finds this about the sender.
     pub(crate) fn new(known: Known, others: u32) -> State {
         State {
             known,
