@@ -31,7 +31,7 @@ const LAST: Eep = Eep {
     typ: 0xFF,
 };
 
-/// A line, and the order that it spells, or the reason why it is none.
+/// A line, and the order that it spells, or why it spells none.
 struct Spelled {
     line: &'static [u8],
     wanted: Result<Order, OrderFault>,

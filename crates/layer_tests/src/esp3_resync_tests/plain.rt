@@ -15,7 +15,7 @@ fn byte_or(b: &[u8], i: usize, other: u8) -> u8 {
     b.get(i).copied().unwrap_or(other)
 }
 
-// Whether a packet may begin with these bytes, of which there are at most five. Missing bytes are assumed to be valid.
+// Whether a packet may begin with these bytes, at most five. Missing bytes are assumed to be valid.
 fn may_begin(b: &[u8]) -> bool {
     byte_or(b, 0, 0x55) == 0x55 && [byte_or(b, 1, 0), byte_or(b, 2, 0), byte_or(b, 3, 1)] != [0; 3]
 }

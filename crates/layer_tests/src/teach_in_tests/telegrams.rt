@@ -143,8 +143,8 @@ fn kinds(rt: HostRuntime) -> Result<(), Fail> {
     Ok(())
 }
 
-// The query has its sender and these bytes: the reply has them all except in DB6, of which it has the highest bit.
-// Another request there makes another query.
+// The query has its sender and these bytes. The reply has the same bytes, except for DB6, which keeps only the highest
+// bit. Another request there makes another query.
 fn is_query(rt: &impl Abort, found: Teach, payload: [u8; 7]) -> Result<(), Fail> {
     let Teach::Ute(query) = found else {
         return Err(Fail::from("no query"));
