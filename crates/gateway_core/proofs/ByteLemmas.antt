@@ -77,7 +77,6 @@ pub four-below : (id : List ℕ) → slice_index id 0 < 256 → slice_index id 1
     → slice_index id 3 < 256 → from_be_bytes w32 id < 2 ^ 32
 four-below id a b c d = omega (arith, a, b, c, d)
 
--- they are bytes
 abbrev pub AreBytes : List ℕ → Type 0
 AreBytes = All (λ byte. byte < 256)
 

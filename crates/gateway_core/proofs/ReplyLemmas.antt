@@ -110,7 +110,6 @@ line-sends state bytes line =
 
 -- ---- a line
 
--- nothing is sent
 Silent : Effect → Type 0
 Silent e = e.radio ≡ None
 

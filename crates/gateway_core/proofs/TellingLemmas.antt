@@ -33,7 +33,6 @@ use Rattle.gateway_core.specs.Run.{Fate, Taken, Refused, RefusedAtWrite, cause_t
 use Rattle.gateway_core.specs.Telling.{IsDeleted, Tells, ChangesAreTold, LabelsAreTold, TeachLinesAreTold}
 use Rattle.gateway_core.proofs.EffectLemmas.{IsRefusal, of_packet, of_line}
 
--- whether a line is a teach line
 abbrev IsTeach : DeskLine → Type 0
 IsTeach (Teach line) = Unit {0}
 IsTeach line = ⊥

@@ -506,7 +506,6 @@ module _ {S : Type 0} (stored : S → Kept) where
   made-safe old new devices None keeps left may = inr (refl, keeps.stop left may)
   made-safe old new devices (Some change) commits left may = inl (inl (commits.stop left may))
 
-  -- an input that failed at its write
   at_write-went : (old new : HandlerValue S) (start : State) (item : Item) (cause : Cause) (change : Option Change)
       → change_of start item ≡ change → new.base ≡ start.base → new.mode ≡ start.mode
       → new.counts ≡ (refused start).counts

@@ -79,7 +79,6 @@ pub(crate) fn why_other(packet: &PacketRef<'_>) -> Why
     }
 }
 
-// Why a filtered telegram is ignored.
 pub(crate) fn why_filtered(reason: FilterReason) -> Why
     ensures { result ≡ Accounts.why_filtered reason }
 {

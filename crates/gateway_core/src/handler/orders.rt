@@ -28,7 +28,6 @@ fn open_as(eep: Eep) -> OrderDone
 }
 
 impl<S: DeviceStore> Handler<S> {
-    // Learns a device that the desk names.
     fn try_add(&mut self, id: u32, eep: Eep) -> Result<OrderDone, Refusal>
         ensures { Tries S.kept self.old (λ state. order_effect state (Ok (Order.Add id eep))) result self.new }
     {
@@ -43,7 +42,6 @@ impl<S: DeviceStore> Handler<S> {
         })
     }
 
-    // Forgets a device that the desk names.
     fn try_remove(&mut self, id: u32) -> Result<OrderDone, Refusal>
         ensures { Tries S.kept self.old (λ state. order_effect state (Ok (Order.Remove id))) result self.new }
     {

@@ -72,7 +72,6 @@ fn send(order: &Order, device: Option<&Device>, base: u32) -> OrderDone
 }
 
 impl<S: DeviceStore> Handler<S> {
-    // Executes an order to devices.
     pub(crate) fn try_send(&mut self, order: &Order) -> Result<OrderDone, Refusal>
         requires sends { sends order.now ≡ true }
         requires in_range { IsInRange order.now }
