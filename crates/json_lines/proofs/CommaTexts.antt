@@ -26,7 +26,6 @@ module _ (P : ℕ → Type 0) (each : (digit : ℕ) → digit < 10 → P (48 + d
   unfolding digits
   all-decimal n = all-digits 64 n [] tt
 
--- no byte of it is a comma
 abbrev pub NoComma : List ℕ → Type 0
 NoComma = AllByRecursion (λ c. c ≢ 44)
 

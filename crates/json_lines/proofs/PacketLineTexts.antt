@@ -133,7 +133,6 @@ values shown = record {
   status = in_quotes (byte_text shown.status);
 }
 
--- none of them has a comma
 pub record NoCommas (v : Values) : Type 0 where
   pub dbm : NoComma v.dbm
   pub dest : NoComma v.dest
@@ -230,7 +229,6 @@ same-word one other e =
     (append_cancel_left (codes "\"type\":\"packet\",\"why\":\"") (why_word one ++ codes "\"}\n")
     (why_word other ++ codes "\"}\n") e))
 
--- the members' texts are the same
 pub record SameValues (v w : Values) (one other : Why) : Type 0 where
   pub dbm : v.dbm ≡ w.dbm
   pub dest : v.dest ≡ w.dest

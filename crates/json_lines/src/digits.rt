@@ -60,7 +60,6 @@ pub(crate) fn as_digits(eep: Eep) -> [u8; 11]
     [b'a', b's', b' ', a, b, c, d, e, f, g, h]
 }
 
-// Digits as a text.
 pub(crate) fn text_of(digits: &[u8]) -> &str
     requires { IsAscii digits.now }
     ensures { result.now ≡ digits.now }

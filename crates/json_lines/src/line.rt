@@ -31,14 +31,12 @@ impl Line {
         }
     }
 
-    // The line with these bytes.
     pub(crate) fn new(bytes: Vec<u8>) -> Line
         ensures { result ≡ bytes.items }
     {
         Line { bytes }
     }
 
-    // Appends another line.
     pub(crate) fn append(&mut self, other: &Line) -> Result<(), AllocError>
         ensures { OnOk result (self.new ≡ self.old ++ other.now) }
     {

@@ -60,7 +60,6 @@ pub struct PacketLine {
     pub why: Why,
 }
 
-// The word for the reason.
 fn why_word(why: Why) -> &'static str
     ensures text { result.now ≡ why_word why }
     ensures short { length result.now ≤ 14 }

@@ -118,7 +118,6 @@ pub(crate) fn put_dbm(dbm: Option<u8>, out: &mut Text)
     }
 }
 
-// The bytes of a payload.
 pub(crate) fn put_payload(payload: &[u8], out: &mut Text)
     requires short { length payload.now ≤ 14 }
     requires fits { array_vec_len out.old + 30 ≤ max_packet_line }
