@@ -88,7 +88,6 @@ words-lack (text ∷ texts) (word ∷ more) plain spell =
     let parts = and_parts (is_plain word) (list_all is_plain more) plain in
     (word-lacks text word parts.0 spell.0, words-lack texts more parts.1 spell.1)
 
--- the order is `label`
 pub record IsLabelOrder (order : Order) : Type 0 where
   pub id : ℕ
   pub label : List ℕ
@@ -126,7 +125,6 @@ words-joined order (text ∷ texts) plain spell =
 
 -- ---- a label
 
--- an ID has no space
 pub id-lacks : (digits : List ℕ) (id : ℕ) → SpellsId digits id → LacksSpace digits
 id-lacks digits id (bytes, four, decoded, is) = digits-lack digits bytes decoded
 

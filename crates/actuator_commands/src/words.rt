@@ -112,7 +112,6 @@ pub(crate) fn state_of(text: &[u8]) -> Option<bool>
     }
 }
 
-/// Reads a quantity.
 pub(crate) fn quantity_of(text: &[u8]) -> Option<Quantity>
     ensures { result ≡ quantity_in text.now }
 {
