@@ -24,7 +24,6 @@ const FIRST: &[u8] = b"add 01800ABC D5-00-01\n";
 /// More reads than any script needs.
 const TURNS: u64 = 1000;
 
-/// How many streams are generated.
 const STREAMS: u32 = 1000;
 
 /// Pseudo-random numbers: a linear congruential generator.

@@ -47,7 +47,6 @@ const QUERY_EXPLAINED: &[u8] =
 const TAUGHT: &[u8] =
     b"{\"eep\":\"D2-01-12\",\"id\":\"01800ABC\",\"maker\":70,\"result\":\"accepted\",\"type\":\"teach\"}\n";
 
-/// The request for the base ID.
 const BASE_QUESTION: &[u8] = b"\x55\x00\x01\x00\x05\x70\x08\x38";
 
 /// No call of a writer fails.

@@ -21,7 +21,6 @@ const MOST: usize = 5000;
 /// Enough devices that their table has more than one page.
 const MANY: u32 = 350;
 
-/// How a run ends.
 #[derive(Clone, Copy, PartialEq, Eq)]
 enum End {
     /// No connection is made.

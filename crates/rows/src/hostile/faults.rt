@@ -64,7 +64,6 @@ pub(crate) fn knows<S: DeviceStore>(
     Ok(behind == Some(counts.as_bytes()))
 }
 
-/// The text of the script.
 fn script(alloc: Global) -> Result<Vec<u8>> {
     let mut script = Vec::new(alloc);
     for item in ITEMS {

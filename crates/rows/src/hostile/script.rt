@@ -267,7 +267,6 @@ impl State {
         Ok(String::from_utf8_lossy(alloc, OK)?)
     }
 
-    /// The answer to `list`.
     pub(crate) fn listed(&self, alloc: Global) -> Result<String> {
         let mut text = String::new(alloc);
         for id in 1..=self.others {
@@ -291,7 +290,6 @@ impl State {
         Ok(text)
     }
 
-    /// The answer to `status`.
     pub(crate) fn status(&self, alloc: Global) -> Result<String> {
         let mode = if self.is_answering {
             "answer"
