@@ -14,7 +14,6 @@ const CONTACT: [u8; 21] = [
 
 /// The input of a CRC.
 enum Of {
-    /// These bytes.
     Bytes(&'static [u8]),
     /// A message with this CRC, and one more byte.
     Next { before: u8, byte: u8 },
@@ -22,7 +21,6 @@ enum Of {
     Between { before: u8, all: u8, len: usize },
 }
 
-/// A CRC.
 struct Check {
     of: Of,
     wanted: u8,

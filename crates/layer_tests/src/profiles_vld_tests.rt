@@ -18,7 +18,6 @@ const OTHER: Eep = Eep {
     typ: 0x13,
 };
 
-/// Blinds.
 const BLINDS: Eep = Eep {
     rorg: 0xD2,
     func: 0x05,

@@ -39,7 +39,6 @@ pub struct Types {
     pub types: &'static [u8],
 }
 
-/// A crate of profiles.
 #[derive(Clone, Copy)]
 enum Crate {
     Rps,

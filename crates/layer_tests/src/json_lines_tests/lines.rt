@@ -255,7 +255,6 @@ fn counts(rt: HostRuntime) {
     assert_eq!(rt; (counts, Counts::none()), (RAISED, NONE));
 }
 
-/// Counters and a mode, and their line.
 struct OfStatus {
     counts: Counts,
     mode: Mode,
@@ -311,7 +310,6 @@ fn status_lines(rt: HostRuntime) -> Result<(), Fail> {
     Ok(())
 }
 
-/// A response, and its line.
 struct OfResponse {
     code: u8,
     data: &'static [u8],

@@ -4,7 +4,6 @@ use json_lines::{MAX_PACKET_LINE, PacketLine, ToldPacket, ToldTelegram, packet_l
 use std::test::Fail;
 use teach_in::{Outcome, Why};
 
-/// A telegram, and its line.
 struct OfTelegram {
     dbm: Option<u8>,
     dest: u32,
@@ -115,7 +114,6 @@ fn telegrams(rt: HostRuntime) -> Result<(), Fail> {
     Ok(())
 }
 
-/// Another packet, and its line.
 struct OfAnother {
     kind: u8,
     size: u16,
