@@ -18,7 +18,7 @@ use Rattle.actuator_commands.proofs.SpellingLemmas.{id_spelled, text_spelled}
 
 -- ---- its text
 
--- a text that may be a label is one of bytes that may
+-- a text that may be a label consists of bytes that may be in one
 text-named : (text : List ℕ) → is_text text ≡ true → is_name text ≡ true
 text-named [] may = absurd cc
 text-named (first ∷ more) may = may
@@ -36,7 +36,7 @@ module _ {E : Type 0} (Bad : E → Type 0) where
       ap (λ t. Some t) cases.0 ∙ ap (λ b. cond b (Some text) None) (sym (named-text text some is))
   text-given text (Err e) some is cases bad = absurd (bad e cases (name-utf8 text is))
 
--- and what is read behind the ID would be a label
+-- and the text after the ID is a label of any length
 pub label_named : (more : List (List ℕ)) (text : List ℕ) → label_in more ≡ Some text → is_name text ≡ true
 label_named [] text e = let none : [] ≡ text = cc in subst (λ t. is_name t ≡ true) none refl
 label_named (first ∷ more) text e =
@@ -76,7 +76,7 @@ one_word : (text : List ℕ) → is_text text ≡ true → label_words text ≡ 
 one_word [] may = absurd cc
 one_word (first ∷ more) may = refl
 
--- what is read behind the name has the shape of the order
+-- what is read after the name has the shape of the order
 pub label_shaped : (digits : List ℕ) (more : List (List ℕ)) (id : ℕ) (label : List ℕ) → id_in digits ≡ Some id
     → label_in more ≡ Some label → HasShape (join_with_byte 32 (codes "label" ∷ digits ∷ more)) (Label id label)
 label_shaped digits [] id label i t =

@@ -26,7 +26,7 @@ same : (ds : List ℕ) → list_all is_ascii_digit ds ≡ all_ascii_digits ds
 same [] = refl
 same (d ∷ ds) = ap (λ b. is_ascii_digit d && b) (same ds)
 
--- what the text of a number is
+-- the properties of the text of a number
 record Numeral (text : List ℕ) : Type 0 where
   digits : AreDigits text
   short : length text ≤ 5
@@ -83,7 +83,7 @@ number_spelled text n e = by_test (is_number text) refl e
         )
     by_test false is e = absurd cc
 
--- and what is spelled is computed
+-- and the number that is spelled is computed
 begins_decimal : (text : List ℕ) → 0 < length text → (1 < length text → get_or text 0 0 ≢ 48) → begins_well text ≡ true
 begins_decimal [] some lead = absurd (omega arith)
 begins_decimal (b ∷ []) some lead = refl

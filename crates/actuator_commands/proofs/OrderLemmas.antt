@@ -149,7 +149,7 @@ fits (name ∷ second ∷ third ∷ []) = fits_three_words name second third
 fits (name ∷ second ∷ third ∷ fourth ∷ []) = fits_four_words name second third fourth
 fits (a ∷ b ∷ c ∷ d ∷ e ∷ more) = tt
 
--- the line that is joined of the words has the shape of the order, if there is one
+-- the line of the joined words has the shape of the order, if there is one
 Shaped : List (List ℕ) → Option Order → Type 0
 Shaped ws None = Unit {0}
 Shaped ws (Some order) = HasShape (join_with_byte 32 ws) order
@@ -183,7 +183,7 @@ shaped (name ∷ more) = by_name (bytes_eq name (codes "label")) refl
         subst (λ n. Shaped (n ∷ more) (label_order more)) (sym (named name (codes "label") is)) (shaped_label more)
     by_name false is = shaped_words (name ∷ more) (plain_order (name ∷ more)) (fits (name ∷ more))
 
--- words that spell those of an order are read as it
+-- words that spell those of an order are read as this order
 read : (order : Order) (ws : List (List ℕ)) → AllZip SpellsWord ws (words_of order) → order_in ws ≡ Some order
 read LearnOn (a ∷ b ∷ []) (is_a, (is_b, _)) = rw (is_a, is_b) refl
 read LearnOnAnswer (a ∷ b ∷ c ∷ []) (is_a, (is_b, (is_c, _))) = rw (is_a, is_b, is_c) refl
@@ -244,7 +244,7 @@ all_tested (Text name ∷ some) is = rw (le-leb (length name) max_label is.0) (a
 
 -- ---- both
 
--- what a result says of its line
+-- the meaning of a result for its line
 Speaks : List ℕ → Result Order OrderFault → Type 0
 Speaks line (Ok order) = Spells line order
 Speaks line (Err Range) = (order : Order) × HasShape line order × (¬ IsInRange order)
@@ -289,7 +289,7 @@ read_joined order texts spell =
           label_joined it.id it.label texts (subst (λ o. AllZip SpellsWord texts (words_of o)) it.is spell)
     ]
 
--- a line with the shape of an order is read as its range says
+-- a line with the shape of an order is read as its range requires
 in_shape : (line : List ℕ) (order : Order) → HasShape line order → order_of line ≡ result_of (Some order)
 in_shape line order (texts, is, spell) =
     ap order_of is ∙ ap result_of (read_joined order texts spell) ∙ ap result_of (read order texts spell)
@@ -315,7 +315,7 @@ orders_are_spelled = record {
 pub parsed-in_range : (line : List ℕ) (order : Order) → order_of line ≡ Ok order → IsInRange order
 parsed-in_range line order e = (orders_are_spelled.spelled line order e).1
 
--- and a refused line one of two faults
+-- and a rejected line has one of two faults
 pub parsed-fault : (line : List ℕ) (fault : OrderFault) → order_of line ≡ Err fault
     → (fault ≡ Syntax) ⊎ (fault ≡ Range)
 parsed-fault line fault e = by_order (order_in (words line)) e

@@ -1,5 +1,5 @@
--- No word of an order but `label` holds a space, so a line that is joined of them has just them for its words. Of
--- `label` the first two words are found, and behind them its text.
+-- No word of an order except `label` contains a space, so a line of these words, joined, has exactly these words. For
+-- `label` the first two words are found, and then its text.
 use Rattle.std.proofs.Common.{◌≡◌, ℕ, ◌<◌, Bool, true, false, not, List, [], ◌∷◌, codes, refl, sym, ap, subst, ◌∙◌}
 use Rattle.std.proofs.Common.{◌==◌, ◌++◌, ◌⊎◌, inl, inr, Ok, arith}
 use Rattle.std.specs.Fmt.{decimal}
@@ -65,7 +65,7 @@ decimals-lack (d ∷ digits) are =
 number-lacks : (n : ℕ) → n < 100000 → LacksSpace (decimal n)
 number-lacks n below = decimals-lack (decimal n) (decimal_is_IsNumeral n (omega arith)).0.1
 
--- whether the word's own text, where it has one, has surely no space
+-- whether the word's own text, if it has one, certainly has no space
 abbrev is_plain : Word → Bool
 is_plain (Says name) = list_all (λ b. not (b == 32)) name
 is_plain (Id id) = true
@@ -88,13 +88,12 @@ words-lack (text ∷ texts) (word ∷ more) plain spell =
     let parts = and_parts (is_plain word) (list_all is_plain more) plain in
     (word-lacks text word parts.0 spell.0, words-lack texts more parts.1 spell.1)
 
--- the order is `label`
 pub record IsLabelOrder (order : Order) : Type 0 where
   pub id : ℕ
   pub label : List ℕ
   pub is : order ≡ Label id label
 
--- no word of an order may hold a space, or the order is `label`
+-- no word of an order may contain a space, or the order is `label`
 pub plain-words : (order : Order) → (list_all is_plain (words_of order) ≡ true) ⊎ IsLabelOrder order
 plain-words (Switch id channel true) = inl refl
 plain-words (Switch id channel false) = inl refl
@@ -126,11 +125,10 @@ words-joined order (text ∷ texts) plain spell =
 
 -- ---- a label
 
--- an ID has no space
 pub id-lacks : (digits : List ℕ) (id : ℕ) → SpellsId digits id → LacksSpace digits
 id-lacks digits id (bytes, four, decoded, is) = digits-lack digits bytes decoded
 
--- the words of a line that begins with `label` and an ID: behind them those of the text, if there is one
+-- the words of a line that begins with `label` and an ID: then those of the text, if there is one
 pub label-apart : (digits text : List ℕ) → LacksSpace digits
     → words (codes "label" ++ 32 ∷ (digits ++ 32 ∷ text)) ≡ codes "label" ∷ digits ∷ words text
 label-apart digits text lack =

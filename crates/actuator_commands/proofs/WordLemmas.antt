@@ -1,4 +1,4 @@
--- The first word of a line, and a text that was taken apart at its spaces.
+-- The first word of a line, and a text that was split at its spaces.
 use Rattle.std.proofs.Common.{◌≡◌, ℕ, ◌+◌, ◌<◌, ◌==◌, Bool, true, false, eqb, ltb}
 use Rattle.std.proofs.Common.{List, [], ◌∷◌, length, take, drop}
 use Rattle.std.proofs.Common.{refl, sym, ap, ◌∙◌, arith, Some, None}
@@ -11,7 +11,7 @@ use Rattle.actuator_commands.specs.Words.{text_in, label_in, words}
 abbrev is_space : ℕ → Bool
 is_space b = eqb b 32
 
--- a space is found in a line
+-- a line contains a space
 abbrev IsFound : List ℕ → Type 0
 IsFound xs = position_or_len is_space xs < length xs
 
@@ -25,27 +25,27 @@ one_word : (xs : List ℕ) → ¬ IsFound xs → words xs ≡ xs ∷ []
 one_word [] none = refl
 one_word (x ∷ xs) none = onto_one x xs (is_space x) refl none (one_word xs)
 
--- what `position` finds is where the first word ends
+-- the first word ends at the index that `position` finds
 place : (xs : List ℕ) (at : ℕ) (t : Bool) → ltb (position_or_len is_space xs) (length xs) ≡ t
     → Some at ≡ position is_space xs → IsFound xs × (at ≡ position_or_len is_space xs)
 place xs at true t e =
     let s : Some at ≡ Some (position_or_len is_space xs) = rw t at e in (grind (arith, nat_tests, t), cc)
 place xs at false t e = let s : Some at ≡ None = rw t at e in cc
 
--- where a space is found, the first word ends there
+-- if a space is found, the first word ends there
 pub words-found : (xs : List ℕ) (at : ℕ) → Some at ≡ position is_space xs
     → words xs ≡ take at xs ∷ words (drop (at + 1) xs)
 words-found xs at e =
     let p = place xs at (ltb (position_or_len is_space xs) (length xs)) refl e in
     rw p.1 (slice_split_first is_space xs 0 p.0)
 
--- where none is, the line is one word
+-- if none is found, the line is one word
 pub words-none : (xs : List ℕ) → None ≡ position is_space xs → words xs ≡ xs ∷ []
 words-none xs e =
     one_word xs (λ k. let t : ltb (position_or_len is_space xs) (length xs) ≡ true = grind (arith, nat_tests, k) in
     let s : None ≡ Some (position_or_len is_space xs) = rw t at e in cc)
 
--- the text of a label is read of its words as of the whole
+-- the text of a label is read from its words as from the whole text
 pub label_whole : (text : List ℕ) → label_in (words text) ≡ text_in text
 label_whole text = by_words (words text) refl
   where

@@ -1,5 +1,4 @@
--- The orders that a line of the desk spells. Own choice: words stand as written, with exactly one space between two of
--- them.
+-- The orders that a line of the desk spells. Own choice: words are literal, with exactly one space between two of them.
 use Rattle.std.specs.Prelude.{◌≡◌, ℕ, Bool, ◌&&◌, List, [], ◌∷◌, codes, bytes_eq, Option, Some, None, Result, Ok, Err}
 use Rattle.std.specs.Prelude.{option_map, if◌then◌else◌}
 use Rattle.std.specs.List.{AllByRecursion, AllZip, join_with_byte, list_all}
@@ -15,12 +14,12 @@ use Rattle.actuator_commands.specs.declared.orders.Order.TheVariants.{Central, L
 use Rattle.actuator_commands.specs.declared.orders.OrderFault.{OrderFault}
 use Rattle.actuator_commands.specs.declared.orders.OrderFault.TheVariants.{Syntax, Range}
 
--- the words of a label: one, or none where it is empty. Own choice.
+-- the words of a label: one, or none if it is empty. Own choice.
 abbrev pub label_words : List ℕ → List Word
 label_words [] = []
 label_words (first ∷ more) = Text (first ∷ more) ∷ []
 
--- The table of the orders: the words of each, as they stand in its lines. Own choice.
+-- The table of the orders: the words of each, as written in its lines. Own choice.
 abbrev pub words_of : Order → List Word
 words_of LearnOn = Says (codes "learn") ∷ Says (codes "on") ∷ []
 words_of LearnOnAnswer = Says (codes "learn") ∷ Says (codes "on") ∷ Says (codes "answer") ∷ []
@@ -45,7 +44,7 @@ words_of (Level offset value ramp) =
 words_of (Teach offset) = Says (codes "teach") ∷ Number max_offset offset ∷ []
 
 -- The line has the shape of the order, whatever its numbers: texts that spell the order's words, one by one, with one
--- space between each two and none before or behind. Own choice.
+-- space between each two and none before or after. Own choice.
 abbrev pub HasShape : List ℕ → Order → Type 0
 HasShape line order =
     (texts : List (List ℕ)) × (line ≡ join_with_byte 32 texts) × AllZip SpellsWord texts (words_of order)
@@ -58,13 +57,13 @@ IsInRange order = AllByRecursion IsWordInRange (words_of order)
 abbrev pub Spells : List ℕ → Order → Type 0
 Spells line order = HasShape line order × IsInRange order
 
--- ---- the same, computed. That it is the same is the law `orders_are_spelled`.
+-- ---- the same as functions; theorem `orders_are_spelled`: the two agree
 
 -- whether the order's numbers are in range, and the length of its label
 abbrev pub is_in_range : Order → Bool
 is_in_range order = list_all is_word_in_range (words_of order)
 
--- the order whose shape the words have, but for `label`
+-- the order, except `label`, whose shape the words have
 abbrev pub one_word : List ℕ → Option Order
 one_word name =
     if bytes_eq name (codes "list") then Some ListAll
@@ -115,7 +114,7 @@ plain_order (name ∷ second ∷ third ∷ []) = three_words name second third
 plain_order (name ∷ second ∷ third ∷ fourth ∷ []) = four_words name second third fourth
 plain_order texts = None
 
--- the order that begins with `label`, by the words behind it: those of its text are joined again
+-- the order that begins with `label`, by the words after it: those of its text are joined again
 abbrev pub label_order : List (List ℕ) → Option Order
 label_order [] = None
 label_order (digits ∷ more) = of_two (λ id label. Label id label) (id_in digits) (label_in more)
@@ -124,7 +123,7 @@ abbrev pub order_in : List (List ℕ) → Option Order
 order_in [] = None
 order_in (name ∷ more) = if bytes_eq name (codes "label") then label_order more else plain_order (name ∷ more)
 
--- an order that has the shape is taken where it is in range
+-- an order of this shape is accepted if it is in range
 abbrev pub result_of : Option Order → Result Order OrderFault
 result_of (Some order) = if is_in_range order then Ok order else Err Range
 result_of None = Err Syntax
@@ -133,8 +132,8 @@ result_of None = Err Syntax
 abbrev pub order_of : List ℕ → Result Order OrderFault
 order_of line = result_of (order_in (words line))
 
--- A line spells at most one order, by `only`. One that spells none is out of range where it has the shape of one, and
--- else no order at all.
+-- A line spells at most one order, by `only`. A line that spells none is out of range if it has the shape of one, and
+-- otherwise no order.
 pub record OrdersAreSpelled : Type 0 where
   pub spelled : (line : List ℕ) (order : Order) → order_of line ≡ Ok order → Spells line order
   pub only : (line : List ℕ) (order : Order) → Spells line order → order_of line ≡ Ok order

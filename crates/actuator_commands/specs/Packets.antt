@@ -1,4 +1,4 @@
--- What the orders that go to devices say by radio (EnOcean Equipment Profiles 2.6). Own choice: the orders.
+-- The radio telegrams of orders to devices (EnOcean Equipment Profiles 2.6). Own choice: the orders.
 use Rattle.std.specs.Prelude.{ℕ, ◌+◌, ◌==◌, ◌&&◌, Bool, if◌then◌else◌, List, [], ◌∷◌, Option, Some, None}
 use Rattle.std.specs.Prelude.{Result, Ok, Err, is_some, option_map}
 use Rattle.erp1_telegrams.specs.declared.eep.Eep.{Eep}
@@ -19,8 +19,8 @@ abbrev pub has_profile : Actuator → Eep → Bool
 has_profile actuator.Switch eep = eep.rorg == 0xD2 && eep.func == 0x01
 has_profile actuator.Blind eep = eep.rorg == 0xD2 && eep.func == 0x05 && eep.typ == 0x00
 
--- What an order says: to the device with an ID, a payload by the device's profile, or none where that has no such
--- order; or to all, as the sender that has this offset from the base ID.
+-- The message of an order: to the device with an ID, a payload by the device's profile, or none if that has no such
+-- order; or to all, from the sender with this offset from the base ID.
 pub data Message : Type 0 where
   ToOne : (id : ℕ) → (payload_of : Eep → Option (List ℕ)) → Message
   ToAll : (offset : ℕ) → (payload : List ℕ) → Message
@@ -37,14 +37,14 @@ query_payload channel eep =
     else if has_profile actuator.Blind eep && channel == 0 then Some (0x03 ∷ [])
     else None
 
--- "D2-01", command 6, has the channel in the low bits, and asks for power by the highest bit
+-- "D2-01", command 6, has the channel in the low bits; its highest bit asks for power
 abbrev pub meter_byte : ℕ → Quantity → ℕ
 meter_byte channel Energy = channel
 meter_byte channel Power = channel + 128
 
--- The table: what each order says, if it goes to devices.
+-- The table: the message of each order to devices.
 abbrev pub message_of : Order → Option Message
--- "D2-01", command 1: the channel, and the value in percent. The bits DV are 0: at once
+-- "D2-01", command 1: the channel, and the value in percent. The bits DV are 0: immediately
 message_of (Switch id channel on) =
     Some (ToOne id (payload_for actuator.Switch (0x01 ∷ channel ∷ (if on then 0x64 else 0x00) ∷ [])))
 message_of (Dim id channel value) = Some (ToOne id (payload_for actuator.Switch (0x01 ∷ channel ∷ value ∷ [])))
@@ -52,31 +52,31 @@ message_of (Query id channel) = Some (ToOne id (query_payload channel))
 -- "D2-01", command 6
 message_of (Meter id channel quantity) =
     Some (ToOne id (payload_for actuator.Switch (0x06 ∷ meter_byte channel quantity ∷ [])))
--- "D2-05-00", command 1: the position in percent; the angle, which 127 leaves as it is; REPO and LOCK, which are 0; and
--- the channel 0 with the command
+-- "D2-05-00", command 1: the position in percent; the angle, which 127 leaves unchanged; REPO and LOCK, which are 0;
+-- and the channel 0 with the command
 message_of (Blind id value) = Some (ToOne id (payload_for actuator.Blind (value ∷ 0x7F ∷ 0x00 ∷ 0x01 ∷ [])))
 -- "D2-05-00", command 2
 message_of (Stop id) = Some (ToOne id (payload_for actuator.Blind (0x02 ∷ [])))
--- "A5-38-08", command 1, without a time: bit 3 of DB0 says that it is no teach-in, and bit 0 is on
+-- "A5-38-08", command 1, without a time: bit 3 of DB0 marks it as data, not teach-in, and bit 0 is on
 message_of (Central offset on) = Some (ToAll offset (0x01 ∷ 0x00 ∷ 0x00 ∷ (if on then 0x09 else 0x08) ∷ []))
 -- "A5-38-08", command 2: the value and the ramp; bit 2 of DB0 says that the value is in percent, and bit 0 is on. Own
--- choice: it is off at the value 0
+-- choice: it is off for the value 0
 message_of (Level offset value ramp) =
     Some (ToAll offset (0x02 ∷ value ∷ ramp ∷ (if value == 0 then 0x0C else 0x0D) ∷ []))
--- "4BS Telegram", variation 2: teach-in of the profile A5-38-08, of the maker 7FF, which is any
+-- "4BS Telegram", variation 2: teach-in of the profile A5-38-08, with the manufacturer ID 7FF, which stands for any
 message_of (Teach offset) = Some (ToAll offset (0xE0 ∷ 0x47 ∷ 0xFF ∷ 0x80 ∷ []))
 message_of order = None
 
--- the device that a message goes to, if it goes to one
+-- the device of a message, if it is for one
 abbrev pub recipient_of : Option Message → Option ℕ
 recipient_of (Some (ToOne id payload_of)) = Some id
 recipient_of message = None
 
--- the device that an order goes to, if it goes to one
+-- the device of an order, if it is for one
 abbrev pub recipient : Order → Option ℕ
 recipient order = recipient_of (message_of order)
 
--- whether the order goes to devices
+-- whether the order is for devices
 abbrev pub sends : Order → Bool
 sends order = is_some (message_of order)
 
@@ -104,7 +104,6 @@ telegram_for (ToOne id payload_of) None base = Err UnknownDevice
 telegram_for (ToOne id payload_of) (Some device) base = telegram_to_one base id (payload_of device.eep)
 telegram_for (ToAll offset payload) device base = telegram_to_all base offset payload
 
--- the telegram of an order that goes to devices, or why there is none, with what is known of its device, from this
--- base ID
+-- the telegram of an order to devices, or why there is none, given its device, if learned, and this base ID
 abbrev pub order_telegram : Order → Option Device → ℕ → Option (Result Telegram OrderFault)
 order_telegram order device base = option_map (λ message. telegram_for message device base) (message_of order)

@@ -1,4 +1,4 @@
--- The words of an order, and what a text spells.
+-- The words of an order, and the texts that spell them.
 use Rattle.std.specs.Prelude.{◌≡◌, ◌≢◌, ℕ, ◌<◌, ◌≤◌, ◌==◌, ◌&&◌, Bool, true, false, not}
 use Rattle.std.specs.Prelude.{if◌then◌else◌, List, [], ◌∷◌, ◌++◌, codes, bytes_eq, nat_le, length}
 use Rattle.std.specs.Prelude.{Option, Some, None, Result, Ok, Err}
@@ -16,8 +16,8 @@ use Rattle.learned_devices.specs.Labels.{max_label, is_name}
 use Rattle.actuator_commands.specs.declared.orders.Quantity.{Quantity}
 use Rattle.actuator_commands.specs.declared.orders.Quantity.TheVariants.{Energy, Power}
 
--- A word of an order: a text that stands as it is, an ID, a profile, a number, which is in range up to `most`, or the
--- text of a label, in which spaces may stand. Own choice.
+-- A word of an order: a fixed text, an ID, a profile, a number, which is in range up to `most`, or the text of a label,
+-- which may contain spaces. Own choice.
 pub data Word : Type 0 where
   Says : (text : List ℕ) → Word
   Id : (id : ℕ) → Word
@@ -25,7 +25,7 @@ pub data Word : Type 0 where
   Number : (most n : ℕ) → Word
   Text : (name : List ℕ) → Word
 
--- the words for what is on and what is off, and for what is measured. Own choice.
+-- the words for on and off, and for the quantities that are measured. Own choice.
 abbrev pub state_name : Bool → List ℕ
 state_name true = codes "on"
 state_name false = codes "off"
@@ -35,13 +35,13 @@ quantity_name Energy = codes "energy"
 quantity_name Power = codes "power"
 
 -- an ID (EnOcean Serial Protocol 3, "Packet type 1: RADIO_ERP1"): its four bytes as eight hexadecimal digits, the high
--- byte first. Own choice: of either case
+-- byte first. Own choice: in upper or lower case
 abbrev pub SpellsId : List ℕ → ℕ → Type 0
 SpellsId digits id =
     (bytes : List ℕ) × (length bytes ≡ 4) × (decode_of digits ≡ Ok bytes) × (id ≡ from_be_bytes w32 bytes)
 
 -- the name of a profile (EnOcean Equipment Profiles 2.6, "Structure"): three pairs of hexadecimal digits with `-`
--- between them. Own choice: of either case
+-- between them. Own choice: in upper or lower case
 pub record SpellsEep (text : List ℕ) (eep : Eep) : Type 0 where
   pub rorg : List ℕ
   pub func : List ℕ
@@ -51,11 +51,11 @@ pub record SpellsEep (text : List ℕ) (eep : Eep) : Type 0 where
   pub is_func : decode_of func ≡ Ok (eep.func ∷ [])
   pub is_typ : decode_of typ ≡ Ok (eep.typ ∷ [])
 
--- a number: as it is written in decimal digits, without a sign or a zero before it. Own choice: at most five digits
+-- a number in decimal digits, without a sign or leading zeros. Own choice: at most five digits
 abbrev pub SpellsNumber : List ℕ → ℕ → Type 0
 SpellsNumber text n = (text ≡ decimal n) × (n < 100000)
 
--- whether a text may be a label that is not empty, were it not too long. Own choice.
+-- whether a text is a non-empty label, ignoring its length. Own choice.
 abbrev pub is_text : List ℕ → Bool
 is_text [] = false
 is_text (first ∷ more) = is_name (first ∷ more)
@@ -68,7 +68,7 @@ SpellsWord text (Profile eep) = SpellsEep text eep
 SpellsWord text (Number most n) = SpellsNumber text n
 SpellsWord text (Text name) = (text ≡ name) × (is_text name ≡ true)
 
--- the word's number is in range, or its length: no device has the broadcast ID (EnOcean Serial Protocol 3, "Packet type
+-- the word's number is in range, or its length; no device has the broadcast ID (EnOcean Serial Protocol 3, "Packet type
 -- 1: RADIO_ERP1")
 abbrev pub IsWordInRange : Word → Type 0
 IsWordInRange (Says name) = Unit {0}
@@ -77,14 +77,14 @@ IsWordInRange (Profile eep) = Unit {0}
 IsWordInRange (Number most n) = n ≤ most
 IsWordInRange (Text name) = length name ≤ max_label
 
--- ---- the same, computed. That it is the same are the laws `ids_are_spelled` and `orders_are_spelled`.
+-- ---- the same as functions; theorems `ids_are_spelled` and `orders_are_spelled`: they agree
 
--- the words of a line: what stands before, between and behind its spaces; two spaces have an empty word between them,
+-- the words of a line: its parts before, between and after its spaces; two spaces have an empty word between them,
 -- which is a word of no order
 abbrev pub words : List ℕ → List (List ℕ)
 words = slice_split (λ b. b == 32)
 
--- the words of what is left of a line, if anything is
+-- the words of the rest of a line, if there is one
 abbrev pub words_left : Option (Bor (List ℕ)) → List (List ℕ)
 words_left left = option_map_or (λ rest. words rest.now) left []
 
@@ -133,7 +133,7 @@ quantity_in text =
     else if bytes_eq text (codes "power") then Some Power
     else None
 
--- whether no zero stands before another digit
+-- whether there is no zero before another digit
 abbrev pub begins_well : List ℕ → Bool
 begins_well [] = false
 begins_well (first ∷ []) = true
@@ -151,12 +151,12 @@ number_in text = if is_number text then Some (digits_value 10 text) else None
 abbrev pub text_in : List ℕ → Option (List ℕ)
 text_in text = if is_text text then Some text else None
 
--- the label of the words that are left of a line, with the spaces between them: the empty one where none is left
+-- the label in the remaining words of a line, with the spaces between them: the empty one if there are none
 abbrev pub label_in : List (List ℕ) → Option (List ℕ)
 label_in [] = Some []
 label_in (first ∷ more) = text_in (join_with_byte 32 (first ∷ more))
 
--- what is made of two words or of three, where each can be read
+-- a value made of two words or of three, if each can be read
 abbrev pub of_two : {A B C : Type 0} → (A → B → C) → Option A → Option B → Option C
 of_two make a b = option_and_then (λ x. option_map (make x) b) a
 

@@ -1,4 +1,4 @@
-//! The grammar of orders, as a reader: which order a line spells.
+//! The parser of orders.
 ghost use Rattle.std.specs.Prelude.{◌≡◌, ◌∷◌, Some};
 ghost use Rattle.actuator_commands.specs.Orders.{one_word, two_words, three_words, four_words, plain_order};
 ghost use Rattle.actuator_commands.specs.Orders.{label_order, order_of, result_of};
@@ -103,8 +103,8 @@ fn four_words(name: &[u8], second: &[u8], third: &[u8], fourth: &[u8]) -> Option
     }
 }
 
-// The order, but for `label`, whose shape a line has, whatever its numbers. `name` is the line's first word, behind
-// which this is left.
+// The order, except `label`, whose shape a line has, whatever its numbers. `name` is the line's first word, and `left`
+// the rest after it.
 fn plain_order(name: &[u8], mut left: Option<&[u8]>) -> Option<Order>
     ensures { result ≡ plain_order (name.now ∷ words_left left.entry) }
 {
@@ -123,7 +123,7 @@ fn plain_order(name: &[u8], mut left: Option<&[u8]>) -> Option<Order>
     }
 }
 
-// The order whose shape a line has, where it is in range.
+// The order whose shape a line has, if it is in range.
 fn in_range(order: Order) -> Result<Order, OrderFault>
     ensures { result ≡ result_of (Some order) }
 {
@@ -133,7 +133,7 @@ fn in_range(order: Order) -> Result<Order, OrderFault>
     Ok(order)
 }
 
-// The order of a line that begins with the word `label`, behind which this is left.
+// The order of a line that begins with the word `label`; `left` is the rest after it.
 fn label_order(mut left: Option<&[u8]>) -> Result<Order, OrderFault>
     ensures { result ≡ result_of (label_order (words_left left.entry)) }
 {
@@ -146,14 +146,13 @@ fn label_order(mut left: Option<&[u8]>) -> Result<Order, OrderFault>
     }
 }
 
-/// Reads the order that a line of the desk spells: the words that `Order` shows, as they stand and with exactly one
-/// space between two of them, and nothing before or behind. `line` comes without its line end. An ID is what `id_of`
-/// reads, from `00000000` to `FFFFFFFE`, a profile three pairs of hexadecimal digits of either case with `-` between
-/// them, and a number `0` or up to five decimal digits that do not begin with 0. The text of a label is all that stands
-/// behind the ID and one space, with the spaces in it: at least one byte and at most `MAX_LABEL`, from space to `~`
-/// of ASCII, of which neither the first nor the last is a space.
+/// Parses a line of the desk, without its line end, as an order: the words that `Order` shows, with exactly one space
+/// between two of them, and nothing before or after. An ID is what `id_of` reads, from `00000000` to `FFFFFFFE`; a
+/// profile is three pairs of hexadecimal digits, in upper or lower case, with `-` between them; a number is `0` or up
+/// to five decimal digits that do not begin with 0. The text of a label is everything after the ID and one space: 1 to
+/// `MAX_LABEL` bytes from space to `~` of ASCII, neither beginning nor ending with a space.
 ///
-/// A line that is no order is refused as `Range` where it has the shape of one, and else as `Syntax`.
+/// A line that is no order is rejected as `Range` if it has the form of one, and otherwise as `Syntax`.
 pub fn parse(line: &[u8]) -> Result<Order, OrderFault>
     ensures { result ≡ order_of line.now }
 {

@@ -1,4 +1,4 @@
-//! Laws of the definitions. Each function does nothing: its contract is the law.
+//! Theorems about the definitions. Each function does nothing: its contract is the theorem.
 ghost use Rattle.std.specs.Prelude.{◌≡◌, ℕ, ◌↔◌, ◌⊎◌, List, Some, Err};
 ghost use Rattle.actuator_commands.specs.declared.limits.TheConstants.{MAX_LINE};
 ghost use Rattle.actuator_commands.specs.declared.orders.OrderFault.{OrderFault};
@@ -11,7 +11,7 @@ pub fn orders_are_spelled()
     ensures { OrdersAreSpelled }
 {}
 
-/// A line is refused as `Syntax` or as `Range`, and as nothing else.
+/// A line is rejected only as `Syntax` or as `Range`.
 pub fn lines_have_two_faults()
     ensures { (line : List ℕ) (fault : OrderFault) → order_of line ≡ Err fault
         → (fault ≡ OrderFault.Syntax) ⊎ (fault ≡ OrderFault.Range) }

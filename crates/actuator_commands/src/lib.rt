@@ -1,5 +1,5 @@
-//! The orders of the desk: what a line of text asks the gateway to do, and the radio telegrams of those that go to
-//! devices. Nothing here takes memory.
+//! The orders of the desk: what a line of text asks the gateway to do, and the radio telegrams of orders to devices.
+//! Nothing here needs memory.
 #![tactic(auto)]
 
 mod grammar;

@@ -1,17 +1,17 @@
 //! The limits of orders.
 
-/// The longest line of the desk, in bytes. Own choice.
+/// The maximum length of a line of the desk, in bytes. Own choice.
 pub const MAX_LINE: usize = 200;
 
-/// The greatest number of a channel: 30 is all channels of a device (EnOcean Equipment Profiles 2.6, "D2-01", "I/O
+/// The maximum number of a channel: 30 is all channels of a device (EnOcean Equipment Profiles 2.6, "D2-01", "I/O
 /// channel").
 pub(crate) const MAX_CHANNEL: u32 = 30;
 
-/// The greatest offset from the base ID (EnOcean Serial Protocol 3, "CO_WR_IDBASE").
+/// The maximum offset from the base ID (EnOcean Serial Protocol 3, "CO_WR_IDBASE").
 pub(crate) const MAX_OFFSET: u32 = 127;
 
-/// The greatest value, in percent (EnOcean Equipment Profiles 2.6, "D2-01", "D2-05-00" and "A5-38-08").
+/// The maximum value, in percent (EnOcean Equipment Profiles 2.6, "D2-01", "D2-05-00" and "A5-38-08").
 pub(crate) const MAX_VALUE: u32 = 100;
 
-/// The longest time of a ramp, in seconds (EnOcean Equipment Profiles 2.6, "A5-38-08", command 2).
+/// The maximum time of a ramp, in seconds (EnOcean Equipment Profiles 2.6, "A5-38-08", command 2).
 pub(crate) const MAX_RAMP: u32 = 255;

@@ -10,31 +10,31 @@ use learned_devices::{Label, MAX_LABEL};
 use thiserror::Error;
 
 /// An order of the desk. An ID is that of a device, 0 to FFFFFFFE. A channel is 0 to 29, or 30 for all channels of the
-/// device. A value is 0 to 100 percent, and a ramp 0 to 255 seconds. An offset is 0 to 127: the order goes out from the
-/// base ID and the offset, which is the sender that devices were taught. An order takes no memory.
+/// device. A value is 0 to 100 percent, and a ramp 0 to 255 seconds. An offset is 0 to 127: the order is sent from the
+/// base ID plus the offset, the sender that devices were taught. An order needs no memory.
 #[derive(Clone, Debug, Drop, PartialEq, Eq)]
 pub enum Order {
-    /// `learn on`: learn by telegrams of teach-in.
+    /// `learn on`: learn by teach-in telegrams.
     LearnOn,
-    /// `learn on answer`: learn by telegrams of teach-in, and answer 4BS queries.
+    /// `learn on answer`: learn by teach-in telegrams, and answer 4BS queries.
     LearnOnAnswer,
     /// `learn as EEP`: learn the next sender that fits, with this profile.
     LearnAs(Eep),
-    /// `learn off`: learn no more.
+    /// `learn off`: stop learning.
     LearnOff,
     /// `add ID EEP`: learn the device with this ID and profile.
     Add(u32, Eep),
     /// `remove ID`: forget the device with this ID.
     Remove(u32),
-    /// `label ID TEXT`: know the device with this ID by this label. The text is all that follows the space behind the
-    /// ID, its spaces too. `label ID` is the order with the empty label.
+    /// `label ID TEXT`: set the label of the device with this ID. The text is everything after the ID and one space,
+    /// with its spaces. `label ID` is the order with the empty label.
     Label {
         id: u32,
         label: Label,
     },
-    /// `list`: tell all devices.
+    /// `list`: list all devices.
     List,
-    /// `status`: tell the counts and the mode.
+    /// `status`: report the counters and the mode.
     Status,
     /// `base`: ask the radio module for its base ID.
     Base,
@@ -51,13 +51,13 @@ pub enum Order {
         channel: u32,
         value: u32,
     },
-    /// `query ID CHANNEL`: ask a device for the state of a channel ("D2-01", command 3), or a blind, whose channel is
+    /// `query ID CHANNEL`: query a device for the state of a channel ("D2-01", command 3), or a blind, whose channel is
     /// 0, for its position ("D2-05-00", command 3).
     Query {
         id: u32,
         channel: u32,
     },
-    /// `meter ID CHANNEL energy` or `power`: ask a device what it measures at a channel ("D2-01", command 6).
+    /// `meter ID CHANNEL energy` or `power`: query a device for this quantity at a channel ("D2-01", command 6).
     Meter {
         id: u32,
         channel: u32,
@@ -90,7 +90,7 @@ pub enum Order {
     },
 }
 
-/// What is measured.
+/// The quantity to measure.
 #[derive(Clone, Copy, Debug, PartialEq, Eq)]
 pub enum Quantity {
     /// `energy`
@@ -102,14 +102,14 @@ pub enum Quantity {
 /// Why a line is no order, or an order has no telegram.
 #[derive(Clone, Copy, Debug, PartialEq, Eq, Error)]
 pub enum OrderFault {
-    /// The line has not the shape of an order.
+    /// The line does not have the form of an order.
     #[error("not an order")]
     Syntax,
-    /// The line has the shape of one, but a number is out of its range, a label is too long, or the ID is `FFFFFFFF`,
-    /// which no device has; or the base ID and the offset of an order make this ID.
+    /// The line has the form of an order, but a number is out of its range, a label is too long, or the ID is
+    /// `FFFFFFFF`, which no device has; or the base ID plus the offset of an order is this ID.
     #[error("a number out of range")]
     Range,
-    /// The order's device is not known.
+    /// The order's device is not learned.
     #[error("an unknown device")]
     UnknownDevice,
     /// The profile of the order's device has no such order.
@@ -117,17 +117,17 @@ pub enum OrderFault {
     WrongProfile,
 }
 
-// Where an order goes.
+// The recipients of an order.
 #[derive(Clone, Copy)]
 enum Target {
-    // To the device with this ID.
+    // The device with this ID.
     One(u32),
-    // To all devices that were taught its sender.
+    // All devices that were taught its sender.
     All,
 }
 
 impl Order {
-    // Where the order goes, if it goes to devices.
+    // The recipients of the order, if it is for devices.
     fn target(&self) -> Option<Target>
         ensures { result ≡ target self.now }
     {
@@ -143,15 +143,14 @@ impl Order {
         }
     }
 
-    /// Whether the order goes to devices: `packet_of` makes its telegram.
+    /// Whether the order is for devices: `packet_of` makes its telegram.
     pub fn sends(&self) -> bool
         ensures { result ≡ sends self.now }
     {
         self.target().is_some()
     }
 
-    /// The device that the order goes to: `packet_of` needs what is known of it. It is `None` if the order goes to no
-    /// device, or to all.
+    /// The device of the order, which `packet_of` needs. `None` if the order is for no device, or for all.
     pub fn recipient(&self) -> Option<u32>
         ensures { result ≡ recipient self.now }
     {

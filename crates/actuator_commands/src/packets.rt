@@ -1,4 +1,4 @@
-//! The telegrams of the orders that go to devices.
+//! The telegrams of orders to devices.
 ghost use Rattle.std.specs.Prelude.{◌≡◌, ◌+◌, ◌^◌, ◌<◌, ◌≤◌, IsTrue, Ok, Some, length, true};
 ghost use Rattle.std.specs.Option.{option_copied};
 ghost use Rattle.erp1_telegrams.specs.Address.{is_base};
@@ -12,7 +12,7 @@ use crate::orders::{Order, OrderFault, Quantity};
 use erp1_telegrams::{BROADCAST, Eep, Telegram, rorg};
 use learned_devices::Device;
 
-// The actuators that orders to one device are for.
+// The actuators of orders to one device.
 #[derive(Clone, Copy)]
 enum Actuator {
     // A switch or a dimmer.
@@ -62,7 +62,7 @@ fn to_one(id: u32, payload: &[u8], base: u32) -> Telegram
     }
 }
 
-// A query of a channel, of a switch or of a blind.
+// A query for a channel, of a switch or of a blind.
 fn query(id: u32, channel: u32, device: Option<&Device>, base: u32) -> Result<Telegram, OrderFault>
     requires { channel ≤ max_channel }
     ensures { result ≡ telegram_for (ToOne id (query_payload channel)) (option_copied device.entry) base }
@@ -77,7 +77,7 @@ fn query(id: u32, channel: u32, device: Option<&Device>, base: u32) -> Result<Te
     }
 }
 
-// The byte that asks for what a channel measures.
+// The byte that asks for a quantity of a channel.
 fn meter_byte(channel: u32, quantity: Quantity) -> u8
     requires { channel ≤ max_channel }
     ensures { result ≡ meter_byte channel quantity }
@@ -103,17 +103,16 @@ fn to_all(offset: u32, payload: [u8; 4], base: u32) -> Result<Telegram, OrderFau
     }
 }
 
-/// The telegram that an order goes to devices in, for the orders that `Order::sends` tells of. `device` is what is
-/// known of the order's device (its own ID is not looked at), and `base` is a base ID. The order's numbers are in
-/// range, as `parse` gives them.
+/// The telegram of an order for which `Order::sends` returns true. `device` is the order's device, if it is learned
+/// (its own ID is not used), and `base` is a base ID. The order's numbers are in range, as `parse` returns them.
 ///
 /// An order that names a device is a VLD telegram to it, from the base ID: of "D2-01" to its profiles, of "D2-05-00" to
-/// blinds. An order with an offset is a 4BS telegram of "A5-38-08" to all, from the base ID and the offset (EnOcean
+/// blinds. An order with an offset is a 4BS telegram of "A5-38-08" to all, from the base ID plus the offset (EnOcean
 /// Equipment Profiles 2.6).
 ///
-/// `UnknownDevice` where the order names a device and there is none, else `WrongProfile` where the device's profile has
-/// no such order: a query of a blind is of channel 0. `Range` where the base ID and the offset are `FFFFFFFF`, the ID
-/// that no sender has.
+/// Errors: `UnknownDevice` if the order names a device and there is none; otherwise `WrongProfile` if the device's
+/// profile has no such order (a query of a blind is for channel 0). `Range` if the base ID plus the offset is
+/// `FFFFFFFF`, the ID that no sender has.
 pub fn packet_of(order: &Order, device: Option<&Device>, base: u32) -> Result<Telegram, OrderFault>
     requires sends { sends order.now ≡ true }
     requires in_range { IsInRange order.now }

@@ -1,4 +1,4 @@
-//! The words of a line, and what a word spells.
+//! The words of a line, and the values that they spell.
 ghost use Rattle.std.specs.Prelude.{◌≡◌, ◌==◌, [], ◌∷◌, MatchOption, option_map, position};
 ghost use Rattle.std.specs.Char.{is_ascii_digit};
 ghost use Rattle.std.specs.List.{list_all};
@@ -10,15 +10,15 @@ use erp1_telegrams::Eep;
 use hex::FromHex;
 use learned_devices::is_name;
 
-// Where the first space stands.
+// The index of the first space.
 fn space(line: &[u8]) -> Option<usize>
     ensures { result ≡ position (λ b. b == 32) line.now }
 {
     line.iter().position(|b| *b == b' ')
 }
 
-/// The next word of a line of which `left` is what is left, or `None` behind the last word. `left` is what then
-/// stands behind the word's space.
+/// Splits off the next word of a line, whose rest is `left`. `left` becomes the rest after the word's space, or `None`
+/// at the end. Returns `None` after the last word.
 pub(crate) fn next_word<'a>(left: &mut Option<&'a [u8]>) -> Option<&'a [u8]>
     ensures { MatchOption result (words_left left.old ≡ [])
         (λ word. words_left left.old ≡ word.now ∷ words_left left.new) }
@@ -43,8 +43,8 @@ fn byte_of(digits: &[u8]) -> Option<u8>
     Some(byte)
 }
 
-/// Reads an ID, of a device or of a radio module: eight hexadecimal digits of either case, the high byte first, from
-/// `00000000` to `FFFFFFFF`. It is `None` for any other text.
+/// Reads an ID, of a device or of a radio module: eight hexadecimal digits, in upper or lower case, the high byte
+/// first, from `00000000` to `FFFFFFFF`. Returns `None` for any other text.
 pub fn id_of(digits: &[u8]) -> Option<u32>
     ensures { result ≡ id_in digits.now }
 {
@@ -52,7 +52,7 @@ pub fn id_of(digits: &[u8]) -> Option<u32>
     Some(u32::from_be_bytes(bytes))
 }
 
-/// Reads the name of a profile: three pairs of hexadecimal digits of either case with `-` between them.
+/// Reads the name of a profile: three pairs of hexadecimal digits, in upper or lower case, with `-` between them.
 pub(crate) fn eep_of(text: &[u8]) -> Option<Eep>
     ensures { result ≡ eep_in text.now }
 {
@@ -65,7 +65,7 @@ pub(crate) fn eep_of(text: &[u8]) -> Option<Eep>
     Some(Eep::new(rorg, func, typ))
 }
 
-// Whether a text begins as a number may: with no zero before another digit.
+// Whether a text has no zero before another digit, like a number.
 fn begins_well(text: &[u8]) -> bool
     ensures { result ≡ begins_well text.now }
 {
@@ -112,7 +112,6 @@ pub(crate) fn state_of(text: &[u8]) -> Option<bool>
     }
 }
 
-/// Reads what is to be measured.
 pub(crate) fn quantity_of(text: &[u8]) -> Option<Quantity>
     ensures { result ≡ quantity_in text.now }
 {
@@ -135,8 +134,8 @@ fn text_of(text: &[u8]) -> Option<&str>
     str::from_utf8(text).ok()
 }
 
-/// Reads all that is left of a line, with its spaces, as the text of a label, of any length. Where nothing is left, the
-/// text is empty; where nothing stands behind a last space, there is none.
+/// Reads the rest of a line as the text of a label, of any length and with its spaces. The text is empty if there is no
+/// rest, and there is none if nothing follows a last space.
 pub(crate) fn label_of(left: Option<&[u8]>) -> Option<&str>
     ensures { option_map (λ label. label.now) result ≡ label_in (words_left left.entry) }
 {

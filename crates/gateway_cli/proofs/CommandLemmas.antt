@@ -1,4 +1,4 @@
--- What `clap` found on a command line that it takes.
+-- What `clap` found on a command line that it accepts.
 use Rattle.std.proofs.Common.{◌≡◌, ◌⊎◌, ◌∙◌, ◌||◌, ◌&&◌, ◌<◌, ℕ, Bool, cond}
 use Rattle.std.proofs.Common.{true, false, not, refl, sym, ap, ap₂, subst}
 use Rattle.std.proofs.Common.{arith, inl, inr}
@@ -38,7 +38,7 @@ use Rattle.gateway_cli.specs.CommandLine.{explain_rule, given_to, text_found}
 use Rattle.gateway_cli.proofs.RequiredLemmas.{DefaultFits, HasOne, RowFits, RuleFits, default_one, found_in, given_one}
 use Rattle.gateway_cli.proofs.RequiredLemmas.{level_fits, none_missing, or_else_none}
 
--- ---- the making of the commands
+-- ---- building the commands
 
 pub more_rules : (old new : Command) (arg : Arg) (app : App) (rule : Rule) → AddsArg old arg new → arg.global ≡ false
     → app_of old ≡ app → rule_of arg ≡ rule → app_of new ≡ with_rule app rule
@@ -50,15 +50,15 @@ more_commands old sub new app below added above is plain =
     let own : (app_of sub).top.is_plain ≡ true = ap (λ (a : App). a.top.is_plain) is ∙ plain in
     added.shape (plain_fields sub own).globals ∙ ap₂ with_subcommand above (ap (λ (a : App). a.top) is)
 
--- ---- what was taken
+-- ---- what was accepted
 
--- the parse of the command `enogate` takes the words
+-- the parse of the command `enogate` accepts the words
 pub taken_so : (words : List Text) (command : Command) → app_of command ≡ enogate_app
     → (is_simple_and_free (app_of command) ≡ true → fault_of (app_of command) words ≡ []) → IsTaken words
 taken_so words command is none =
     let P : App → Type 0 = λ app. is_simple_and_free app ≡ true → fault_of app words ≡ [] in subst P is none refl
 
--- or it refuses them for a cause that it has of them
+-- or it rejects them for a cause that they have
 pub refused_so : (words : List Text) (command : Command) (error : Error) → app_of command ≡ enogate_app
     → (is_simple_and_free (app_of command) ≡ true → HasKind (fault_of (app_of command) words) error)
     → HasKind (fault_of enogate_app words) error
@@ -165,7 +165,7 @@ replay_passes words e =
     let level = level_fits replay_shape refl replay_rules_fit (λ n. refl) replay_defaults_fit words e in
     explain_found replay_shape words level.0 refl
 
--- what is required of `live` is there, where its words pass
+-- everything that `live` requires is there, if its words pass
 live_passes : (words : List Text) → level_fault live_shape [] nothing_held words false [] ≡ []
     → HasExplain (rows_after live_shape.rules [] words) × IsWhole (rows_after live_shape.rules [] words)
 live_passes words e =
@@ -238,7 +238,7 @@ entered_complete (Some p) found e is named =
         subst (λ (x : Text × List Row). IsComplete (Some x)) same
         (complete (subst (λ (x : Text × List Row). Serves x.0) (sym same) named) p.1 e)
 
--- where a base was found, the subcommand is one that serves, with all that it has to have
+-- if a base was found, the subcommand is one that serves, with everything that it requires
 complete : (words : List Text) (found : Option (Text × List Row)) (base : ℕ) → IsTaken words
     → found ≡ subcommand_of enogate_app words → option_and_then base_in (text_found (codes "base") found) ≡ Some base
     → IsComplete found
@@ -262,7 +262,7 @@ complete words (Some found) base taken is read =
     go false true replay live read = serves (inr ((bytes_eq-Decides found.0 (codes "live")).0 live))
     go false false replay live read = cc
 
--- and so it is of the parse of the command `enogate`
+-- and the same for the parse of the command `enogate`
 pub complete_so : (words : List Text) (command : Command) (m : ArgMatches) (base : ℕ) → app_of command ≡ enogate_app
     → (is_simple_and_free (app_of command) ≡ true → fault_of (app_of command) words ≡ [])
     → HasMatchesOf (app_of command) words m

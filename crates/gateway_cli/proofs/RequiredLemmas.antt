@@ -1,5 +1,5 @@
--- Where `clap` takes the words of a command whose options have one value each, or are flags, what is found of each
--- option is one value that its parser lets through, and each option that is required, or has a default, is found.
+-- If `clap` accepts the words of a command whose options have one value each, or are flags, then each option that was
+-- found has one value that its parser accepts, and each option that is required, or has a default, is found.
 use Rattle.std.proofs.Common.{◌≡◌, ◌∙◌, ◌⊎◌, ◌++◌, ◌&&◌, ◌||◌, ◌==◌}
 use Rattle.std.proofs.Common.{ℕ, Bool, cond, true, false, not, zero, suc}
 use Rattle.std.proofs.Common.{refl, sym, ap, subst, arith, inl, inr, List, [], ◌∷◌, length, drop, Option, Some, None}
@@ -41,7 +41,7 @@ use Rattle.clap.specs.declared.error.kind.ErrorKind.TheVariants as kind
 use Rattle.clap.specs.declared.parser.matches.ValueSource.{ValueSource}
 use Rattle.clap.specs.declared.parser.matches.ValueSource.TheVariants.{CommandLine, DefaultValue}
 
--- ---- of lists and tests
+-- ---- lists and tests
 
 pub or_else_none : (a b : Kinds) → or_else a b ≡ [] → (a ≡ []) × (b ≡ [])
 or_else_none [] b e = (refl, e)
@@ -119,11 +119,11 @@ one_long n e = go (n == 0) (1 == n) refl e
 
 -- ---- what is found of one option
 
--- the option takes one value a use
+-- each use of the option takes one value
 abbrev pub TakesOne : Rule → Type 0
 TakesOne a = (action_of a ≡ Set) × ((unwrap_or_range a.range).start_inclusive ≡ 1) × (most_values a ≡ 1)
 
--- the option takes no value a use, and this one stands for a use
+-- a use of the option takes no value, and this one stands for a use
 abbrev pub IsFlag : Rule → Type 0
 IsFlag a = (action_of a ≡ SetTrue) × ((unwrap_or_range a.range).start_inclusive ≡ 0) × (most_values a ≡ 0)
     × (text : Text) × (a.missing ≡ text ∷ [])
@@ -132,11 +132,11 @@ IsFlag a = (action_of a ≡ SetTrue) × ((unwrap_or_range a.range).start_inclusi
 abbrev pub RuleFits : List Rule → Rule → Type 0
 RuleFits c a = (arg_by_id c a.id ≡ Some a) × (TakesOne a ⊎ (IsFlag a ⊎ (action_of a ≡ Help)))
 
--- at most one value stands for the option where it is not given
+-- at most one value stands for the option if it is not given
 abbrev pub DefaultFits : Rule → Type 0
 DefaultFits a = (a.defaults ≡ []) ⊎ ((text : Text) × (a.defaults ≡ text ∷ []))
 
--- one value was found, which the option's parser lets through
+-- one value was found, which the option's parser accepts
 abbrev pub HasOne : Rule → Row → Type 0
 HasOne a r = (text : Text) × (r.values ≡ text ∷ []) × (accepts a.ignore_case (parser_of_value a.parser) text ≡ true)
     × (r.reading ≡ reading_by a)

@@ -1,4 +1,4 @@
--- What the words of the command line say, in the words of `clap`. Own choice.
+-- The meaning of the command line, in terms of `clap`. Own choice.
 use Rattle.std.specs.Prelude.{◌≡◌, ◌≤◌, ◌⊎◌, ◌||◌, ℕ, Bool, List, [], codes, true, false, if◌then◌else◌}
 use Rattle.std.specs.Prelude.{Option, Some, None, is_some, option_and_then}
 use Rattle.std.specs.Option.{option_map_or}
@@ -25,7 +25,7 @@ required_rule name = record (new_rule name) { long = Some name; action = Some Se
 abbrev pub base_rule : Rule
 base_rule = required_rule (codes "base")
 
--- `--turns N`, where N is 1 to 4294967295
+-- `--turns N`, with N from 1 to 4294967295
 abbrev pub turns_rule : Rule
 turns_rule = record (required_rule (codes "turns")) { parser = Some (Unsigned 1 4294967295) }
 
@@ -52,11 +52,11 @@ live_app_of_paths =
 abbrev pub live_app : App
 live_app = with_rule (with_rule (with_rule live_app_of_paths turns_rule) db_rule) explain_rule
 
--- a command that tells its version
+-- a command that prints its version
 abbrev pub with_version : App → App
 with_version app = record app { top = record app.top { has_version = true } }
 
--- a command that wants a subcommand
+-- a command that requires a subcommand
 abbrev pub with_subcommand_required : App → App
 with_subcommand_required app = record app { top = record app.top { subcommand_required = true } }
 
@@ -66,19 +66,19 @@ enogate_app =
     with_subcommand
     (with_subcommand (with_subcommand_required (with_version (new_app (codes "enogate")))) replay_app.top) live_app.top
 
--- what was given to the subcommand, where it is `replay` or `live`
+-- what was given to the subcommand, if it is `replay` or `live`
 abbrev pub given_to : Text × List Row → Option (List Row)
 given_to (name, rows) = if bytes_eq name (codes "replay") || bytes_eq name (codes "live") then Some rows else None
 
--- the text that stands for its option of this name
+-- the text of its option of this name
 abbrev pub text_found : Text → Option (Text × List Row) → Option Text
 text_found name found = option_and_then (first_of name) (option_and_then given_to found)
 
--- its flag of this name was given: `clap` then finds the text `true` for it, and else `false`
+-- its flag of this name was given: `clap` then finds the text `true` for it, and otherwise `false`
 abbrev pub flag_found : Text → Option (Text × List Row) → Bool
 flag_found name found = option_map_or (λ text. bytes_eq text (codes "true")) (text_found name found) false
 
--- the base ID of a command line that `clap` takes
+-- the base ID of a command line that `clap` accepts
 abbrev pub base_of_line : List Text → Option ℕ
 base_of_line words = option_and_then base_in (text_found (codes "base") (subcommand_of enogate_app words))
 
@@ -90,7 +90,7 @@ db_of_line words = text_found (codes "db") (subcommand_of enogate_app words)
 abbrev pub explain_of_line : List Text → Bool
 explain_of_line words = flag_found (codes "explain") (subcommand_of enogate_app words)
 
--- the text spells this number in decimal digits, before which one `+` may stand
+-- the text spells this number in decimal digits, after one optional `+`
 abbrev pub Spells : Text → ℕ → Type 0
 Spells text n = IsNumeral 10 (without_leading_plus text) × (n ≡ digits_value 10 (without_leading_plus text))
 
@@ -115,11 +115,11 @@ Asks None task = ⊥
 Asks (Some (name, rows)) Replay = name ≡ codes "replay"
 Asks (Some (name, rows)) (Live options) = (name ≡ codes "live") × AreLive rows options
 
--- what a command line that `clap` takes asks for
+-- what a command line that `clap` accepts asks for
 abbrev pub AsksFor : List Text → Task → Type 0
 AsksFor words task = Asks (subcommand_of enogate_app words) task
 
--- a text was given for `--turns` that a number of 1 to 4294967295 reads from
+-- a text was given for `--turns` that spells a number from 1 to 4294967295
 pub record HasTurns (rows : List Row) : Type 0 where
   pub text : Text
   pub given : first_of (codes "turns") rows ≡ Some text
@@ -133,29 +133,30 @@ pub record HasExplain (rows : List Row) : Type 0 where
   pub read : one_of (codes "explain") rows ≡ Some text
   pub is : (text ≡ codes "true") ⊎ (text ≡ codes "false")
 
--- each option that `live` has to have was given
+-- each option that `live` requires was given
 pub record IsWhole (rows : List Row) : Type 0 where
   pub serial : is_some (first_of (codes "serial") rows) ≡ true
   pub desk : is_some (first_of (codes "desk") rows) ≡ true
   pub out : is_some (first_of (codes "out") rows) ≡ true
   pub turns : HasTurns rows
 
--- a subcommand is `replay`, or `live` with all that it has to have, and `--explain` was given or not
+-- a subcommand is `replay`, or `live` with everything that it requires, and `--explain` was given or not
 abbrev pub IsComplete : Option (Text × List Row) → Type 0
 IsComplete None = ⊥
 IsComplete (Some (name, rows)) =
     HasExplain rows × ((name ≡ codes "replay") ⊎ ((name ≡ codes "live") × IsWhole rows))
 
--- it was refused for want of memory
+-- it was rejected because memory ran out
 abbrev pub IsMemory : Refused → Type 0
 IsMemory BadBase = ⊥
 IsMemory (Words error) = kind_of error ≡ OutOfMemory
 
--- `clap` takes the line
+-- `clap` accepts the line
 abbrev pub IsTaken : List Text → Type 0
 IsTaken words = fault_of enogate_app words ≡ []
 
--- `clap` refuses the line for a cause that it has of it, or there was no memory; or it takes it, and the base is none
+-- `clap` rejects the line for a cause that the line has, or because memory ran out; or it accepts it, and the base is
+-- invalid
 abbrev pub RefusesLine : List Text → Refused → Type 0
 RefusesLine words (Words error) = HasKind (fault_of enogate_app words) error
 RefusesLine words BadBase = IsTaken words × (base_of_line words ≡ None)

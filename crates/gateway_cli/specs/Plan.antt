@@ -1,4 +1,4 @@
--- What a run opens, in which way, and how long it goes on. Own choice.
+-- What a run opens, with which access, and how long it continues. Own choice.
 use Rattle.std.specs.Prelude.{ℕ, List}
 use Rattle.std.specs.Borrow.{Bor}
 use Rattle.gateway_cli.specs.declared.Options.{Options}
@@ -11,12 +11,12 @@ use Rattle.gateway_cli.specs.declared.plan.Opened.{Opened}
 use Rattle.gateway_cli.specs.declared.plan.Access.{Access}
 use Rattle.gateway_cli.specs.declared.plan.Access.TheVariants.{Read, ReadAndWrite, WriteAnew}
 
--- a file, and what it is opened for
+-- a file, and its access
 abbrev pub opened : Bor (List ℕ) → Access → Opened
 opened path access = record { path = path; access = access }
 
--- What a run is for. A replay makes 4,000,000,000 reads at most; a live gateway reads and writes the serial line, reads
--- the desk, and writes its answers anew.
+-- The service of a run. A replay makes at most 4,000,000,000 reads; a live gateway reads and writes the serial line,
+-- reads the desk, and writes its answers to a new or emptied file.
 abbrev pub service_of : Task → Service
 service_of task.Replay = Replay 4000000000
 service_of (task.Live options) =

@@ -1,4 +1,4 @@
-//! What the words of a command line give, once `clap` has taken them.
+//! The options of a command line that `clap` has accepted.
 ghost use Rattle.std.specs.Prelude.{◌≡◌, Some, codes, is_some, option_and_then, option_map, true};
 ghost use Rattle.clap.specs.Words.{first_of, found_of, rows_of, subcommand_rows_of};
 ghost use Rattle.gateway_cli.specs.Bases.{base_in};

@@ -1,5 +1,4 @@
-//! The arguments of the program `enogate`: the words of its command line, read by `clap`, and what a run opens for
-//! them.
+//! The command line of the program `enogate`, parsed by `clap`, and the plan of a run.
 #![tactic(auto)]
 
 mod commands;
@@ -25,43 +24,43 @@ use std::alloc::{AllocError, Global};
 pub struct Options<'a> {
     /// The base ID of the radio module.
     pub base: u32,
-    /// The path of the file with the learned devices, if they are not to stay in memory alone.
+    /// The path of the database with the learned devices, or `None` to keep them only in memory.
     pub db: Option<&'a str>,
-    /// Whether the desk is told of each packet what it was, what became of it, and why.
+    /// Whether the desk receives a line for each packet: what it was, what was done with it, and why.
     pub explain: bool,
-    /// What the gateway is for.
+    /// The task of the gateway.
     pub task: Task<'a>,
 }
 
-/// What a gateway is for.
+/// The task of a gateway.
 #[derive(Clone, Copy, Debug, PartialEq, Eq)]
 pub enum Task<'a> {
-    /// A script is replayed.
+    /// Replay a script.
     Replay,
-    /// A serial line and a desk are served.
+    /// Serve a serial line and a desk.
     Live(LiveOptions<'a>),
 }
 
-/// Which serial line and which desk are served, and how long.
+/// The serial line and the desk to serve, and for how long.
 #[derive(Clone, Copy, Debug, PartialEq, Eq)]
 pub struct LiveOptions<'a> {
     /// The path of the serial line.
     pub serial: &'a str,
-    /// The path of the file that the desk's orders come from.
+    /// The path of the file with the desk's orders.
     pub desk: &'a str,
-    /// The path of the file that the answers to the desk go to.
+    /// The path of the file for the answers to the desk.
     pub out: &'a str,
-    /// How many turns they are served, 1 to 4294967295.
+    /// The number of turns, 1 to 4294967295.
     pub turns: u32,
 }
 
-/// Why a command line was not taken.
+/// Why a command line was rejected.
 #[derive(Debug, Drop, thiserror::Error)]
 pub enum Refused {
-    /// `clap` refused it, or was asked for help or for the version, or found no memory.
+    /// `clap` rejected it, or was asked for help or for the version, or is out of memory.
     #[error(transparent)]
     Words(Error),
-    /// What stands for the base ID is not eight hexadecimal digits, or no base ID.
+    /// The base ID is not eight hexadecimal digits, or not a base ID.
     #[error("not a base ID")]
     BadBase,
 }
@@ -91,8 +90,8 @@ impl From<AllocError> for Refused {
 /// - `enogate replay --base ID [--db PATH] [--explain]`
 /// - `enogate live --base ID --serial PATH --desk PATH --out PATH --turns N [--db PATH] [--explain]`
 ///
-/// where ID is eight hexadecimal digits of either case and a base ID, and N is 1 to 4294967295. The options may stand
-/// in any order, and in the spellings that `clap` has for them. Each other line is refused, and so is one that asks for
+/// ID is a base ID as eight hexadecimal digits, in upper or lower case, and N is 1 to 4294967295. The options may be in
+/// any order, and in the spellings that `clap` has for them. Any other line is rejected, and so is one that asks for
 /// help or for the version.
 pub fn read<'a>(alloc: Global, words: &'a [String]) -> Result<Options<'a>, Refused>
     ensures taken { OnOk result (IsTaken (map string_bytes words.now)) }

@@ -1,32 +1,32 @@
-//! What a run opens, in which way, and how long it goes on.
+//! What a run opens, with which access, and how long it continues.
 ghost use Rattle.std.specs.Prelude.{◌≡◌};
 ghost use Rattle.gateway_cli.specs.Plan.{plan_of, service_of};
 
 use super::{Options, Task};
 use crate::limits::MAX_READS;
 
-/// What a run is: the gateway that it makes, and what that is for.
+/// The plan of a run: the gateway that it makes, and its service.
 #[derive(Clone, Copy, Debug, PartialEq, Eq)]
 pub struct Plan<'a> {
-    /// The path of the database with the learned devices, or none where they stay in memory alone.
+    /// The path of the database with the learned devices, or `None` to keep them only in memory.
     pub db: Option<&'a str>,
     /// The base ID of the radio module.
     pub base: u32,
-    /// Whether the desk is told of each packet what it was, what became of it, and why.
+    /// Whether the desk receives a line for each packet: what it was, what was done with it, and why.
     pub explain: bool,
-    /// What the gateway is for.
+    /// The service of the gateway.
     pub service: Service<'a>,
 }
 
-/// What a gateway is for, and with which files.
+/// The service of a gateway, and its files.
 #[derive(Clone, Copy, Debug, PartialEq, Eq)]
 pub enum Service<'a> {
-    /// Standard input is replayed to standard output, by so many reads at most.
+    /// Standard input is replayed to standard output, with at most this many reads.
     Replay {
         reads: u64,
     },
-    /// The files that are served, and for how many turns. They are opened in this order, none after one that does not
-    /// open; no clause says so.
+    /// The files that are served, and for how many turns. They are opened in this order, none after one that cannot be
+    /// opened; no postcondition says so.
     Live {
         serial: Opened<'a>,
         desk: Opened<'a>,
@@ -40,23 +40,23 @@ pub enum Service<'a> {
 pub struct Opened<'a> {
     /// Its path.
     pub path: &'a str,
-    /// For what.
+    /// Its access.
     pub access: Access,
 }
 
-/// What a file is opened for.
+/// The access to a file.
 #[derive(Clone, Copy, Debug, PartialEq, Eq)]
 pub enum Access {
-    /// It is read, and has to be there.
+    /// Read; the file must exist.
     Read,
-    /// It is read and written, and has to be there.
+    /// Read and write; the file must exist.
     ReadAndWrite,
-    /// It is written, and made or cut to nothing.
+    /// Write; the file is created or truncated.
     WriteAnew,
 }
 
 impl<'a> Options<'a> {
-    /// What is opened for these options, in which way, and how long it goes on.
+    /// The plan for these options: what is opened, with which access, and how long it continues.
     pub fn plan(&self) -> Plan<'a>
         ensures { result ≡ plan_of self.now }
     {

@@ -1,4 +1,4 @@
--- A change that a teach line acknowledged holds in every later life.
+-- An update that a teach line acknowledged holds in every later execution.
 use Rattle.std.proofs.Common.{◌≡◌, inl, inr, length, List, [], ◌∷◌, ◌++◌, Some, refl, sym, ap, subst, ◌∙◌, arith}
 use Rattle.std.specs.List.{AllByRecursion}
 use Rattle.learned_devices.specs.declared.Device.{Device}
@@ -17,7 +17,7 @@ use Rattle.gateway_core.proofs.LifeLemmas.{lives_keep}
 use Rattle.gateway_core.proofs.RangeLemmas.{stays_in_range, learned-in, deleted-in}
 use Rattle.gateway_core.proofs.TellingLemmas.{teach_lines_are_told}
 
--- a run up to one of its items, and the answer to that
+-- a run up to one of its inputs, and the answer to that input
 record Parted (old : State) (before : List Item) (fates : List Fate) (answers : List Answer) (item : Item) (fate : Fate)
     (answer : Answer) : Type 0 where
   at : State
@@ -39,18 +39,18 @@ parted old new (first ∷ before) after item [] more fate answers later answer f
 parted old new (first ∷ before) after item (its ∷ fates) more fate [] later answer f a run =
     absurd (omega (arith, a))
 
--- the first items are of bytes, and the next one
+-- the first inputs are of bytes, and the next one
 parted-bytes : (before after : List Item) (item : Item) → AllByRecursion IsOfBytes (before ++ item ∷ after)
     → AllByRecursion IsOfBytes before × IsOfBytes item
 parted-bytes [] after item bytes = (tt, bytes.0)
 parted-bytes (first ∷ before) after item bytes =
     let rest = parted-bytes before after item bytes.1 in ((bytes.0, rest.0), rest.1)
 
--- the devices found are in range, and the items are of bytes
+-- the devices found are in range, and the inputs are of bytes
 abbrev BeginsInRange : Life → Type 0
 BeginsInRange life = AreInRange life.found × AllByRecursion IsOfBytes life.items
 
--- so what is known is in range where an item is answered, and the item is of bytes
+-- so the state is in range when an input is answered, and the input is of bytes
 at-item : (life : Life) (line : TeachLine) (answered : Acknowledges life line) (at : State)
     → Run (begun life.base life.found) answered.before answered.fates answered.answers at → BeginsInRange life
     → IsStateInRange at × IsOfBytes answered.item

@@ -1,4 +1,4 @@
--- One life, from its calls.
+-- One execution, from its calls.
 use Rattle.std.proofs.Common.{◌≡◌, inl, inr, refl, sym, subst}
 use Rattle.learned_devices.specs.Kept.{Kept}
 use Rattle.learned_devices.specs.Devices.{Devices}

@@ -1,4 +1,4 @@
--- Numbers that are read of bits and of bytes, and the packets of a stream of bytes.
+-- Numbers read from bits and from bytes, and the packets of a stream of bytes.
 use Rattle.std.proofs.Common.{◌≡◌, ℕ, zero, suc, ◌*◌, ◌<◌, ◌≤◌, ◌^◌}
 use Rattle.std.proofs.Common.{List, [], ◌∷◌, ◌++◌, length, take, drop, map}
 use Rattle.std.proofs.Common.{sym, subst, arith, append_assoc, lit<}
@@ -18,7 +18,7 @@ use Rattle.gateway_core.specs.Step.{Item, Received}
 use Rattle.gateway_core.specs.Events.{Piece, Line, brought, bytes_in, items_of}
 use Rattle.gateway_core.specs.Ranges.{IsOfBytes, ItemsAreOfBytes}
 
--- ---- a field of so many bits is below the power of two
+-- ---- a field is below two to the power of its length
 
 -- each is 0 or 1
 abbrev AreBits : List ℕ → Type 0
@@ -77,7 +77,6 @@ pub four-below : (id : List ℕ) → slice_index id 0 < 256 → slice_index id 1
     → slice_index id 3 < 256 → from_be_bytes w32 id < 2 ^ 32
 four-below id a b c d = omega (arith, a, b, c, d)
 
--- they are bytes
 abbrev pub AreBytes : List ℕ → Type 0
 AreBytes = All (λ byte. byte < 256)
 

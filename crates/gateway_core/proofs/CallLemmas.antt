@@ -14,12 +14,12 @@ use Rattle.gateway_core.specs.Calls.{CallsAreARun, RunsAreBytes}
 use Rattle.gateway_core.proofs.RunLemmas.{handles-nothing, handles-append}
 
 module _ {S : Type 0} (stored : S → Kept) where
-  -- the stream so far holds the packets handled and those that wait, and the rest
+  -- the stream so far consists of the packets handled, those that are ready, and the rest
   record Stands (stream : List ℕ) (before : List Packet) (v : Value S) : Type 0 where
     pub packets : packets_in stream ≡ before ++ v.ready
     pub rest : rest_of stream ≡ v.rest
 
-  -- the same as the law, from the middle of a stream
+  -- the theorem, from the middle of a stream
   record GoesOn (stream : List ℕ) (before : List Packet) (old : Value S) (calls : List Call)
       (new : Value S) : Type 0 where
     pub handled : List Packet

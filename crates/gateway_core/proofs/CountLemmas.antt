@@ -24,7 +24,7 @@ use Rattle.gateway_core.proofs.TellingLemmas.{no_line, other-line}
 pub count_on : (a b c n m : ℕ) → b ≡ count_with a n → c ≡ count_with b m → c ≡ count_with a (n + m)
 count_on a b c n m is on = omega (arith, is, on)
 
--- what is taken is not counted as refused
+-- an applied input is not counted as failed
 unrefused : (state : State) (item : Item) → (raised state.counts (count_of state item)).refused ≡ state.counts.refused
 unrefused state =
     of_effect (λ e. (raised state.counts (count_in e.account)).refused ≡ state.counts.refused) state
@@ -55,7 +55,7 @@ unrefused state =
         → (counted state.counts (counted_as account.why)).refused ≡ state.counts.refused
     ignores account is = ap (λ c. (counted state.counts c).refused) is
 
--- a packet that is taken is counted, and a line is not
+-- an applied packet is counted, and a line is not
 packets-counted : (state : State) (packet : Packet) → IsSome (count_of state (Received packet))
 packets-counted state packet =
     of_packet (λ e. IsSome (count_in e.account)) state packet (record {
@@ -84,7 +84,7 @@ lines-uncounted state line =
       relabels = λ id label is known. refl;
     })
 
--- where it is answered with a teach line, that is counted, and only there
+-- the counter of teach-in is incremented exactly when the answer is a teach line
 teach-counted : (state : State) (line : TeachLine) (packet : Packet)
     → texts (packet_effect state packet).desk ≡ text (Teach line)
     → count_of state (Received packet) ≡ Some count.Teach
@@ -129,7 +129,7 @@ taken_are_counted = record {
 
 -- ---- the line that explains a packet
 
--- by a word of ignoring the desk is told nothing
+-- with a word that counts as ignored, the desk receives no other line
 ignoring-says : (why : Why) → counted_as why ≡ count.Ignored → Says why []
 ignoring-says why.Refused is = absurd cc
 ignoring-says why.Response is = absurd cc
@@ -148,7 +148,7 @@ ignoring-says why.WrongKind is = refl
 ignoring-says why.WrongLength is = refl
 ignoring-says why.OtherMessage is = refl
 
--- a packet that is taken has an account, whose word is that of what the desk is told
+-- an applied packet has a disposition, whose word is that of what the desk receives
 abbrev HasAccount : Effect → Type 0
 HasAccount e = (account : Account) × (e.account ≡ Some account) × Says account.why e.desk
 
@@ -167,7 +167,7 @@ has-account state packet =
       hears = λ response. (_, refl, (response, refl));
     })
 
--- what is refused is explained so, whatever its cause
+-- a failed packet is explained as failed, whatever the cause
 refused-explained : (state : State) (packet : Packet) (fate : Fate) (cause : Cause)
     → account_with state packet fate ≡ Some (because why.Refused)
     → answer_with state (Received packet) fate ≡ refusal_of (Received packet) cause
@@ -205,7 +205,7 @@ unexplained state line (RefusedAtWrite cause) = refl
 pub explanations_are_counted : ExplanationsAreCounted
 explanations_are_counted = record { packets = explained; lines = unexplained }
 
--- ---- refusals
+-- ---- failures
 
 capped : (count : ℕ) → one_more count < 2 ^ 64
 capped count = omega arith

@@ -1,4 +1,4 @@
--- The items of events, by the bytes between their lines.
+-- The inputs of events, by the bytes between their lines.
 use Rattle.std.proofs.Common.{◌≡◌, ℕ, List, [], ◌∷◌, ◌++◌, length, drop, map, refl, sym, ap, subst, ◌∙◌}
 use Rattle.std.proofs.Common.{append_assoc}
 use Rattle.std.proofs.Math.Seq.{drop-append_seam}
@@ -12,7 +12,7 @@ use Rattle.gateway_core.specs.Events.{Event, Piece, Line, brought, items_of, byt
 use Rattle.gateway_core.specs.Events.{bytes_between, CutsDoNotMatter, CutsAreAnsweredAlike}
 use Rattle.gateway_core.proofs.RunLemmas.{same_refusals}
 
--- some bytes bring what they bring behind the rest of the stream
+-- some bytes complete the packets that they complete after the rest of the stream
 pub brought-rest : (s w : List ℕ) → brought s w ≡ packets_in (rest_of s ++ w)
 brought-rest s w = ap (λ (ps : List Packet). drop (length (packets_in s)) ps) (framing_in_parts s w).0
     ∙ drop-append_seam (packets_in s) (packets_in (rest_of s ++ w))
@@ -32,7 +32,7 @@ brought-append s v w =
     ∙ ap (λ (y : List ℕ). brought s v ++ packets_in (y ++ w)) (sym b.1)
     ∙ ap (λ (ps : List Packet). brought s v ++ ps) (sym (brought-rest (s ++ v) w))
 
--- the events of two lists, one behind the other
+-- the events of two lists, one after the other
 pub items_of-append : (s : List ℕ) (events more : List Event)
     → items_of s (events ++ more) ≡ items_of s events ++ items_of (s ++ bytes_in events) more
 items_of-append s [] more = ap (λ (y : List ℕ). items_of y more) (sym (append-nil s))
@@ -45,7 +45,7 @@ items_of-append s (Piece w ∷ events) more =
 items_of-append s (Line line ∷ events) more =
     ap (λ (items : List Item). Ordered line ∷ items) (items_of-append s events more)
 
--- the items of lines and of the bytes between them
+-- the inputs of lines and of the bytes between them
 spread : List ℕ → List (List ℕ) → List (List ℕ) → List Item
 spread s [] ls = []
 spread s (x ∷ xs) [] = map Received (brought s x)

@@ -1,4 +1,4 @@
--- What holds of the effect of every item.
+-- Properties of the effects of all inputs.
 use Rattle.std.proofs.Common.{◌≡◌, ◌≢◌, ◌⊎◌, inl, inr, ℕ, Bool, true, false, List, [], ◌∷◌, Option}
 use Rattle.std.proofs.Common.{Some, None, refl, sym, ap, subst, IsSome}
 use Rattle.std.specs.Prelude.{Result, Ok, Err, nat_lt, length, ◌==◌, if◌then◌else◌}
@@ -56,7 +56,7 @@ use Rattle.gateway_core.specs.Step.{packet_by, other_effect, if_known, if_suppor
 use Rattle.gateway_core.specs.Step.{effect}
 use Rattle.gateway_core.proofs.DeviceLemmas.{device_of-known}
 
--- ---- a telegram of teach-in is one, whatever it tells
+-- ---- a teach-in telegram is one, whatever it contains
 
 -- it is one of these
 abbrev IsTeaching : Teach → Type 0
@@ -77,7 +77,7 @@ not-data kind (inr (inl is)) plain = absurd cc
 not-data kind (inr (inr (inl (query, is)))) plain = absurd cc
 not-data kind (inr (inr (inr (query, is)))) plain = absurd cc
 
--- ---- a sender that is refused
+-- ---- a sender that is rejected
 
 -- nothing is done for it
 abbrev pub IsRefusal : Outcome → Type 0
@@ -93,7 +93,7 @@ is-refusal id (teach.Ute query) Unsupported is = tt
 is-refusal id (teach.Ute query) General is = tt
 is-refusal id kind outcome is = absurd is
 
--- ---- what is ignored, for whatever reason, is counted as that
+-- ---- whatever the reason, an ignored packet is counted as ignored
 
 other-ignores : (packet : Packet) → counted_as (why_other packet) ≡ count.Ignored
 other-ignores packet =
@@ -119,7 +119,7 @@ unread-ignores unreadable.OtherMessage = refl
 
 -- ---- all effects
 
--- it holds of each effect that a telegram may have
+-- it holds for each effect that a telegram may have
 pub record OfTelegram (P : Effect → Type 0) (state : State) (t : Telegram) : Type 0 where
   pub unsays : (asked : Bool) (account : Account) → counted_as account.why ≡ count.Ignored → P (unsaid asked account)
   pub reads : (known : Device) (line : ReadingLine)
@@ -168,17 +168,17 @@ module _ (P : Effect → Type 0) (state : State) (t : Telegram) (each : OfTelegr
   of-case true = each.unsays false _ (filtered-ignores t)
   of-case false = of-kind (teach_in_of t) (device_of state.devices t.sender)
 
-  -- so it holds of the effect of this one
+  -- so it holds for the effect of this one
   pub of_telegram : P (telegram_effect state t)
   of_telegram = of-case (is_passed_over state.base t)
 
--- it holds of each effect that a packet may have
+-- it holds for each effect that a packet may have
 pub record OfPacket (P : Effect → Type 0) (state : State) (packet : Packet) : Type 0 where
   pub telegrams : (t : Telegram) → telegram_of packet ≡ Ok t → OfTelegram P state t
   pub passes : (account : Account) → counted_as account.why ≡ count.Ignored → P (unsaid false account)
   pub hears : (response : Response) → P (tells_of_packet NeedsMemory (because why.Response) (ResponseLine response))
 
--- an order that goes to devices has no other effect
+-- an order to devices has no other effect
 pub sends-effect : (state : State) (order : Order) → sends order ≡ true
     → order_effect state (Ok order) ≡ sending_effect state order
 sends-effect state (Switch id channel on) is = refl
@@ -192,7 +192,7 @@ sends-effect state (Level offset value ramp) is = refl
 sends-effect state (TeachAll offset) is = refl
 sends-effect state order is = absurd cc
 
--- it holds of each effect that a line may have which spells this
+-- it holds for each effect that a line may have that spells this
 pub record OfLine (P : Effect → Type 0) (state : State) (spelled : Result Order OrderFault) : Type 0 where
   pub denies : (name : ErrorName) → P (denied name)
   pub finds : (name : ErrorName) → P (tells NeedsStore (Error name ∷ []))
@@ -216,7 +216,7 @@ module _ (P : Effect → Type 0) (state : State) where
   of-packet packet each (Ok t) is = of_telegram P state t (each.telegrams t is)
   of-packet packet each (Err fault) is = of-other packet each (response_in packet)
 
-  -- so it holds of the effect of this packet
+  -- so it holds for the effect of this packet
   pub of_packet : (packet : Packet) → OfPacket P state packet → P (packet_effect state packet)
   of_packet packet each = of-packet packet each (telegram_of packet) refl
 
@@ -265,12 +265,12 @@ module _ (P : Effect → Type 0) (state : State) where
   of-order (Ok (Level offset value ramp)) each = of-sending each false _
   of-order (Ok (TeachAll offset)) each = of-sending each false _
 
-  -- of every line
+  -- for every line
   pub of_line : (line : List ℕ) → OfLine P state (order_of line) → P (line_effect state line)
   of_line line each =
       either P (nat_lt max_line (length line)) _ _ (each.denies error.TooLong) (of-order (order_of line) each)
 
-  -- and of every item
+  -- and for every input
   pub of_effect : ((packet : Packet) → OfPacket P state packet) → ((line : List ℕ) → OfLine P state (order_of line))
       → (item : Item) → P (effect state item)
   of_effect packets lines (Received packet) = of_packet packet (packets packet)

@@ -48,7 +48,7 @@ use Rattle.gateway_core.specs.Step.{PassedOver, other_effect, packet_by, packet_
 use Rattle.gateway_core.specs.Step.{accepts, is_learned, reading_effect, tells_sender, told_of, unsaid}
 use Rattle.std.specs.Option.{option_map}
 
--- if the effect is that of the packet, its account is true
+-- if the effect is that of the packet, its disposition is true
 abbrev Truth : State → Packet → Effect → Type 0
 Truth state packet e =
     (packet_effect state packet).change ≡ e.change
@@ -102,13 +102,13 @@ module _ (state : State) (packet : Packet) where
           subst (λ b. Truth state packet (other_effect packet (if b then response_from packet.body else None)))
           (sym two) (of-none fault is two)
 
--- ---- what a plan says
+-- ---- the meaning of a plan
 
 abbrev outcome_in : Plan → Outcome
 outcome_in (Refuse outcome) = outcome
 outcome_in plan = Accepted
 
--- why a sender is refused
+-- why a sender is rejected
 abbrev RefusalMeans : Teach → Outcome → Type 0
 RefusalMeans kind Unsupported = (eep : Eep) × (eep_told kind ≡ Some eep) × (supported eep ≡ false)
 RefusalMeans kind General = (query : UteQuery) × (kind ≡ teach.Ute query) × (request_in query ≡ not_used)
@@ -176,7 +176,7 @@ module _ (t : Telegram) where
   refuse-means known teach.Answer mode.LearnAnswer outcome e = absurd cc
   refuse-means known teach.Answer (mode.LearnAs eep) outcome e = absurd cc
 
-  -- in a window for all senders something is planned for each telegram of teach-in
+  -- in a window for all senders there is a plan for each teach-in telegram
   query-speaks : (eep : Eep) (maker : ℕ) → add_told t eep maker ≢ Silent
   query-speaks eep maker = either (λ p. p ≢ Silent) (supported eep) _ _ (λ e. absurd cc) (λ e. absurd cc)
 
@@ -190,7 +190,7 @@ module _ (t : Telegram) where
   speaks known teach.Plain is e = absurd is
   speaks known teach.Answer is e = absurd is
 
-  -- in the mode for one sender nothing is planned if the desk's profile does not fit
+  -- in the mode for one sender there is no plan if the desk's profile does not fit
   given-silent : (a b : ℕ) (known : Device) → (if a == b then Add known else Silent) ≡ Silent → a ≢ b
   given-silent a b known = by (a == b) refl
     where
@@ -302,7 +302,7 @@ module _ (state : State) (packet : Packet) (t : Telegram) (carried : telegram_of
           ),
         )
 
-    -- telegrams of teach-in
+    -- teach-in telegrams
     of-taught : (known : Bool) → is_learned state.devices t.sender ≡ known → IsTeachIn (teach_in_of t)
         → Truth state packet (plan_effect state t false (plan_of t state.mode known))
     of-taught known same teaches = of-planned false known same (by state.mode refl)

@@ -1,5 +1,4 @@
--- The facts about the definitions that proofs cite, also those of the crates above: the laws, and steps that they are
--- made of.
+-- The facts about the definitions that proofs cite, in the crates above too: the theorems, and steps of their proofs.
 pub use Rattle.gateway_core.proofs.BeginningLemmas.{calls_leave_a_life, ends_leave_a_life}
 pub use Rattle.gateway_core.proofs.BeginningLemmas.{stops_leave_a_life}
 pub use Rattle.gateway_core.proofs.ByteLemmas.{items_are_of_bytes}

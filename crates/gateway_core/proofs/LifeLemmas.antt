@@ -1,4 +1,4 @@
--- What is told is found by later lives.
+-- Later executions find what was acknowledged.
 use Rattle.std.proofs.Common.{◌≡◌, ◌≢◌, inl, inr, ℕ, true, false, cond, List, [], ◌∷◌, ◌++◌, Option}
 use Rattle.std.proofs.Common.{Some, None, refl, sym, ap, subst, ◌∙◌, arith, nat_cmp}
 use Rattle.std.specs.List.{AllByRecursion}
@@ -38,9 +38,9 @@ get-other devices change q h =
     let o = after (get devices change.sender) change.deed in
     get-entered devices change.sender o q ∙ ap (λ b. cond b o (get devices q)) (other_key q change.sender h)
 
--- ---- what is promised
+-- ---- guarantees
 
--- a deed that leaves it
+-- an operation that keeps the guarantee
 leaves : (deed other : Deed) (known : Option Learned) → Leaves deed other → Promises deed known
     → Promises deed (after known other)
 leaves (Learn eep maker) (Learn e m) known l p =
@@ -67,7 +67,7 @@ leaves (Learn eep maker) Forget known l p = absurd l
 leaves Forget (Learn eep maker) known l p = absurd l
 leaves (Relabel label) Forget known l p = absurd l
 
--- a change that leaves it, or of another sender
+-- an update that keeps the guarantee, or is of another sender
 get-agreeing : (devices : Devices) (it change : Change) → Agrees it (Some change)
     → Promises it.deed (get devices it.sender) → Promises it.deed (get (changed devices change) it.sender)
 get-agreeing devices it change (inl apart) p =
@@ -87,17 +87,17 @@ get-agreeing devices it change (inr l) p = by_key (eq_by_cmp nat_cmp it.sender c
         subst (Promises it.deed)
         (sym (get-entered devices change.sender o it.sender ∙ ap (λ b. cond b o (get devices it.sender)) e)) p
 
--- it is so once the change is made
+-- the guarantee holds once the update is made
 abbrev IsPromised : Devices → Change → Type 0
 IsPromised devices change = Promises change.deed (after (get devices change.sender) change.deed)
 
--- a learned sender has the label that it gets
+-- a learned sender gets this label
 labelled : (known : Option Learned) (id : ℕ) (label : List ℕ) → IsSome (option_map (device id) known)
     → Promises (Relabel label) (after known (Relabel label))
 labelled (Some it) id label is = (_, refl, refl)
 labelled None id label is = absurd cc
 
--- each change that an item asks for makes what it promises: a label is given to none but a learned sender
+-- each update that an input asks for makes its guarantee true: only a learned sender is labelled
 item-promises : (state : State) (item : Item) (change : Change) → change_of state item ≡ Some change
     → IsPromised state.devices change
 item-promises state item =
@@ -132,7 +132,7 @@ item-promises state item =
     asked it p change e = subst (IsPromised state.devices) (ap (λ o. unwrap_or o it) e) p
 
 module _ (Before : Devices → Type 0) (it : Change) where
-  -- what is promised of the sender is so, also in all devices that a stop may leave
+  -- the guarantee holds for the sender, also in every crash state
   record Kept (left : Left) (devices : Devices) : Type 0 where
     pub now : Promises it.deed (get devices it.sender)
     pub safe : (d : Devices) → Safe Before left d → Promises it.deed (get d it.sender)
@@ -193,7 +193,7 @@ module _ (Before : Devices → Type 0) (it : Change) where
   after_stop left state None spares kept = kept
   after_stop left state (Some item) spares kept = after_pending left state.devices (change_of state item) spares kept
 
--- a life that finds what is promised, and does not break it, leaves it
+-- an execution that finds the guarantee, and does not override it, leaves it
 life_keeps : (it : Change) (life : Life) → IsLife life → LifeSpares it life
     → Promises it.deed (get life.found it.sender) → Promises it.deed (get life.left it.sender)
 life_keeps it life is spares found =
@@ -221,7 +221,7 @@ lives_keep_found it found (life ∷ lives) last are spares has =
     lives_keep_found it life.left lives last are.2 spares.1
     (life_keeps it life are.1 spares.0 (subst (λ n. Promises it.deed (get n it.sender)) (sym are.0) has))
 
--- the rest of a run, behind its first items
+-- the rest of a run, after its first inputs
 run_on : (old mid last : State) (items others : List Item) (fates more : List Fate) (answers all : List Answer)
     → Run old items fates answers mid → Run old (items ++ others) (fates ++ more) all last
     → (rest : List Answer) × Run mid others more rest last
@@ -234,7 +234,7 @@ run_on old mid last [] others (fate ∷ fates) more answers all run whole = absu
 run_on old mid last (item ∷ items) others [] more answers all run whole = absurd run
 run_on old mid last (item ∷ items) others (fate ∷ fates) more [] all run whole = absurd run
 
--- what a change that is told promises is so in all devices that a stop may leave
+-- the guarantee of an acknowledged update holds in every crash state
 told_kept : (Before : Devices → Type 0) (left : Left) (devices : Devices) (o : Option Change) (change : Change)
     → o ≡ Some change → IsPromised devices change → Kept Before change (told left devices o) (with_change devices o)
 told_kept Before left devices o change is promised =

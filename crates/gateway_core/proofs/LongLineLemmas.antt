@@ -19,7 +19,7 @@ effect-long start line h =
     ap (λ b. if b then denied TooLong else order_effect start (order_of line))
     (lt-ltb max_line (length line) h)
 
--- a run on one line hangs on its effect alone
+-- a run on one line depends only on its effect
 run_alike : (old new : State) (line other : List ℕ) (fates : List Fate) (answers : List Answer)
     → line_effect old line ≡ line_effect old other → Run old (Ordered line ∷ []) fates answers new
     → Run old (Ordered other ∷ []) fates answers new
@@ -41,7 +41,7 @@ run_alike old new line other [] [] e run = absurd run
 run_alike old new line other [] (answer ∷ answers) e run = absurd run
 run_alike old new line other (fate ∷ fates) [] e run = absurd run
 
--- and so does what a stop may leave
+-- and so do its crash states
 left_alike : (old : State) (item other : Item) (fates : List Fate) → effect old item ≡ effect old other
     → left_by nothing_left old (item ∷ []) fates ≡ left_by nothing_left old (other ∷ []) fates
 left_alike old item other [] e = refl

@@ -1,4 +1,4 @@
--- What is safe is what was known after a first part of the items.
+-- Crash-consistent devices are those known after a prefix of the inputs.
 use Rattle.std.proofs.Common.{◌≡◌, ◌<◌, ◌⊎◌, inl, inr, IsSome, length, List, [], ◌∷◌, ◌++◌, Option}
 use Rattle.std.proofs.Common.{Some, None, refl}
 use Rattle.std.proofs.Common.{sym, ap, subst, ◌∙◌, arith}
@@ -11,7 +11,7 @@ use Rattle.gateway_core.specs.Prefixes.{IsTold, NoneTold, state_by, AfterPrefix,
 use Rattle.gateway_core.specs.Prefixes.{StopIsDone, LeftIsPrefix}
 
 module _ (Before : Devices → Type 0) where
-  -- what one item makes of what was safe
+  -- what one input makes of crash-consistent devices
   abbrev Steps : Left → State → Item → Fate → Devices → Type 0
   Steps left state item fate devices =
       (Safe Before left devices × (¬ IsTold state item fate))
@@ -138,7 +138,7 @@ run-length old new [] (fate ∷ fates) answers run = absurd run
 run-length old new (item ∷ items) [] answers run = absurd run
 run-length old new (item ∷ items) (fate ∷ fates) [] run = absurd run
 
--- an item is not told that stands in a list of which none was
+-- no input in a list without acknowledged ones was acknowledged
 untold-at : (state : State) (ahead behind : List Item) (item : Item) (earlier later : List Fate) (fate : Fate)
     → NoneTold state (ahead ++ item ∷ behind) (earlier ++ fate ∷ later) → length ahead ≡ length earlier
     → ¬ IsTold (state_by state ahead earlier) item fate

@@ -1,4 +1,4 @@
--- What is planned about the sender of a query can be replied to it.
+-- Every plan for the sender of a query can be replied to it.
 use Rattle.std.proofs.Common.{◌≡◌, ℕ, Bool, false, IsSome, refl, sym, subst}
 use Rattle.erp1_telegrams.specs.Telegram.{Telegram}
 use Rattle.teach_in.specs.declared.mode.Mode.{Mode}
@@ -16,7 +16,7 @@ use Rattle.teach_in.specs.Plans.{plan_of}
 use Rattle.teach_in.proofs.ForCallers.{Refuses, AsksDeletion, of_plan, query-sender, ute-sender}
 use Rattle.gateway_core.specs.private.Tries.{MayReply}
 
--- a reply can say this outcome
+-- a reply can have this outcome
 abbrev CanSay : Teach → Outcome → Type 0
 CanSay (FourByte query) outcome = IsSome (four_byte_code outcome)
 CanSay (Ute query) outcome = IsSome (ute_code outcome)
@@ -48,7 +48,7 @@ can-refuse kind outcome is = absurd is
 can-delete : (kind : Teach) → AsksDeletion kind → CanSay kind Deleted
 can-delete kind (query, asked, wants) = subst (λ k. CanSay k Deleted) (sym asked) refl
 
--- it is the sender's, so the reply can be made
+-- the outcome is that of the sender, so the reply can be made
 may-reply : (t : Telegram) (kind : Teach) (outcome : Outcome) → teach_in_of t ≡ kind → CanSay kind outcome
     → MayReply kind t.sender outcome
 may-reply t (FourByte query) outcome is can = (sym (query-sender t query is), can)
@@ -58,7 +58,7 @@ may-reply t Contact outcome is can = tt
 may-reply t Bare outcome is can = tt
 may-reply t Answer outcome is can = tt
 
--- what may come of a plan can be replied
+-- the outcomes of a plan can be replied
 abbrev pub CanReply : Teach → ℕ → Plan → Type 0
 CanReply kind sender Silent = Unit {0}
 CanReply kind sender (Add known) = MayReply kind known.id Accepted × MayReply kind known.id Full

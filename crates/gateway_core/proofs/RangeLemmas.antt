@@ -73,7 +73,7 @@ abbrev IsPlanInRange : Plan → Type 0
 IsPlanInRange (Add known) = IsProfileInRange known.eep × IsMakerInRange known.maker
 IsPlanInRange plan = Unit {0}
 
--- what a query carries
+-- the profile and maker of a query
 asked-in : (query : UteQuery) → IsProfileInRange (eep_in query) × IsMakerInRange (Some (maker_in query))
 asked-in query = (
   (
@@ -170,7 +170,7 @@ set-in line LearnAnswer is = tt
 set-in line (LearnAs eep) is =
     let words = order-in line (order.LearnAs eep) (is eep refl) in words.1.1.0
 
--- ---- what an effect changes
+-- ---- the update of an effect
 
 abbrev IsDeedInRange : ℕ → Deed → Type 0
 IsDeedInRange sender (Learn eep maker) = IsProfileInRange eep × (sender < 2 ^ 32) × IsMakerInRange maker
@@ -179,7 +179,7 @@ IsDeedInRange sender deed = Unit {0}
 abbrev IsChangeInRange : Change → Type 0
 IsChangeInRange change = IsDeedInRange change.sender change.deed
 
--- the change and the mode that is set are in range
+-- the update and the mode that is set are in range
 abbrev KeepsRange : Effect → Type 0
 KeepsRange e = IfSome e.change IsChangeInRange × IfSome e.mode IsModeInRange
 
@@ -223,7 +223,7 @@ item-keeps state (Ordered line) in_range bytes =
       relabels = λ id label is known. (tt, tt);
     })
 
--- ---- what is known afterwards
+-- ---- the next state
 
 after-in : (sender : ℕ) (known : Option Learned) (deed : Deed) → IsDeedInRange sender deed
     → IfSome (option_map (device sender) known) IsDeviceInRange
@@ -269,7 +269,7 @@ stays_in_range old new [] (fate ∷ fates) answers run bytes is = absurd run
 stays_in_range old new (item ∷ items) [] answers run bytes is = absurd run
 stays_in_range old new (item ∷ items) (fate ∷ fates) [] run bytes is = absurd run
 
--- ---- what a life leaves
+-- ---- what an execution leaves
 
 change-in : (state : State) (item : Item) → IsOfBytes item → IsStateInRange state
     → AreInRange (with_change state.devices (change_of state item))
@@ -297,7 +297,7 @@ stopped-in : (state : State) (stopped : Option Item) (devices : Devices) → Sto
 stopped-in state (Some item) devices done bytes is = subst AreInRange (sym done) (change-in state item bytes is)
 stopped-in state None devices done bytes is = absurd done
 
--- the first items are of bytes, and the others
+-- the first inputs are of bytes, and the others
 parts-in : (before after : List Item) → AllByRecursion IsOfBytes (before ++ after)
     → AllByRecursion IsOfBytes before × AllByRecursion IsOfBytes after
 parts-in [] after bytes = (tt, bytes)

@@ -1,4 +1,4 @@
--- What is sent by radio is told.
+-- Everything that is sent by radio is reported.
 use Rattle.std.proofs.Common.{◌≡◌, inl, inr, ℕ, Bool, true, false, List, [], Option, Some, None, Result, Ok, Err, refl}
 use Rattle.std.proofs.Common.{sym, ap, subst, append-nil}
 use Rattle.std.specs.Prelude.{unwrap_or, is_some, nat_lt, length, if◌then◌else◌}
@@ -35,7 +35,7 @@ use Rattle.gateway_core.specs.Step.{base_query, known_of, if_supported}
 use Rattle.gateway_core.specs.Telling.{IsReply, IsPacketOf, RadioIsTold}
 use Rattle.gateway_core.proofs.EffectLemmas.{of_packet, of_line}
 
--- the bytes are those of a reply to this telegram where this came of its sender
+-- the bytes are those of a reply to this telegram with this outcome for its sender
 abbrev Replies : State → Telegram → Outcome → List ℕ → Type 0
 Replies state t outcome bytes =
     (reply : Telegram) × IsReply state t outcome reply × (bytes ≡ spelling (sent reply))
@@ -46,7 +46,7 @@ telegram-in : (t : Option Telegram) (bytes : List ℕ) → radio_of t ≡ Some b
 telegram-in None bytes e = absurd cc
 telegram-in (Some telegram) bytes e = (telegram, refl, ap (λ o. unwrap_or o bytes) (sym e))
 
--- a query of universal teach-in is answered where it waits for a reply
+-- a UTE query is answered if it waits for a reply
 wanted : (wants : Bool) (reply : Option Telegram) (bytes : List ℕ)
     → radio_of (if wants then reply else None) ≡ Some bytes → (wants ≡ true) × (radio_of reply ≡ Some bytes)
 wanted true reply bytes e = (refl, e)
@@ -64,7 +64,7 @@ reply-is state t LearnAnswer (FourByte query) outcome bytes in_mode is hears e =
     (reply, inl (query, is, in_mode, says), spelled)
 reply-is state t mode kind outcome bytes in_mode is hears e = absurd cc
 
--- a packet's effect has no bytes but those, and a teach line with the reply's outcome
+-- a packet's effect has only those bytes, and a teach line with the reply's outcome
 abbrev RepliesSo : State → Packet → Effect → List ℕ → Type 0
 RepliesSo state packet e bytes =
     (t : Telegram) × (telegram_of packet ≡ Ok t) × (line : TeachLine) × (texts e.desk ≡ text (Teach line))
@@ -92,7 +92,7 @@ packet-replies state packet bytes =
       hears = λ response e. absurd cc;
     })
 
--- a line's effect that has bytes tells that it is done
+-- a line's effect that has bytes reports `ok`
 line-sends : (state : State) (bytes : List ℕ) (line : List ℕ) → (line_effect state line).radio ≡ Some bytes
     → texts (line_effect state line).desk ≡ text Done
 line-sends state bytes line =
@@ -110,7 +110,6 @@ line-sends state bytes line =
 
 -- ---- a line
 
--- nothing is sent
 Silent : Effect → Type 0
 Silent e = e.radio ≡ None
 

@@ -1,4 +1,4 @@
--- What events stand for hangs on the rest of the stream before them alone.
+-- The inputs of events depend only on the rest of the stream before them.
 use Rattle.std.proofs.Common.{◌≡◌, ℕ, List, [], ◌∷◌, ◌++◌, refl, ap, ap₂, sym, ◌∙◌, append_assoc, map}
 use Rattle.esp3_frames.specs.Packet.{Packet}
 use Rattle.esp3_frames.specs.Framing.{MayBecomePacket}
@@ -14,7 +14,7 @@ rest_goes_on s = rest_may_become (framing_of s)
 rest_of-rest_of : (s : List ℕ) → rest_of (rest_of s) ≡ rest_of s
 rest_of-rest_of s = sym (frames_of-may_become (rest_of s) (rest_goes_on s)).1
 
--- the items of events hang on the rest of the stream alone
+-- the inputs of events depend only on the rest of the stream
 items_of-rest : (s : List ℕ) (events : List Event) → items_of s events ≡ items_of (rest_of s) events
 items_of-rest s [] = refl
 items_of-rest s (Piece w ∷ events) =
@@ -32,7 +32,7 @@ bytes_in-append (Piece bytes ∷ events) more =
     ap (λ s. bytes ++ s) (bytes_in-append events more) ∙ sym (append_assoc bytes (bytes_in events) (bytes_in more))
 bytes_in-append (Line line ∷ events) more = bytes_in-append events more
 
--- more events behind those that left this rest
+-- more events after those that left this rest
 pub items_behind : (old mid : List ℕ) (events more : List Event) → mid ≡ rest_of (old ++ bytes_in events)
     → items_of old (events ++ more) ≡ items_of old events ++ items_of mid more
 items_behind old mid events more e =

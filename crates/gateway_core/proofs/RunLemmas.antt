@@ -1,4 +1,4 @@
--- Runs of many items.
+-- Runs of many inputs.
 use Rattle.std.proofs.Common.{◌≡◌, inr, List, [], ◌∷◌, ◌++◌, refl, sym, ap, subst, ◌∙◌}
 use Rattle.learned_devices.specs.Kept.{Kept}
 use Rattle.gateway_core.specs.Step.{State, Item, Answer}
@@ -8,7 +8,7 @@ use Rattle.gateway_core.specs.Stops.{nothing_left, left_by, Safe}
 use Rattle.gateway_core.specs.Handling.{HandlerValue, Handles}
 use Rattle.gateway_core.proofs.StopLemmas.{safe_joins, safe-weaker}
 
--- a run goes on with another
+-- two consecutive runs are one
 pub run-append : (old mid new : State) (items more : List Item) (fates others : List Fate) (answers after : List Answer)
     → Run old items fates answers mid → Run mid more others after new
     → Run old (items ++ more) (fates ++ others) (answers ++ after) new
@@ -58,7 +58,7 @@ module _ {S : Type 0} (stored : S → Kept) where
         };
   }
 
--- what is answered, and what is known then, hang on the cause alone
+-- the answer and the next state depend only on the cause
 answer-alike : (state : State) (item : Item) (fate other : Fate) → refused_for fate ≡ refused_for other
     → answer_with state item fate ≡ answer_with state item other
 answer-alike state item Taken Taken e = refl

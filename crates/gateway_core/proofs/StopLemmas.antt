@@ -1,4 +1,4 @@
--- What is safe for two lists of items is safe for both joined.
+-- Crash consistency composes.
 use Rattle.std.proofs.Common.{◌≡◌, ◌⊎◌, inl, inr, Bool, true, false, cond, List, [], ◌∷◌, ◌++◌, Option, Some, None}
 use Rattle.std.proofs.Common.{refl, sym, ap, subst, ◌∙◌}
 use Rattle.learned_devices.specs.Devices.{Devices, changed}
@@ -7,7 +7,7 @@ use Rattle.gateway_core.specs.Step.{State, Item, Answer, change_of, with_change}
 use Rattle.gateway_core.specs.Run.{Fate, Taken, Refused, RefusedAtWrite, state_with, Run}
 use Rattle.gateway_core.specs.Stops.{Left, nothing_left, told, pending, left_with, left_by, IsOneOf, Safe, SafeJoins}
 
--- what a first list of items and then a second leave
+-- the crash states of a first list of inputs and then a second
 abbrev over : Left → Left → Left
 over first second =
     record {
@@ -49,7 +49,7 @@ over-by first second state (item ∷ items) (fate ∷ fates) =
     ap (λ l. left_by l (state_with state item fate) items fates) (over-with first second state item fate)
     ∙ over-by first (left_with second state item fate) (state_with state item fate) items fates
 
--- the items of a run, and then others
+-- the inputs of a run, and then others
 pub left_by-append : (left : Left) (old mid : State) (items others : List Item) (fates more : List Fate)
     (answers : List Answer) → Run old items fates answers mid
     → left_by left old (items ++ others) (fates ++ more) ≡ left_by (left_by left old items fates) mid others more
@@ -113,7 +113,7 @@ safe-step Before left state item (Refused cause) safe = safe
 safe-step Before left state item (RefusedAtWrite cause) safe =
     safe-pending Before left state.devices (change_of state item) state.devices safe
 
--- what is known at the end is safe
+-- the last state is crash-consistent
 pub safe-last : (Before : Devices → Type 0) (left : Left) (start last : State) (items : List Item) (fates : List Fate)
     (answers : List Answer) → Run start items fates answers last → Safe Before left start.devices
     → Safe Before (left_by left start items fates) last.devices

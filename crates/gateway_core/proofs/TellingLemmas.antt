@@ -1,4 +1,4 @@
--- What teach lines tell, and that changes are told.
+-- What teach lines report, and that updates are reported.
 use Rattle.std.proofs.Common.{◌≡◌, ◌⊎◌, inl, inr, ℕ, Bool, true, false, IsSome, List, [], ◌∷◌, length, Option, Some}
 use Rattle.std.proofs.Common.{None, Result, Ok, refl, sym, ap, subst, ◌∙◌, append-nil, arith}
 use Rattle.std.specs.Prelude.{unwrap_or, nat_lt, slice_index_or, if◌then◌else◌}
@@ -33,16 +33,15 @@ use Rattle.gateway_core.specs.Run.{Fate, Taken, Refused, RefusedAtWrite, cause_t
 use Rattle.gateway_core.specs.Telling.{IsDeleted, Tells, ChangesAreTold, LabelsAreTold, TeachLinesAreTold}
 use Rattle.gateway_core.proofs.EffectLemmas.{IsRefusal, of_packet, of_line}
 
--- whether a line is a teach line
 abbrev IsTeach : DeskLine → Type 0
 IsTeach (Teach line) = Unit {0}
 IsTeach line = ⊥
 
--- the one line of a text is the one that the text is of
+-- if a text is that of one line, it is this line
 alone : (one other : DeskLine) → one ∷ [] ≡ other ∷ [] → one ≡ other
 alone one other e = cc
 
--- a text of another line, or of none, is that of no teach line
+-- a text of another line, or of none, is not that of a teach line
 pub no_line : (line : TeachLine) → texts [] ≡ text (Teach line) → ⊥
 no_line line e = let found = of_teach_lines [] line e in absurd (let none = found.1 in cc)
 
@@ -61,7 +60,7 @@ cause-other : (cause : Cause) (line : TeachLine) → cause_text cause ≡ text (
 cause-other Memory line e = other-line (Error error.Memory) line (λ never. never) (append-nil _ ∙ e)
 cause-other Store line e = other-line (Error error.Store) line (λ never. never) (append-nil _ ∙ e)
 
--- two teach lines with one text tell the same outcome
+-- two teach lines with the same text have the same outcome
 same-outcome : (one line : TeachLine) → texts (Teach one ∷ []) ≡ text (Teach line) → one.outcome ≡ line.outcome
 same-outcome one line e =
     let found = of_teach_lines (Teach one ∷ []) line e in
@@ -72,7 +71,7 @@ same-outcome one line e =
     outcome_in (Teach line) = line.outcome
     outcome_in line = Accepted
 
--- what is refused changes nothing
+-- what is rejected changes nothing
 refused-tells : (Gone : Device → Type 0) (state : State) (kind : Kind) (one line : TeachLine) (outcome : Outcome)
     → IsRefusal outcome → Tells Gone (tells_sender state kind one) line outcome
 refused-tells Gone state kind one line Accepted is = absurd is
@@ -89,13 +88,13 @@ told : (Gone : Device → Type 0) (line : TeachLine) (e : Effect) (known : Devic
 told Gone line e known outcome is asks =
     subst (Tells Gone e line) (same-outcome (told_of known outcome) line is) (asks (sym is ∙ append-nil _))
 
--- ---- a sender that is forgotten by radio
+-- ---- a sender that is forgotten over the air
 
--- the device as the query of a telegram tells it
+-- the device in the query of a telegram
 abbrev asked_of : ℕ → UteQuery → Device
 asked_of id query = record { id = id; eep = eep_in query; maker = Some (maker_in query); label = [] }
 
--- its line is the one of what came of the query
+-- its line is the one with the outcome of the query
 line-asked : (id : ℕ) (kind : Kind) (query : UteQuery) (outcome : Outcome) → kind ≡ Ute query
     → line_with id kind outcome ≡ told_of (asked_of id query) outcome
 line-asked id kind query outcome is = ap (λ k. line_with id k outcome) is
@@ -154,9 +153,9 @@ teach_lines_are_told state (Ordered ordered) Taken line e = (refl, line-tells st
 teach_lines_are_told state item (Refused cause) line e = absurd (cause-other cause line e)
 teach_lines_are_told state item (RefusedAtWrite cause) line e = absurd (cause-other cause line e)
 
--- ---- a change is told
+-- ---- an update is reported
 
--- what an effect changes, it tells by a teach line
+-- an effect with an update reports it by a teach line
 abbrev Answers : (Device → Type 0) → Effect → Type 0
 Answers Gone e = (line : TeachLine) × (texts e.desk ≡ text (Teach line)) × Tells Gone e line line.outcome
 
@@ -186,7 +185,7 @@ packet-answers state packet change =
       hears = λ response e. absurd cc;
     })
 
--- or, of a label, by `ok`
+-- or, for a label, by `ok`
 abbrev Labels : State → List ℕ → Effect → Change → Type 0
 Labels state line e change =
     (id : ℕ) × (label : List ℕ) × (order_of line ≡ Ok (Label id label)) × IsSome (device_of state.devices id)
@@ -229,14 +228,14 @@ changes_are_told state (Ordered line) change e =
 
 -- ---- a label
 
--- the texts of errors and of `ok` are told apart by one byte
+-- one byte distinguishes the texts of errors from that of `ok`
 not-done : (name : ErrorName) → texts (Error name ∷ []) ≡ text Done → ⊥
 not-done name e = let at : 101 ≡ 116 = ap (λ text. slice_index_or text 2 0) e in absurd (omega (arith, at))
 
 abbrev tenth : List ℕ → ℕ
 tenth text = slice_index_or text 10 0
 
--- what a line that spells a label is answered, and what it changes
+-- the answer to a line that spells a label, and its update
 label-done : (id : ℕ) (label : List ℕ) (long : Bool) (known : Option Device)
     → let e : Effect = if long then denied error.TooLong else if_known known (λ it. labels id label) in
     texts e.desk ≡ text Done → IsSome known × (e.change ≡ Some (relabelled id label))

@@ -1,4 +1,4 @@
--- One item, done or refused.
+-- One input, applied or failed.
 use Rattle.std.proofs.Common.{◌≡◌, inl, inr, ℕ, ◌≤◌, Bool, true, false}
 use Rattle.std.proofs.Common.{IsSome, List, []}
 use Rattle.std.proofs.Common.{◌∷◌, length, Option, Some, None, Result, Ok, Err, refl, sym, ap, subst, ◌∙◌}
@@ -55,7 +55,7 @@ use Rattle.gateway_core.specs.private.Tries.{Done, state_of, Gives, IsMade, IsPe
 use Rattle.gateway_core.specs.private.Tries.{answered, mode_from}
 use Rattle.gateway_core.specs.private.Tries.{IsRefused, RegistryAlone, Learns, Forgets}
 
--- what is known, of its parts
+-- the state that consists of these parts
 abbrev pub known_with : ℕ → Mode → Counts → Devices → State
 known_with base mode counts devices = record { base = base; mode = mode; counts = counts; devices = devices }
 
@@ -64,7 +64,7 @@ known_with base mode counts devices = record { base = base; mode = mode; counts 
 pub keeps-same : (s : Kept) (devices : Devices) → s.holds devices → Keeps s s devices
 keeps-same s devices has = record { now = has; stop = λ left may. may }
 
--- a look behind a look
+-- a look-up after a look-up
 pub keeps-after : (old mid new : Kept) (devices : Devices) → Keeps old mid devices → Keeps mid new devices
     → Keeps old new devices
 keeps-after old mid new devices first second = record {
@@ -72,7 +72,7 @@ keeps-after old mid new devices first second = record {
   stop = λ left may. first.stop left (second.stop left may);
 }
 
--- a write that is tried behind a look
+-- a write that is tried after a look-up
 pub pends-after : (old mid new : Kept) (change : Change) (devices : Devices) → Keeps old mid devices
     → Pends mid new change devices → Pends old new change devices
 pends-after old mid new change devices keeps pends = record {
@@ -80,12 +80,12 @@ pends-after old mid new change devices keeps pends = record {
   stop = λ left may. elim (pends.stop left may) [ inl before ↦ inl (keeps.stop left before) | inr is ↦ inr is ];
 }
 
--- ---- what needs the store, which may be refused for either cause
+-- ---- what needs the device store, which may fail for either cause
 
 pub permitted : (need : Need) (cause : Cause) → need ≡ NeedsStore → Permits need cause
 permitted need cause is = subst (λ n. Permits n cause) (sym is) tt
 
--- whether the store was asked or not, want of memory may refuse what takes memory
+-- what needs memory may fail for lack of it, whether the device store was asked or not
 pub permits-memory : (asked : Bool) → Permits (if asked then NeedsStore else NeedsMemory) Memory
 permits-memory true = tt
 permits-memory false = tt
@@ -126,7 +126,7 @@ pub known-need : (known : Option Device) (effect_of : Device → Effect)
 known-need None effect_of needs = refl
 known-need (Some it) effect_of needs = needs it
 
--- what is told and replied of a sender
+-- the line and the reply for a sender
 pub taught-answer : (state : State) (kind : Teach) (line : TeachLine) (answer : Answer) (outcome : Outcome)
     (desk : List ℕ)
     → outcome ≡ line.outcome → desk ≡ text (TeachOf line)
@@ -140,13 +140,13 @@ taught-answer state kind line answer outcome desk is says e =
     record { radio = radio_of (reply_of state.base state.mode kind line.outcome); explained = []; desk = d } in a)
     (says ∙ sym (append-nil _))
 
--- the line of what came of a sender, by what its telegram tells
+-- the line with the outcome for a sender, by what its telegram contains
 pub line_told : (id : ℕ) (kind : Teach) (outcome : Outcome) (eep : Option Eep) (maker : Option ℕ)
     → eep ≡ eep_told kind → maker ≡ maker_told kind
     → line_with id kind outcome ≡ record { eep = eep; id = id; maker = maker; outcome = outcome }
 line_told id kind outcome eep maker first second = rw (first, second) refl
 
--- a sender is refused with the line of its telegram
+-- a sender is rejected with the line of its telegram
 pub refused-gives : (done : Done) (state : State) (t : Telegram) (kind : Teach) (id : ℕ) (line : TeachLine)
     (outcome : Outcome) → kind ≡ teach_in_of t → id ≡ t.sender → line_with id kind outcome ≡ line
     → Gives done (tells_sender state kind line)
@@ -157,14 +157,14 @@ refused-gives done state t kind id line outcome is sent_by told =
     ∙ ap (λ i. tells_sender state kind (line_with i kind outcome)) sent_by
     ∙ ap (λ k. tells_sender state k (line_with t.sender k outcome)) is)
 
--- what comes of a device that is to be learned: where the registry is full, and where it is not
+-- the effects of a device that is to be learned: if the registry is full, and if not
 pub record Adds (known : Device) (full done : Effect) : Type 0 where
   pub full_needs : full.need ≡ NeedsStore
   pub stays : full.change ≡ None
   pub done_needs : done.need ≡ NeedsStore
   pub learns : done.change ≡ Some (learned known)
 
--- what comes of a sender that is to be forgotten
+-- the effect of a sender that is to be forgotten
 pub record Drops (id : ℕ) (done : Effect) : Type 0 where
   pub needs : done.need ≡ NeedsStore
   pub forgets : done.change ≡ Some (forgotten id)
@@ -177,7 +177,7 @@ pub by-radio : (state : State) (kind : Teach) (known : Device)
 by-radio state kind known = record { full_needs = refl; stays = refl; done_needs = refl; learns = refl }
 
 module _ {S : Type 0} (stored : S → Kept) where
-  -- ---- an effect that comes behind a look
+  -- ---- an effect after a look-up
 
   made-after : (old mid new : S) (devices : Devices) (change : Option Change)
       → Keeps (stored old) (stored mid) devices → IsMade (stored mid) (stored new) devices change
@@ -205,9 +205,9 @@ module _ {S : Type 0} (stored : S → Kept) where
   comes-after old mid new devices effect (Err (AtWrite fault)) keeps pending =
       pending-after old mid new devices effect.need (cause_of fault) effect.change keeps pending
 
-  -- ---- an item that is tried
+  -- ---- an input that is tried
 
-  -- over another registry, where all else stays
+  -- over another registry, with everything else unchanged
   pub tries : (base : ℕ) (mode : Mode) (counts : Counts) (old new : S) (effect : State → Effect)
       (r : Result Done Refusal)
       → ((stored new).honest → (stored old).honest)
@@ -227,7 +227,7 @@ module _ {S : Type 0} (stored : S → Kept) where
         comes = comes;
       }
 
-  -- with nothing asked of the registry
+  -- with no call of the registry
   pub tries-alone : (v : HandlerValue S) (effect : State → Effect) (r : Result Done Refusal)
       → ((devices : Devices) → Keeps (stored v.registry) (stored v.registry) devices
       → Comes (stored v.registry) (stored v.registry) devices (effect (state_of v devices)) r)
@@ -241,7 +241,7 @@ module _ {S : Type 0} (stored : S → Kept) where
     comes = λ honest devices has. comes devices (keeps-same (stored v.registry) devices has);
   }
 
-  -- where the effects are equal
+  -- if the effects are equal
   pub tries-same : (old new : HandlerValue S) (effect other : State → Effect) (r : Result Done Refusal)
       → ((devices : Devices) → effect (state_of old devices) ≡ other (state_of old devices))
       → Tries stored old other r new → Tries stored old effect r new
@@ -256,7 +256,7 @@ module _ {S : Type 0} (stored : S → Kept) where
         (tries.comes honest devices has);
   }
 
-  -- behind a look at the registry
+  -- after a look-up in the registry
   pub tries-behind : (v mid new : HandlerValue S) (registry : S) (effect other : State → Effect)
       (r : Result Done Refusal)
       → mid ≡ record v { registry = registry }
@@ -290,7 +290,7 @@ module _ {S : Type 0} (stored : S → Kept) where
   reading-comes old new devices t known (Err fault) done gives keeps = (gives, keeps)
   reading-comes old new devices t known (Ok readings) done gives keeps = (gives, keeps)
 
-  -- ---- a device that is learned or forgotten
+  -- ---- learning and forgetting a device
 
   -- over another registry
   pub alone : (base : ℕ) (mode : Mode) (counts : Counts) (old new : S) (IsSo : Devices → Type 0)
@@ -302,7 +302,7 @@ module _ {S : Type 0} (stored : S → Kept) where
   alone base mode counts old new IsSo clean registries is_so =
       record { same = refl; clean = clean; registries = λ honest before. registries honest; is_so = is_so }
 
-  -- with nothing asked of the registry
+  -- with no call of the registry
   pub alone-unasked : (v : HandlerValue S) (IsSo : Devices → Type 0)
       → ((devices : Devices) → Keeps (stored v.registry) (stored v.registry) devices → IsSo devices)
       → RegistryAlone stored v IsSo v
@@ -313,7 +313,7 @@ module _ {S : Type 0} (stored : S → Kept) where
     is_so = λ honest devices has. is_so devices (keeps-same (stored v.registry) devices has);
   }
 
-  -- where the registry alone has changed
+  -- if only the registry has changed
   tries-registry : (old new : HandlerValue S) (IsSo : Devices → Type 0) (effect : State → Effect)
       (r : Result Done Refusal) → RegistryAlone stored old IsSo new
       → ((devices : Devices) → IsSo devices
@@ -329,14 +329,14 @@ module _ {S : Type 0} (stored : S → Kept) where
         comes = λ honest devices has. comes devices (alone.is_so honest devices has);
       }
 
-  -- what is done by what the handler knows then is what is done by what it knew
+  -- the effect by what the handler knows then is the effect by what it knew
   gives-before : (old new : HandlerValue S) (done : Done) (effect : State → Effect) (devices : Devices)
       → new ≡ record old { registry = new.registry } → Gives done (effect (state_of new devices))
       → Gives done (effect (state_of old devices))
   gives-before old new done effect devices same =
       subst (λ s. Gives done (effect s)) (ap (λ v. state_of v devices) same)
 
-  -- a change that is refused
+  -- an update that fails
   refused-comes : (old new : S) (devices : Devices) (effect : Effect) (change : Change) (refusal : Refusal)
       → effect.need ≡ NeedsStore → effect.change ≡ Some change
       → IsRefused (stored old) (stored new) devices change refusal
@@ -345,7 +345,7 @@ module _ {S : Type 0} (stored : S → Kept) where
       (permitted effect.need (cause_of fault) need, keeps)
   refused-comes old new devices effect change (AtWrite fault) need changes pends = rw changes pends
 
-  -- a label is committed, or nothing is known of the sender
+  -- a label is committed, or the sender is unknown
   pub label-comes : (old new : S) (devices : Devices) (id : ℕ) (label : List ℕ) (known : Bool) (done : Done)
       → known ≡ is_some (get devices id)
       → MatchBool known (Gives done (labels id label) × Commits (stored new) (relabelled id label) devices)
@@ -378,7 +378,7 @@ module _ {S : Type 0} (stored : S → Kept) where
       one (Some it) pends = pends
       one None keeps = (permitted NeedsStore (cause_of fault) refl, keeps)
 
-  -- a device is not learned: if the store is full, nothing is written
+  -- a device is not learned: if the registry is full, nothing is written
   addition-pending : (old new : S) (devices : Devices) (known : Device) (full done : Effect) → Adds known full done
       → (cause : Cause) → MatchBool (is_full devices known.id) (Keeps (stored old) (stored new) devices)
       (Pends (stored old) (stored new) (learned known) devices)
@@ -420,7 +420,7 @@ module _ {S : Type 0} (stored : S → Kept) where
         rw (is, (adds devices).stays)
         (gives-before old new told full devices learns.alone.same (gives devices), keeps))
 
-    -- there is no memory to tell it
+    -- out of memory for the line that reports it
     pub tries-untold : (fault : StoreFault) → Learns stored old known (Ok None) new
         → Tries stored old (λ state. addition state.devices known (full state) (done state)) (Err (Before fault)) new
     tries-untold fault learns =
@@ -460,7 +460,7 @@ module _ {S : Type 0} (stored : S → Kept) where
         rw ((drops devices).forgets)
         (gives-before old new told effect devices forgets.alone.same (gives devices), commits))
 
-  -- an order's telegram is sent, or it is told why there is none
+  -- an order's telegram is sent, or an error reports why there is none
   pub telegram-comes : (old new : S) (devices : Devices) (asked : Bool)
       (telegram : Option (Result Telegram OrderFault)) (done : Done) → Gives done (telegram_sent asked telegram)
       → Keeps (stored old) (stored new) devices
@@ -481,7 +481,7 @@ module _ {S : Type 0} (stored : S → Kept) where
       one true gives = (gives, keeps)
       one false gives = (gives, keeps)
 
-  -- an order behind a line
+  -- the order of a line
   pub tries-order : (old new : HandlerValue S) (line : List ℕ) (r : Result Done Refusal)
       (order : Result Order OrderFault) → length line ≤ max_line → order_of line ≡ order
       → Tries stored old (λ state. order_effect state order) r new
@@ -490,9 +490,9 @@ module _ {S : Type 0} (stored : S → Kept) where
       tries-same old new (λ state. line_effect state line) (λ state. order_effect state order) r
       (λ devices. rw (le-ltb max_line (length line) short, is) refl) tried
 
-  -- ---- an item that was tried is handled
+  -- ---- an input that was tried is handled
 
-  -- a change that is committed, if any
+  -- an update that is committed, if any
   made-now : (old new : S) (devices : Devices) (change : Option Change)
       → IsMade (stored old) (stored new) devices change
       → (stored new).holds (with_change devices change)
@@ -506,7 +506,6 @@ module _ {S : Type 0} (stored : S → Kept) where
   made-safe old new devices None keeps left may = inr (refl, keeps.stop left may)
   made-safe old new devices (Some change) commits left may = inl (inl (commits.stop left may))
 
-  -- what is refused at its write
   at_write-went : (old new : HandlerValue S) (start : State) (item : Item) (cause : Cause) (change : Option Change)
       → change_of start item ≡ change → new.base ≡ start.base → new.mode ≡ start.mode
       → new.counts ≡ (refused start).counts
@@ -563,7 +562,7 @@ module _ {S : Type 0} (stored : S → Kept) where
   comes-went old new start item (Err (AtWrite fault)) base mode counts pending =
       at_write-went old new start item (cause_of fault) (change_of start item) refl base mode counts pending
 
-  -- what was tried is settled: it is counted
+  -- the input that was tried is finished: it is counted
   pub record Settles (mid : HandlerValue S) (item : Item) (r : Result Done Refusal) (answer : Answer)
       (new : HandlerValue S) : Type 0 where
     pub answer_is : answer ≡ answered item r

@@ -1,4 +1,4 @@
--- Packets change what is learned in an open window alone.
+-- Packets change the devices only in an open window.
 use Rattle.std.proofs.Common.{◌≡◌, ◌≢◌, ◌⊎◌, inl, inr, [], Some, None, Ok, refl, sym, ap, subst, ◌∙◌}
 use Rattle.erp1_telegrams.specs.declared.eep.Eep.{Eep}
 use Rattle.erp1_telegrams.specs.Telegram.{Telegram, telegram_of}
@@ -19,7 +19,7 @@ not-closed Learn learning = λ is. absurd cc
 not-closed LearnAnswer learning = λ is. absurd cc
 not-closed (LearnAs eep) learning = λ is. absurd cc
 
--- the mode that learns for one sender is the only one that is closed
+-- only the mode for one sender is closed
 one-alone : (now mode : Mode) → mode_after_one now ≡ Some mode → (eep : Eep) × (now ≡ LearnAs eep)
 one-alone (LearnAs eep) mode set = (eep, refl)
 one-alone Closed mode set = absurd cc

@@ -1,4 +1,4 @@
--- Why what is done with a packet is done, and what the line says that explains it. Own choice.
+-- The disposition of a packet, and the line that explains it. Own choice.
 use Rattle.std.specs.Prelude.{ℕ, ◌==◌, Bool, true, false, List, [], length, Option, Some, None, if◌then◌else◌}
 use Rattle.std.specs.Prelude.{Result, Ok, Err}
 use Rattle.std.specs.Option.{option_or}
@@ -32,9 +32,9 @@ use Rattle.json_lines.specs.PacketLines.{packet_text}
 use Rattle.json_lines.specs.ToldTelegram.{ToldTelegram, shown_of}
 use Rattle.gateway_core.specs.declared.account.Account.{Account}
 
--- ---- why
+-- ---- reasons
 
--- of a packet that is no response and carries no telegram
+-- of a packet that carries no telegram and is no response
 abbrev pub why_other : Packet → Why
 why_other packet = if packet.kind == 1 then NoTelegram else if packet.kind == 2 then EmptyResponse else OtherType
 
@@ -43,21 +43,21 @@ abbrev pub why_filtered : FilterReason → Why
 why_filtered reason.FromBroadcast = FromBroadcast
 why_filtered reason.ForOthers = ForOthers
 
--- Of a telegram of which the plan is to do nothing: of data, whose sender is looked up, and is not learned; or of one
--- of teach-in, by the mode. So data of a stranger are the same in every mode that does not learn by them.
+-- Of a telegram whose plan is to do nothing: data, whose sender was looked up and is not learned, or a teach-in
+-- telegram. The mode does not matter for data.
 abbrev pub why_silent : Bool → Mode → Why
 why_silent true mode = UnknownSender
 why_silent false Closed = WindowClosed
 why_silent false mode = OtherMode
 
--- of data that the profile of its sender does not read; a profile that is not supported reads nothing
+-- of data that the profile of its sender cannot read; an unsupported profile reads nothing
 abbrev pub why_unread : Unreadable → Why
 why_unread unreadable.NotSupported = OtherMessage
 why_unread unreadable.WrongKind = WrongKind
 why_unread unreadable.WrongLength = WrongLength
 why_unread unreadable.OtherMessage = OtherMessage
 
--- what a packet is counted as
+-- the counter that a packet increments
 abbrev pub counted_as : Why → Count
 counted_as Refused = count.Refused
 counted_as Response = count.Response
@@ -76,9 +76,9 @@ counted_as WrongKind = count.Ignored
 counted_as WrongLength = count.Ignored
 counted_as OtherMessage = count.Ignored
 
--- ---- the account of a packet: why, and what is known of its sender
+-- ---- the disposition of a packet: the reason, and what is known about its sender
 
--- nothing is known of its sender, or it has none
+-- nothing is known about its sender, or it has none
 abbrev pub because : Why → Account
 because why = record { why = why; eep = None; maker = None }
 
@@ -88,7 +88,7 @@ of_device known why = record { why = why; eep = Some known.eep; maker = known.ma
 
 -- ---- the line that explains a packet
 
--- the profile and the maker that a telegram of teach-in tells, if it does
+-- the profile and maker in a teach-in telegram, if it has them
 abbrev pub eep_told : Teach → Option Eep
 eep_told (FourByte query) = Some (eep_in query)
 eep_told (Ute query) = Some (ute.eep_in query)
@@ -99,12 +99,13 @@ maker_told (FourByte query) = Some (maker_in query)
 maker_told (Ute query) = Some (ute.maker_in query)
 maker_told kind = None
 
--- what is shown of a telegram, which at teach-in is this: about its sender what a query tells, or else what is known
+-- what is shown of a telegram with this role in teach-in: about its sender the data of its query, otherwise what is
+-- known
 abbrev pub told_with : Telegram → Teach → Account → ToldTelegram
 told_with t kind account =
     shown_of t (option_or (eep_told kind) account.eep) (option_or (maker_told kind) account.maker)
 
--- what a packet was, by the telegram that it carries, if it carries one
+-- what a packet was: its telegram, if it carries one
 abbrev pub told_packet : Packet → Result Telegram TelegramFault → Account → ToldPacket
 told_packet packet (Ok t) account = told.Telegram (told_with t (teach_in_of t) account)
 told_packet packet (Err fault) account = told.Other packet.kind (length packet.body)

@@ -1,4 +1,4 @@
--- A change that a teach line acknowledged holds in every later life.
+-- An update that a teach line acknowledged holds in every later execution.
 use Rattle.std.specs.Prelude.{◌≡◌, ◌⊎◌, length, List, ◌∷◌, ◌++◌, Some}
 use Rattle.std.specs.List.{AllByRecursion}
 use Rattle.std.specs.FinMap.{get}
@@ -14,7 +14,7 @@ use Rattle.gateway_core.specs.Promises.{Promises}
 use Rattle.gateway_core.specs.Ranges.{IsOfBytes}
 use Rattle.gateway_core.specs.Telling.{acknowledged_change}
 
--- at one place, a life answered an item with this teach line
+-- at one index, an execution answered an input with this teach line
 pub record Acknowledges (life : Life) (line : TeachLine) : Type 0 where
   pub before : List Item
   pub item : Item
@@ -32,10 +32,10 @@ pub record Acknowledges (life : Life) (line : TeachLine) : Type 0 where
   pub as_many_answers : length before ≡ length answers
   pub reported : answer.desk ≡ text (Teach line)
 
--- The item asks for the acknowledged change of this device, in the state that the run reached before it. The line has
--- the text of this device's line. Every later life finds the change, until an item changes that sender otherwise,
--- whether that item is taken, refused at its write, or interrupted by a crash. If the devices found are in range and
--- the data of packets are bytes, the device is in range. A line in range is then the line of this device.
+-- The input asks for the acknowledged update of this device, in the state that the run reached before it. The line has
+-- the text of this device's line. Every later execution finds the update, until an input that changes that sender
+-- otherwise is applied, fails at its write, or is interrupted by a crash. If the devices found are in range and the
+-- data of packets are bytes, the device is in range, and a line in range is the line of this device.
 pub record IsDurable (life : Life) (line : TeachLine) (answered : Acknowledges life line) : Type 0 where
   pub at : State
   pub known : Device

@@ -1,4 +1,4 @@
--- How the gateway's calls make a life: from its beginning to the crash that ends it.
+-- How the gateway's calls make up an execution, from its start to the crash that ends it.
 use Rattle.std.specs.Prelude.{◌≡◌, ℕ, List, Option, Some, None}
 use Rattle.learned_devices.specs.Kept.{Kept, MayLeave}
 use Rattle.learned_devices.specs.Devices.{Devices, Change}
@@ -7,7 +7,7 @@ use Rattle.gateway_core.specs.Run.{Fate}
 use Rattle.gateway_core.specs.Handling.{HandlerValue, IsAt, Handles}
 use Rattle.gateway_core.specs.Lives.{IsLife, begun}
 
--- a life that found these devices, handled these items and was stopped in this one may leave those
+-- an execution that found these devices, handled these inputs and crashed in this one may leave those
 pub record LeavesALife (base : ℕ) (found : Devices) (items : List Item) (answers : List Answer) (stopped : Option Item)
     (left : Devices) : Type 0 where
   pub fates : List Fate
@@ -23,26 +23,26 @@ pub record LeavesALife (base : ℕ) (found : Devices) (items : List Item) (answe
     left = left;
   })
 
--- a life that found these devices, handled these items and was closed leaves these: what is known at its end
+-- an execution that found these devices, handled these inputs and was closed leaves these, the devices known at its end
 pub record ClosesALife (base : ℕ) (found : Devices) (items : List Item) (answers : List Answer) (left : Devices)
     : Type 0 where
   pub life : LeavesALife base found items answers None left
   pub itself : left ≡ life.last.devices
 
 module _ {S : Type 0} (stored : S → Kept) where
-  -- a life begins: the gateway knows what was found, and a stop leaves that and nothing else
+  -- an execution begins: the gateway knows what was found, and a crash leaves only that
   pub record BeginsAt (v : HandlerValue S) (found : Devices) : Type 0 where
     pub at : IsAt stored v (begun v.base found)
     pub stop : (left : Devices) → (stored v.registry).may_recover left → left ≡ found
 
-  -- whatever is handled from there on, what a stop leaves then is what a life may leave
+  -- after anything that is handled from there on, a crash leaves what an execution may leave
   abbrev pub CallsLeaveALife : Type 0
   CallsLeaveALife = (old new : HandlerValue S) (found : Devices) (items : List Item) (answers : List Answer)
       → (stored new.registry).honest → BeginsAt old found → Handles stored old items answers new
       → (left : Devices) → (stored new.registry).may_recover left → LeavesALife old.base found items answers None left
 
-  -- and so it is within the next item, from the moment that its write is tried: while it runs, where it is refused, and
-  -- once it is committed and not yet answered
+  -- the same holds within the next input, from its write on: during the write, if it fails, and after its commit,
+  -- before its answer
   abbrev pub StopsLeaveALife : Type 0
   StopsLeaveALife =
       (old new : HandlerValue S) (within : S) (found : Devices) (items : List Item) (answers : List Answer)
@@ -54,7 +54,7 @@ module _ {S : Type 0} (stored : S → Kept) where
       → MayLeave (stored new.registry) (stored within) change devices)
       → (left : Devices) → (stored within).may_recover left → LeavesALife old.base found items answers (Some item) left
 
-  -- what is known at the end of a life is what it leaves, however it is closed
+  -- an execution leaves what is known at its end, however it is closed
   abbrev pub EndsLeaveALife : Type 0
   EndsLeaveALife = (old new : HandlerValue S) (found : Devices) (items : List Item) (answers : List Answer)
       → (stored new.registry).honest → BeginsAt old found → Handles stored old items answers new

@@ -1,4 +1,4 @@
--- What a reply tells the desk.
+-- The text of a reply for the desk.
 use Rattle.std.specs.Prelude.{ℕ, List, []}
 use Rattle.gateway_core.specs.declared.reply.Desk.{Desk}
 use Rattle.gateway_core.specs.declared.reply.Desk.TheVariants.{Nothing, Fixed, Owned}

@@ -54,12 +54,12 @@ pub record IsDataOf (state : State) (packet : Packet) (t : Telegram) (known : De
   pub data_alone : teach_in_of t ≡ Plain
   pub is_known : device_of state.devices t.sender ≡ Some known
 
--- the account has the profile and the maker of this device, or of none
+-- the disposition has the profile and maker of this device, or of none
 abbrev pub NamesDevice : Account → Option Device → Type 0
 NamesDevice account None = (account.eep ≡ None) × (account.maker ≡ None)
 NamesDevice account (Some known) = (account.eep ≡ Some known.eep) × (account.maker ≡ known.maker)
 
--- the table of verdicts plans this about the sender of the telegram, by the mode and by whether it is learned
+-- the table of plans has this plan for the sender of the telegram, by the mode and by whether it is learned
 abbrev pub IsPlanned : State → Telegram → Plan → Type 0
 IsPlanned state t plan = plan_of t state.mode (is_learned state.devices t.sender) ≡ plan
 
@@ -71,13 +71,13 @@ DoesNotFit eep (FourByte query) = eep.rorg ≢ 0xA5
 DoesNotFit eep (Ute query) = ⊤
 DoesNotFit eep kind = ⊥
 
--- data of a learned device that its profile does not read, for one of these faults
+-- data of a learned device that its profile cannot read, for one of these faults
 abbrev pub IsUnreadable : State → Packet → Account → (Unreadable → Type 0) → Type 0
 IsUnreadable state packet account Why =
     (t : Telegram) × (known : Device) × (fault : Unreadable) × IsDataOf state packet t known
     × (read_by known.eep t ≡ Err fault) × Why fault × NamesDevice account (Some known)
 
--- what the word means, and whose profile and maker the account holds
+-- the meaning of the word, and whose profile and maker the disposition has
 abbrev pub Means : State → Packet → Account → Why → Type 0
 Means state packet account why.Refused = ⊥
 Means state packet account why.Response =
@@ -134,8 +134,8 @@ Means state packet account (why.Told NoProfile) =
     (t : Telegram) × IsHeard state packet t × (state.mode ≢ Closed) × (teach_in_of t ≡ Bare)
     × IsPlanned state t (Refuse NoProfile) × (change_of state (Received packet) ≡ None) × NamesDevice account None
 
--- A telegram is shown with its parts. Its profile and maker are those of its query, if it is one, and otherwise those
--- of the account.
+-- A telegram is shown with its parts, and with the profile and maker of its query, if it is one, otherwise with those
+-- of the disposition.
 pub record IsShown (t : Telegram) (account : Account) (shown : ToldTelegram) : Type 0 where
   pub id : shown.id ≡ t.sender
   pub dest : ((t.dest ≡ 0xFFFF_FFFF) × (shown.dest ≡ None)) ⊎ ((t.dest ≢ 0xFFFF_FFFF) × (shown.dest ≡ Some t.dest))
@@ -152,7 +152,7 @@ Shows packet account (shown_as.Telegram shown) = (t : Telegram) × (telegram_of 
 Shows packet account (shown_as.Other kind size) =
     IsErr (telegram_of packet) × (kind ≡ packet.kind) × (size ≡ length packet.body)
 
--- the line that explains a packet that is taken shows the packet, and its word is true
+-- the line that explains an applied packet shows the packet, and its word is true
 pub record IsTrulyExplained (state : State) (packet : Packet) : Type 0 where
   pub account : Account
   pub line : PacketLine

@@ -1,5 +1,5 @@
--- How the gateway handles items, over its store of devices: what it answers, what it knows afterwards, and what a crash
--- may leave. All this has one premise, the store's own: so far its medium has returned what was written.
+-- How the gateway handles inputs over its device store: its answers, what it then knows, and what a crash may leave.
+-- The only premise is about the device store: so far its medium has returned what was written.
 use Rattle.std.specs.Prelude.{◌≡◌, ℕ, List}
 use Rattle.learned_devices.specs.Kept.{Kept}
 use Rattle.learned_devices.specs.Devices.{Devices}
@@ -9,25 +9,25 @@ use Rattle.gateway_core.specs.Step.{State, Item, Answer}
 use Rattle.gateway_core.specs.Run.{Fate, Run}
 use Rattle.gateway_core.specs.Stops.{nothing_left, left_by, Safe}
 
--- the base ID of the radio module, the mode, what was counted, and the store of devices
+-- the base ID of the radio module, the mode, the counters, and the device store
 pub record HandlerValue (S : Type 0) : Type 0 where
   pub base : ℕ
   pub mode : Mode
   pub counts : Counts
   pub registry : S
 
--- this is what the gateway knows
+-- the gateway knows this state
 abbrev pub IsAt : {S : Type 0} → (S → Kept) → HandlerValue S → State → Type 0
 IsAt stored v s =
     (v.base ≡ s.base) × (v.mode ≡ s.mode) × (stored v.registry).holds s.devices × (v.counts ≡ s.counts)
 
--- while the medium has returned what was written and the store is open, there is a state that the gateway knows
+-- while the medium has returned what was written and the device store is open, the gateway knows some state
 abbrev pub KnowsState : {S : Type 0} → (S → Kept) → HandlerValue S → Type 0
 KnowsState stored v = (stored v.registry).honest → (start : State) × IsAt stored v start
 
 module _ {S : Type 0} (stored : S → Kept) where
-  -- From what was known at the start, the items are handled with these answers and some fates. The gateway then knows
-  -- what they make of it, and a stop leaves what is safe for them.
+  -- From the first state, the inputs are handled with these answers and some results. The gateway then knows the last
+  -- state of that run, and what a crash leaves is crash-consistent with it.
   pub record Went (old : HandlerValue S) (start : State) (items : List Item) (answers : List Answer)
       (new : HandlerValue S) : Type 0 where
     pub fates : List Fate
@@ -37,12 +37,12 @@ module _ {S : Type 0} (stored : S → Kept) where
     pub stop : (left : Devices) → (stored new.registry).may_recover left
         → Safe (stored old.registry).may_recover (left_by nothing_left start items fates) left
 
-  -- the items are handled with these answers, whatever the gateway knew
+  -- the inputs are handled with these answers, whatever the gateway knew
   pub record Handles (old : HandlerValue S) (items : List Item) (answers : List Answer)
       (new : HandlerValue S) : Type 0 where
     pub base : new.base ≡ old.base
     pub clean : (stored new.registry).honest → (stored old.registry).honest
-    -- what a crash leaves stays sound
+    -- the device store stays sound
     pub registries : (stored new.registry).honest → (stored old.registry).sound
         → (stored new.registry).sound
     pub went : (stored new.registry).honest → (start : State) → IsAt stored old start

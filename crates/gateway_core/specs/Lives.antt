@@ -1,4 +1,4 @@
--- Lives of the gateway, each ended by a stop, and what later ones find.
+-- Executions of the gateway, each ended by a crash, and what later ones find.
 use Rattle.std.specs.Prelude.{◌≡◌, ◌≢◌, ◌⊎◌, ℕ, List, [], ◌∷◌, ◌++◌, Option, Some, None}
 use Rattle.std.specs.List.{AllByRecursion}
 use Rattle.std.specs.FinMap.{get}
@@ -10,8 +10,8 @@ use Rattle.gateway_core.specs.Run.{Fate, Taken, Refused, RefusedAtWrite, state_w
 use Rattle.gateway_core.specs.Promises.{Promises, Leaves}
 use Rattle.gateway_core.specs.Stops.{Left, nothing_left, pending, left_by, Safe}
 
--- the base ID, the devices found, the items with their fates and answers, what was known after them, the item in work
--- at the stop, and the devices that the stop left
+-- the base ID, the devices found, the inputs with their results and answers, the state after them, the input in
+-- progress at the crash, and the devices that the crash left
 pub record Life : Type 0 where
   pub base : ℕ
   pub found : Devices
@@ -22,11 +22,11 @@ pub record Life : Type 0 where
   pub stopped : Option Item
   pub left : Devices
 
--- a life begins with the devices found, learns from nobody, and has counted nothing
+-- an execution begins with the devices found, with the mode closed and all counters 0
 abbrev pub begun : ℕ → Devices → State
 begun base devices = record { base = base; mode = Closed; counts = none_counted; devices = devices }
 
--- the item in work may be done, and may not
+-- the update of the input in progress may be there or not
 abbrev pub stopped_in : Left → State → Option Item → Left
 stopped_in left state None = left
 stopped_in left state (Some item) = pending left state.devices (change_of state item)
@@ -37,23 +37,23 @@ pub record IsLife (life : Life) : Type 0 where
       (stopped_in (left_by nothing_left (begun life.base life.found) life.items life.fates) life.last life.stopped)
       life.left
 
--- each life finds what the one before left
+-- each execution finds what the one before left
 abbrev pub AreLives : Devices → List Life → Devices → Type 0
 AreLives found [] last = last ≡ found
 AreLives found (life ∷ lives) last = (life.found ≡ found) × IsLife life × AreLives life.left lives last
 
--- the change that an item with this fate makes or may make
+-- the update that an input with this result makes or may make
 abbrev pub written : State → Item → Fate → Option Change
 written state item Taken = change_of state item
 written state item (Refused cause) = None
 written state item (RefusedAtWrite cause) = change_of state item
 
--- the change, if any, is of another sender, or leaves what this one promises
+-- the update, if any, is of another sender, or keeps what this one guarantees
 abbrev pub Agrees : Change → Option Change → Type 0
 Agrees it None = Unit {0}
 Agrees it (Some change) = (change.sender ≢ it.sender) ⊎ Leaves it.deed change.deed
 
--- each item that changes the sender leaves what this change promises, be it taken or refused at its write
+-- each input that changes the sender keeps what this update guarantees, whether it is applied or fails at its write
 abbrev pub Spares : Change → State → List Item → List Fate → Type 0
 Spares it state (item ∷ items) (fate ∷ fates) =
     Agrees it (written state item fate) × Spares it (state_with state item fate) items fates
@@ -66,7 +66,7 @@ StopSpares it state (Some item) = Agrees it (change_of state item)
 abbrev pub LifeSpares : Change → Life → Type 0
 LifeSpares it life = Spares it (begun life.base life.found) life.items life.fates × StopSpares it life.last life.stopped
 
--- the life told that the change is made, and then nothing in it broke what that promises
+-- the execution acknowledged the update, and then nothing in it overrode what that guarantees
 pub record Tells (life : Life) (change : Change) : Type 0 where
   pub before : List Item
   pub item : Item
@@ -82,9 +82,7 @@ pub record Tells (life : Life) (change : Change) : Type 0 where
   pub spared : Spares change (state_after at item) after more
   pub stop : StopSpares change life.last life.stopped
 
--- What a change that is told promises is found so by every later life, until an item breaks it: a profile and a maker
--- until one learns the sender otherwise or forgets it, that it is forgotten until one learns it, and a label until one
--- labels the sender otherwise or forgets it.
+-- theorem `lives_keep`: every later execution finds what an acknowledged update guarantees, until an input overrides it
 abbrev pub LivesKeep : Type 0
 LivesKeep = (life : Life) (change : Change) (lives : List Life) (last : Devices) →
     IsLife life → Tells life change → AllByRecursion (LifeSpares change) lives → AreLives life.left lives last

@@ -1,5 +1,5 @@
--- What a stop leaves is what was known after a first part of the items, perhaps with the change of the next one. That
--- part has every item that was told done.
+-- A crash leaves what was known after a prefix of the inputs, perhaps with the update of the next one. The prefix
+-- contains every acknowledged input.
 use Rattle.std.specs.Prelude.{◌≡◌, ◌<◌, ◌⊎◌, length, IsSome, List, [], ◌∷◌, ◌++◌, Option, Some, None}
 use Rattle.learned_devices.specs.Devices.{Devices}
 use Rattle.gateway_core.specs.Step.{State, Item, change_of, with_change}
@@ -7,13 +7,13 @@ use Rattle.gateway_core.specs.Run.{Fate, Taken, Refused, RefusedAtWrite, state_w
 use Rattle.gateway_core.specs.Stops.{nothing_left, left_by, Safe}
 use Rattle.gateway_core.specs.Lives.{Life, begun, IsLife}
 
--- whether the item's change was told
+-- whether the input's update was acknowledged
 abbrev pub IsTold : State → Item → Fate → Type 0
 IsTold state item Taken = IsSome (change_of state item)
 IsTold state item (Refused cause) = ⊥
 IsTold state item (RefusedAtWrite cause) = ⊥
 
--- none of these items was told; each has its fate
+-- none of these inputs was acknowledged; each has its result
 abbrev pub NoneTold : State → List Item → List Fate → Type 0
 NoneTold state [] [] = Unit {0}
 NoneTold state (item ∷ items) (fate ∷ fates) =
@@ -24,14 +24,14 @@ abbrev pub state_by : State → List Item → List Fate → State
 state_by state (item ∷ items) (fate ∷ fates) = state_by (state_with state item fate) items fates
 state_by state items fates = state
 
--- the devices are those with the change of the first item, which was refused at its write
+-- the devices are those with the update of the first input, which failed at its write
 abbrev pub IsYetDone : State → List Item → List Fate → Devices → Type 0
 IsYetDone state (item ∷ items) (RefusedAtWrite cause ∷ fates) devices =
     devices ≡ with_change state.devices (change_of state item)
 IsYetDone state items fates devices = ⊥
 
--- The devices are those after the items before, perhaps with the change of the next one, which was refused at its
--- write, and none of the items behind was told.
+-- The devices after the inputs of the prefix, perhaps with the update of the next one, which failed at its write. No
+-- input after the prefix was acknowledged.
 pub record AfterPrefix (start : State) (items : List Item) (fates : List Fate) (devices : Devices) : Type 0 where
   pub before : List Item
   pub after : List Item
@@ -45,14 +45,14 @@ pub record AfterPrefix (start : State) (items : List Item) (fates : List Fate) (
   pub untold : NoneTold at after more
   pub is : (devices ≡ at.devices) ⊎ IsYetDone at after more devices
 
--- what is safe is what is known after a first part of the items that has every told one, perhaps with the change of the
--- next one, which was refused at its write
+-- crash-consistent devices are those known after a prefix of the inputs that contains every acknowledged one, perhaps
+-- with the update of the next one, which failed at its write
 abbrev pub SafeIsPrefix : Type 0
 SafeIsPrefix = (start : State) (items : List Item) (fates : List Fate) (devices : Devices) → length items ≡ length fates
     → Safe (λ found. found ≡ start.devices) (left_by nothing_left start items fates) devices
     → AfterPrefix start items fates devices
 
--- in whatever way the items are parted at one that was told, it stands in that first part
+-- wherever the inputs are split at an acknowledged one, it is in that prefix
 abbrev pub ToldStandBefore : Type 0
 ToldStandBefore =
     (start : State) (items ahead behind : List Item) (item : Item) (fates earlier later : List Fate) (fate : Fate)
@@ -61,13 +61,13 @@ ToldStandBefore =
     → items ≡ ahead ++ item ∷ behind → fates ≡ earlier ++ fate ∷ later → length ahead ≡ length earlier
     → IsTold (state_by start ahead earlier) item fate → length ahead < length prefix.before
 
--- the item in work at the stop is done
+-- the update of the input in progress at the crash is done
 abbrev pub StopIsDone : State → Option Item → Devices → Type 0
 StopIsDone state None devices = ⊥
 StopIsDone state (Some item) devices = devices ≡ with_change state.devices (change_of state item)
 
--- What a life leaves is what was known after a first part of its items that has every told one, or after all of them
--- and the one in work.
+-- An execution leaves what was known after a prefix of its inputs that contains every acknowledged one, or after all of
+-- them and the one in progress.
 abbrev pub LeftIsPrefix : Type 0
 LeftIsPrefix = (life : Life) → IsLife life
     → AfterPrefix (begun life.base life.found) life.items life.fates life.left

@@ -1,4 +1,4 @@
--- The ranges of the numbers of devices: what is learned is in range, and so is the device that a teach line reports.
+-- The ranges of devices: learned devices, and those that teach lines report, are in range.
 use Rattle.std.specs.Prelude.{◌≡◌, ◌⊎◌, ℕ, ◌<◌, List, ◌++◌, Some, IfSome}
 use Rattle.std.specs.List.{All, AllByRecursion}
 use Rattle.learned_devices.specs.declared.Device.{Device}
@@ -21,28 +21,28 @@ IsModeInRange mode = Unit {0}
 abbrev pub IsStateInRange : State → Type 0
 IsStateInRange state = AreInRange state.devices × IsModeInRange state.mode
 
--- The data of a packet are bytes. A line needs no premise: whatever it is, the digits that are read in it spell bytes.
+-- The data of a packet are bytes. A line needs no premise: digits always spell bytes.
 abbrev pub IsOfBytes : Item → Type 0
 IsOfBytes (Received packet) = All (λ byte. byte < 256) packet.body
 IsOfBytes (Ordered line) = Unit {0}
 
--- the packets of a stream of bytes are of bytes
+-- the packets of a stream of bytes consist of bytes
 abbrev pub ItemsAreOfBytes : Type 0
 ItemsAreOfBytes = (stream : List ℕ) (events : List Event) → All (λ byte. byte < 256) (stream ++ bytes_in events)
     → AllByRecursion IsOfBytes (items_of stream events)
 
--- Items of bytes keep the state in range, whatever their fates.
+-- Inputs of bytes keep the state in range, whatever their results.
 abbrev pub StaysInRange : Type 0
 StaysInRange = (old new : State) (items : List Item) (fates : List Fate) (answers : List Answer)
     → Run old items fates answers new → AllByRecursion IsOfBytes items → IsStateInRange old → IsStateInRange new
 
--- A life with items of bytes leaves devices in range, if those that it found were in range.
+-- An execution with inputs of bytes leaves devices in range, if those that it found were in range.
 abbrev pub LeavesInRange : Type 0
 LeavesInRange = (life : Life) → IsLife life → AreInRange life.found → AllByRecursion IsOfBytes life.items
     → IfSome life.stopped IsOfBytes → AreInRange life.left
 
--- The teach line has the text of the line of this device, which is in range. The item makes the change that the line
--- reports. If the numbers of the line are in range, it is the line of this device.
+-- The teach line has the text of the line of this device, which is in range, and the input makes the update that the
+-- line reports. If the numbers of the line are in range, it is the line of this device.
 pub record IsOfDevice (state : State) (item : Item) (line : TeachLine) : Type 0 where
   pub known : Device
   pub in_range : IsDeviceInRange known
@@ -50,7 +50,7 @@ pub record IsOfDevice (state : State) (item : Item) (line : TeachLine) : Type 0 
   pub same_text : text (Teach line) ≡ text (Teach (told_of known line.outcome))
   pub line_is : HasNumbersInRange line → line ≡ told_of known line.outcome
 
--- in a state in range, an item of bytes gets `accepted` or `deleted` only for such a device
+-- in a state in range, an input of bytes gets `accepted` or `deleted` only for such a device
 abbrev pub TellsInRange : Type 0
 TellsInRange = (state : State) (item : Item) (fate : Fate) (line : TeachLine) → IsStateInRange state → IsOfBytes item
     → (answer_with state item fate).desk ≡ text (Teach line)

@@ -1,4 +1,4 @@
--- What a reply says, as bytes.
+-- The answer that a reply stands for, as bytes.
 use Rattle.std.specs.Prelude.{[]}
 use Rattle.std.specs.Option.{option_map}
 use Rattle.gateway_core.specs.Desks.{desk_bytes}

@@ -1,18 +1,18 @@
--- What the radio module answers (EnOcean Serial Protocol 3, "Packet type 2: RESPONSE").
+-- Responses of the radio module (EnOcean Serial Protocol 3, "Packet type 2: RESPONSE").
 use Rattle.std.specs.Prelude.{ℕ, ◌==◌, List, [], ◌∷◌, Option, Some, None, if◌then◌else◌}
 use Rattle.esp3_frames.specs.Packet.{Packet}
 use Rattle.json_lines.specs.Lines.{Response}
 use Rattle.gateway_core.specs.declared.response.ResponseRef.{ResponseRef}
 
--- own choice: a response without data says nothing
+-- own choice: a response without data is ignored
 abbrev pub response_from : List ℕ → Option Response
 response_from [] = None
 response_from (code ∷ bytes) = Some (record { code = code; bytes = bytes })
 
--- own choice: what a response has of optional data is passed over
+-- own choice: the optional data of a response is ignored
 abbrev pub response_in : Packet → Option Response
 response_in packet = if packet.kind == 2 then response_from packet.body else None
 
--- the response that a reference lends
+-- the response that a reference borrows
 abbrev pub response_of : ResponseRef → Response
 response_of r = record { code = r.code; bytes = r.bytes.now }

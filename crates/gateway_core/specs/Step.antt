@@ -1,4 +1,4 @@
--- What the gateway does with one item: its effect, and so its answer and what is known afterwards.
+-- What the gateway does with one input: its effect, and so its answer and the next state.
 use Rattle.std.specs.Prelude.{ℕ, Bool, true, false, nat_lt, length, if◌then◌else◌, List, [], ◌∷◌, Option, Some, None}
 use Rattle.std.specs.Prelude.{option_map, is_some, unwrap_or}
 use Rattle.std.specs.Prelude.{Result, Ok, Err}
@@ -51,38 +51,38 @@ use Rattle.gateway_core.specs.Accounts.{why_filtered, why_silent, why_other, why
 use Rattle.gateway_core.specs.Profiles.{read_by}
 use Rattle.gateway_core.specs.Responses.{response_in}
 
--- what the gateway knows: the base ID of its radio module, which no item changes, the mode in which it learns, what it
--- has counted, and the learned devices
+-- what the gateway knows: the base ID of its radio module, which never changes, the learn mode, the counters, and the
+-- learned devices
 pub record State : Type 0 where
   pub base : ℕ
   pub mode : Mode
   pub counts : Counts
   pub devices : Devices
 
--- what the gateway handles: a packet of the serial line, or a line of the desk
+-- an input: a packet of the serial line, or a line of the desk
 pub data Item : Type 0 where
   Received : (packet : Packet) → Item
   Ordered : (line : List ℕ) → Item
 
--- what an item is refused for: there was no memory, or the store of the registry refused
+-- why an input fails: out of memory, or an error of the device store
 pub data Cause : Type 0 where
   Memory : Cause
   Store : Cause
 
--- what an item needs that can be wanting: nothing, memory alone, or the store, which needs memory too
+-- what an input needs that can fail: nothing, only memory, or the device store, which needs memory too
 pub data Need : Type 0 where
   NeedsNothing : Need
   NeedsMemory : Need
   NeedsStore : Need
 
--- what such an item may be refused for
+-- the causes for which such an input may fail
 abbrev pub Permits : Need → Cause → Type 0
 Permits NeedsStore cause = Unit {0}
 Permits NeedsMemory Memory = Unit {0}
 Permits need cause = ⊥
 
--- what comes of an item that is taken: what is sent by radio, if anything, the lines that the desk is told, the account
--- of a packet, the change of what is learned and the mode that is set, if any, and what it needs
+-- what an applied input does: the bytes to send by radio, the lines for the desk, the disposition of a packet, the
+-- update of the devices, the mode that it sets, and what it needs
 pub record Effect : Type 0 where
   pub radio : Option (List ℕ)
   pub desk : List DeskLine
@@ -91,44 +91,44 @@ pub record Effect : Type 0 where
   pub mode : Option Mode
   pub need : Need
 
--- nothing comes of it
+-- no effect
 abbrev pub nothing : Effect
 nothing = record { radio = None; desk = []; account = None; change = None; mode = None; need = NeedsNothing }
 
--- what comes of a device that is to be learned: the first, where as many others are learned as can be, and else the
+-- the effect of a device that is to be learned: the first if the maximum number of others is learned, otherwise the
 -- second
 abbrev pub addition : Devices → Device → Effect → Effect → Effect
 addition devices known full done = if is_full devices known.id then full else done
 
--- the line that tells what came of a device
+-- the line that reports the outcome for a device
 abbrev pub told_of : Device → Outcome → TeachLine
 told_of known outcome = record { eep = Some known.eep; id = known.id; maker = known.maker; outcome = outcome }
 
 -- ---- a packet
 
--- what is needed where the store was asked, or was not
+-- what is needed, by whether the device store is asked
 abbrev pub need_if : Bool → Need
 need_if asked = if asked then NeedsStore else NeedsNothing
 
--- A packet of which the desk is told nothing. The store was asked for its sender, or it was not.
+-- A packet without a line for the desk. The device store was asked for its sender, or not.
 abbrev pub unsaid : Bool → Account → Effect
 unsaid asked account = record nothing { account = Some account; need = need_if asked }
 
--- it is ignored for this
+-- it is ignored, for this reason
 abbrev pub ignored : Why → Effect
 ignored why = unsaid false (because why)
 
--- the desk is told a line of a packet
+-- one line for the desk about a packet
 abbrev pub tells_of_packet : Need → Account → DeskLine → Effect
 tells_of_packet need account line = record nothing { desk = line ∷ []; account = Some account; need = need }
 
--- what a telegram is: the first of these five cases. Own choice
+-- the kind of a telegram: the first of these five cases. Own choice
 pub data Case : Type 0 where
-  -- its sender or its destination is ignored
+  -- its sender or destination is filtered out
   PassedOver : Case
-  -- it replies to a telegram of teach-in
+  -- it is a teach-in reply
   Replies : Case
-  -- it is a telegram of teach-in
+  -- it is a teach-in telegram
   Teaches : Case
   -- it is data of a learned sender
   OfLearned : (known : Device) → Case
@@ -151,25 +151,26 @@ abbrev pub case_of : State → Telegram → Case
 case_of state t =
     if is_passed_over state.base t then PassedOver else kind_case (teach_in_of t) (device_of state.devices t.sender)
 
--- the line of what the telegram of this device tells, if its profile reads it
+-- the reading line for a telegram of this device, if its profile can read it
 abbrev pub reading_effect : Telegram → Device → Result (List Entry) Unreadable → Effect
 reading_effect t known (Err fault) = unsaid true (of_device known (why_unread fault))
 reading_effect t known (Ok readings) =
     tells_of_packet NeedsStore (of_device known why.Read)
     (Reading (record { dbm = t.dbm; eep = known.eep; id = t.sender; readings = readings }))
 
--- the reply that is sent by radio where this comes of a telegram's sender, if it gets one: a query of universal
--- teach-in does that waits for one, and a 4BS query in the mode that answers. For 4BS, the mode is own choice
+-- the reply by radio for this outcome of a telegram's sender: to a UTE query that waits for one, and to a 4BS query in
+-- the mode `LearnAnswer`. For 4BS, the mode is own choice
 abbrev pub reply_of : ℕ → Mode → Teach → Outcome → Option Telegram
 reply_of base mode (teach.Ute query) outcome = if wants_reply query then ute_reply query outcome base else None
 reply_of base LearnAnswer (teach.FourByte query) outcome = four_byte_reply query outcome base
 reply_of base mode kind outcome = None
 
--- the bytes of the packet that a telegram is sent in, if there is one
+-- the bytes of the packet in which a telegram is sent, if there is one
 abbrev pub radio_of : Option Telegram → Option (List ℕ)
 radio_of = option_map (λ t. spelling (sent t))
 
--- what came of a telegram's sender, for which the store was asked, is told to the desk, and replied to it
+-- the outcome for a telegram's sender, for which the device store was asked: reported to the desk, and replied to the
+-- sender
 abbrev pub tells_sender : State → Teach → TeachLine → Effect
 tells_sender state kind line =
     record (tells_of_packet NeedsStore (because (why.Told line.outcome)) (TeachOf line)) {
@@ -190,8 +191,8 @@ accepts state kind known =
       mode = mode_after_one state.mode;
     }
 
--- the line of what came of a sender that this telegram does not teach: with the profile and the maker of its query, if
--- it told them
+-- the line with the outcome for a sender that this telegram does not teach in, with the profile and maker of its query,
+-- if any
 abbrev pub line_with : ℕ → Teach → Outcome → TeachLine
 line_with id kind outcome = record { eep = eep_told kind; id = id; maker = maker_told kind; outcome = outcome }
 
@@ -200,7 +201,7 @@ abbrev pub deletes : State → Teach → ℕ → Effect
 deletes state kind id =
     record (tells_sender state kind (line_with id kind Deleted)) { change = Some (forgotten id) }
 
--- what comes of what is planned about the sender of a telegram, for which the store was asked or not
+-- the effect of the plan for the sender of a telegram, for which the device store was asked or not
 abbrev pub plan_effect : State → Telegram → Bool → Plan → Effect
 plan_effect state t asked Silent = unsaid asked (because (why_silent asked state.mode))
 plan_effect state t asked (Add known) =
@@ -240,11 +241,11 @@ packet_effect state packet = packet_by state packet (telegram_of packet)
 
 -- ---- a line
 
--- the line alone is told to be wrong
+-- the only effect is an error line
 abbrev pub denied : ErrorName → Effect
 denied name = record nothing { desk = Error name ∷ [] }
 
--- a packet is sent; the store was asked for a device, or it was not
+-- a packet is sent; the device store was asked for a device, or not
 abbrev pub sends_packet : Bool → List ℕ → Effect
 sends_packet asked bytes = record nothing { radio = Some bytes; desk = Done ∷ []; need = need_if asked }
 
@@ -252,7 +253,7 @@ sends_packet asked bytes = record nothing { radio = Some bytes; desk = Done ∷ 
 abbrev pub sets : Mode → Effect
 sets mode = record nothing { desk = Done ∷ []; mode = Some mode }
 
--- the desk is told some lines, and nothing else comes of it
+-- the only effect is some lines for the desk
 abbrev pub tells : Need → List DeskLine → Effect
 tells need lines = record nothing { desk = lines; need = need }
 
@@ -271,7 +272,7 @@ abbrev pub if_known : Option Device → (Device → Effect) → Effect
 if_known None effect_of = tells NeedsStore (Error error.UnknownDevice ∷ [])
 if_known (Some known) effect_of = effect_of known
 
--- the effect of an order that names a profile, where that is supported
+-- the effect of an order with a profile, if that is supported
 abbrev pub if_supported : Eep → Effect → Effect
 if_supported eep effect = if supported eep then effect else denied error.UnsupportedProfile
 
@@ -281,14 +282,14 @@ error_of Range = error.Range
 error_of UnknownDevice = error.UnknownDevice
 error_of WrongProfile = error.WrongProfile
 
--- What comes of an order that goes to devices: its telegram is sent, or it is told why there is none. The last case is
--- that of no order: each that comes here has a telegram or a fault.
+-- The effect of an order to devices: its telegram is sent, or an error reports why there is none. The last case is that
+-- of no order to devices, since each of these has a telegram or a fault.
 abbrev pub telegram_sent : Bool → Option (Result Telegram OrderFault) → Effect
 telegram_sent asked (Some (Ok t)) = sends_packet asked (spelling (sent t))
 telegram_sent asked (Some (Err fault)) = record (denied (error_of fault)) { need = need_if asked }
 telegram_sent asked None = record nothing { need = need_if asked }
 
--- what is known of the device that an order goes to
+-- the stored device of an order
 abbrev pub known_of : Devices → Option ℕ → Option Device
 known_of devices None = None
 known_of devices (Some id) = device_of devices id
@@ -302,8 +303,8 @@ sending_effect state order =
 abbrev pub base_query : Packet
 base_query = record { kind = 5; body = 0x08 ∷ []; opt = [] }
 
--- Own choice: of several errors the first of these is told: too long, syntax and range, which `order_of` finds, an
--- unsupported profile, an unknown device, a wrong profile, a full registry.
+-- Own choice: the first error of these is reported: too long, syntax and range, which `order_of` finds, an unsupported
+-- profile, an unknown device, a wrong profile, a full registry.
 abbrev pub order_effect : State → Result Order OrderFault → Effect
 order_effect state (Err fault) = denied (error_of fault)
 order_effect state (Ok LearnOn) = sets Learn
@@ -324,59 +325,59 @@ abbrev pub line_effect : State → List ℕ → Effect
 line_effect state line =
     if nat_lt max_line (length line) then denied error.TooLong else order_effect state (order_of line)
 
--- ---- an item
+-- ---- an input
 
 abbrev pub effect : State → Item → Effect
 effect state (Received packet) = packet_effect state packet
 effect state (Ordered line) = line_effect state line
 
--- what is sent by radio, if anything, the line that explains a packet, and what the desk is told
+-- the bytes to send by radio, if any, the line that explains a packet, and the text for the desk
 pub record Answer : Type 0 where
   pub radio : Option (List ℕ)
   pub explained : List ℕ
   pub desk : List ℕ
 
--- what is told of an item that is no packet, or before its packet is explained
+-- the answer to an input that is no packet, or to a packet before it is explained
 abbrev pub said : List ℕ → Answer
 said text = record { radio = None; explained = []; desk = text }
 
 abbrev pub answer_by : Effect → Answer
 answer_by effect = record { radio = effect.radio; explained = []; desk = texts effect.desk }
 
--- the line that explains an item, by its account: a packet has one, and no order does
+-- the line that explains an input, by its disposition: a packet has one, an order has none
 abbrev pub line_for : Item → Option Account → Option PacketLine
 line_for (Received packet) account = option_map (line_of packet) account
 line_for (Ordered line) account = None
 
--- the answer with this text that explains the item, and with the line that does
+-- the answer with this text, or with this line, as its explanation
 abbrev pub explained_by : List ℕ → Answer → Answer
 explained_by text answer = record answer { explained = text }
 
 abbrev pub explaining : Option PacketLine → Answer → Answer
 explaining line = explained_by (explanation line)
 
--- the answer to an item that is taken
+-- the answer to an applied input
 abbrev pub answer_to : State → Item → Answer
 answer_to state item =
     explaining (line_for item (effect state item).account) (answer_by (effect state item))
 
--- the count that an account raises
+-- the counter that a disposition increments
 abbrev pub count_in : Option Account → Option Count
 count_in = option_map (λ account. counted_as account.why)
 
--- the count that an item raises that is taken: each packet raises one, and no order does. Own choice
+-- the counter that an applied input increments: each packet increments one, an order none. Own choice
 abbrev pub count_of : State → Item → Option Count
 count_of state item = count_in (effect state item).account
 
--- the change that an item asks for: of what is known of one sender
+-- the update that an input asks for: of one sender
 abbrev pub change_of : State → Item → Option Change
 change_of state item = (effect state item).change
 
--- the mode that an item sets, if it sets one
+-- the mode that an input sets, if it sets one
 abbrev pub mode_set : State → Item → Option Mode
 mode_set state item = (effect state item).mode
 
--- what an item needs that can be wanting
+-- what an input needs that can fail
 abbrev pub needs : State → Item → Need
 needs state item = (effect state item).need
 
@@ -384,11 +385,11 @@ abbrev pub with_change : Devices → Option Change → Devices
 with_change devices None = devices
 with_change devices (Some change) = changed devices change
 
--- the mode with what is set, if any
+-- the mode after an input that may set one
 abbrev pub with_mode : Mode → Option Mode → Mode
 with_mode mode set = unwrap_or set mode
 
--- what is known after an item that is taken
+-- the state after an applied input
 abbrev pub state_after : State → Item → State
 state_after state item =
     record {

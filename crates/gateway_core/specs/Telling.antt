@@ -1,4 +1,4 @@
--- Of what a teach line tells, what is told of a label, and what is told where bytes are sent by radio.
+-- What a teach line reports, what is reported for a label, and when bytes are sent by radio.
 use Rattle.std.specs.Prelude.{◌≡◌, ◌⊎◌, ◌≤◌, ℕ, true, IsSome, length, List, Some, None, Ok}
 use Rattle.esp3_frames.specs.Packet.{Packet, spelling}
 use Rattle.erp1_telegrams.specs.Telegram.{Telegram, telegram_of, sent}
@@ -24,8 +24,8 @@ use Rattle.gateway_core.specs.Step.{State, Item, Received, Ordered, Effect, effe
 use Rattle.gateway_core.specs.Step.{base_query, known_of}
 use Rattle.gateway_core.specs.Run.{Fate, Taken, answer_with}
 
--- A device that is told deleted: as it stands where the desk has ordered so, and by radio as its query tells it,
--- learned or not.
+-- A device that is reported as deleted: as stored if the desk ordered it; over the air with the profile and maker of
+-- its query, learned or not.
 abbrev pub IsDeleted : State → Item → Device → Type 0
 IsDeleted state (Ordered line) known = device_of state.devices known.id ≡ Some known
 IsDeleted state (Received packet) known =
@@ -33,8 +33,8 @@ IsDeleted state (Received packet) known =
     × (query : UteQuery) × (teach_in_of t ≡ Ute query) × (request_in query ≡ deletion)
     × (known.eep ≡ eep_in query) × (known.maker ≡ Some (maker_in query))
 
--- What a line with this outcome tells of an effect: that it learns a device, or forgets one of which this holds, or
--- that it changes nothing, neither what is learned nor the mode.
+-- What a line with this outcome reports of an effect: it learns a device, forgets one for which this holds, or changes
+-- neither the devices nor the mode.
 abbrev pub Tells : (Device → Type 0) → Effect → TeachLine → Outcome → Type 0
 Tells Gone e line Accepted =
     (known : Device) × (text (Teach line) ≡ text (Teach (told_of known Accepted)))
@@ -44,18 +44,18 @@ Tells Gone e line Deleted =
     × Gone known × (e.change ≡ Some (forgotten known.id))
 Tells Gone e line outcome = (e.change ≡ None) × (e.mode ≡ None)
 
--- the change of this device that a line with `accepted` or `deleted` reports
+-- the update of this device that a line with `accepted` or `deleted` reports
 abbrev pub acknowledged_change : Outcome → Device → Change
 acknowledged_change Accepted known = learned known
 acknowledged_change outcome known = forgotten known.id
 
--- a teach line is told only where the item is taken, and of what it does
+-- only an applied input is answered with a teach line, which reports what it does
 abbrev pub TeachLinesAreTold : Type 0
 TeachLinesAreTold = (state : State) (item : Item) (fate : Fate) (line : TeachLine)
     → (answer_with state item fate).desk ≡ text (Teach line)
     → (fate ≡ Taken) × Tells (IsDeleted state item) (effect state item) line line.outcome
 
--- The item is a line that gives a learned device a label, this is the change, and the desk is told that it is done.
+-- The input is a line that labels a learned device, this is the update, and the desk receives `ok`.
 pub record TellsLabel (state : State) (item : Item) (change : Change) : Type 0 where
   pub line : List ℕ
   pub ordered : item ≡ Ordered line
@@ -66,17 +66,17 @@ pub record TellsLabel (state : State) (item : Item) (change : Change) : Type 0 w
   pub gives : change ≡ relabelled id label
   pub told : (answer_to state item).desk ≡ text Done
 
--- and an item that is taken and asks for a change is answered with the line that tells it, or, where it gives a label,
--- with `ok`
+-- and an applied input that asks for an update is answered with the line that reports it, or with `ok` if it sets a
+-- label
 abbrev pub ChangesAreTold : Type 0
 ChangesAreTold = (state : State) (item : Item) (change : Change) → change_of state item ≡ Some change
     → ((line : TeachLine) × ((answer_with state item Taken).desk ≡ text (Teach line))
     × Tells (IsDeleted state item) (effect state item) line line.outcome)
     ⊎ TellsLabel state item change
 
--- A line that spells a label and is answered `ok` is taken and gives it to a learned device. One that is answered
--- `unknown_device` is taken and changes nothing, and no device is learned with its ID. Each that is taken and not too
--- long is answered so.
+-- A line that spells a label and is answered `ok` is applied and labels a learned device; one answered `unknown_device`
+-- is applied and changes nothing, and no device with its ID is learned. Each that is applied and not too long gets one
+-- of these answers.
 pub record LabelIsTold (state : State) (line : List ℕ) (id : ℕ) (label : List ℕ) : Type 0 where
   pub done : (fate : Fate) → (answer_with state (Ordered line) fate).desk ≡ text Done
       → (fate ≡ Taken) × IsSome (device_of state.devices id)
@@ -91,8 +91,8 @@ abbrev pub LabelsAreTold : Type 0
 LabelsAreTold = (state : State) (line : List ℕ) (id : ℕ) (label : List ℕ) → order_of line ≡ Ok (Label id label)
     → LabelIsTold state line id label
 
--- the telegram that replies to a query where this came of its sender: to a 4BS query in the mode that answers, and to
--- one of universal teach-in that waits for a reply, in a window for all senders
+-- the telegram that replies to a query with this outcome for its sender, in a window for all senders: to a 4BS query in
+-- the mode `LearnAnswer`, and to a UTE query that waits for a reply
 abbrev pub IsReply : State → Telegram → Outcome → Telegram → Type 0
 IsReply state t outcome reply =
     ((query : FourByteQuery) × (teach_in_of t ≡ FourByte query) × (state.mode ≡ LearnAnswer)
@@ -101,8 +101,8 @@ IsReply state t outcome reply =
     × ((state.mode ≡ Learn) ⊎ (state.mode ≡ LearnAnswer))
     × (ute_reply query outcome state.base ≡ Some reply))
 
--- The bytes are the reply to the query that a packet carries: the desk is told the query's teach line, and the reply
--- says the outcome of that line.
+-- The bytes are the reply to the packet's query: the desk receives the query's teach line, and the reply has the
+-- outcome of that line.
 pub record RepliesTo (state : State) (item : Item) (bytes : List ℕ) : Type 0 where
   pub packet : Packet
   pub received : item ≡ Received packet
@@ -114,14 +114,14 @@ pub record RepliesTo (state : State) (item : Item) (bytes : List ℕ) : Type 0 w
   pub says : IsReply state telegram line.outcome reply
   pub sent_as : bytes ≡ spelling (sent reply)
 
--- the packet that an order sends: the question for the base ID, or the order's telegram
+-- the packet that an order sends: the request for the base ID, or the order's telegram
 abbrev pub IsPacketOf : State → Order → Packet → Type 0
 IsPacketOf state order packet =
     ((order ≡ Base) × (packet ≡ base_query))
     ⊎ ((t : Telegram) × (packet ≡ sent t)
     × (order_telegram order (known_of state.devices (recipient order)) state.base ≡ Some (Ok t)))
 
--- The bytes are the packet of an order that a line spells, and the desk is told that it is done.
+-- The bytes are the packet of an order that a line spells, and the desk receives `ok`.
 pub record SendsAsOrdered (state : State) (item : Item) (bytes : List ℕ) : Type 0 where
   pub line : List ℕ
   pub ordered : item ≡ Ordered line
@@ -132,7 +132,7 @@ pub record SendsAsOrdered (state : State) (item : Item) (bytes : List ℕ) : Typ
   pub is_packet : IsPacketOf state order packet
   pub sent_as : bytes ≡ spelling packet
 
--- bytes are sent by radio only where an item is taken, to reply or as the desk has ordered
+-- only an applied input sends bytes by radio, as a reply or as the desk has ordered
 abbrev pub RadioIsTold : Type 0
 RadioIsTold = (state : State) (item : Item) (fate : Fate) (bytes : List ℕ)
     → (answer_with state item fate).radio ≡ Some bytes

@@ -1,4 +1,4 @@
--- When packets change what is learned.
+-- When packets change the devices.
 use Rattle.std.specs.Prelude.{◌≡◌, ◌≢◌, ◌⊎◌, Some, None, Ok}
 use Rattle.esp3_frames.specs.Packet.{Packet}
 use Rattle.erp1_telegrams.specs.declared.eep.Eep.{Eep}
@@ -13,8 +13,8 @@ use Rattle.teach_in.specs.Telegrams.{teach_in_of}
 use Rattle.teach_in.specs.Ute.{request_in, deletion}
 use Rattle.gateway_core.specs.Step.{State, Received, change_of, mode_set}
 
--- the packet carries a telegram, and its sender is learned in an open window, by a query of universal teach-in only in
--- a window for all senders. A window for one sender is closed then, and any other stays open
+-- the packet carries a telegram whose sender is learned in an open window; by a UTE query only in a window for all
+-- senders. A window for one sender then closes, and any other stays open
 pub record LearnsSender (state : State) (packet : Packet) : Type 0 where
   pub telegram : Telegram
   pub carried : telegram_of packet ≡ Ok telegram
@@ -28,8 +28,7 @@ pub record LearnsSender (state : State) (packet : Packet) : Type 0 where
   pub stays : (mode : Mode) → mode_set state (Received packet) ≡ Some mode
       → (eep : Eep) × (state.mode ≡ LearnAs eep)
 
--- the packet carries a query that asks for it, and its sender is forgotten in a window for all senders, which stays
--- open
+-- the packet carries a query for that, and its sender is forgotten in a window for all senders, which stays open
 pub record ForgetsSender (state : State) (packet : Packet) : Type 0 where
   pub telegram : Telegram
   pub carried : telegram_of packet ≡ Ok telegram
@@ -40,7 +39,7 @@ pub record ForgetsSender (state : State) (packet : Packet) : Type 0 where
   pub learning : (state.mode ≡ Learn) ⊎ (state.mode ≡ LearnAnswer)
   pub stays : mode_set state (Received packet) ≡ None
 
--- a packet does one of them, or it changes neither what is learned nor the mode
+-- a packet does one of these, or it changes neither the devices nor the mode
 abbrev pub PacketsChangeInWindows : Type 0
 PacketsChangeInWindows = (state : State) (packet : Packet)
     → LearnsSender state packet

@@ -1,4 +1,4 @@
-//! The account of a packet: why what was done with it was done, and what is known of its sender.
+//! The disposition of a packet.
 ghost use Rattle.std.specs.Prelude.{◌≡◌};
 ghost use Rattle.esp3_frames.specs.Outcome.{packet_of};
 ghost use Rattle.gateway_core.specs.Accounts;
@@ -12,8 +12,7 @@ use learned_devices::Device;
 use profile_rows::Unreadable;
 use teach_in::{Mode, Teach, Why};
 
-/// Why what was done with a packet was done, and what is known of its sender: the profile and the maker of the device
-/// that it is.
+/// Why a packet was handled the way it was, and the profile and maker of its sender, if the device is known.
 #[derive(Clone, Copy, Debug, PartialEq, Eq)]
 pub(crate) struct Account {
     pub(crate) why: Why,
@@ -22,7 +21,7 @@ pub(crate) struct Account {
 }
 
 impl Account {
-    // Nothing is known of the sender, or there is none.
+    // Nothing is known about the sender, or there is none.
     pub(crate) fn because(why: Why) -> Account
         ensures { result ≡ because why }
     {
@@ -44,7 +43,7 @@ impl Account {
         }
     }
 
-    // What the packet is counted as.
+    // The counter that the packet increments.
     pub(crate) fn count(&self) -> Count
         ensures { result ≡ Accounts.counted_as self.now.why }
     {
@@ -69,7 +68,7 @@ impl Account {
     }
 }
 
-// Why a packet that is no response and carries no telegram is ignored.
+// Why a packet that carries no telegram and is no response is ignored.
 pub(crate) fn why_other(packet: &PacketRef<'_>) -> Why
     ensures { result ≡ Accounts.why_other (packet_of packet.now) }
 {
@@ -80,7 +79,6 @@ pub(crate) fn why_other(packet: &PacketRef<'_>) -> Why
     }
 }
 
-// Why a telegram that is filtered out is ignored.
 pub(crate) fn why_filtered(reason: FilterReason) -> Why
     ensures { result ≡ Accounts.why_filtered reason }
 {
@@ -90,7 +88,7 @@ pub(crate) fn why_filtered(reason: FilterReason) -> Why
     }
 }
 
-// Why nothing is done about the sender of a telegram: of data, or else of one of teach-in.
+// Why nothing is done about the sender of a data telegram, if `is_data`, or of a teach-in telegram.
 pub(crate) fn why_silent(is_data: bool, mode: Mode) -> Why
     ensures { result ≡ Accounts.why_silent is_data mode }
 {
@@ -101,7 +99,7 @@ pub(crate) fn why_silent(is_data: bool, mode: Mode) -> Why
     }
 }
 
-// Why data is not read.
+// Why a data telegram cannot be read.
 pub(crate) fn why_unread(fault: Unreadable) -> Why
     ensures { result ≡ Accounts.why_unread fault }
 {
@@ -112,7 +110,7 @@ pub(crate) fn why_unread(fault: Unreadable) -> Why
     }
 }
 
-// The profile and the maker that a telegram of teach-in tells, if it does.
+// The profile and maker in a teach-in telegram, if it has them.
 pub(crate) fn told_by(teach: &Teach) -> (Option<Eep>, Option<u16>)
     ensures eep { result.0 ≡ eep_told teach.now }
     ensures maker { result.1 ≡ maker_told teach.now }

@@ -22,13 +22,13 @@ use std::alloc::{AllocError, Global};
 use std::marker::Model;
 use thiserror::Error;
 
-/// Why no gateway is made.
+/// Why a gateway could not be made.
 #[derive(Clone, Copy, Debug, PartialEq, Eq, Error)]
 pub enum StartFault {
-    /// The ID is no base ID.
+    /// The ID is not a base ID.
     #[error("not a base ID")]
     BadBase,
-    /// There is no memory for the framer.
+    /// Out of memory for the framer.
     #[error("there is no memory")]
     Memory,
 }
@@ -43,8 +43,8 @@ impl From<AllocError> for StartFault {
     }
 }
 
-/// A gateway over a store of devices: what it knows, the packets that wait to be handled, and the bytes behind
-/// them, of which one more packet may come.
+/// A gateway over a device store: what it knows, the ready packets, and the rest of the byte stream, which may become
+/// one more packet.
 #[derive(Drop)]
 pub struct GatewayOver<S> {
     pub(crate) handler: Handler<S>,
@@ -69,8 +69,8 @@ impl<S> Model for GatewayOver<S> {
 }
 
 impl<S: DeviceStore + Drop> GatewayOver<S> {
-    /// A gateway over this store, for a radio module with this base ID. An ID that is no base ID is refused first;
-    /// then that there is no memory for the framer.
+    /// Returns a gateway over this device store, for a radio module with this base ID. Errors, in this order:
+    /// `BadBase`, `Memory`.
     pub fn new(alloc: Global, registry: S, base: u32) -> Result<GatewayOver<S>, StartFault>
         ensures bad_base { (result ≡ Err StartFault.BadBase) ↔ (Address.is_base base ≡ false) }
         ensures ok { IfOk result (λ gateway. gateway ≡ new_value base registry) }
@@ -87,7 +87,7 @@ impl<S: DeviceStore + Drop> GatewayOver<S> {
 }
 
 impl<S: DeviceStore> GatewayOver<S> {
-    /// Whether a packet waits to be handled. Of the bytes behind it one more may come.
+    /// Whether a packet is ready. The bytes after it may become one more.
     pub fn is_ready(&self) -> bool
         ensures ready { MatchBool result (self.now.ready ≢ []) (self.now.ready ≡ []) }
         ensures rest { MayBecomePacket self.now.rest }
@@ -95,7 +95,7 @@ impl<S: DeviceStore> GatewayOver<S> {
         self.framer.is_ready()
     }
 
-    /// Takes the next byte of the serial line. One byte can make several packets ready. It takes no memory.
+    /// Takes the next byte of the serial line. One byte can make several packets ready. Needs no memory.
     pub fn byte(&mut self, b: u8)
         requires { self.old.ready ≡ [] }
         ensures { Moves S.kept self.old (BytesCall (b ∷ [])) self.new }
@@ -103,8 +103,8 @@ impl<S: DeviceStore> GatewayOver<S> {
         self.framer.push(b);
     }
 
-    /// Takes the next bytes of the serial line up to the one that makes a packet ready, or all if none does, and
-    /// returns how many. It takes no memory.
+    /// Takes the next bytes of the serial line, at most up to the one that makes a packet ready, and returns how many.
+    /// Needs no memory.
     pub fn bytes(&mut self, bytes: &[u8]) -> usize
         requires { self.old.ready ≡ [] }
         ensures within { result ≤ length bytes.now }
@@ -116,9 +116,9 @@ impl<S: DeviceStore> GatewayOver<S> {
         self.framer.push_run(bytes)
     }
 
-    /// Handles the packet with which the next bytes of the serial line begin, and returns it and its length in bytes.
-    /// It does what `bytes` and `handle_next` do, without a copy. `None` says that a byte waits, or that no whole packet
-    /// begins these bytes; then nothing is taken.
+    /// Handles the packet at the front of the next bytes of the serial line, without a copy, as `bytes` and then
+    /// `handle_next` do. Returns it and its length in bytes, or `None`, with nothing taken, if the gateway already
+    /// holds a byte or no whole packet is at the front.
     pub fn handle_first(&mut self, bytes: &[u8]) -> Option<(HandledPacket, usize)>
         requires { self.old.ready ≡ [] }
         ensures within { IfSome result (λ r. (0 < r.1) × (r.1 ≤ length bytes.now)) }
@@ -135,7 +135,7 @@ impl<S: DeviceStore> GatewayOver<S> {
         Some((self.handler.packet(&packet), count))
     }
 
-    /// Handles the first packet that waits, and returns it. `None` says that none does.
+    /// Handles the first ready packet and returns it, or `None` if none is ready.
     pub fn handle_next(&mut self) -> Option<HandledPacket>
         ensures { Moves S.kept self.old (NextCall (option_map packet_answer result)) self.new }
     {
@@ -146,7 +146,7 @@ impl<S: DeviceStore> GatewayOver<S> {
         Some(self.handler.packet(&packet))
     }
 
-    /// Handles the first packet that waits, and returns the reply to it. `None` says that none does.
+    /// Handles the first ready packet and returns the reply to it, or `None` if none is ready.
     pub fn next(&mut self) -> Option<Reply>
         ensures { (line : List ℕ) × Moves S.kept self.old
             (NextCall (option_map (λ reply. explained_by line (answer_of reply)) result)) self.new }
@@ -162,14 +162,14 @@ impl<S: DeviceStore> GatewayOver<S> {
         self.handler.line(line)
     }
 
-    /// The store of devices.
+    /// The device store.
     pub fn store(&self) -> &S
         ensures { result.now ≡ self.now.handler.registry }
     {
         &self.handler.registry
     }
 
-    /// Ends the gateway and returns its store of devices.
+    /// Drops the gateway and returns its device store.
     pub fn into_store(self) -> S
         ensures { result ≡ self.handler.registry }
     {

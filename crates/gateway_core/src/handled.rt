@@ -23,7 +23,7 @@ pub struct HandledPacket {
     pub line: PacketLine,
 }
 
-// The line that explains a packet with this telegram, which at teach-in is this.
+// The line that explains a packet with this telegram, whose role in teach-in is `teach`.
 pub(crate) fn line_of_telegram(telegram: Telegram, teach: &Teach, account: Account) -> PacketLine
     requires { teach.now ≡ teach_in_of telegram }
     ensures { (packet : Packet) → telegram_of packet ≡ Ok telegram → result ≡ line_of packet account }

@@ -1,4 +1,4 @@
-//! What the gateway knows, and how it handles one item.
+//! What the gateway knows, and how it handles one input.
 ghost use Rattle.std.specs.Prelude.{◌≡◌, ◌≤◌, true, [], ◌∷◌, length, Some};
 ghost use Rattle.erp1_telegrams.specs.Address.{is_base};
 ghost use Rattle.esp3_frames.specs.Outcome.{packet_of};
@@ -29,8 +29,7 @@ use std::alloc::Global;
 use std::marker::Model;
 use teach_in::{Mode, Why, classify};
 
-/// What the gateway knows: the base ID of its radio module, the mode in which it learns, what it has counted, and the
-/// registry of the learned devices.
+/// What the gateway knows: base ID of its radio module, learn mode, counters, and the registry of learned devices.
 #[derive(Drop)]
 pub struct Handler<S> {
     alloc: Global,
@@ -61,7 +60,7 @@ impl<S> Model for Handler<S> {
 }
 
 impl<S: DeviceStore> Handler<S> {
-    /// Knows what the registry holds, learns from nobody, and has counted nothing.
+    /// Returns a handler over this registry, with the mode closed and all counters 0.
     pub fn new(alloc: Global, registry: S, base: u32) -> Handler<S>
         requires { is_base base ≡ true }
         ensures { result ≡ new_handler base registry }
@@ -75,7 +74,7 @@ impl<S: DeviceStore> Handler<S> {
         }
     }
 
-    /// Hands on the registry.
+    /// Returns the registry.
     pub fn into_registry(self) -> S
         ensures { result ≡ self.registry }
     {
@@ -83,7 +82,7 @@ impl<S: DeviceStore> Handler<S> {
         registry
     }
 
-    // Counts a packet by what is done for it or by its refusal, sets the mode, and returns the reply and the account.
+    // Counts a packet, handled or failed, sets the mode, and returns the reply and the disposition.
     fn packet_reply(&mut self, tried: Result<PacketDone, Refusal>) -> (Reply, Account)
         ensures answer { answer_of result.0 ≡ answer_from tried }
         ensures account { Some result.1 ≡ account_from tried }
@@ -107,7 +106,7 @@ impl<S: DeviceStore> Handler<S> {
         (reply, account)
     }
 
-    // Counts an order that is refused, sets the mode, and returns the reply.
+    // Counts an order that failed, sets the mode, and returns the reply.
     fn order_reply(&mut self, tried: Result<OrderDone, Refusal>) -> Reply
         ensures answer { answer_of result ≡ answer_from tried }
         ensures base { self.new.base ≡ self.old.base }
@@ -127,7 +126,6 @@ impl<S: DeviceStore> Handler<S> {
         }
     }
 
-    // Sets the mode, if there is one to set.
     fn set_mode(&mut self, mode: Option<Mode>)
         ensures { self.new ≡ record self.old { mode = with_mode self.old.mode mode } }
     {

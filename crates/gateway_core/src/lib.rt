@@ -1,6 +1,6 @@
-//! One gateway: it stands between the serial line of a radio module and the control desk of a building. It takes the
-//! bytes of the line and the orders of the desk, and answers them. The devices that it has learned are kept in its
-//! registry, and what becomes of one is told once it is committed.
+//! One gateway, between the serial line of a radio module and the control desk of a building: it answers the bytes of
+//! the line and the orders of the desk. Its registry keeps the learned devices. Every change is committed before it is
+//! reported.
 #![tactic(auto)]
 
 mod account;

@@ -1,4 +1,4 @@
-//! What a telegram says by the profile of its sender.
+//! The readings of a telegram by the profile of its sender.
 ghost use Rattle.std.specs.Prelude.{◌≡◌};
 ghost use Rattle.gateway_core.specs.Profiles;
 ghost use Rattle.profile_rows.specs.Answer.{told};
@@ -6,8 +6,8 @@ ghost use Rattle.profile_rows.specs.Answer.{told};
 use erp1_telegrams::{Eep, Telegram, rorg};
 use profile_rows::{Readings, Unreadable};
 
-/// Sets `readings` to what the telegram of a sender with this profile says, or returns why the profile does not read
-/// it. There is a crate for the profiles of each RORG.
+/// Sets `readings` to those of the telegram by this profile, that of its sender, or returns why the profile cannot read
+/// it. Each RORG has its own crate of profiles.
 pub fn read(eep: Eep, telegram: &Telegram, readings: &mut Readings) -> Result<(), Unreadable>
     ensures { told result readings.new.items ≡ Profiles.read_by eep telegram.now }
 {

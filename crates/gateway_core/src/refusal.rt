@@ -1,16 +1,15 @@
-//! Why an item is refused.
+//! Why an input failed.
 ghost use Rattle.std.specs.Prelude.{◌≡◌};
 
 use learned_devices::StoreFault;
 use std::alloc::AllocError;
 
-/// Whether an item was refused before its write to the registry, or at that write. Each has what was wanting: memory,
-/// or the store.
+/// Whether an input failed before its write to the registry or at it, and for which cause.
 #[derive(Clone, Copy)]
 pub enum Refusal {
     /// Nothing was written.
     Before(StoreFault),
-    /// The write was tried, and a stop may leave it done.
+    /// The write was tried. After a crash its update may be there.
     AtWrite(StoreFault),
 }
 

@@ -1,32 +1,32 @@
-//! What the gateway answers to an item.
+//! The answer of the gateway to an input.
 ghost use Rattle.std.specs.Prelude.{◌≡◌};
 ghost use Rattle.gateway_core.specs.Desks.{desk_bytes};
 
 use arrayvec::ArrayVec;
 use json_lines::Line;
 
-/// What the desk is told.
+/// The text for the desk.
 #[derive(Drop)]
 pub enum Desk {
     /// Nothing.
     Nothing,
-    /// A text that is always the same.
+    /// A text that never changes.
     Fixed(&'static [u8]),
-    /// A line of its own.
+    /// A line that was built for this input.
     Owned(Line),
 }
 
-/// What an item is answered.
+/// The answer to an input.
 #[derive(Drop)]
 pub struct Reply {
-    /// The bytes that go out by radio, as a serial packet.
+    /// The bytes to send by radio, as a serial packet.
     pub radio: Option<ArrayVec<u8, 64>>,
-    /// What the desk is told.
+    /// The text for the desk.
     pub desk: Desk,
 }
 
 impl Desk {
-    /// The bytes of the desk's text, which may be several lines or none.
+    /// The bytes of the text for the desk: no line, one, or several.
     pub fn as_bytes(&self) -> &[u8]
         ensures { result.now ≡ desk_bytes self.now }
     {

@@ -1,4 +1,4 @@
-//! What the radio module answers.
+//! Responses of the radio module.
 ghost use Rattle.std.specs.Prelude.{◌≡◌};
 ghost use Rattle.std.specs.Option.{option_map};
 ghost use Rattle.esp3_frames.specs.Outcome.{packet_of};
@@ -7,14 +7,14 @@ ghost use Rattle.gateway_core.specs.Responses;
 use esp3_frames::PacketRef;
 use esp3_frames::packet_type::RESPONSE;
 
-/// A response of the radio module: a return code, and the bytes behind it.
+/// A response of the radio module: a return code, and the bytes after it.
 #[derive(Clone, Copy)]
 pub struct ResponseRef<'a> {
     pub code: u8,
     pub bytes: &'a [u8],
 }
 
-/// The response in a packet, if it is one and has data. What it has of optional data is passed over.
+/// The response in a packet, if the packet is a response and has data. Its optional data is ignored.
 ///
 /// EnOcean Serial Protocol 3, "Packet type 2: RESPONSE".
 pub fn response_in<'a>(packet: &PacketRef<'a>) -> Option<ResponseRef<'a>>

@@ -9,8 +9,8 @@ use device_registry::{Registry, RegistryOver, SqlConnection};
 pub type Gateway<S> = GatewayOver<Registry<S>>;
 
 impl<C: SqlConnection> GatewayOver<RegistryOver<C>> {
-    /// Ends the gateway and returns the connection of its registry, unchanged. While the disk has returned what was
-    /// written, the connection has no open transaction, and what the gateway knows of devices is committed.
+    /// Drops the gateway and returns the connection of its registry, unchanged. As long as the disk has returned what
+    /// was written, no transaction is open, and the devices that the gateway knows are committed.
     pub fn close(self) -> C
         ensures same { result ≡ self.handler.registry }
         ensures hands_on { HandsOn (C.state self.handler.registry) }

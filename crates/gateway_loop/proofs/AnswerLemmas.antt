@@ -1,4 +1,4 @@
--- How answers are put out one after another.
+-- Answers that are written one after another.
 use Rattle.std.proofs.Common.{List, [], ◌∷◌, ◌++◌, append_assoc}
 use Rattle.learned_devices.specs.Kept.{Kept}
 use Rattle.gateway_core.specs.Step.{Item, Answer}
@@ -32,7 +32,7 @@ module _ {S : Type 0} (stored : S → Kept) {O : Type 0} (way : Way O) where
   part_one old new item answer o now handled out =
       record { answers = []; last = answer; handled = handled; out = out }
 
-  -- whole answers, and mids one that did not get out
+  -- whole answers, and then one that was not written completely
   pub answers-part : (old mid new : HandlerValue S) (items more : List Item) (o mids now : O)
       → Answers stored old mid items (way.puts o mids) → AnswersPart stored mid new more (way.breaks mids now)
       → AnswersPart stored old new (items ++ more) (way.breaks o now)

@@ -1,4 +1,4 @@
--- How counts of calls go on.
+-- How the counters of calls continue.
 use Rattle.std.proofs.Common.{◌≡◌, ℕ, ◌+◌, ◌<◌, ◌≤◌, arith, inl, inr}
 use Rattle.std.specs.Prelude.{Result, Ok, Err}
 use Rattle.byte_io.specs.Counts.{Counts, HasRoom, Made, NoneFailed, OneMoreFailed, Went, WentWell, one_more}
@@ -13,7 +13,7 @@ made_at old new n m e made = rw (← e) made
 pub made_more : (old mid new : Counts) (n : ℕ) → Made old mid n → new.calls ≡ one_more mid.calls → Made old new (n + 1)
 made_more old mid new n before e fits = let h = before fits in omega (arith, h, e)
 
--- In turns of two sources: the first was called once more, and not yet the second.
+-- In turns of two sources: the first was called once more, and the second not yet.
 pub made_first : (a am an b bm : Counts) (turn turns : ℕ) → turn < turns → Made a am turn
     → an.calls ≡ one_more am.calls → Made b bm turn
     → (n m : ℕ) × (n ≤ turns) × (m ≤ n) × (n ≤ m + 1) × Made a an n × Made b bm m
@@ -40,7 +40,7 @@ pub went_behind : {A E : Type 0} (r : Result A E) (old mid new : Counts) → Wen
 went_behind (Ok done) old mid new first second = well_behind old mid new first second
 went_behind (Err failed) old mid new first second = wrong_behind old mid new first second
 
--- also where the loan of the writer has ended
+-- also after the loan of the writer has ended
 pub wrong_at : {W : Type 0} (counts : W → Counts) (old sink writer : W) → writer ≡ sink
     → OneWrong (counts old) (counts sink) → OneWrong (counts old) (counts writer)
 wrong_at counts old sink writer e wrong = rw e wrong

@@ -1,4 +1,4 @@
--- How packets, pieces and orders are taken.
+-- How packets, chunks and orders are taken.
 use Rattle.std.proofs.Common.{◌≡◌, ℕ, ◌^◌, ◌<◌, List, [], ◌∷◌, ◌++◌, length, refl, ap, sym, subst, ◌∙◌}
 use Rattle.std.proofs.Common.{append_assoc, append-nil, arith, length-append, map, Some}
 use Rattle.std.proofs.lemmas.List.{map-append, length-map}
@@ -21,19 +21,19 @@ use Rattle.gateway_core.proofs.ForCallers.{count_on}
 use Rattle.gateway_loop.proofs.AnswerLemmas.{answers_nothing, answers_one, answers-append, part_one, answers-part}
 use Rattle.gateway_loop.proofs.PlayLemmas.{plays_nothing, plays-append}
 
--- one packet more leaves the queue
+-- one more packet leaves the queue
 ready_after : (old mid new : List Packet) (packets : List Packet) (packet : Packet) → old ≡ packets ++ mid
     → mid ≡ packet ∷ new → old ≡ (packets ++ packet ∷ []) ++ new
 ready_after old mid new packets packet e f =
     e ∙ ap (λ (ps : List Packet). packets ++ ps) f ∙ sym (append_assoc packets (packet ∷ []) new)
 
--- two pieces stand for the same as one
+-- two chunks stand for the same as their concatenation
 items-joined : (s a b : List ℕ) → items_of s (Piece (a ++ b) ∷ []) ≡ items_of s (Piece a ∷ Piece b ∷ [])
 items-joined s a b =
     cuts_do_not_matter s (Piece (a ++ b) ∷ []) (Piece a ∷ Piece b ∷ []) refl
     (ap (λ (w : List ℕ). w ∷ []) (append_assoc a b []))
 
--- what a piece brings behind a rest
+-- the packets that a chunk completes after a rest
 items_of-piece : (rest bytes : List ℕ) → MayBecomePacket rest
     → items_of rest (Piece bytes ∷ []) ≡ map Received (packets_in (rest ++ bytes))
 items_of-piece rest bytes live =
@@ -41,7 +41,7 @@ items_of-piece rest bytes live =
     (brought-rest rest bytes ∙ ap (λ r. packets_in (r ++ bytes)) (sym (frames_of-may_become rest live).1))
 
 module _ {S : Type 0} (stored : S → Kept) {O : Type 0} (way : Way O) where
-  -- ---- the packets that wait
+  -- ---- the ready packets
 
   pub drains_nothing : (old : Value S) (o : O) (count : ℕ) → count < 2 ^ 64
       → Drains stored old old (way.puts o o) count count
@@ -82,7 +82,7 @@ module _ {S : Type 0} (stored : S → Kept) {O : Type 0} (way : Way O) where
   }
 
 module _ {O S : Type 0} (stored : S → Kept) (way : Way O) where
-  -- ---- a piece
+  -- ---- a chunk
 
   -- bytes, and the packets that they make ready
   items_of-bytes : (old mid : Value S) (run : List ℕ) → IsIdle old → Moves stored old (Bytes run) mid
@@ -103,7 +103,7 @@ module _ {O S : Type 0} (stored : S → Kept) (way : Way O) where
         counted = rw none (omega arith);
       }
 
-  -- a run of bytes, and the packets that it brings
+  -- a run of bytes, and the packets that it completes
   pub takes_run : (old new : Engine O S) (mid : Value S) (run : List ℕ) → IsIdle old.gateway.now
       → Moves stored old.gateway.now (Bytes run) mid → new.gateway.now.ready ≡ []
       → Drains stored mid new.gateway.now (way.puts old.outlet new.outlet) old.items new.items
@@ -128,7 +128,7 @@ module _ {O S : Type 0} (stored : S → Kept) (way : Way O) where
         counted = rw (is, length-map) drained.counted;
       }
 
-  -- a piece in two parts
+  -- a chunk in two parts
   pub takes_both : (old now new : Engine O S) (bytes run : List ℕ) → Takes stored way old now (Piece bytes ∷ [])
       → Takes stored way now new (Piece run ∷ []) → Takes stored way old new (Piece (bytes ++ run) ∷ [])
   takes_both old now new bytes run before next =
@@ -150,7 +150,7 @@ module _ {O S : Type 0} (stored : S → Kept) (way : Way O) where
             next.counted);
       }
 
-  -- an answer does not get out at the packets of a run of bytes
+  -- an answer is not written completely, at the packets of a run of bytes
   pub breaks_in_run : (old new : Engine O S) (mid : Value S) (run later piece : List ℕ) → IsIdle old.gateway.now
       → Moves stored old.gateway.now (Bytes run) mid
       → DrainsPart stored mid new.gateway.now (way.breaks old.outlet new.outlet)
@@ -176,13 +176,13 @@ module _ {O S : Type 0} (stored : S → Kept) (way : Way O) where
             subst P moved.1 drained.answered;
       }
 
-  -- a first part of a piece is a piece
+  -- a prefix of a chunk is a chunk
   begun-piece : (piece : List ℕ) (begun : Event) → IsBegun (Piece piece) begun
       → (run : List ℕ) × (begun ≡ Piece run) × (later : List ℕ) × (piece ≡ run ++ later)
   begun-piece piece (Piece run) (later, is) = (run, refl, later, is)
   begun-piece piece (Line line) begins = absurd begins
 
-  -- an answer does not get out in the second part of a piece
+  -- an answer is not written completely, in the second part of a chunk
   pub breaks_behind : (old now new : Engine O S) (bytes others : List ℕ) → Takes stored way old now (Piece bytes ∷ [])
       → EngineBreaks stored way now new [] (Piece others) → EngineBreaks stored way old new [] (Piece (bytes ++ others))
   breaks_behind old now new bytes others before broken =

@@ -1,4 +1,4 @@
--- The lines that explain packets are put into a text.
+-- The lines that explain packets are inserted into a text.
 use Rattle.std.proofs.Common.{◌≡◌, ℕ, List, [], ◌∷◌, ◌++◌, Option, Some, refl, ap, sym, ◌∙◌, append_assoc}
 use Rattle.std.specs.Io.KnownBytes.{Appends}
 use Rattle.std.specs.List.{flat_map}
@@ -6,7 +6,7 @@ use Rattle.gateway_core.specs.Step.{Answer}
 use Rattle.gateway_loop.specs.Explained.{IsExplained, IsExplainedBehind, ExplanationsStandApart}
 use Rattle.gateway_loop.specs.Written.{radio_text}
 
--- where each answer has some text before what the desk is told
+-- each answer has some text before the one for the desk
 module _ (before : Answer → List ℕ) where
   abbrev plain_of : Answer → List ℕ
   plain_of answer = before answer ++ answer.desk
@@ -40,7 +40,7 @@ module _ (before : Answer → List ℕ) where
     lines = explained-text answers;
   }
 
--- what a sink holds that is known
+-- what a sink holds, if it is known
 appended : (old new : Option (List ℕ)) (held now text : List ℕ) → old ≡ Some held → new ≡ Some now
     → Appends old new text → now ≡ held ++ text
 appended old new held now text is so grown = rw (is, so) at grown

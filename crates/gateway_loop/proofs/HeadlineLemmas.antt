@@ -1,4 +1,4 @@
--- What `replay` and `live` do is as specified, of a new gateway.
+-- `replay` and `live` do what the headline specifies, for a new gateway.
 use Rattle.std.proofs.Common.{◌≡◌, inl, inr, ℕ, Bool, List, [], ◌∷◌, ◌++◌}
 use Rattle.std.proofs.Common.{map, Option, Some, None, Ok, Err, append-nil, append_assoc, refl, sym, ap}
 use Rattle.std.proofs.Common.{subst, ◌∙◌}
@@ -37,7 +37,7 @@ use Rattle.gateway_loop.proofs.TurnLemmas.{events_of_piece, pieces-more, desks-m
 
 -- ---- known bytes
 
--- that grew
+-- after more were appended
 grown : (held text : List ℕ) (old new : Option (List ℕ)) → old ≡ Some held → Appends old new text
     → new ≡ Some (held ++ text)
 grown held text old new is appends = by new (subst (λ o. Appends o new text) is appends)
@@ -80,7 +80,7 @@ module _ (says : Answer → List ℕ) (answers : List Answer) (last : Answer) wh
 
 -- ---- turns
 
--- a turn in which only the piece was read
+-- a turn in which only the chunk was read
 with_piece : List Turn → Option (List ℕ) → List Turn
 with_piece read None = read
 with_piece read (Some piece) = read ++ record { piece = piece; desk = [] } ∷ []
@@ -105,9 +105,9 @@ desks-with_piece read (Some piece) =
     ap (λ (parts : List (List ℕ)). concat parts) (desks-more read (record { piece = piece; desk = [] }))
     ∙ concat-append (desks read) ([] ∷ []) ∙ append-nil (concat (desks read))
 
--- ---- items
+-- ---- inputs
 
--- an event that was begun brings the first items of it
+-- an event that was begun brings the first of its inputs
 record BringsMore (items begun : List Item) : Type 0 where
   more : List Item
   whole : items ≡ begun ++ more
@@ -131,7 +131,7 @@ begun_brings s (Piece bytes) (Line other) later never = absurd never
 begun_brings s (Line line) (Piece some) later never = absurd never
 
 module _ {S : Type 0} (state : S → Kept) where
-  -- of the items of some events a prefix was handled, where an answer to one of them broke off
+  -- a prefix of the inputs of some events was handled, if an answer to one of them was not written completely
   broken_brings : {breaks : List Answer → Answer → Type 0} (old new : Value S) (events : List Event) (event : Event)
       (later : List Event) → (b : Breaks state old new events event breaks)
       → BringsMore (items_of old.rest (events ++ event ∷ later)) b.items
@@ -198,7 +198,7 @@ module _ {S : Type 0} (state : S → Kept) where
     no_rest : old.rest ≡ []
     no_rest = ap (λ (v : Value S). v.rest) began.value
 
-    -- the items of these events
+    -- the inputs of these events
     played : (events : List Event) (answers : List Answer) (out : List Answer → Type 0)
         → Handles state old.handler (items_of old.rest events) answers new → out answers
         → AsSpecified state base found (items_of [] events) out new
@@ -206,7 +206,7 @@ module _ {S : Type 0} (state : S → Kept) where
         subst (λ s. AsSpecified state base found (items_of s events) out new) no_rest
         (specified (items_of old.rest events) answers out handled is_out)
 
-    -- and of more events none
+    -- and none of more events
     played_first : (events later all : List Event) → all ≡ events ++ later → (answers : List Answer)
         (out : List Answer → Type 0)
         → Handles state old.handler (items_of old.rest events) answers new → out answers
@@ -218,7 +218,7 @@ module _ {S : Type 0} (state : S → Kept) where
       specified = played events answers out handled is_out;
     }
 
-  -- an answer to one of the items of these events broke off
+  -- an answer to one of the inputs of these events was not written completely
   broken_off : {breaks : List Answer → Answer → Type 0} (base : ℕ) (found : Devices) (old new : Value S)
       (events : List Event) (event : Event) (later all : List Event) → IsNew state base found old
       → (state new.handler.registry).honest → all ≡ events ++ event ∷ later
@@ -260,7 +260,7 @@ module _ {S : Type 0} (state : S → Kept) where
           );
         }
 
-    -- some lines that LF ended, of an input with more behind them
+    -- some lines that LF ended, of an input with more after them
     ended_lines_replayed : (fault : RunFault) → ReplaysEnded state (replay_at source sink) explains old new
         → ReplaysAsSpecified state source sink explains (Err fault) old new
     ended_lines_replayed fault done base found input held began left_is held_is clean =
@@ -280,7 +280,7 @@ module _ {S : Type 0} (state : S → Kept) where
               whole its.answers (λ answers. IsPrefix text (written explains answers)) its.handled (whole_prefix text);
         }
 
-    -- an answer to an item of one event
+    -- an answer to an input of one event
     event_broken : (events : List Event) (event : Event)
         → Breaks state old.0 new.0 events event (WritesPart explains (sink.held old.2) (sink.held new.2))
         → (base : ℕ) (found : Devices) (input held : List ℕ) (later : List Event) → IsNew state base found old.0
@@ -365,7 +365,7 @@ module _ {S : Type 0} (state : S → Kept) where
           );
         }
 
-    -- the bytes that went out where an answer broke off
+    -- the bytes that were written when an answer broke off
     record PartIsOut (answers : List Answer) (last : Answer) : Type 0 where
       radio : List ℕ
       lines : List ℕ

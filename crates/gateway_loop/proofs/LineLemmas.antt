@@ -42,7 +42,7 @@ script-last tail one =
     by true tail = refl
     by false tail = refl
 
--- some lines that LF ends, and more behind them
+-- some lines that LF ends, and more after them
 pub script-ended : (ls : List (List ℕ)) (more : List ℕ) → All IsOneLine ls
     → script (flat_map with_end ls ++ more) ≡ events_by OfScript ls ++ script more
 script-ended [] more each = refl
@@ -85,7 +85,7 @@ lines_more line ls one each (suc k) d l = each k d (omega (arith, l))
 no_line : IsOneLine []
 no_line k d l = absurd (omega (arith, l))
 
--- what ends with LF is lines
+-- what ends with LF consists of lines
 ended_lines_of : (front : List ℕ) → EndedLines (with_end front)
 ended_lines_of [] = record { ls = [] ∷ []; each = only_line [] no_line; whole = refl }
 ended_lines_of (byte ∷ front) =

@@ -1,4 +1,4 @@
--- How a player goes on with bytes, from slice to slice and from line to line.
+-- How a player continues with bytes, from slice to slice and from line to line.
 use Rattle.std.proofs.Common.{◌≡◌, ◌≢◌, ℕ, ◌<◌, ◌^◌, List, []}
 use Rattle.std.proofs.Common.{◌∷◌, ◌++◌, length, take, refl, ap, sym, ◌∙◌}
 use Rattle.std.proofs.Common.{append_assoc, append-nil, arith, false}
@@ -25,7 +25,6 @@ use Rattle.gateway_loop.proofs.LongLineLemmas.{kept_last_line_alike}
 use Rattle.gateway_loop.proofs.PlayLemmas.{takes_none, takes-append, plays-break}
 use Rattle.gateway_loop.proofs.LineLemmas.{only_line, script-last}
 
--- nothing is kept of nothing
 pub keeps_none : Keeps [] []
 keeps_none = record { one = All-nil (λ byte. byte ≢ 10); is = refl }
 
@@ -34,7 +33,7 @@ pub kept_more : (tail kept bytes : List ℕ) → kept ≡ take max_kept tail
     → take max_kept (kept ++ bytes) ≡ take max_kept (tail ++ bytes)
 kept_more tail kept bytes is = ap (λ s. take max_kept (s ++ bytes)) is ∙ take_take max_kept tail bytes
 
--- where nothing is kept, nothing came
+-- if nothing is kept, nothing arrived
 pub none_came : (tail kept : List ℕ) → Keeps tail kept → length kept ≡ 0 → tail ≡ []
 none_came tail kept keeps none =
     nil_from_length tail (omega (arith, none, ap length keeps.is, length-take max_kept tail))
@@ -51,7 +50,7 @@ events_by-append : (lines : Lines) (first second : List (List ℕ))
     → events_by lines (first ++ second) ≡ events_by lines first ++ events_by lines second
 events_by-append lines first second = map-append (λ line. event_by lines (strip_carriage_return line)) first second
 
--- bytes behind bytes that end some lines
+-- bytes after bytes that end some lines
 pub whole_behind : (a b : List ℕ) (first second : List (List ℕ)) (rest last : List ℕ)
     → a ≡ flat_map with_end first ++ rest → rest ++ b ≡ flat_map with_end second ++ last
     → a ++ b ≡ flat_map with_end (first ++ second) ++ last
@@ -62,7 +61,6 @@ whole_behind a b first second rest last whole more =
     ∙ ap (λ s. s ++ last) (sym (flat_map-append with_end first second))
 
 module _ {O S : Type 0} (stored : S → Kept) (way : Way O) (lines : Lines) where
-  -- the player at first
   abbrev pub first_player : {old new : Player O S} {bytes : List ℕ} → TakesBytes stored way lines old new bytes
       → Player O S
   first_player {old = old} taken = old
@@ -78,7 +76,6 @@ module _ {O S : Type 0} (stored : S → Kept) (way : Way O) (lines : Lines) wher
     taken = takes_none stored way old.engine idle fits;
   }
 
-  -- bytes behind bytes
   pub bytes_behind : (old mid new : Player O S) (a b : List ℕ) → (p : TakesBytes stored way lines old mid a)
       → TakesBytes stored way lines mid new (p.rest ++ b) → TakesBytes stored way lines old new (a ++ b)
   bytes_behind old mid new a b p q = record {
@@ -108,7 +105,6 @@ module _ {O S : Type 0} (stored : S → Kept) (way : Way O) (lines : Lines) wher
         (event_by lines (strip_carriage_return q.line)) p.taken.played q.broken);
   }
 
-  -- bytes that end no line
   pub bytes_without_end : (old mid new : Player O S) (bytes more : List ℕ) → IsOneLine more
       → new.engine ≡ mid.engine → new.unended ≡ take max_kept (mid.unended ++ more)
       → TakesBytes stored way lines old mid bytes → TakesBytes stored way lines old new (bytes ++ more)
@@ -121,7 +117,7 @@ module _ {O S : Type 0} (stored : S → Kept) (way : Way O) (lines : Lines) wher
     taken = rw same p.taken;
   }
 
-  -- one line that LF ends, of which some bytes came before
+  -- one line that LF ends, some bytes of which arrived before
   pub line_taken : (old new : Player O S) (tail bytes : List ℕ) → IsOneLine tail → IsOneLine bytes → new.unended ≡ []
       → Takes stored way old.engine new.engine (event_by lines (strip_carriage_return (tail ++ bytes)) ∷ [])
       → TakesBytes stored way lines old new (tail ++ (bytes ++ 10 ∷ []))
@@ -135,7 +131,7 @@ module _ {O S : Type 0} (stored : S → Kept) (way : Way O) (lines : Lines) wher
     taken = takes;
   }
 
-  -- and an answer that does not get out at it, whatever follows
+  -- and an answer that is not written completely at it, whatever follows
   pub line_stops : (old new : Player O S) (tail bytes more : List ℕ) → IsOneLine tail → IsOneLine bytes
       → EngineBreaks stored way old.engine new.engine [] (event_by lines (strip_carriage_return (tail ++ bytes)))
       → StopsAtLine stored way lines old new (tail ++ (bytes ++ 10 ∷ more))

@@ -1,4 +1,4 @@
--- An element of a list, and what stands round it; and how much of a list fits.
+-- An element of a list, and what is around it; and how much of a list fits.
 use Rattle.std.proofs.Common.{◌≡◌, ℕ, ◌+◌, ◌-◌, ◌<◌, ◌≤◌, List, [], ◌∷◌, ◌++◌, length, get_or, take}
 use Rattle.std.proofs.Common.{drop, ap, refl, sym, ◌∙◌, append_assoc, arith, min, true, zero, suc}
 use Rattle.std.specs.Prelude.{◌==◌, slice_index}
@@ -9,7 +9,7 @@ use Rattle.std.proofs.lemmas.List.{take-append-drop, take_min, take_more, take_a
 pub split_at : (xs : List ℕ) (i : ℕ) → i < length xs → xs ≡ (take i xs ++ get_or xs i 0 ∷ []) ++ drop (i + 1) xs
 split_at xs i below = sym (take-append-drop (i + 1) xs) ∙ ap (λ s. s ++ drop (i + 1) xs) (take_more xs i 0 below)
 
--- some first elements, and some of those behind them
+-- some first elements, and some of those after them
 pub take_run : (xs : List ℕ) (i n : ℕ) → take (i + n) xs ≡ take i xs ++ take n (take (length xs - i) (drop i xs))
 take_run xs i n =
     take-add i n xs
@@ -20,14 +20,14 @@ split_rest xs i =
     ap (λ ys. take i xs ++ ys) (take_all (length xs - i) (drop i xs) (omega (arith, length-drop i xs)))
     ∙ take-append-drop i xs
 
--- an element that is known, and what stands round it
+-- an element that is known, and what is around it
 pub split_round : (xs : List ℕ) (i x : ℕ) → i < length xs → (slice_index xs i == x) ≡ true
     → xs ≡ take i xs ++ x ∷ drop (i + 1) xs
 split_round xs i x below is =
     split_at xs i below ∙ append_assoc (take i xs) (get_or xs i 0 ∷ []) (drop (i + 1) xs)
     ∙ ap (λ y. take i xs ++ y ∷ drop (i + 1) xs) (eqb-true (get_or xs i 0) x is)
 
--- what fits behind some elements
+-- what fits after some elements
 pub take-append : (n : ℕ) (xs ys : List ℕ) → length xs ≤ n
     → take n (xs ++ ys) ≡ xs ++ take (min (n - length xs) (length ys)) ys
 take-append n xs ys fits =
@@ -35,7 +35,7 @@ take-append n xs ys fits =
     ap (λ k. take k (xs ++ ys)) e ∙ take-append-add xs ys (n - length xs)
     ∙ ap (λ zs. xs ++ zs) (sym (take_min (n - length xs) ys))
 
--- what fits of more behind what fits
+-- what fits of more after what fits
 pub take_take : (n : ℕ) (xs more : List ℕ) → take n (take n xs ++ more) ≡ take n (xs ++ more)
 take_take zero xs more = refl
 take_take (suc n) [] more = refl

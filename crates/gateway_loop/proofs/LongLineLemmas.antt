@@ -30,7 +30,7 @@ no_packets : (line : List ℕ) (packets : List Packet) → (Ordered line ∷ [])
 no_packets line [] e = cc
 no_packets line (packet ∷ packets) e = cc
 
--- and an item that stands alone for an order is this order, with no packet behind it
+-- and a single input that stands for an order is this order, with no packet after it
 record OneItem (line : List ℕ) (item : Item) (packets : List Packet) : Type 0 where
   pub same : item ≡ Ordered line
   pub none : map Received packets ≡ []
@@ -47,7 +47,7 @@ event_of-long line h =
     ap (λ b. if b && starts_with nat_eq line (codes "S ") then spelled line (decode_of (drop 2 line)) else Line line)
     (lt-leb (length line) max_line h)
 
--- whoever's line it is
+-- for any kind of lines
 event_by-long : (lines : Lines) (line : List ℕ) → max_line < length line → event_by lines line ≡ Line line
 event_by-long OfScript line h = event_of-long line h
 event_by-long OfDesk line h = refl

@@ -1,4 +1,4 @@
--- How an engine goes on with events.
+-- How an `Engine` continues with events.
 use Rattle.std.proofs.Common.{◌≡◌, ◌<◌, ◌^◌, List, [], ◌∷◌}
 use Rattle.std.proofs.Common.{◌++◌, ap, sym, ◌∙◌, append_assoc, append-nil, map}
 use Rattle.std.proofs.Common.{arith, length, length-append}
@@ -38,7 +38,7 @@ module _ {O S : Type 0} (stored : S → Kept) (way : Way O) where
         idle = second.idle;
       }
 
-  -- an answer does not get out behind some events
+  -- an answer is not written completely after some events
   pub plays-break : (old mid new : Engine O S) (events more : List Event) (event : Event)
       → EnginePlays stored way old mid events → EngineBreaks stored way mid new more event
       → EngineBreaks stored way old new (events ++ more) event

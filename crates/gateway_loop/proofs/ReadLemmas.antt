@@ -1,4 +1,4 @@
--- How the reads of a source go on.
+-- How the reads of a source continue.
 use Rattle.std.proofs.Common.{◌≡◌, ℕ, ◌+◌, ◌≤◌, List, [], ◌∷◌}
 use Rattle.std.proofs.Common.{◌++◌, length, take, Option, refl, ap, sym, ◌∙◌}
 use Rattle.std.proofs.Common.{append-nil, append_assoc, arith, inl, length-append, subst, None, Some, ◌<◌}
@@ -15,7 +15,7 @@ use Rattle.byte_io.specs.Limits.{max_read}
 use Rattle.gateway_loop.specs.Streams.{SourceValue}
 use Rattle.gateway_loop.proofs.CallCountLemmas.{made_at, made_more, made_none}
 
--- one read more behind others
+-- one more read after others
 reads_and : (left : Option (List ℕ)) (before : List ℕ) (reads : List (List ℕ)) (bytes : List ℕ)
     → AreReads left before reads → IsRead left (before ++ concat reads) bytes
     → AreReads left before (reads ++ bytes ∷ [])
@@ -26,7 +26,7 @@ reads_and left before (first ∷ reads) bytes each read = (
       (subst (λ b. IsRead left b bytes) (sym (append_assoc before first (concat reads))) read),
 )
 
--- a read that gives nothing comes where all was read
+-- a read that returns nothing comes only after everything was read
 all_read : (a b c : Option (List ℕ)) (before bytes : List ℕ) → Consumes a b before → Consumes b c bytes → bytes ≡ []
     → IsAtEnd c → IfSome a (λ all. all ≡ before)
 all_read None b c before bytes p q none end = tt
@@ -51,7 +51,6 @@ reads_none source = record {
   well = refl;
 }
 
--- a read more
 pub reads_more : (old mid new : SourceValue) (reads : List (List ℕ)) (n : ℕ) (buffer : List ℕ) → ReadsWell old mid reads
     → n ≤ length buffer → length buffer ≡ max_read → ReadConsumes {E = Failed} mid.left new.left (Ok n) buffer
     → new.counts ≡ counted {E = Failed} mid.counts (Ok n) → ReadsWell old new (reads ++ take n buffer ∷ [])
@@ -75,7 +74,7 @@ reads_more old mid new reads n buffer p within room (some, end) told =
       well = ap (λ t. t.failed) told ∙ p.well;
     }
 
--- a read more, of those that may be made
+-- one more read, of those that are allowed
 pub one_read_more : (old mid new : SourceValue) (reads : List (List ℕ)) (n turn turns : ℕ) (buffer : List ℕ)
     → ReadsWell old mid reads → length reads ≡ turn → turn < turns → n ≤ length buffer → length buffer ≡ max_read
     → ReadConsumes {E = Failed} mid.left new.left (Ok n) buffer → new.counts ≡ counted {E = Failed} mid.counts (Ok n)
@@ -88,7 +87,6 @@ one_read_more old mid new reads n turn turns buffer p count below within room by
   ),
 )
 
--- a read that fails
 pub reads_fail : (old mid new : SourceValue) (reads : List (List ℕ)) (error : Failed) → ReadsWell old mid reads
     → Keeps mid.left new.left → new.counts ≡ counted {E = Failed} mid.counts (Err error) → ReadsFail old new reads
 reads_fail old mid new reads error p kept told = record {

@@ -1,4 +1,4 @@
--- What a clause says once it is known which answer came.
+-- What a postcondition says once the result is known.
 use Rattle.std.specs.Prelude.{Result, Ok, Err, IsOk, OnOk}
 
 pub OnOk-where_ok : {A E P : Type 0} (r : Result A E) → IsOk r → OnOk r P → P

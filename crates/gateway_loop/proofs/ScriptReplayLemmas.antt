@@ -1,4 +1,4 @@
--- What an engine put out into a sink was written, also where the loans of the gateway and of the sink have ended.
+-- What an `Engine` wrote to a sink, also after the loans of the gateway and of the sink have ended.
 use Rattle.std.proofs.Common.{◌≡◌, ℕ, List, [], ◌∷◌, ◌++◌, ap, sym, ◌∙◌, append_assoc, append-nil}
 use Rattle.std.specs.List.{flat_map}
 use Rattle.std.specs.Str.Lines.{strip_carriage_return}
@@ -55,7 +55,7 @@ module _ {W S : Type 0} (stored : S → Kept) (sink : sinks.Ghosts W) where
       };
     })
 
-    -- at the last event behind some that were played
+    -- at the last event after some that were played
     pub part_at_end : (old : Engine (ReplayText W) S) (input : List ℕ) (events more : List Event)
         → script input ≡ events ++ more → EnginePlays stored way entry old events
         → PlaysPartAtEnd stored old.gateway.now now.gateway.now more (way.breaks old.outlet now.outlet)
@@ -86,7 +86,7 @@ module _ {W S : Type 0} (stored : S → Kept) (sink : sinks.Ghosts W) where
 
     module _ (gateway : Value S) (writer : W) (e : gateway ≡ now.engine.gateway.now)
         (f : writer ≡ now.engine.outlet.sink.now) where
-      -- a stop before the end of a script
+      -- a fault before the end of a script
       pub plays_ended : TakesBytes stored way OfScript entry now input
           → PlaysEnded stored entry.engine.gateway.now gateway input
           (WritesAll entry.engine.outlet.explains (sink.held entry.engine.outlet.sink.now) (sink.held writer))
@@ -103,7 +103,7 @@ module _ {W S : Type 0} (stored : S → Kept) (sink : sinks.Ghosts W) where
                 (plays_written entry.engine now.engine gateway writer e f (events_by OfScript p.ended) p.taken.played);
           }
 
-      -- and a stop at one of its lines
+      -- and a fault at one of its lines
       pub part_at_line : StopsAtLine stored way OfScript entry now input
           → PlaysPartAtLine stored entry.engine.gateway.now gateway input
           (WritesPart entry.engine.outlet.explains (sink.held entry.engine.outlet.sink.now) (sink.held writer))

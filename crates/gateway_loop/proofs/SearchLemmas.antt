@@ -1,4 +1,4 @@
--- What a search for LF tells.
+-- What a search for LF shows.
 use Rattle.std.proofs.Common.{ℕ, ◌≤◌, ◌<◌, List, length, take, get_or, sym, ◌∙◌, arith, subst}
 use Rattle.std.proofs.lemmas.Bool.{eq-eqb}
 use Rattle.std.proofs.lemmas.List.{get_or_default, get_or-take, length-take}
@@ -14,6 +14,5 @@ one_line_before bytes n fits none k d below is =
     none k (omega arith) short
     (eq-eqb (get_or bytes k 0) 10 (get_or_default bytes k 0 d (omega arith) ∙ sym (get_or-take n bytes k d short) ∙ is))
 
--- no LF in the bytes
 pub one_line : (bytes : List ℕ) → Nowhere (Passes (is_byte 10) bytes) 0 (length bytes) → IsOneLine bytes
 one_line bytes none = subst IsOneLine (take-length bytes) (one_line_before bytes (length bytes) (omega arith) none)

@@ -1,4 +1,4 @@
--- An answer whose text is written to a sink is put out, also where the text hangs on a flag.
+-- An answer whose text is written to a sink is written, also if the text depends on a flag.
 use Rattle.std.proofs.Common.{◌≡◌, ℕ, Bool, List, [], ◌∷◌, sym, append-nil, subst, Ok, Err}
 use Rattle.std.specs.Prelude.{Result, MatchResult}
 use Rattle.std.specs.Io.KnownBytes.{Appends}

@@ -1,4 +1,4 @@
--- How a live gateway goes on with turns.
+-- How a live gateway continues with turns.
 use Rattle.std.proofs.Common.{◌≡◌, ℕ, ◌-◌, ◌<◌, ◌^◌, List, [], ◌∷◌, ◌++◌}
 use Rattle.std.proofs.Common.{length, take, drop, map, refl, ap, sym, ◌∙◌}
 use Rattle.std.proofs.Common.{append_assoc, append-nil, arith, suc}
@@ -65,7 +65,7 @@ orders-ended (l ∷ ls) more each =
     ap orders shape ∙ orders-first l rest first
     ∙ ap (λ (es : List Event). event_by OfDesk (strip_carriage_return l) ∷ es) (orders-ended ls more others)
 
--- the orders that bytes of the desk bring behind lines that are ended, and one that is not
+-- the orders that bytes of the desk complete after whole lines and a partial one
 orders-behind : (before desk : List ℕ) (ls more : List (List ℕ)) (rest other : List ℕ)
     → before ≡ flat_map with_end ls ++ rest → All IsOneLine ls → IsOneLine rest
     → rest ++ desk ≡ flat_map with_end more ++ other → All IsOneLine more
@@ -84,9 +84,9 @@ orders-behind before desk ls more rest other whole each one behind others =
     ∙ ap (λ (es : List Event). drop (length (events_by OfDesk ls)) es) now
     ∙ drop-append_seam (events_by OfDesk ls) (events_by OfDesk more ++ orders other)
 
--- ---- the events of one turn more
+-- ---- the events of one more turn
 
--- all that turns read of the desk
+-- everything that turns read of the desk
 abbrev pub desk_bytes : List Turn → List ℕ
 desk_bytes turns = flat_map (λ turn. turn.desk) turns
 
@@ -121,7 +121,7 @@ desk_bytes-more read turn =
     flat_map-append (λ (turn : Turn). turn.desk) read (turn ∷ [])
     ∙ ap (λ s. desk_bytes read ++ s) (append-nil turn.desk)
 
--- ---- the reads of one turn more
+-- ---- the reads of one more turn
 
 pub pieces-more : (read : List Turn) (turn : Turn) → pieces (read ++ turn ∷ []) ≡ pieces read ++ turn.piece ∷ []
 pieces-more read turn = map-append (λ (turn : Turn). turn.piece) read (turn ∷ [])
@@ -130,7 +130,7 @@ pub desks-more : (read : List Turn) (turn : Turn) → desks (read ++ turn ∷ []
 desks-more read turn = map-append (λ (turn : Turn). turn.desk) read (turn ∷ [])
 
 module _ {O S : Type 0} (stored : S → Kept) (way : Way O) where
-  -- the turns were taken, and of the desk's line that is not ended the first bytes are kept
+  -- the turns were taken, and the first bytes of the desk's partial line are kept
   pub record TakesTurns (old new : Player O S) (read : List Turn) : Type 0 where
     pub ended : List (List ℕ)
     pub rest : List ℕ
@@ -139,7 +139,6 @@ module _ {O S : Type 0} (stored : S → Kept) (way : Way O) where
     pub keeps : Keeps rest new.unended
     pub taken : Takes stored way old.engine new.engine (events_of_turns read)
 
-  -- the player at first
   abbrev pub first_player : {old new : Player O S} {read : List Turn} → TakesTurns old new read → Player O S
   first_player {old = old} taken = old
 
@@ -159,20 +158,20 @@ module _ {O S : Type 0} (stored : S → Kept) (way : Way O) (entry old : Player 
   abbrev begun : List Event
   begun = events_of_turns read ++ Piece piece ∷ []
 
-  -- an answer to a packet of the piece did not get out
+  -- an answer to a packet of the chunk was not written completely
   pub piece_stops : (new : Engine O S) → EngineBreaks stored way old.engine new [] (Piece piece)
       → EngineBreaks stored way entry.engine new (events_of_turns read) (Piece piece)
   piece_stops new broken =
       rw (← append-nil (events_of_turns read))
       (plays-break stored way entry.engine old.engine new (events_of_turns read) [] (Piece piece) p.taken.played broken)
 
-  -- a turn's piece, and not yet its bytes of the desk
+  -- a turn's chunk, and not yet its bytes of the desk
   pub piece_taken : (new : Engine O S) → Takes stored way old.engine new (Piece piece ∷ [])
       → Takes stored way entry.engine new (events_of_turns read ++ Piece piece ∷ [])
   piece_taken new taken =
       takes-append stored way entry.engine old.engine new (events_of_turns read) (Piece piece ∷ []) p.taken taken
 
-  -- `mid` is the player behind the piece
+  -- `mid` is the player after the chunk
   pub turn_taken : (mid new : Player O S) (desk : List ℕ) → Takes stored way old.engine mid.engine (Piece piece ∷ [])
       → TakesBytes stored way OfDesk mid new (p.rest ++ desk)
       → TakesTurns stored way entry new (read ++ record { piece = piece; desk = desk } ∷ [])
@@ -199,7 +198,7 @@ module _ {O S : Type 0} (stored : S → Kept) (way : Way O) (entry old : Player 
             (piece_taken mid.engine q) r.taken);
       }
 
-  -- an answer to an order did not get out
+  -- an answer to an order was not written completely
   pub order_stops : (mid new : Player O S) (desk : List ℕ) → Takes stored way old.engine mid.engine (Piece piece ∷ [])
       → StopsAtLine stored way OfDesk mid new (p.rest ++ desk)
       → BreaksAtOrder stored entry.engine.gateway.now new.engine.gateway.now

@@ -1,4 +1,4 @@
--- What an engine put out into two sinks, also where the loans of the gateway and of the sinks have ended.
+-- What an `Engine` wrote to two sinks, also after the loans of the gateway and of the sinks have ended.
 use Rattle.std.proofs.Common.{◌≡◌, List, inl, inr}
 use Rattle.learned_devices.specs.Kept.{Kept}
 use Rattle.gateway_core.specs.Step.{Answer}
@@ -73,7 +73,7 @@ module _ {R D S : Type 0} (stored : S → Kept) (serials : sinks.Ghosts R) (desk
     broken = breaks_at _ _ p.broken;
   }
 
-  -- where a break is out, not all writes went well
+  -- if an answer broke off, not all writes succeeded
   pub not_all_well : (answers : List Answer) (last : Answer) → way.breaks entry.outlet now.outlet answers last
       → HasRoom old_sinks.0.counts 0 → HasRoom old_sinks.1.counts 0
       → WentWell old_sinks.0.counts new_sinks.0.counts → WentWell old_sinks.1.counts new_sinks.1.counts → ⊥

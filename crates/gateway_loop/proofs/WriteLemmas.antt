@@ -1,4 +1,4 @@
--- How the writes of a text go on.
+-- How the writes of a text continue.
 use Rattle.std.proofs.Common.{ℕ, List, [], ◌++◌, ap, sym, ◌∙◌, append_assoc, length-append, arith, Option}
 use Rattle.std.specs.Prelude.{Result, IsErrAnd}
 use Rattle.std.specs.Io.KnownBytes.{Appends}
@@ -6,7 +6,7 @@ use Rattle.std.proofs.KnownBytes.{Appends-trans}
 use Rattle.std.proofs.lemmas.Result.{MatchResult-weaker, err_from_is_err_and}
 use Rattle.byte_io.specs.Writes.{AppendsPart, Writes}
 
--- a first part of the front is a first part of all
+-- a prefix of the front is a prefix of all
 pub part_of_front : (old new : Option (List ℕ)) (front back : List ℕ) → AppendsPart old new [] front
     → AppendsPart old new [] (front ++ back)
 part_of_front old new front back p = record {
@@ -17,7 +17,7 @@ part_of_front old new front back p = record {
   grown = p.grown;
 }
 
--- behind the front, a first part of the back
+-- after the front, a prefix of the back
 pub part_of_back : (old mid new : Option (List ℕ)) (front back : List ℕ) → Appends old mid front
     → AppendsPart mid new [] back → AppendsPart old new [] (front ++ back)
 part_of_back old mid new front back first p = record {
@@ -35,7 +35,7 @@ writes_behind old mid new r front back first second =
     MatchResult-weaker r second (λ _ grown. Appends-trans old mid new front back first grown)
     (λ _ part. part_of_back old mid new front back first part)
 
--- an error after a first part
+-- an error after a prefix
 pub writes_part : {A E : Type 0} (Q : E → Type 0) (old new : Option (List ℕ)) (r : Result A E) (text : List ℕ)
     → IsErrAnd r Q → AppendsPart old new [] text → Writes old new r text
 writes_part Q old new r text err part = let p = err_from_is_err_and r err in rw p.1 part

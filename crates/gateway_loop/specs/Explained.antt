@@ -1,12 +1,12 @@
--- What the lines that explain packets add to what is written.
+-- What the lines that explain packets add to the output.
 use Rattle.std.specs.Prelude.{◌≡◌, ℕ, true, false, List, [], ◌∷◌, ◌++◌, Some}
 use Rattle.gateway_core.specs.Step.{Answer}
 use Rattle.gateway_loop.specs.Streams.{SinkValue}
 use Rattle.gateway_loop.specs.Wires.{wires}
 use Rattle.gateway_loop.specs.Written.{WritesAll, radio_text}
 
--- Both texts are those of the answers, each with some text before what the desk is told; the second has the line that
--- explains the packet between the two.
+-- Both texts are those of the answers, each with some text before the one for the desk; the second also has the line
+-- that explains the packet between the two.
 abbrev pub IsExplained : (Answer → List ℕ) → List Answer → List ℕ → List ℕ → Type 0
 IsExplained before [] plain explained = (plain ≡ []) × (explained ≡ [])
 IsExplained before (answer ∷ answers) plain explained =
@@ -14,7 +14,7 @@ IsExplained before (answer ∷ answers) plain explained =
     × (explained ≡ before answer ++ (answer.explained ++ (answer.desk ++ more)))
     × IsExplained before answers rest more
 
--- So it is of what was written behind what a sink held.
+-- The same for what was written after what a sink held.
 pub record IsExplainedBehind (before : Answer → List ℕ) (answers : List Answer) (held plain explained : List ℕ)
     : Type 0 where
   pub added : List ℕ
@@ -23,9 +23,8 @@ pub record IsExplainedBehind (before : Answer → List ℕ) (answers : List Answ
   pub explained_is : explained ≡ held ++ more
   pub lines : IsExplained before answers added more
 
--- A replay that explains packets writes what one that does not writes for the same answers, but for the lines that
--- explain them, each directly before what else the desk is told. So it is of what a live gateway writes to the desk,
--- and what it writes to the serial line is the same.
+-- theorem `explanations_stand_apart`: explaining adds the lines that explain packets, each directly before the text for
+-- the desk, and changes nothing else in what a replay writes, or a live gateway to the desk and to the serial line
 pub record ExplanationsStandApart : Type 0 where
   pub replay : (answers : List Answer) (held plain explained : List ℕ)
       → WritesAll false (Some held) (Some plain) answers → WritesAll true (Some held) (Some explained) answers

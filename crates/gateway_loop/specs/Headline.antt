@@ -1,5 +1,5 @@
 -- The headline: what a gateway writes by `replay` and by `live`, what it knows afterwards, and what a crash leaves of
--- it. The contracts of the two functions say it, for every answer; that of `start` says how a gateway begins.
+-- it. The contracts of the two functions state it, for every result; that of `start` says how a gateway begins.
 use Rattle.std.specs.Prelude.{◌≡◌, ℕ, Bool, List, [], ◌++◌, length, Some, Result, MatchResult}
 use Rattle.std.specs.List.{concat, flat_map}
 use Rattle.learned_devices.specs.Kept.{Kept}
@@ -22,7 +22,7 @@ use Rattle.gateway_loop.specs.Turns.{Turn, desks, events_of_turns, pieces}
 use Rattle.gateway_loop.specs.Wires.{radio_bytes}
 use Rattle.gateway_loop.specs.Written.{desk_text, written}
 
--- the bytes are the first of these, or all of them
+-- the bytes are a prefix of these
 pub record IsPrefix (bytes all : List ℕ) : Type 0 where
   pub rest : List ℕ
   pub whole : all ≡ bytes ++ rest
@@ -39,21 +39,21 @@ radio_of answers = flat_map (λ answer. radio_bytes answer.radio) answers
 abbrev pub lines_of : Bool → List Answer → List ℕ
 lines_of explains answers = flat_map (desk_text explains) answers
 
--- `S` is the store of a gateway's devices, and `stored` what it keeps.
+-- `S` is a gateway's device store, and `stored` what it keeps.
 module _ {S : Type 0} (stored : S → Kept) where
-  -- A new gateway over a store of these devices. It learns from nobody, has counted nothing, and no byte has come. A
-  -- crash leaves these devices and nothing else.
+  -- A new gateway over a device store with these devices. The mode is closed, all counters are 0, and no byte has
+  -- arrived. A crash leaves only these devices.
   pub record IsNew (base : ℕ) (found : Devices) (gateway : Value S) : Type 0 where
     pub value : gateway ≡ new_value base gateway.handler.registry
     pub known : (stored gateway.handler.registry).holds found
     pub registries : (stored gateway.handler.registry).sound
     pub left : (left : Devices) → (stored gateway.handler.registry).may_recover left → left ≡ found
 
-  -- From the devices found, the items were handled in turn. Each took the step of the definitions, or it was refused.
-  -- Only an item that needs memory or the store can be refused; then only the count of refused items changed. The
-  -- answers are out. The gateway knows what the last step left; while it is open, the store holds its
-  -- devices. Any crash state is sound, and of what was known after some prefix of the items. The prefix has every
-  -- acknowledged item. The change of the next item may be there too, if its write was refused.
+  -- From the devices found, the inputs were handled one by one. Each took the step of the definitions, or failed. Only
+  -- an input that needs memory or the device store can fail; then only the counter of failed inputs changed. The
+  -- answers are written. The gateway knows the state after the last step; while the device store is open, it holds the
+  -- devices of that state. Any crash state is sound, and is what was known after some prefix of the inputs. The prefix
+  -- contains every acknowledged input. The update of the next input may be there too, if its write failed.
   pub record AsSpecified (base : ℕ) (found : Devices) (items : List Item) (out : List Answer → Type 0)
       (new : HandlerValue S) : Type 0 where
     pub fates : List Fate
@@ -66,7 +66,7 @@ module _ {S : Type 0} (stored : S → Kept) where
     pub left : (left : Devices) → (stored new.registry).may_recover left
         → AfterPrefix (begun base found) items fates left
 
-  -- so it was with some prefix of the items, and no other item was handled
+  -- the same for some prefix of the inputs, and no other input was handled
   pub record BrokenOff (base : ℕ) (found : Devices) (items : List Item) (out : List Answer → Type 0)
       (new : HandlerValue S) : Type 0 where
     pub handled : List Item
@@ -74,10 +74,10 @@ module _ {S : Type 0} (stored : S → Kept) where
     pub whole : items ≡ handled ++ later
     pub specified : AsSpecified base found handled out new
 
-  -- `replay`, of a new gateway, a reader that has this input left, and a writer that holds these bytes. At `Ok` the
-  -- input was read to its end, and the writer was given the text of the answers to the items of the script, and nothing
-  -- else. At a fault it was given a prefix of the text of the answers to some prefix of the items. (The clauses `err`,
-  -- `read`, `write` and `too_many` of `replay` say which prefix, and when it is that fault.)
+  -- `replay`, for a new gateway, a reader that has this input left, and a writer that holds these bytes. At `Ok` the
+  -- input was read to its end, and the writer received exactly the text of the answers to the inputs of the script. At
+  -- a fault it received a prefix of the text for some prefix of these inputs. (The postconditions `err`, `read`,
+  -- `write` and `too_many` of `replay` say which prefix, and when each fault is returned.)
   pub record ReplaySpecified {R W : Type 0} (source : sources.Ghosts R) (sink : sinks.Ghosts W) (explains : Bool)
       (result : Result Summary RunFault) (base : ℕ) (found : Devices) (input held : List ℕ) (new : Value S × R × W)
       : Type 0 where
@@ -97,10 +97,10 @@ module _ {S : Type 0} (stored : S → Kept) where
       → sink.held old.2 ≡ Some held → (stored new.0.handler.registry).honest
       → ReplaySpecified source sink explains result base found input held new
 
-  -- `live`, of a new gateway, two readers that have these bytes left, and two writers that hold these. At `Ok` all
-  -- turns were made, each of one read of the serial line and one of the desk, and the writers were given the radio
-  -- bytes and the lines of the answers to the items of the turns, and nothing else. At a fault they were given prefixes
-  -- of these, for some prefix of the items. (The clauses `err` and `reads` of `live` say which.)
+  -- `live`, for a new gateway, two readers that have these bytes left, and two writers that hold these. At `Ok` all
+  -- turns were made, each with one read of the serial line and one of the desk, and the writers received exactly the
+  -- radio bytes and the lines of the answers to the inputs of the turns. At a fault they received prefixes of these,
+  -- for some prefix of the inputs. (The postconditions `err` and `reads` of `live` say which.)
   pub record LiveSpecified {P Q R D : Type 0} (serial_in : sources.Ghosts P) (desk_in : sources.Ghosts Q)
       (serial_out : sinks.Ghosts R) (desk_out : sinks.Ghosts D) (explains : Bool) (result : Result Summary RunFault)
       (count base : ℕ) (found : Devices) (serial desk sent printed : List ℕ) (old new : Value S × P × Q × R × D)

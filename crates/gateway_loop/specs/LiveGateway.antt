@@ -17,7 +17,7 @@ use Rattle.gateway_loop.specs.Streams.{SinkValue, SourceValue, sink_value, sourc
 use Rattle.gateway_loop.specs.Turns.{Turn, desks, events_of_turns, pieces}
 use Rattle.gateway_loop.specs.Wires.{wires}
 
--- What is known of a live gateway at a moment. The sinks are that of the serial line and that of the desk.
+-- The state of a live gateway. The sinks are that of the serial line and that of the desk.
 pub record LiveValue (S : Type 0) : Type 0 where
   pub gateway : Value S
   pub serial : SourceValue
@@ -33,7 +33,7 @@ live_at serial_in desk_in serial_out desk_out now = record {
   sinks = (sink_value serial_out now.3, sink_value desk_out now.4);
 }
 
--- The reads of the serial line, and the events, where behind some turns a piece was read, or nothing yet.
+-- The reads of the serial line, and the events, if a chunk was read after some turns, or nothing yet.
 abbrev pub pieces_with : List Turn → Option (List ℕ) → List (List ℕ)
 pieces_with turns None = pieces turns
 pieces_with turns (Some piece) = pieces turns ++ piece ∷ []
@@ -43,13 +43,13 @@ events_with turns None = events_of_turns turns
 events_with turns (Some piece) = events_of_turns turns ++ Piece piece ∷ []
 
 module _ {S : Type 0} (old new : LiveValue S) where
-  -- Behind the turns the next read failed: of the serial line, or behind a piece that of the desk.
+  -- After the turns the next read failed: of the serial line, or, after a chunk, of the desk.
   abbrev pub NextReadFails : List Turn → Option (List ℕ) → Type 0
   NextReadFails turns None = ReadsFail old.serial new.serial (pieces turns) × ReadsWell old.desk new.desk (desks turns)
   NextReadFails turns (Some piece) =
       ReadsWell old.serial new.serial (pieces turns ++ piece ∷ []) × ReadsFail old.desk new.desk (desks turns)
 
-  -- so many reads were made of both sources, no read failed, and all writes went well
+  -- this many reads of each source were made, no read failed, and all writes succeeded
   pub record AllWent (turns : ℕ) : Type 0 where
     pub serial_read : new.serial.counts.calls ≡ old.serial.counts.calls + turns
     pub desk_read : new.desk.counts.calls ≡ old.desk.counts.calls + turns
@@ -58,8 +58,8 @@ module _ {S : Type 0} (old new : LiveValue S) where
     pub serial_well : NoneFailed old.serial.counts new.serial.counts
     pub desk_well : NoneFailed old.desk.counts new.desk.counts
 
--- so many reads can be counted of both sources, and of all four one more call that fails and one more that answers 0
--- bytes
+-- the counters can count this many more reads of both sources, and, for all four, one more call that fails and one more
+-- that returns 0 bytes
 pub record HasRoomForTurns {S : Type 0} (now : LiveValue S) (turns : ℕ) : Type 0 where
   pub serial_in : HasRoom now.serial.counts turns
   pub desk_in : HasRoom now.desk.counts turns
@@ -67,7 +67,7 @@ pub record HasRoomForTurns {S : Type 0} (now : LiveValue S) (turns : ℕ) : Type
   pub desk_out : HasRoom now.sinks.1.counts 0
 
 module _ {S : Type 0} (stored : S → Kept) where
-  -- an answer to an order of the last turn did not get out
+  -- an answer to an order of the last turn was not written completely
   pub record BreaksAtOrder (old new : Value S) (turns : List Turn) (breaks : List Answer → Answer → Type 0)
       : Type 0 where
     pub before : List Turn
@@ -79,16 +79,16 @@ module _ {S : Type 0} (stored : S → Kept) where
     pub whole : events_of_turns turns ≡ (events_with before (Some last.piece) ++ done) ++ order ∷ later
     pub broken : Breaks stored old new (events_with before (Some last.piece) ++ done) order breaks
 
-  -- An answer did not get out: to a packet of the piece behind the turns, or else to an order of the last turn.
+  -- An answer was not written completely: to a packet of the chunk after the turns, or otherwise to an order of the
+  -- last turn.
   abbrev pub BreaksTurn : Value S → Value S → List Turn → Option (List ℕ) → (List Answer → Answer → Type 0) → Type 0
   BreaksTurn old new turns (Some piece) breaks = Breaks stored old new (events_of_turns turns) (Piece piece) breaks
   BreaksTurn old new turns None breaks = BreaksAtOrder old new turns breaks
 
--- Below, `at` says what is known of the live gateway before the call and behind it, and `explains` whether each packet
--- is explained.
+-- Below, `at` is the state of the live gateway before and after the call, and `explains` whether packets are explained.
 module _ {S T : Type 0} (stored : S → Kept) (at : T → LiveValue S) (explains : Bool) where
-  -- so many turns were read, the items of their events, and nothing else, were handled and counted, and what their
-  -- answers send and tell was written
+  -- this many turns were read, exactly the inputs of their events were handled and counted, and the radio bytes and
+  -- texts of their answers were written
   pub record Serves (old new : T) (turns : ℕ) (summary : Summary) : Type 0 where
     pub read : List Turn
     pub count : length read ≡ turns
@@ -98,7 +98,7 @@ module _ {S T : Type 0} (stored : S → Kept) (at : T → LiveValue S) (explains
         ((wires explains).puts (at old).sinks (at new).sinks)
     pub counted : summary.items ≡ min (length (items_of (at old).gateway.rest (events_of_turns read))) (2 ^ 64 - 1)
 
-  -- a read failed, and all that was read before it was handled and answered
+  -- a read failed, and everything read before it was handled and answered
   pub record ServesUntilRead (old new : T) : Type 0 where
     pub read : List Turn
     pub piece : Option (List ℕ)
@@ -106,7 +106,7 @@ module _ {S T : Type 0} (stored : S → Kept) (at : T → LiveValue S) (explains
     pub played : Plays stored (at old).gateway (at new).gateway (events_with read piece)
         ((wires explains).puts (at old).sinks (at new).sinks)
 
-  -- no read failed, and an answer did not get out
+  -- no read failed, and an answer was not written completely
   pub record ServesUntilWrite (old new : T) : Type 0 where
     pub read : List Turn
     pub piece : Option (List ℕ)
@@ -115,14 +115,14 @@ module _ {S T : Type 0} (stored : S → Kept) (at : T → LiveValue S) (explains
     pub broken : BreaksTurn stored (at old).gateway (at new).gateway read piece
         ((wires explains).breaks (at old).sinks (at new).sinks)
 
-  -- what is done before a fault; `TooManyTurns` never comes
+  -- what was done before a fault; `TooManyTurns` is never returned
   abbrev pub ServesUntil : T → T → RunFault → Type 0
   ServesUntil old new Read = ServesUntilRead old new
   ServesUntil old new Write = ServesUntilWrite old new
   ServesUntil old new TooManyTurns = ⊥
 
 module _ {S T : Type 0} (at : T → LiveValue S) where
-  -- where the calls can be counted, `Ok` comes just where all turns were made and all calls went well
+  -- if the calls can be counted, `Ok` is returned exactly when all turns were made and all calls succeeded
   abbrev pub TellsAllTurns : {A E : Type 0} → Result A E → T → T → ℕ → Type 0
   TellsAllTurns result old new turns =
       HasRoomForTurns (at old) turns → (IsOk result ↔ AllWent (at old) (at new) turns)

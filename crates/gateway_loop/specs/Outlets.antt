@@ -1,11 +1,11 @@
--- The ways out for answers, and how it is known what was put out. The lemmas stand here, since the ghost members of an
--- `impl` cite them, which cite nothing outside `specs`.
+-- Outputs for answers, and how contracts know what was written. The lemmas are in this file because the ghost members
+-- of an `impl` cite them, and cite nothing outside `specs`.
 use Rattle.std.specs.Prelude.{◌≡◌, ◌⊎◌, Bool, List, [], ◌∷◌, ◌++◌, Result, MatchResult}
 use Rattle.std.proofs.Common.{append_assoc, inl, inr, refl, subst, sym, ◌∙◌}
 use Rattle.gateway_core.specs.Step.{Answer}
 
--- puts: just these answers were put out from the first state to the second. breaks: these answers were put out, but of
--- one more behind them a first part at most, and not all. Both go on from where an outlet stands.
+-- puts: exactly these answers were written from the first state to the second. breaks: these answers were written, and
+-- one more at most in part. Both continue from the current state of an output.
 pub record Way (O : Type 0) : Type 1 where
   pub puts : O → O → List Answer → Type 0
   pub breaks : O → O → List Answer → Answer → Type 0
@@ -15,12 +15,12 @@ pub record Way (O : Type 0) : Type 1 where
   pub broken : (old mid new : O) (first second : List Answer) (last : Answer) → puts old mid first
       → breaks mid new second last → breaks old new (first ++ second) last
 
--- one answer was put out, or it broke off
+-- one answer was written, or at most a part of it
 abbrev pub Puts : {O A E : Type 0} → Way O → Result A E → O → O → Answer → Type 0
 Puts way result old new answer =
     MatchResult result (λ _. way.puts old new (answer ∷ [])) (λ _. way.breaks old new [] answer)
 
--- what an outlet puts out, by what it shows
+-- what an output writes, by what it shows
 abbrev pub way_by : {O V : Type 0} → (O → V) → Way V → Way O
 way_by view way = record {
   puts = λ old new. way.puts (view old) (view new);
@@ -30,7 +30,7 @@ way_by view way = record {
   broken = λ old mid new. way.broken (view old) (view mid) (view new);
 }
 
--- An outlet has a flag, which stays as it is: by it the answers go out by one of two ways.
+-- An output has a constant flag: it determines which of two outputs the answers go to.
 module _ {V : Type 0} (way : Bool → Way V) where
   abbrev pub PutsBy : Bool × V → Bool × V → List Answer → Type 0
   PutsBy old new answers = (new.0 ≡ old.0) × (way old.0).puts old.1 new.1 answers
@@ -62,13 +62,13 @@ module _ {V : Type 0} (way : Bool → Way V) where
     broken = broken_by;
   }
 
--- Each answer goes out by two ways, by the second behind the first.
+-- Each answer goes to two outputs, to the second after the first.
 module _ {A B : Type 0} (one : Way A) (other : Way B) where
   abbrev pub PutsBoth : A × B → A × B → List Answer → Type 0
   PutsBoth old new answers = one.puts old.0 new.0 answers × other.puts old.1 new.1 answers
 
-  -- the last answer breaks off by the first way, and nothing of it goes out by the second; or it is out by the first,
-  -- and breaks off by the second
+  -- the last answer is written incompletely to the first output and not to the second, or whole to the first and
+  -- incompletely to the second
   abbrev pub BreaksBoth : A × B → A × B → List Answer → Answer → Type 0
   BreaksBoth old new answers last =
       (one.breaks old.0 new.0 answers last × other.puts old.1 new.1 answers)

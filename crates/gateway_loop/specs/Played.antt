@@ -1,4 +1,4 @@
--- What an engine handles and puts out, whatever its outlet is.
+-- What an `Engine` handles and writes, for any output.
 use Rattle.std.specs.Prelude.{◌≡◌, ◌<◌, List, [], ◌∷◌, ◌++◌, length, map, ℕ}
 use Rattle.learned_devices.specs.Kept.{Kept}
 use Rattle.esp3_frames.specs.Framing.{MayBecomePacket}
@@ -9,26 +9,26 @@ use Rattle.gateway_core.specs.Calls.{Value}
 use Rattle.gateway_core.specs.Events.{Event, Piece, Line, items_of, bytes_in}
 use Rattle.gateway_loop.specs.Script.{HasEnded, script, with_end}
 
--- no packet waits, and of the bytes behind the last one more may come
+-- no packet is ready, and the rest may become one
 pub record IsIdle {S : Type 0} (gateway : Value S) : Type 0 where
   pub ready : gateway.ready ≡ []
   pub rest : MayBecomePacket gateway.rest
 
--- a line, or some first bytes of a piece
+-- a line, or a prefix of a chunk
 abbrev pub IsBegun : Event → Event → Type 0
 IsBegun (Piece bytes) (Piece some) = (more : List ℕ) × (bytes ≡ some ++ more)
 IsBegun (Line line) (Line other) = other ≡ line
 IsBegun event other = ⊥
 
--- Below `puts` says of answers that just they were put out, and `breaks` that they were, but not all of one more.
+-- Below, `puts` says that exactly these answers were written, and `breaks` that they were, and one more incompletely.
 module _ {S : Type 0} (stored : S → Kept) where
-  -- the items were handled, and their answers put out
+  -- the inputs were handled, and their answers written
   pub record Answers (old new : HandlerValue S) (items : List Item) (puts : List Answer → Type 0) : Type 0 where
     pub answers : List Answer
     pub handled : Handles stored old items answers new
     pub out : puts answers
 
-  -- the items were handled, but the last answer is not out, or not all of it
+  -- the inputs were handled, but the last answer was not written completely
   pub record AnswersPart (old new : HandlerValue S) (items : List Item) (breaks : List Answer → Answer → Type 0)
       : Type 0 where
     pub answers : List Answer
@@ -36,14 +36,14 @@ module _ {S : Type 0} (stored : S → Kept) where
     pub handled : Handles stored old items (answers ++ last ∷ []) new
     pub out : breaks answers last
 
-  -- the events' items, and nothing else, were handled and answered
+  -- exactly the events' inputs were handled and answered
   pub record Plays (old new : Value S) (events : List Event) (puts : List Answer → Type 0) : Type 0 where
     pub answered : Answers old.handler new.handler (items_of old.rest events) puts
     pub rest : new.rest ≡ rest_of (old.rest ++ bytes_in events)
     pub idle : IsIdle new
 
-  -- behind these events one event was begun, and an answer to an item of its own did not get out: the items so far were
-  -- handled, and the packets that its bytes brought behind them wait
+  -- after these events, one event was begun, and an answer to one of its inputs was not written completely: the inputs
+  -- so far were handled, and the packets that the event's bytes completed after them are ready
   pub record Breaks (old new : Value S) (events : List Event) (event : Event) (breaks : List Answer → Answer → Type 0)
       : Type 0 where
     pub begun : Event
@@ -62,7 +62,7 @@ module _ {S : Type 0} (stored : S → Kept) where
     pub is : HasEnded input ended
     pub played : Plays old new (script ended) puts
 
-  -- an answer did not get out at the last event of a first part of the input, which LF ends
+  -- an answer was not written completely, at the last event of a prefix of the input that ends with LF
   pub record PlaysPartAtLine (old new : Value S) (input : List ℕ) (breaks : List Answer → Answer → Type 0)
       : Type 0 where
     pub part : List ℕ
@@ -73,7 +73,7 @@ module _ {S : Type 0} (stored : S → Kept) where
     pub is : script (with_end part) ≡ events ++ event ∷ []
     pub broken : Breaks old new events event breaks
 
-  -- an answer did not get out at the last of these events
+  -- an answer was not written completely, at the last of these events
   pub record PlaysPartAtEnd (old new : Value S) (all : List Event) (breaks : List Answer → Answer → Type 0)
       : Type 0 where
     pub events : List Event

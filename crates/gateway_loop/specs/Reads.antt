@@ -1,4 +1,4 @@
--- What the reads of a source give, and how they go. Own choice.
+-- What the reads of a source return, and how they go. Own choice.
 use Rattle.std.specs.Prelude.{◌≡◌, ◌≤◌, ◌+◌, ◌⊎◌, ⊤, IfSome, Option, ℕ, List, [], ◌∷◌, ◌++◌, length}
 use Rattle.std.specs.Io.KnownBytes.{Consumes}
 use Rattle.std.specs.List.{concat}
@@ -6,35 +6,35 @@ use Rattle.byte_io.specs.Counts.{Made, NoneFailed, OneMoreFailed}
 use Rattle.byte_io.specs.Limits.{max_read}
 use Rattle.gateway_loop.specs.Streams.{SourceValue}
 
--- The bytes of one read: `left` is what the source had left before all reads, where that is known, and `before` what
--- the reads before this one gave. A read gives nothing only where they gave all.
+-- The bytes of one read: `left` is what the source had left before all reads, if that is known, and `before` what the
+-- reads before this one returned. A read returns nothing only if they returned everything.
 pub record IsRead (left : Option (List ℕ)) (before bytes : List ℕ) : Type 0 where
   pub short : length bytes ≤ max_read
   pub empty : bytes ≡ [] → IfSome left (λ all. all ≡ before)
 
--- each of these is a read behind those before it
+-- each of these is a read after those before it
 abbrev pub AreReads : Option (List ℕ) → List ℕ → List (List ℕ) → Type 0
 AreReads left before [] = ⊤
 AreReads left before (bytes ∷ more) = IsRead left before bytes × AreReads left (before ++ bytes) more
 
--- each of these is a read, and together they gave just what the source lost
+-- each of these is a read, and together they returned exactly what the source lost
 pub record Gave (old new : SourceValue) (reads : List (List ℕ)) : Type 0 where
   pub all : Consumes old.left new.left (concat reads)
   pub each : AreReads old.left [] reads
 
--- just so many reads were made, none failed, and they gave these bytes, cut in some way
+-- exactly this many reads were made, none failed, and they returned these bytes, split in some way
 pub record ReadsWell (old new : SourceValue) (reads : List (List ℕ)) : Type 0 where
   pub gave : Gave old new reads
   pub made : Made old.counts new.counts (length reads)
   pub well : NoneFailed old.counts new.counts
 
--- one read more was made than these, and one failed
+-- one read more than these was made, and one failed
 pub record ReadsFail (old new : SourceValue) (reads : List (List ℕ)) : Type 0 where
   pub gave : Gave old new reads
   pub made : Made old.counts new.counts (length reads + 1)
   pub failed : OneMoreFailed old.counts new.counts
 
--- reads were made, no more than so many, of which perhaps one failed, which gave nothing
+-- at most this many reads were made; perhaps one failed, and returned nothing
 abbrev pub MakesReads : SourceValue → SourceValue → ℕ → Type 0
 MakesReads old new most =
     (reads : List (List ℕ)) × ((ReadsWell old new reads × (length reads ≤ most))

@@ -1,4 +1,4 @@
--- Which events the bytes of a script are. Own choice.
+-- The events of the bytes of a script. Own choice.
 use Rattle.std.specs.Prelude.{◌≡◌, ◌≢◌, ◌⊎◌, ◌&&◌, if◌then◌else◌, ℕ, nat_eq, nat_le}
 use Rattle.std.specs.Prelude.{List, [], ◌∷◌, ◌++◌, All}
 use Rattle.std.specs.Prelude.{length, drop, map, codes, Result, Ok, Err}
@@ -9,12 +9,12 @@ use Rattle.hex.specs.declared.error.FromHexError.{FromHexError}
 use Rattle.actuator_commands.specs.Limits.{max_line}
 use Rattle.gateway_core.specs.Events.{Event, Piece, Line}
 
--- the bytes that the digits of a line spell, or else the line
+-- the bytes that the digits of a line spell, or otherwise the line
 abbrev pub spelled : List ℕ → Result (List ℕ) FromHexError → Event
 spelled line (Ok bytes) = Piece bytes
 spelled line (Err fault) = Line line
 
--- `S`, one space and an even number of hexadecimal digits are a serial piece, unless the line is too long
+-- `S`, one space and an even number of hexadecimal digits are a serial chunk, unless the line is too long
 abbrev pub event_of : List ℕ → Event
 event_of line =
     if nat_le (length line) max_line && starts_with nat_eq line (codes "S ") then spelled line
@@ -25,15 +25,15 @@ event_of line =
 abbrev pub script : List ℕ → List Event
 script input = map event_of (lines input)
 
--- no LF stands in it
+-- it contains no LF
 abbrev pub IsOneLine : List ℕ → Type 0
 IsOneLine bytes = All (λ byte. byte ≢ 10) bytes
 
--- behind a line stands LF
+-- a line, with LF after it
 abbrev pub with_end : List ℕ → List ℕ
 with_end line = line ++ 10 ∷ []
 
--- ended is what the input has up to its last LF, and with it
+-- `ended` is the input up to and including its last LF
 pub record HasEnded (input ended : List ℕ) : Type 0 where
   pub tail : List ℕ
   pub whole : input ≡ ended ++ tail

@@ -15,7 +15,7 @@ use Rattle.gateway_loop.specs.Script.{script}
 use Rattle.gateway_loop.specs.Streams.{SinkValue, SourceValue, sink_value, source_value}
 use Rattle.gateway_loop.specs.Written.{WritesAll, WritesPart}
 
--- what is known of a replay at a moment
+-- the state of a replay
 pub record ReplayValue (S : Type 0) : Type 0 where
   pub gateway : Value S
   pub source : SourceValue
@@ -25,11 +25,10 @@ abbrev pub replay_at : {R W S : Type 0} → sources.Ghosts R → sinks.Ghosts W 
 replay_at source sink now =
     record { gateway = now.0; source = source_value source now.1; sink = sink_value sink now.2 }
 
--- Below, `at` says what is known of the replay before the call and behind it, and `explains` whether each packet is
--- explained.
+-- Below, `at` is the state of the replay before and after the call, and `explains` whether packets are explained.
 module _ {S T : Type 0} (stored : S → Kept) (at : T → ReplayValue S) (explains : Bool) where
-  -- the source was read to its end, the items of the script, and nothing else, were handled and counted, and the text
-  -- of their answers was written
+  -- the source was read to its end, exactly the inputs of the script were handled and counted, and the text of their
+  -- answers was written
   pub record Replays (old new : T) (summary : Summary) : Type 0 where
     pub input : List ℕ
     pub read : Consumes (at old).source.left (at new).source.left input
@@ -45,13 +44,13 @@ module _ {S T : Type 0} (stored : S → Kept) (at : T → ReplayValue S) (explai
     pub played : PlaysEnded stored (at old).gateway (at new).gateway input
         (WritesAll explains (at old).sink.held (at new).sink.held)
 
-  -- a write failed at a line that LF ends in what was read, and all reads gave something
+  -- a write failed at a line that LF ends in what was read, and all reads returned something
   pub record BreaksAtLine (old new : T) (input : List ℕ) : Type 0 where
     pub reads : WentWell (at old).source.counts (at new).source.counts
     pub broken : PlaysPartAtLine stored (at old).gateway (at new).gateway input
         (WritesPart explains (at old).sink.held (at new).sink.held)
 
-  -- a write failed at the last event of the script, and one read gave nothing
+  -- a write failed at the last event of the script, and one read returned nothing
   pub record BreaksAtEnd (old new : T) (input : List ℕ) : Type 0 where
     pub reads : OneEmpty (at old).source.counts (at new).source.counts
     pub at_end : IsAtEnd (at new).source.left
@@ -64,14 +63,15 @@ module _ {S T : Type 0} (stored : S → Kept) (at : T → ReplayValue S) (explai
     pub read : Consumes (at old).source.left (at new).source.left input
     pub broken : BreaksAtLine old new input ⊎ BreaksAtEnd old new input
 
-  -- what is done before a fault
+  -- what was done before a fault
   abbrev pub ReplaysUntil : T → T → RunFault → Type 0
   ReplaysUntil old new Read = ReplaysEnded old new
   ReplaysUntil old new Write = ReplaysUntilWrite old new
   ReplaysUntil old new TooManyTurns = ReplaysEnded old new
 
 module _ {S T : Type 0} (at : T → ReplayValue S) where
-  -- Where the calls can be counted, `TooManyTurns` comes just where so many reads were made and all went well.
+  -- If the calls can be counted, `TooManyTurns` is returned exactly when this many reads were made and all calls
+  -- succeeded.
   abbrev pub TellsTooManyTurns : {A : Type 0} → Result A RunFault → T → T → ℕ → Type 0
   TellsTooManyTurns result old new turns =
       HasRoom (at old).source.counts turns → HasRoom (at old).sink.counts 0

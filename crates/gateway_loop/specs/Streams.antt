@@ -1,15 +1,15 @@
--- What is known of a source and of a sink at a moment.
+-- The state of a source and of a sink.
 use Rattle.std.specs.Prelude.{ℕ, List, Option}
 use Rattle.byte_io.specs.Counts.{Counts}
 use Rattle.byte_io.specs.declared.sink.Sink as sinks
 use Rattle.byte_io.specs.declared.source.Source as sources
 
--- the bytes that it has left, where they are known, and how its reads so far went
+-- the bytes that it has left, if they are known, and how its reads went so far
 pub record SourceValue : Type 0 where
   pub left : Option (List ℕ)
   pub counts : Counts
 
--- the bytes that it holds, where they are known, and how its writes so far went
+-- the bytes that it holds, if they are known, and how its writes went so far
 pub record SinkValue : Type 0 where
   pub held : Option (List ℕ)
   pub counts : Counts

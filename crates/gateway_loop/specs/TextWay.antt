@@ -1,4 +1,4 @@
--- A sink that is given a text of each answer is a way out.
+-- A sink as an output: it receives the text of each answer.
 use Rattle.std.specs.Prelude.{ℕ, List, ◌++◌}
 use Rattle.std.specs.Io.KnownBytes.{Appends}
 use Rattle.std.specs.List.{flat_map}
@@ -13,12 +13,12 @@ use Rattle.gateway_loop.specs.Outlets.{Way}
 use Rattle.gateway_loop.specs.Streams.{SinkValue}
 
 module _ (says : Answer → List ℕ) where
-  -- a sink was given the texts of the answers, and no write went wrong
+  -- a sink received the texts of the answers, and no write went wrong
   pub record PutsText (old new : SinkValue) (answers : List Answer) : Type 0 where
     pub text : Appends old.held new.held (flat_map says answers)
     pub went : WentWell old.counts new.counts
 
-  -- a sink was given the texts of the answers, and a write of the last one's went wrong
+  -- a sink received the texts of the answers, and a write of the last one's text went wrong
   pub record BreaksText (old new : SinkValue) (answers : List Answer) (last : Answer) : Type 0 where
     pub text : AppendsPart old.held new.held (flat_map says answers) (says last)
     pub went : OneWrong old.counts new.counts

@@ -1,4 +1,4 @@
--- What the turns of a live gateway stand for. Own choice.
+-- The events of the turns of a live gateway. Own choice.
 use Rattle.std.specs.Prelude.{◌-◌, ◌==◌, ℕ, List, [], ◌∷◌, ◌++◌, length, take, drop, map}
 use Rattle.std.specs.List.{slice_split}
 use Rattle.std.specs.Str.Lines.{strip_carriage_return}
@@ -9,24 +9,24 @@ pub record Turn : Type 0 where
   pub piece : List ℕ
   pub desk : List ℕ
 
--- the reads of turns, of the one and of the other
+-- the reads of turns: of the serial line, and of the desk
 abbrev pub pieces : List Turn → List (List ℕ)
 pieces turns = map (λ turn. turn.piece) turns
 
 abbrev pub desks : List Turn → List (List ℕ)
 desks turns = map (λ turn. turn.desk) turns
 
--- what stands before each LF, up to the LF before it
+-- the bytes before each LF, from the LF before it
 abbrev pub ended_lines : List ℕ → List (List ℕ)
 ended_lines bytes =
     let parts = slice_split (λ byte. byte == 10) bytes in take (length parts - 1) parts
 
--- the orders of the desk: its lines that LF ends. One CR before LF is no part of a line
+-- the orders of the desk: its lines that LF ends. One CR before LF is not part of a line
 abbrev pub orders : List ℕ → List Event
 orders bytes = map (λ line. Line (strip_carriage_return line)) (ended_lines bytes)
 
--- Of each turn its piece, and then the orders that its desk bytes end: those that the desk's bytes so far hold, but for
--- those that the bytes before the turn hold.
+-- For each turn its chunk, and then the orders that its desk bytes complete: those in the desk's bytes so far, without
+-- those in the bytes before the turn.
 abbrev pub events_behind : List ℕ → List Turn → List Event
 events_behind before [] = []
 events_behind before (turn ∷ turns) =

@@ -1,4 +1,4 @@
--- What is written for answers by radio and to the desk.
+-- What is written by radio and to the desk for answers.
 use Rattle.std.specs.Prelude.{ℕ, Bool, List, [], Option, Some, None}
 use Rattle.byte_io.specs.declared.sink.Sink as sinks
 use Rattle.gateway_loop.specs.declared.wires.Wires.{Wires}
@@ -12,11 +12,11 @@ abbrev pub radio_bytes : Option (List ℕ) → List ℕ
 radio_bytes None = []
 radio_bytes (Some bytes) = bytes
 
--- of each answer the radio bytes go to the serial line, and then its text to the desk
+-- for each answer the radio bytes go to the serial line, and then its text to the desk
 abbrev pub wires : Bool → Way (SinkValue × SinkValue)
 wires explains = both_ways (text_way (λ answer. radio_bytes answer.radio)) (text_way (desk_text explains))
 
--- the same, of the two sinks that are lent
+-- the same, for the two sinks that are borrowed
 abbrev pub way_of_wires : {R D : Type 0} → sinks.Ghosts R → sinks.Ghosts D → Way (Wires R D)
 way_of_wires {R} {D} serial desk =
     way_by {O = Wires R D} (λ out. (out.explains, (sink_value serial out.serial.now, sink_value desk out.desk.now)))

@@ -11,12 +11,12 @@ use Rattle.gateway_loop.specs.Outlets.{Way, flagged, way_by}
 use Rattle.gateway_loop.specs.Streams.{sink_value}
 use Rattle.gateway_loop.specs.TextWay.{text_way}
 
--- the radio bytes as a serial piece, if there are any
+-- the radio bytes as a serial chunk, if there are any
 abbrev pub radio_text : Option (List ℕ) → List ℕ
 radio_text None = []
 radio_text (Some bytes) = codes "S " ++ (encode_lower bytes ++ codes "\n")
 
--- what the desk is told: the line that explains a packet stands first, where packets are explained
+-- the text for the desk: if packets are explained, the line that explains a packet comes first
 abbrev pub desk_text : Bool → Answer → List ℕ
 desk_text explains answer = if explains then answer.explained ++ answer.desk else answer.desk
 
@@ -26,15 +26,15 @@ text_of explains answer = radio_text answer.radio ++ desk_text explains answer
 abbrev pub written : Bool → List Answer → List ℕ
 written explains answers = flat_map (text_of explains) answers
 
--- the text of the answers was written and nothing else
+-- exactly the text of the answers was written
 abbrev pub WritesAll : Bool → Option (List ℕ) → Option (List ℕ) → List Answer → Type 0
 WritesAll explains held now answers = Appends held now (written explains answers)
 
--- the text of the answers was written, and of the last one's behind them only a first part, and not all of it
+-- the text of the answers was written, and then only a proper prefix of the last one's
 abbrev pub WritesPart : Bool → Option (List ℕ) → Option (List ℕ) → List Answer → Answer → Type 0
 WritesPart explains held now answers last = AppendsPart held now (written explains answers) (text_of explains last)
 
--- of each answer its text goes to the sink
+-- the text of each answer goes to the sink
 abbrev pub way_of_text : {W : Type 0} → sinks.Ghosts W → Way (ReplayText W)
 way_of_text {W} sink =
     way_by {O = ReplayText W} (λ out. (out.explains, sink_value sink out.sink.now))

@@ -1,4 +1,4 @@
--- For private clauses: no public contract depends on these.
+-- For private postconditions: no public contract depends on these.
 pub mod EngineSteps
 pub mod LineLoop
 pub mod Lines

@@ -1,4 +1,4 @@
-//! What the desk is told.
+//! The text of a reply for the desk.
 ghost use Rattle.std.specs.Option.{option_copied};
 ghost use Rattle.byte_io.specs.Counts.{Went};
 ghost use Rattle.byte_io.specs.Writes.{Writes};
@@ -10,8 +10,8 @@ use byte_io::{Failed, Sink, write_text};
 use gateway_core::Reply;
 use json_lines::{PacketLine, packet_line};
 
-/// Writes a reply's text for the desk. The line that explains its packet, if there is one, comes before it if packets
-/// are explained. It takes no memory.
+/// Writes a reply's text for the desk; if packets are explained, the line that explains its packet comes first. Needs
+/// no memory.
 pub fn write_desk_text<W: Sink>(
     writer: &mut W,
     explains: bool,

@@ -1,9 +1,9 @@
-//! Hexadecimal digits, read as the bytes that they spell.
+//! Decoding hexadecimal digits.
 ghost use Rattle.std.specs.Prelude.{◌≡◌, ◌/◌, length, MatchBool, Ok};
 ghost use Rattle.std.specs.Prelude.{if◌then◌else◌, nat_lt, Some, None, IsErr};
 ghost use Rattle.hex.specs.Hex.{decode_of, hex_digit_value};
 
-// The value of each byte as a digit, in either case; 0x10 for a byte that is none.
+// The value of each byte as a digit, upper or lower case; 0x10 for a byte that is not a digit.
 static VALUES: [u8; 256] = [
     0x10, 0x10, 0x10, 0x10, 0x10, 0x10, 0x10, 0x10, 0x10, 0x10, 0x10, 0x10, 0x10, 0x10, 0x10, 0x10,
     0x10, 0x10, 0x10, 0x10, 0x10, 0x10, 0x10, 0x10, 0x10, 0x10, 0x10, 0x10, 0x10, 0x10, 0x10, 0x10,
@@ -30,8 +30,8 @@ fn value_of(digit: u8) -> u8
     VALUES[digit as usize]
 }
 
-/// Writes the bytes that hexadecimal digits spell, two digits for each. It returns false if a byte is no digit or their
-/// number is odd; then some of the bytes may be written.
+/// Writes the bytes that hexadecimal digits spell, two digits for each. Returns false if a byte is not a digit or the
+/// number of digits is odd; then some bytes may be written.
 pub fn decode(digits: &[u8], bytes: &mut [u8]) -> bool
     requires { length bytes.old ≡ length digits.now / 2 }
     ensures { MatchBool result (decode_of digits.now ≡ Ok bytes.new) (IsErr (decode_of digits.now)) }

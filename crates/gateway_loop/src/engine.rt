@@ -1,5 +1,5 @@
-//! An engine: it takes pieces of the serial stream, orders of the desk and lines of a script, and puts out what a
-//! gateway answers.
+//! The driver of a gateway: takes chunks of the serial stream, orders of the desk and lines of a script, and writes the
+//! gateway's answers.
 ghost use Rattle.std.specs.Prelude.{◌≡◌, ◌<◌, ◌≤◌, [], ◌∷◌, length, take, drop, IfOk, OnOk, OnErr, MatchResult};
 ghost use Rattle.hex.specs.Hex.{decode_of};
 ghost use Rattle.json_lines.specs.Counts.{one_more};
@@ -17,17 +17,17 @@ use crate::outlet::Outlet;
 use byte_io::Failed;
 use gateway_core::{DeviceStore, GatewayOver, HandledPacket, MAX_LINE, Reply};
 
-/// A gateway, and the outlet for its replies.
+/// A gateway, and the output for its replies.
 #[derive(Drop)]
 pub struct Engine<'g, O, S: DeviceStore> {
     pub outlet: O,
     pub gateway: &'g mut GatewayOver<S>,
-    /// How many packets were handled and orders taken. The count stays at its greatest value.
+    /// How many packets and orders were handled. Stays at its maximum once it has reached it.
     pub items: u64,
 }
 
 impl<O: Outlet, S: DeviceStore> Engine<'_, O, S> {
-    /// Takes a piece of the serial stream, and answers each packet that it brings.
+    /// Takes a chunk of the serial stream, and answers each packet that it completes.
     pub fn take_piece(&mut self, piece: &[u8]) -> Result<(), Failed>
         requires { IsIdle self.old.gateway.now }
         ensures gateway { self.new.gateway.ghost_name ≡ self.old.gateway.ghost_name }
@@ -43,8 +43,8 @@ impl<O: Outlet, S: DeviceStore> Engine<'_, O, S> {
         Ok(())
     }
 
-    /// Takes the whole packet with which these bytes begin, or, if none does, the bytes up to the one that makes
-    /// packets ready. It answers the packets that they bring, and returns how many bytes it took.
+    /// Takes the whole packet at the front of these bytes, or, if there is none, the bytes up to the one that makes
+    /// packets ready. Answers the packets that they complete, and returns how many bytes it took.
     fn take_run(&mut self, bytes: &[u8]) -> Result<usize, Failed>
         requires idle { IsIdle self.old.gateway.now }
         requires some { 0 < length bytes.now }
@@ -68,7 +68,7 @@ impl<O: Outlet, S: DeviceStore> Engine<'_, O, S> {
         Ok(count)
     }
 
-    /// Answers the packets that wait.
+    /// Answers the ready packets.
     fn drain(&mut self) -> Result<(), Failed>
         ensures gateway { self.new.gateway.ghost_name ≡ self.old.gateway.ghost_name }
         ensures loans { O.loans self.new.outlet ≡ O.loans self.old.outlet }
@@ -111,7 +111,7 @@ impl<O: Outlet, S: DeviceStore> Engine<'_, O, S> {
         }
     }
 
-    /// Takes a line that begins with `S` and a space: a piece if digits stand behind them, and else an order.
+    /// Takes a line that begins with `S` and a space: as a chunk if digits follow, otherwise as an order.
     fn take_digits(&mut self, line: &[u8]) -> Result<(), Failed>
         requires idle { IsIdle self.old.gateway.now }
         requires long { 2 ≤ length line.now }
@@ -131,14 +131,13 @@ impl<O: Outlet, S: DeviceStore> Engine<'_, O, S> {
         }
     }
 
-    /// Counts an item that was handled.
     fn count_item(&mut self)
         ensures { self.new ≡ record self.old { items = one_more self.old.items } }
     {
         self.items = self.items.saturating_add(1);
     }
 
-    /// Counts a packet that was handled, and puts out its reply, with the line that explains it.
+    /// Counts a packet that was handled, and writes its reply, with the line that explains it.
     fn answer_packet(&mut self, handled: &HandledPacket) -> Result<(), Failed>
         ensures gateway { self.new.gateway.ghost_name ≡ self.old.gateway.ghost_name }
         ensures kept { self.new.gateway.now ≡ self.old.gateway.now }
@@ -150,7 +149,7 @@ impl<O: Outlet, S: DeviceStore> Engine<'_, O, S> {
         self.outlet.put(Some(&handled.line), &handled.reply)
     }
 
-    /// Counts an order that was handled, and puts out its reply.
+    /// Counts an order that was handled, and writes its reply.
     fn answer_order(&mut self, reply: &Reply) -> Result<(), Failed>
         ensures gateway { self.new.gateway.ghost_name ≡ self.old.gateway.ghost_name }
         ensures kept { self.new.gateway.now ≡ self.old.gateway.now }

@@ -1,12 +1,13 @@
-//! How much an engine takes at a time.
+//! The maximum sizes of reads, chunks and kept lines.
 use gateway_core::MAX_LINE;
 
-/// The most bytes that one read returns. Own choice.
+/// The maximum number of bytes that one read returns. Own choice.
 pub const MAX_READ: usize = 256;
 
-/// The most bytes that a line of a script spells: two digits each, after `S` and a space. Own choice, as `MAX_LINE` is.
+/// The maximum number of bytes that a line of a script spells: two digits each, after `S` and a space. Own choice, like
+/// `MAX_LINE`.
 pub(crate) const MAX_PIECE: usize = (MAX_LINE - 2) / 2;
 
-/// The most bytes that are kept of a line whose end has not come. They are enough: with CR they tell each line of at
-/// most `MAX_LINE` bytes from all that are longer, which are treated alike. Own choice, as `MAX_LINE` is.
+/// The maximum number of bytes kept of a partial line: enough, with CR, to distinguish each line of at most `MAX_LINE`
+/// bytes from all longer ones, which are treated alike. Own choice, like `MAX_LINE`.
 pub(crate) const MAX_KEPT: usize = MAX_LINE + 2;

@@ -1,4 +1,4 @@
-//! The loop over the lines of a script or of the desk, as their bytes come.
+//! The loop over the lines of a script or of the desk, as their bytes arrive.
 ghost use Rattle.std.specs.Prelude.{◌≡◌, [], ◌++◌, ℕ, List, OnOk, OnErr};
 ghost use Rattle.std.specs.Str.Lines.{strip_carriage_return};
 ghost use Rattle.gateway_loop.specs.private.EngineSteps.{TakesOrBreaks, TakesOrStops};
@@ -14,23 +14,23 @@ use byte_io::Failed;
 use gateway_core::DeviceStore;
 use memchr::memchr;
 
-/// Whose lines are taken.
+/// The kind of lines.
 #[derive(Clone, Copy)]
 pub enum Lines {
-    /// Those of a script: serial pieces and orders.
+    /// Lines of a script: serial chunks and orders.
     OfScript,
-    /// Those of the desk: orders.
+    /// Lines of the desk: orders.
     OfDesk,
 }
 
-/// An engine, and what has come of a line of which the end has not come.
+/// An `Engine`, and the partial line so far.
 #[derive(Drop)]
 pub struct Player<'g, O, S: DeviceStore> {
     pub engine: Engine<'g, O, S>,
     pub unended: UnendedLine,
 }
 
-// In the clauses below `tail` is all that came of the line that is not ended.
+// In the postconditions below `tail` is everything read so far of the partial line.
 impl<O: Outlet, S: DeviceStore> Player<'_, O, S> {
     /// Takes the next bytes, and so each line that ends in them.
     pub fn take_bytes(&mut self, lines: Lines, bytes: &[u8]) -> Result<(), Failed>
@@ -54,7 +54,7 @@ impl<O: Outlet, S: DeviceStore> Player<'_, O, S> {
         Ok(())
     }
 
-    /// Takes the line that LF ends behind these bytes.
+    /// Takes the line that LF ends after these bytes.
     fn take_ended(&mut self, lines: Lines, bytes: &[u8]) -> Result<(), Failed>
         requires { IsIdle self.old.engine.gateway.now }
         ensures gateway { self.new.engine.gateway.ghost_name ≡ self.old.engine.gateway.ghost_name }
@@ -74,7 +74,7 @@ impl<O: Outlet, S: DeviceStore> Player<'_, O, S> {
         Ok(())
     }
 
-    /// Takes the line of a script that the end of the script ends, if there is one.
+    /// Takes the line that the end of a script ends, if there is one.
     pub fn take_last(&mut self) -> Result<(), Failed>
         requires { IsIdle self.old.engine.gateway.now }
         ensures gateway { self.new.engine.gateway.ghost_name ≡ self.old.engine.gateway.ghost_name }

@@ -1,4 +1,4 @@
-//! A gateway serves a serial line and a desk.
+//! The loop of a live gateway: serves a serial line and a desk.
 ghost use Rattle.std.specs.Prelude.{◌≡◌, ◌+◌, ◌≤◌, ℕ, [], IfErr, IfOk};
 ghost use Rattle.byte_io.specs.Counts.{Made};
 ghost use Rattle.gateway_loop.specs.Headline.{ServesAsSpecified};
@@ -13,17 +13,17 @@ use crate::wires::Wires;
 use byte_io::{Sink, Source};
 use gateway_core::{DeviceStore, GatewayOver};
 
-/// Serves a serial line and a desk: handles what comes from both by the gateway, and writes what it answers.
+/// Serves a serial line and a desk: reads from both, and writes the gateway's answers.
 ///
-/// A turn is one read of at most `MAX_READ` bytes from the serial line, which are a piece of its stream, and then
-/// one of the desk. Each line that LF ends in the desk's bytes is an order, and one CR before LF is dropped. A read of
-/// 0 bytes brings nothing. For each packet and each order the radio bytes go to `serial_out`, and then the desk's text
-/// to `desk_out`. Where packets are explained, the line that explains a packet stands before that text.
+/// A turn is one read of at most `MAX_READ` bytes from the serial line, a chunk of its stream, and then one such read
+/// of the desk. Each line of the desk that LF ends is an order, without one CR before LF. A read of 0 bytes adds
+/// nothing. For each packet and each order the radio bytes go to `serial_out`. Then the line that explains the packet,
+/// if packets are explained, and the desk's text go to `desk_out`.
 ///
-/// It ends well after `turns` turns. A line of the desk that is not ended then is dropped. After `Read` all packets and
-/// lines that came are done. After `Write` no read was made any more, and the output breaks off within what one packet
-/// or order puts out: of all before it nothing is lost, and packets may still wait in the gateway. `TooManyTurns` never
-/// comes.
+/// Returns `Ok` after `turns` turns, and drops a partial line of the desk. At `Read`, all packets and lines that
+/// arrived were handled and answered. At `Write`, no read followed, and the output ends within the answer to one packet
+/// or order: all answers before it are written, and packets may still be ready in the gateway. Never returns
+/// `TooManyTurns`.
 pub fn live<P: Source, Q: Source, R: Sink, D: Sink, S: DeviceStore>(
     serial_in: &mut P,
     desk_in: &mut Q,
@@ -34,7 +34,7 @@ pub fn live<P: Source, Q: Source, R: Sink, D: Sink, S: DeviceStore>(
     turns: u64,
 ) -> Result<Summary, RunFault>
     requires { gateway.old.ready ≡ [] }
-    // The headline, of a new gateway, and of readers and writers whose bytes are known.
+    // The headline, for a new gateway, and for readers and writers whose bytes are known.
     ensures as_specified { ServesAsSpecified S.kept P.Source Q.Source R.Sink D.Sink explains result
         (gateway.old, serial_in.old, desk_in.old, serial_out.old, desk_out.old)
         (gateway.new, serial_in.new, desk_in.new, serial_out.new, desk_out.new) turns }

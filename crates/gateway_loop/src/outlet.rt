@@ -1,4 +1,4 @@
-//! Where replies go.
+//! The output of replies.
 ghost use Rattle.std.specs.Prelude.{◌≡◌, ℕ, List};
 ghost use Rattle.std.specs.Option.{option_copied};
 ghost use Rattle.gateway_core.specs.Replies.{answer_of};
@@ -9,16 +9,16 @@ use byte_io::Failed;
 use gateway_core::Reply;
 use json_lines::PacketLine;
 
-/// Where replies go.
+/// An output for replies.
 pub trait Outlet {
-    /// How it is known which answers were put out.
+    /// How contracts know which answers were written.
     ghost way: { Way Self };
 
     /// The names of what it borrows.
     ghost loans: { Self → List ℕ };
 
-    /// Puts out a reply. The line that explains its packet, if there is one and it is wanted, comes before the text for
-    /// the desk. After `Failed` a first part of it at most is out, and not all.
+    /// Writes a reply. If packets are explained, the line that explains its packet comes before the text for the desk.
+    /// On `Failed`, at most a proper prefix was written.
     fn put(&mut self, line: Option<&PacketLine>, reply: &Reply) -> Result<(), Failed>
         ensures loans { loans self.new ≡ loans self.old }
         ensures put { Puts way result self.old self.new

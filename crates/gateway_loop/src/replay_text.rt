@@ -1,4 +1,4 @@
-//! Replies are written to a sink, as the text of a replay.
+//! The output of a replay: replies as text in one sink.
 ghost use Rattle.std.specs.Prelude.{[], ◌∷◌, ◌≤◌, Some, length};
 ghost use Rattle.byte_io.specs.Counts.{Went};
 ghost use Rattle.byte_io.specs.Writes.{Writes};
@@ -10,12 +10,12 @@ use byte_io::{Failed, Sink, write_text};
 use gateway_core::Reply;
 use json_lines::PacketLine;
 
-/// The text of a replay: of each reply its radio bytes as a serial piece, if there are any, and then the desk's text,
-/// behind the line that explains its packet where that is wanted.
+/// The text of a replay: for each reply its radio bytes, if any, as a serial chunk, then the line that explains its
+/// packet, if packets are explained, and then the text for the desk.
 #[derive(Drop)]
 pub struct ReplayText<'w, W> {
     pub sink: &'w mut W,
-    /// Whether each packet is explained.
+    /// Whether packets are explained.
     pub explains: bool,
 }
 
@@ -32,7 +32,7 @@ impl<W: Sink> Outlet for ReplayText<'_, W> {
     }
 }
 
-/// Writes bytes as a serial piece: behind `S` and a space, as hexadecimal digits, and with LF.
+/// Writes bytes as a serial chunk: `S` and a space, hexadecimal digits, LF.
 fn write_piece<W: Sink>(writer: &mut W, bytes: &[u8]) -> Result<(), Failed>
     requires { length bytes.now ≤ 64 }
     ensures written { Writes (W.held writer.old) (W.held writer.new) result (radio_text (Some bytes.now)) }

@@ -1,14 +1,14 @@
-//! What a replay and a live gateway come to.
+//! The result of a replay or a live gateway.
 use thiserror::Error;
 
 /// What a replay or a live gateway did.
 #[derive(Clone, Copy, Debug, PartialEq, Eq)]
 pub struct Summary {
-    /// How many packets were handled and orders taken. The count stays at its greatest value.
+    /// How many packets and orders were handled. Stays at its maximum once it has reached it.
     pub items: u64,
 }
 
-/// Why a replay, or a live gateway, stopped before its end.
+/// Why a replay, or a live gateway, ended early.
 #[derive(Clone, Copy, Debug, PartialEq, Eq, Error)]
 pub enum RunFault {
     /// A read failed.
@@ -17,7 +17,7 @@ pub enum RunFault {
     /// A write failed, or took 0 bytes.
     #[error("a write failed, or took 0 bytes")]
     Write,
-    /// All reads that were allowed were made, and the input of a replay has not ended.
+    /// All allowed reads were made, and the input of a replay has not ended.
     #[error("the input has not ended after all reads that were allowed")]
     TooManyTurns,
 }

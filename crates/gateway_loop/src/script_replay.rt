@@ -1,4 +1,4 @@
-//! A script is replayed.
+//! The loop that replays a script.
 ghost use Rattle.std.specs.Prelude.{◌≡◌, Err, [], IfErr, IfOk, OnOk};
 ghost use Rattle.byte_io.specs.Counts.{OneEmpty, OneFailed, WentWell};
 ghost use Rattle.gateway_loop.specs.CallCounts.{OneWrong, WellOrEnded};
@@ -16,17 +16,17 @@ use crate::unended_line::UnendedLine;
 use byte_io::{Sink, Source};
 use gateway_core::{DeviceStore, GatewayOver};
 
-/// Replays a script: reads its lines, handles them by the gateway, and writes what the gateway answers.
+/// Replays a script: reads its lines, and writes the gateway's answers.
 ///
-/// A line ends with LF or with the end of the input, and one CR before LF is dropped; behind the last LF stands no line
-/// where nothing follows. A line of at most `MAX_LINE` bytes that is `S`, one space and an even number of
-/// hexadecimal digits is a piece of the serial stream. Each other line is an order of the desk. For each packet and
-/// each order the radio bytes are written as such a piece, in lower case and with LF, and then the desk's text. Where
-/// packets are explained, the line that explains a packet stands before the desk's text of it.
+/// A line ends with LF or with the end of the input, without one CR before LF; there is no empty line after the last
+/// LF. A line of at most `MAX_LINE` bytes that is `S`, one space and an even number of hexadecimal digits is a chunk of
+/// the serial stream. Any other line is an order of the desk. For each packet and each order the radio bytes are
+/// written as such a chunk, in lower case and with LF, then the line that explains the packet, if packets are
+/// explained, and then the desk's text.
 ///
-/// A turn is one read of at most `MAX_READ` bytes, and `turns` reads are made at most. A read of 0 bytes ends the
-/// input. After `Read` and `TooManyTurns` the lines that LF ended are done, and of a line that did not end nothing.
-/// After `Write` the output breaks off within the text of one packet or order, and packets may still wait in the
+/// A turn is one read of at most `MAX_READ` bytes, and at most `turns` reads are made. A read of 0 bytes ends the
+/// input. At `Read` and `TooManyTurns`, the lines that LF ended were handled and answered, and nothing of a partial
+/// line was. At `Write`, the output ends within the text for one packet or order, and packets may still be ready in the
 /// gateway.
 pub fn replay<R: Source, W: Sink, S: DeviceStore>(
     reader: &mut R,
@@ -36,7 +36,7 @@ pub fn replay<R: Source, W: Sink, S: DeviceStore>(
     turns: u64,
 ) -> Result<Summary, RunFault>
     requires { gateway.old.ready ≡ [] }
-    // The headline, of a new gateway, and of a reader and a writer whose bytes are known.
+    // The headline, for a new gateway, and for a reader and a writer whose bytes are known.
     ensures as_specified { ReplaysAsSpecified S.kept R.Source W.Sink explains result
         (gateway.old, reader.old, writer.old) (gateway.new, reader.new, writer.new) }
 

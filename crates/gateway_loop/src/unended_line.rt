@@ -1,4 +1,4 @@
-//! A line of which the end has not come.
+//! A partial line.
 ghost use Rattle.std.specs.Prelude.{◌≡◌, [], ◌++◌, take};
 ghost use Rattle.gateway_loop.specs.private.Lines.{max_kept};
 
@@ -6,7 +6,7 @@ use crate::limits::MAX_KEPT;
 use arrayvec::ArrayVec;
 use std::marker::Model;
 
-/// The first bytes of a line of which the end has not come.
+/// A partial line, truncated to `MAX_KEPT` bytes.
 #[derive(Drop)]
 pub struct UnendedLine {
     bytes: ArrayVec<u8, MAX_KEPT>,
@@ -32,7 +32,7 @@ impl UnendedLine {
         }
     }
 
-    /// Takes the next bytes. Those are dropped for which there is no room.
+    /// Appends the next bytes, and drops those that do not fit.
     pub fn extend(&mut self, bytes: &[u8])
         ensures { self.new ≡ take max_kept (self.old ++ bytes.now) }
     {

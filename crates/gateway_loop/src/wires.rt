@@ -1,4 +1,4 @@
-//! Replies are written to two sinks, by radio and to the desk.
+//! The outputs of a live gateway: radio bytes to one sink, the text for the desk to another.
 ghost use Rattle.std.specs.Prelude.{[], ◌∷◌};
 ghost use Rattle.gateway_loop.specs.Wires.{way_of_wires};
 
@@ -8,13 +8,13 @@ use byte_io::{Failed, Sink, write_text};
 use gateway_core::Reply;
 use json_lines::PacketLine;
 
-/// The two ways out of a live gateway: of each reply its radio bytes go to the serial line, if there are any, and then
-/// its text goes to the desk, behind the line that explains its packet where that is wanted.
+/// The two outputs of a live gateway: for each reply its radio bytes, if any, go to the serial line. Then the line that
+/// explains its packet, if packets are explained, and its text go to the desk.
 #[derive(Drop)]
 pub struct Wires<'r, 'd, R, D> {
     pub serial: &'r mut R,
     pub desk: &'d mut D,
-    /// Whether each packet is explained.
+    /// Whether packets are explained.
     pub explains: bool,
 }
 

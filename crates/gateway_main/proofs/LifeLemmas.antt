@@ -1,4 +1,4 @@
--- What a stop leaves after an engine.
+-- What a crash leaves after `replay` or `live`.
 use Rattle.std.proofs.Common.{◌≡◌, ℕ, List, [], ◌∷◌, ◌++◌, None, inl, sym, subst}
 use Rattle.sqlite.specs.State.{State, HasCleanDisk}
 use Rattle.learned_devices.specs.Devices.{Devices}

@@ -1,4 +1,4 @@
--- How a gateway begins over a registry that was opened, and why none does.
+-- How a gateway begins over a registry that was opened, and why the start fails.
 use Rattle.std.proofs.Common.{◌≡◌, ℕ, Bool, true, false, IsTrue, refl, sym, subst}
 use Rattle.std.specs.Prelude.{if◌then◌else◌}
 use Rattle.sqlite.specs.State.{State, HasCleanDisk}
@@ -61,7 +61,7 @@ memory_or_store : {C : Type 0} (state : C → State) (database : C) (is_memory :
 memory_or_store state database true = tt
 memory_or_store state database false = tt
 
--- a refused open is told as what it was refused for
+-- a failed open is reported with its own cause
 pub refuses_as_open : {C : Type 0} (state : C → State) (database : C) (why : OpenFault)
     → RefusesAndDrops state database why → RefusesToStart state database (fault_of_open why)
 refuses_as_open state database NotARegistry refused = refused refl

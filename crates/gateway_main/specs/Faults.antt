@@ -1,4 +1,4 @@
--- What the program says of a call that was refused. Own choice.
+-- The program's fault for each call that failed. Own choice.
 use Rattle.std.specs.Prelude.{if◌then◌else◌}
 use Rattle.device_registry.specs.declared.fault.OpenFault.{OpenFault}
 use Rattle.device_registry.specs.declared.fault.OpenFault.TheVariants as opening

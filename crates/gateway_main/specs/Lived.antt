@@ -1,4 +1,4 @@
--- From an open to a stop: what a stop leaves after an engine is what a life of the gateway may leave.
+-- From an open to a crash: after `replay` or `live`, a crash leaves what an execution of the gateway may leave.
 use Rattle.std.specs.Prelude.{ℕ, List, [], ◌∷◌, ◌++◌, None}
 use Rattle.sqlite.specs.State.{State, HasCleanDisk}
 use Rattle.learned_devices.specs.Devices.{Devices}
@@ -11,15 +11,16 @@ use Rattle.gateway_core.specs.Step.{Item, Answer}
 use Rattle.gateway_loop.specs.Played.{Plays, Breaks}
 use Rattle.gateway_main.specs.Started.{Starts}
 
--- in whatever a crash leaves, the next open finds devices; a life that found these and handled these items may leave
--- them
+-- in whatever a crash leaves, the next open finds devices; an execution that found these and handled these inputs may
+-- leave them
 abbrev pub LeavesWhatALifeMay : State → ℕ → Devices → List Item → List Answer → Type 0
 LeavesWhatALifeMay now base found items answers = (trees : _) → now.may_leave trees
     → (left : Devices) × Finds trees left × LeavesALife base found items answers None left
 
--- `puts` and `breaks` say what got out of the answers.
+-- `puts` and `breaks` say which answers were written.
 module _ {C : Type 0} (state : C → State) where
-  -- The life found the devices that were committed last, and handled the events' items with the answers that are out.
+  -- The execution found the devices that were committed last, and handled the events' inputs with the answers that were
+  -- written.
   abbrev pub PlaysAreLives : (puts : List Answer → Type 0) → Type 0
   PlaysAreLives puts =
       (database : C) (base : ℕ) (old new : Value C) (events : List Event)
@@ -28,7 +29,7 @@ module _ {C : Type 0} (state : C → State) where
       → LeavesWhatALifeMay (state new.handler.registry) base began.found (items_of old.rest events)
       done.answered.answers
 
-  -- The same where a write failed. The last answer need not be out, but its item was handled.
+  -- The same if a write failed. The last answer may be missing, but its input was handled.
   abbrev pub BrokenPlaysAreLives : (breaks : List Answer → Answer → Type 0) → Type 0
   BrokenPlaysAreLives breaks =
       (database : C) (base : ℕ) (old new : Value C) (events : List Event) (event : Event)
@@ -37,7 +38,7 @@ module _ {C : Type 0} (state : C → State) where
       → LeavesWhatALifeMay (state new.handler.registry) base began.found broken.items
       (broken.answered.answers ++ broken.answered.last ∷ [])
 
-  -- The life ends by `close`, and the next open finds what it leaves, which is what was known at its end.
+  -- The execution ends by `close`, and the next open finds what it leaves, which is what was known at its end.
   abbrev pub ClosedPlaysAreLives : (puts : List Answer → Type 0) → Type 0
   ClosedPlaysAreLives puts =
       (database opened : C) (base : ℕ) (old new : Value C) (events : List Event) (next : Devices)
@@ -46,7 +47,7 @@ module _ {C : Type 0} (state : C → State) where
       → Opens (state new.handler.registry) (state opened) next
       → ClosesALife base began.found (items_of old.rest events) done.answered.answers next
 
-  -- the same where a write failed
+  -- the same if a write failed
   abbrev pub BrokenClosedPlaysAreLives : (breaks : List Answer → Answer → Type 0) → Type 0
   BrokenClosedPlaysAreLives breaks =
       (database opened : C) (base : ℕ) (old new : Value C) (events : List Event) (event : Event) (next : Devices)
@@ -55,9 +56,9 @@ module _ {C : Type 0} (state : C → State) where
       → Opens (state new.handler.registry) (state opened) next
       → ClosesALife base began.found broken.items (broken.answered.answers ++ broken.answered.last ∷ []) next
 
--- ---- laws of a gateway over a registry
+-- ---- theorems about a gateway over a registry
 
--- what an open finds on the connection that was closed and handed on is what a life that is closed leaves
+-- on the connection that was closed and returned, an open finds what a closed execution leaves
 abbrev pub ClosesLeaveALife : {C : Type 0} → (C → State) → Type 0
 ClosesLeaveALife {C} state =
     (old new : HandlerValue C) (opened : C) (found next : Devices) (items : List Item) (answers : List Answer)

@@ -1,4 +1,4 @@
--- How a gateway's life begins, and why none does.
+-- How a gateway's execution begins, and why a start fails.
 use Rattle.std.specs.Prelude.{◌≡◌, ℕ, ⊤}
 use Rattle.sqlite.specs.State.{State}
 use Rattle.learned_devices.specs.Devices.{Devices}
@@ -11,7 +11,7 @@ use Rattle.gateway_main.specs.declared.fault.Fault.{Fault}
 use Rattle.gateway_main.specs.declared.fault.Fault.TheVariants.{NotARegistry, Store, Memory, CannotOpen}
 use Rattle.gateway_main.specs.declared.fault.Fault.TheVariants.{Read, Write, TooManyTurns}
 
--- The gateway knows the devices that the database held when it was last committed. A stop leaves these, in a registry.
+-- The gateway knows the devices that were committed last. A crash leaves these, in a registry.
 pub record Starts {C : Type 0} (state : C → State) (database : C) (base : ℕ) (now : HandlerValue C) : Type 0 where
   pub found : Devices
   pub finds : Finds (state database).committed.trees found
@@ -19,8 +19,8 @@ pub record Starts {C : Type 0} (state : C → State) (database : C) (base : ℕ)
   pub begins : BeginsAt (kept_by state) now found
   pub registries : AreRegistries (state now.registry).may_leave
 
--- Why no gateway is made: the database is no registry, in the words of its open; or the store refuses; or there is no
--- memory. Which of the latter two it is, no clause says, nor what is left behind. Nothing is read or written yet.
+-- Why a start fails: the database is not a registry, as its open defines it; or the device store fails; or out of
+-- memory. No postcondition says which of the latter two it is, nor what is left. Nothing has been read or written.
 abbrev pub RefusesToStart : {C : Type 0} → (C → State) → C → Fault → Type 0
 RefusesToStart {C} state database NotARegistry =
     (last : C) × RefusesToOpen (state database) (state last) opening.NotARegistry

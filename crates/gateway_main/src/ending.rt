@@ -9,16 +9,16 @@ use gateway_cli::Refused;
 use gateway_loop::{RunFault, Summary};
 use std::io;
 
-/// Why the program ends without having done to its end what it was asked.
+/// Why the program ended without completing what it was asked.
 #[derive(Debug, Drop)]
 pub enum Ending {
     /// A fault ended it.
     Failed(Fault),
     /// An argument is not text.
     NotText,
-    /// What stands for the base ID is none.
+    /// The base ID is invalid.
     BadBase,
-    /// `clap` has something to say: the command line is not taken, or asks for help or for the version.
+    /// A message of `clap`: the command line is rejected, or asks for help or for the version.
     Said(clap::Error),
 }
 
@@ -48,7 +48,7 @@ impl From<Refused> for Ending {
     }
 }
 
-/// The ending where the program's arguments cannot be had.
+/// The ending if the program's arguments are not available.
 pub fn without_arguments(error: &io::Error) -> Ending
     ensures { result ≡ ending_of_arguments (error_kind error.now) }
 {
@@ -58,10 +58,10 @@ pub fn without_arguments(error: &io::Error) -> Ending
     }
 }
 
-/// What the gateway did: what its run came to, or the fault for which it never ran.
+/// Result of the run, or the fault that prevented it.
 pub type Served = Result<Result<Summary, RunFault>, Fault>;
 
-/// What the gateway's work and the close of its database come to: a fault of the work is told before one of the close.
+/// The result of the gateway's work and of closing its database: a fault of the work takes precedence.
 pub fn done(served: Served, closed: Result<(), sqlite::Error>) -> Result<(), Fault>
     ensures { result ≡ done_of served closed }
 {
@@ -69,7 +69,7 @@ pub fn done(served: Served, closed: Result<(), sqlite::Error>) -> Result<(), Fau
     Ok(closed?)
 }
 
-/// The status that the program ends with.
+/// The program's exit status.
 pub fn status(ended: &Result<(), Ending>) -> u8
     ensures { result ≡ status_of ended.now }
 {

@@ -1,4 +1,4 @@
-//! What ends the program with status 1.
+//! The faults that end the program with status 1.
 ghost use Rattle.std.specs.Prelude.{◌≡◌};
 
 use device_registry::OpenFault;
@@ -7,19 +7,19 @@ use sqlite::ErrorCode;
 use std::alloc::AllocError;
 use thiserror::Error;
 
-/// What ends the program with status 1. Its text is what the program says of it.
+/// A fault that ends the program with status 1. Its text is what the program prints.
 #[derive(Clone, Copy, Debug, PartialEq, Eq, Error)]
 pub enum Fault {
-    /// The database is no registry of this program.
+    /// The database is not a registry of this program.
     #[error("not a registry")]
     NotARegistry,
-    /// The database does not open, refuses to be read or written, or cannot be closed.
+    /// The database cannot be opened, read, written or closed.
     #[error("store")]
     Store,
-    /// There is no memory for the command line, the database or the gateway.
+    /// Out of memory for the command line, the database or the gateway.
     #[error("memory")]
     Memory,
-    /// The serial line, the desk's file or the file of the answers does not open.
+    /// The serial line, the desk's file or the file of the answers cannot be opened.
     #[error("cannot open")]
     CannotOpen,
     /// Standard input, the serial line or the desk's file cannot be read.

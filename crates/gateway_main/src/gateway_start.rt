@@ -1,4 +1,4 @@
-//! A gateway over a database.
+//! Starting a gateway over a database.
 ghost use Rattle.std.specs.Prelude.{◌≡◌, ◌≤◌, false, true, IfErr, IfOk, IsTrue};
 ghost use Rattle.sqlite.specs.State.{HasCleanDisk};
 ghost use Rattle.erp1_telegrams.specs.Address;
@@ -15,12 +15,12 @@ use device_registry::{RegistryOver, SqlConnection};
 use gateway_core::{GatewayOver, StartFault};
 use std::alloc::{AllocError, Global};
 
-/// A gateway for a radio module with this base ID, over the registry that the database holds. It is new: it has counted
-/// nothing, no packet waits, and no byte has come. A database that holds none of the registry's tables gets them. The
-/// registry remembers so many senders that were looked up, 1 to `MAX_CACHED`; no clause says so.
+/// Returns a new gateway for a radio module with this base ID, over the registry in the database: all counters are 0,
+/// no packet is ready, and no byte has arrived. Creates the registry's tables if the database has none of them. The
+/// registry caches this many looked-up senders, 1 to `MAX_CACHED`; no postcondition says so.
 ///
-/// It is refused as the registry is, or where there is no memory, and then the connection is dropped. Which of `Store`
-/// and `Memory` is told, tests show.
+/// Fails as opening the registry does, or if out of memory, and then drops the connection. Which of `Store` and
+/// `Memory` is returned is tested, not proved.
 pub fn start<C: SqlConnection + Drop>(
     alloc: Global,
     conn: C,
@@ -44,7 +44,7 @@ pub fn start<C: SqlConnection + Drop>(
     Ok(gateway_over(alloc, registry, base)?)
 }
 
-/// A new gateway over this registry, unless there is no memory for it.
+/// A new gateway over this registry, or an error if out of memory.
 fn gateway_over<C: SqlConnection + Drop>(
     alloc: Global,
     registry: RegistryOver<C>,

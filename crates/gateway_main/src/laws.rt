@@ -1,5 +1,5 @@
-//! Laws of the gateway over a registry in SQLite, and those of its engines. Each function does nothing: its contract is
-//! the law.
+//! Theorems about the gateway over a registry in SQLite, and about its loops. Each function does nothing: its contract
+//! is the theorem.
 ghost use Rattle.std.specs.Prelude.{Bool, List, Option, ℕ};
 ghost use Rattle.device_registry.specs.Holding.{kept_by};
 ghost use Rattle.gateway_core.specs.Handling.{KnowsState};
@@ -15,22 +15,22 @@ use device_registry::{RegistryOver, SqlConnection};
 use gateway_core::GatewayOver;
 pub use gateway_loop::laws::explanations_stand_apart;
 
-/// Whatever gateway over a registry there is knows a state, while the disk has returned what was written and the
-/// connection is open.
+/// Every gateway over a registry knows a state, while the disk has returned what was written and the connection is
+/// open.
 pub fn a_state_is_known<C: SqlConnection>(gateway: &GatewayOver<RegistryOver<C>>)
     ensures { KnowsState (kept_by C.state) gateway.now.handler }
 {
     devices_are_held(gateway.store());
 }
 
-/// A life may end by `close`: what the next open finds on the connection that was returned is what the life may leave,
-/// and it is what was known at its end.
+/// An execution may end by `close`: on the connection that was returned, the next open finds what the execution may
+/// leave, which is what was known at its end.
 pub fn closes_leave_a_life<C: SqlConnection>()
     ensures { ClosesLeaveALife C.state }
 {}
 
-/// What a stop leaves after `replay` or `live`, by a gateway that `start` made, is what a life may leave that found the
-/// devices that were committed last and handled what came.
+/// After `replay` or `live`, by a gateway that `start` made, a crash leaves what an execution may leave that found the
+/// devices that were committed last and handled the inputs read.
 pub fn engines_leave_lives<R: Sink, D: Sink, C: SqlConnection>()
     ensures replay { (explains : Bool) (held now : Option (List ℕ))
         → PlaysAreLives C.state (WritesAll explains held now) }
@@ -44,8 +44,8 @@ pub fn engines_leave_lives<R: Sink, D: Sink, C: SqlConnection>()
         (sink_value R.Sink serial_now, sink_value D.Sink desk_now)) }
 {}
 
-/// After `replay` or `live`, by a gateway that `start` made and that is closed then, what the next open finds is what
-/// such a life may leave, and it is what was known at its end.
+/// After `replay` or `live`, by a gateway that `start` made and that is then closed, the next open finds what such an
+/// execution may leave, which is what was known at its end.
 pub fn closed_engines_leave_lives<R: Sink, D: Sink, C: SqlConnection>()
     ensures replay { (explains : Bool) (held now : Option (List ℕ))
         → ClosedPlaysAreLives C.state (WritesAll explains held now) }

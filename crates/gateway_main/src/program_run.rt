@@ -1,4 +1,4 @@
-//! The program.
+//! The program's run.
 ghost use Rattle.std.specs.Prelude.{◌≡◌, false, true};
 ghost use Rattle.erp1_telegrams.specs.Address;
 ghost use Rattle.gateway_loop.specs.Played.{IsIdle};
@@ -18,10 +18,10 @@ use std::fs::{File, OpenOptions};
 use std::process::ExitCode;
 use std::{env, io};
 
-/// Runs the program on the words that the process was started with.
+/// Runs the program with the arguments of the process.
 ///
-/// Its status is 0 where it did what it was asked; 1 for a fault, which it names in one line on standard error; 2 for a
-/// command line that is not taken. Help or the version that is asked for goes to standard output, with status 0.
+/// The exit status is 0 if it did what it was asked; 1 for a fault, which it prints in one line on standard error; 2
+/// for a command line that is rejected. Help and the version go to standard output, with status 0.
 pub fn program(rt: &HostRuntime) -> ExitCode {
     let ended = work(rt);
     if let Err(ending) = &ended {
@@ -41,7 +41,7 @@ fn words_of(rt: &HostRuntime) -> io::Result<Vec<String>> {
     Ok(env::args(rt)?.collect(rt.alloc())?)
 }
 
-/// Carries the plan out.
+/// Carries out the plan.
 fn run(rt: &HostRuntime, plan: Plan<'_>) -> Result<(), Fault>
     requires base { Address.is_base plan.base ≡ true }
 {
@@ -57,7 +57,7 @@ fn run(rt: &HostRuntime, plan: Plan<'_>) -> Result<(), Fault>
     }
 }
 
-/// Makes the plan's gateway over a database, lets it serve, and hands the connection back.
+/// Makes the plan's gateway over a database, lets it serve, and returns the connection.
 fn serve<C: SqlConnection + Drop>(
     rt: &HostRuntime,
     conn: C,
@@ -133,7 +133,7 @@ fn open(rt: &HostRuntime, file: Opened<'_>) -> Result<File, Fault> {
     opened.map_err(|_| Fault::CannotOpen)
 }
 
-/// Names a fault or a mistake on standard error, or answers on standard output what was asked for.
+/// Prints a fault or a mistake to standard error, or help and the version to standard output.
 fn tell(rt: &HostRuntime, ending: &Ending) {
     let _ = match ending {
         Ending::Failed(fault) => eprintln!(rt; "enogate: {fault}"),

@@ -1,4 +1,4 @@
-//! The loops that run a gateway over a registry in SQLite, with the headline in the words of the registry.
+//! The loops that run a gateway over a registry in SQLite, with the headline stated for the registry.
 ghost use Rattle.std.specs.Prelude.{◌≡◌, []};
 ghost use Rattle.device_registry.specs.Holding.{kept_by};
 ghost use Rattle.gateway_loop.specs.Headline.{ReplaysAsSpecified, ServesAsSpecified};
@@ -8,7 +8,7 @@ use device_registry::{RegistryOver, SqlConnection};
 use gateway_core::GatewayOver;
 use gateway_loop::{RunFault, Summary};
 
-/// Replays a script, as `gateway_loop::replay` does.
+/// Replays a script; see `gateway_loop::replay`.
 pub fn replay<R: Source, W: Sink, C: SqlConnection>(
     reader: &mut R,
     writer: &mut W,
@@ -23,7 +23,7 @@ pub fn replay<R: Source, W: Sink, C: SqlConnection>(
     gateway_loop::replay(reader, writer, gateway, explains, turns)
 }
 
-/// Serves a serial line and a desk, as `gateway_loop::live` does.
+/// Serves a serial line and a desk; see `gateway_loop::live`.
 pub fn live<P: Source, Q: Source, R: Sink, D: Sink, C: SqlConnection>(
     serial_in: &mut P,
     desk_in: &mut Q,

@@ -1,4 +1,4 @@
--- Texts with no comma, and what stands before and behind the first comma of a text.
+-- Texts with no comma, and what is before and after the first comma of a text.
 use Rattle.std.proofs.Common.{◌≡◌, ◌≢◌, ℕ, zero, suc, ◌+◌, ◌<◌, ◌/◌, ◌%◌, Bool, true, false}
 use Rattle.std.proofs.Common.{List, [], ◌∷◌, ◌++◌, codes, decimal, Option, Some, None}
 use Rattle.std.proofs.Common.{refl, sym, ap, ◌∙◌, arith}
@@ -8,7 +8,7 @@ use Rattle.std.specs.Fmt.{digits_onto, digits, digit_glyph}
 use Rattle.std.proofs.lemmas.Bool.{lt-ltb, ne_eqb}
 use Rattle.json_lines.specs.Lines.{or_null}
 
--- what holds of the ten digits holds of each digit of a number
+-- what holds for the ten digits holds for each digit of a number
 module _ (P : ℕ → Type 0) (each : (digit : ℕ) → digit < 10 → P (48 + digit)) where
   all-digits : (k n : ℕ) (later : List ℕ) → AllByRecursion P later → AllByRecursion P (digits_onto k 10 false n later)
   all-digits zero n later h = h
@@ -26,7 +26,6 @@ module _ (P : ℕ → Type 0) (each : (digit : ℕ) → digit < 10 → P (48 + d
   unfolding digits
   all-decimal n = all-digits 64 n [] tt
 
--- no byte of it is a comma
 abbrev pub NoComma : List ℕ → Type 0
 NoComma = AllByRecursion (λ c. c ≢ 44)
 
@@ -43,7 +42,7 @@ pub no-maker : (maker : Option ℕ) → NoComma (or_null decimal maker)
 no-maker None = no-null
 no-maker (Some maker) = no-decimal maker
 
--- what stands before and behind the first comma
+-- what is before and after the first comma
 before : List ℕ → List ℕ
 before [] = []
 before (c ∷ t) = if c == 44 then [] else c ∷ before t

@@ -20,7 +20,7 @@ regrouped first others more =
     ∙ append_assoc (first ++ others) (codes "}") (codes "\n" ++ more)
     ∙ append_assoc first others (codes "}\n" ++ more)
 
--- behind the strength a reading goes on with its profile, and a packet with its destination
+-- after the strength, a reading continues with its profile, and a packet with its destination
 reading-goes_on : (line : ReadingLine) (more : List ℕ)
     → slice_index_or (behind (drop 7 (text (Reading line) ++ more))) 1 0 ≡ 101
 reading-goes_on line more =

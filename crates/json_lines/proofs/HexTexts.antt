@@ -18,7 +18,7 @@ use Rattle.json_lines.specs.private.LineData.{IsPlain}
 
 -- ---- one digit
 
--- a test holds of each number below n; it computes
+-- a test holds for each number below n; it computes
 abbrev pub holds_below : (ℕ → Bool) → ℕ → Bool
 holds_below test zero = true
 holds_below test (suc n) = test n && holds_below test n
@@ -34,7 +34,7 @@ holds_below-at test (suc n) k h below =
           rw e parts.0
     ]
 
--- a digit lies between the quotation mark and the backslash
+-- a digit is between the quotation mark and the backslash
 abbrev is_between : ℕ → Bool
 is_between digit = nat_lt 34 (slice_index upper_digits digit) && nat_lt (slice_index upper_digits digit) 92
 
@@ -65,7 +65,7 @@ plain_bytes (byte ∷ rest) h =
       plain_bytes rest (λ i. h (suc i)),
     ) refl
 
--- the digits of one byte more
+-- the digits of one more byte
 pub encode_upper-more : (bytes : List ℕ) (i : ℕ) → IsBytes bytes → i < length bytes
     → encode_upper (take (suc i) bytes) ≡ encode_upper (take i bytes) ++ byte_text (get_or bytes i 0)
 unfolding encode_with
@@ -87,14 +87,14 @@ ascii-encode_upper bytes = IsAscii-encode_with upper_digits bytes ascii-upper_di
 
 -- ---- IDs and profiles
 
--- where each number of a list is below a limit, so is what is read at any place
+-- if each number of a list is below a limit, so is the one read at any index
 all_below : (limit : ℕ) (ns : List ℕ) → 0 < limit → AllByRecursion (λ n. n < limit) ns
     → (i : ℕ) → slice_index ns i < limit
 all_below limit [] positive h i = positive
 all_below limit (n ∷ ns) positive h zero = h.0
 all_below limit (n ∷ ns) positive h (suc i) = all_below limit ns positive h.1 i
 
--- what holds of the texts of bytes and of a dash, and so of two texts behind one another, holds of a profile's text
+-- what holds for the texts of bytes and of a dash, and for two concatenated texts, holds for a profile's text
 pub on_eep : (P : List ℕ → Type 0) → ((a b : List ℕ) → P a → P b → P (a ++ b)) → P (codes "-")
     → ((byte : ℕ) → P (byte_text byte)) → (eep : Eep) → P (eep_text eep)
 on_eep P append dash of_byte eep =

@@ -1,5 +1,5 @@
--- The JSON values behind the lines have the texts of the lines, and hold no float; so what serde_json makes of what a
--- line sends is the line's text.
+-- The JSON values of the lines have the texts of the lines, and contain no float; so serde_json writes the line's text
+-- for what a line sends.
 use Rattle.std.proofs.Common.{◌≡◌, ℕ, zero, suc, List, [], ◌∷◌, ◌++◌, map, codes, decimal}
 use Rattle.std.proofs.Common.{true, false}
 use Rattle.std.proofs.Common.{slice_get, Option, Some, None, refl, sym, ap, ◌∙◌, append_assoc}
@@ -46,7 +46,7 @@ grouped name text rest plain =
     ∙ append_assoc (in_quotes name) (codes ":" ++ text) rest in
     rw plain (sym regrouped)
 
--- the members behind the first, each with a comma before it
+-- the members after the first, each with a comma before it
 members_behind : (ms : List (List ℕ × Data)) → ArePlain ms
     → members_text true (members ms) ≡ flat_map (λ m. codes "," ++ member_text m) (named_texts ms) ++ codes "}"
 members_behind [] plain = refl

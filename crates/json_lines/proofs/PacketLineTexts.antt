@@ -1,4 +1,4 @@
--- Packet lines with one text are one line.
+-- Packet lines with the same text are equal.
 use Rattle.std.proofs.Common.{◌≡◌, ◌≢◌, ℕ, suc, ◌<◌, ◌^◌, ◌/◌, ◌%◌, Bool, true}
 use Rattle.std.proofs.Common.{List, [], ◌∷◌, ◌++◌, codes, decimal, Option, Some, None}
 use Rattle.std.proofs.Common.{refl, sym, ap, subst, ◌∙◌, arith, append_assoc, append-nil, pos, negsuc, ◌-ℤ◌, ℤ}
@@ -36,7 +36,7 @@ no-signed : (z : _) → NoComma (signed_decimal z)
 no-signed (pos n) = no-decimal n
 no-signed (negsuc n) = ((λ e. absurd (omega (arith, e))), no-decimal (suc n))
 
--- a hexadecimal digit is no comma; it computes
+-- a hexadecimal digit is not a comma; it computes
 abbrev is_other : ℕ → Bool
 is_other digit = not (slice_index upper_digits digit == 44)
 
@@ -71,7 +71,7 @@ no-eep = on_eep NoComma no-append ((λ e. absurd (omega (arith, e))), tt) no-byt
 no-id : (id : ℕ) → NoComma (id_string id)
 no-id id = no-quotes (id_text id) (no-hex (to_be_bytes w32 id) (id_bytes id))
 
--- ---- what is known is the same where its text is
+-- ---- optional values with the same text are equal
 
 same-known : {A : Type 0} (text_of : A → List ℕ) (InRange : A → Type 0) (a b : Option A)
     → IfSome a InRange → IfSome b InRange
@@ -133,7 +133,6 @@ values shown = record {
   status = in_quotes (byte_text shown.status);
 }
 
--- none of them has a comma
 pub record NoCommas (v : Values) : Type 0 where
   pub dbm : NoComma v.dbm
   pub dest : NoComma v.dest
@@ -179,7 +178,7 @@ line_of_values v word =
     ++ (v.payload ++ 44 ∷ (codes "\"rorg\":" ++ (v.rorg ++ 44 ∷ (codes "\"status\":" ++ (v.status ++ 44
     ∷ end_text word)))))))))))))))
 
--- what stands behind a member is closed
+-- what follows a member is closed
 push : (a name m r : List ℕ) → m ++ codes "}\n" ≡ r → (a ++ (name ++ m)) ++ codes "}\n" ≡ a ++ (name ++ r)
 push a name m r h =
     append_assoc a (name ++ m) (codes "}\n")
@@ -230,7 +229,6 @@ same-word one other e =
     (append_cancel_left (codes "\"type\":\"packet\",\"why\":\"") (why_word one ++ codes "\"}\n")
     (why_word other ++ codes "\"}\n") e))
 
--- the members' texts are the same
 pub record SameValues (v w : Values) (one other : Why) : Type 0 where
   pub dbm : v.dbm ≡ w.dbm
   pub dest : v.dest ≡ w.dest

@@ -1,4 +1,4 @@
--- The texts of packet lines: put together of the texts of their members, and how long their parts are.
+-- The texts of packet lines: composed of the texts of their members, and how long their parts are.
 use Rattle.std.proofs.Common.{◌≡◌, ℕ, zero, suc, ◌<◌, ◌≤◌, List, [], ◌∷◌, ◌++◌}
 use Rattle.std.proofs.Common.{length, codes, arith, append_assoc}
 use Rattle.std.proofs.Common.{append-nil, ap, ◌∙◌, sym, lit<, pos, negsuc, ◌-ℤ◌}
@@ -24,7 +24,7 @@ pub length-dbm_text : (byte : ℕ) → byte < 256 → length (dbm_text byte) ≤
 length-dbm_text byte h =
     length_signed_le 3 (pos 0 -ℤ pos byte) (omega (arith, mag-minus byte)) (omega (arith, mag-minus byte))
 
--- the members of a sender, piece by piece
+-- the members of a sender, part by part
 pub sender_pieces : (out dbm dest eep id maker : List ℕ)
     → (((((((((out ++ codes "\"dbm\":") ++ dbm) ++ codes ",\"dest\":") ++ dest) ++ codes ",\"eep\":") ++ eep)
     ++ codes ",\"id\":") ++ id) ++ codes ",\"maker\":") ++ maker
@@ -32,18 +32,18 @@ pub sender_pieces : (out dbm dest eep id maker : List ℕ)
     ∷ (codes "maker", maker) ∷ [])
 sender_pieces out dbm dest eep id maker = simp (append_assoc, append-nil)
 
--- the members of a content, piece by piece
+-- the members of a content, part by part
 pub content_pieces : (out payload rorg status : List ℕ)
     → (((((out ++ codes "\"payload\":") ++ payload) ++ codes ",\"rorg\":") ++ rorg) ++ codes ",\"status\":") ++ status
     ≡ out ++ members_text ((codes "payload", payload) ∷ (codes "rorg", rorg) ∷ (codes "status", status) ∷ [])
 content_pieces out payload rorg status = simp (append_assoc, append-nil)
 
--- the members of an end, piece by piece
+-- the members of an end, part by part
 pub end_pieces : (out why : List ℕ) → (out ++ codes "\"type\":\"packet\",\"why\":") ++ why
     ≡ out ++ members_text ((codes "type", codes "\"packet\"") ∷ (codes "why", why) ∷ [])
 end_pieces out why = simp (append_assoc, append-nil)
 
--- pieces behind others have the separator before them
+-- parts after others have the separator before them
 join_by-append : {X : Type 0} (f : X → List ℕ) (s : List ℕ) (x : X) (xs : List X) (y : X) (ys : List X)
     → join_by f s ((x ∷ xs) ++ (y ∷ ys)) ≡ join_by f s (x ∷ xs) ++ (s ++ join_by f s (y ∷ ys))
 join_by-append f s x xs y ys =
@@ -62,7 +62,7 @@ some_members : (packet : ToldPacket) → 0 < length (packet_members packet)
 some_members (Telegram telegram) = lit< tt
 some_members (Other kind size) = lit< tt
 
--- a line, piece by piece
+-- a line, part by part
 braces : (first last all : List ℕ) → all ≡ first ++ (codes "," ++ last)
     → (((codes "{" ++ first) ++ codes ",") ++ last) ++ codes "}\n" ≡ (codes "{" ++ (all ++ codes "}")) ++ codes "\n"
 braces first last all joined = rw joined (simp append_assoc)

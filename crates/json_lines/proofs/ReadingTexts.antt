@@ -1,4 +1,4 @@
--- The texts of readings, and of their line: put together of their pieces.
+-- The texts of readings, and of their line: composed of their parts.
 use Rattle.std.proofs.Common.{◌≡◌, ℕ, List, [], ◌∷◌, ◌++◌, codes, append_assoc, append-nil, rules}
 use Rattle.json.specs.Print.{escape, quoted, print, print_from}
 use Rattle.json.specs.Token.{string}
@@ -9,13 +9,13 @@ pub print-string : (text : List ℕ) → print (string text ∷ []) ≡ quoted t
 unfolding print_from
 print-string text = append-nil (quoted text)
 
--- a number under a key, piece by piece
+-- a number under a key, part by part
 pub number_pieces : (name key digits : List ℕ)
     → codes "{\"name\":\"" ++ escape name ++ (codes "\",\"" ++ key ++ codes "\":") ++ digits ++ codes "}"
     ≡ object_text ((codes "name", quoted name) ∷ (key, digits) ∷ [])
 number_pieces name key digits = search (rules, append_assoc)
 
--- a value, piece by piece: first with a variable for each text, since those that are known compute too far
+-- a value, part by part: first with a variable for each text, since those that are known compute too far
 value_parts : (out brace den_is den comma name_is quote name num_is num unit_is unit end : List ℕ)
     → ((((((((out ++ (brace ++ den_is)) ++ den) ++ (comma ++ (name_is ++ quote))) ++ name)
     ++ (quote ++ (comma ++ num_is))) ++ num) ++ (comma ++ (unit_is ++ quote))) ++ unit) ++ (quote ++ end)
@@ -32,7 +32,7 @@ value_pieces out den name num unit =
     value_parts out (codes "{") (codes "\"den\":") den (codes ",") (codes "\"name\":") (codes "\"") name
     (codes "\"num\":") num (codes "\"unit\":") unit (codes "}")
 
--- a line, piece by piece, in the same way
+-- a line, part by part, in the same way
 line_parts : (brace dbm_is dbm comma eep id readings_is bracket readings end type_is close feed : List ℕ)
     → ((((brace ++ dbm_is) ++ dbm) ++ (comma ++ eep ++ comma ++ id ++ (comma ++ (readings_is ++ bracket)))) ++ readings)
     ++ (end ++ (comma ++ (type_is ++ (close ++ feed))))

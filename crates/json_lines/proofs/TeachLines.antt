@@ -1,4 +1,4 @@
--- Teach lines with one text are one line.
+-- Teach lines with the same text are equal.
 use Rattle.std.proofs.Common.{◌≡◌, ◌≢◌, ℕ, ◌<◌, ◌^◌, ◌%◌}
 use Rattle.std.proofs.Common.{List, [], ◌∷◌, ◌++◌, take, drop, codes, decimal, Option, Some, None, Result, Ok, Err}
 use Rattle.std.proofs.Common.{refl, sym, ap, subst, ◌∙◌, arith}
@@ -17,7 +17,7 @@ use Rattle.json_lines.proofs.CommaTexts.{all-decimal}
 use Rattle.json_lines.proofs.HexTexts.{byte_bytes, id_bytes}
 use Rattle.json_lines.proofs.TeachTexts.{from-maker, teach-known, teach-more, teach-unknown}
 
--- ---- what a text shows
+-- ---- what a text determines
 
 ok_or : List ℕ → Result (List ℕ) FromHexError → List ℕ
 ok_or other (Ok bytes) = bytes

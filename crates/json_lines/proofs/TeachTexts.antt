@@ -1,4 +1,4 @@
--- The text of a teach line is the text of one teach line alone, with that line's outcome.
+-- The text of a teach line is the text of only one teach line, with that line's outcome.
 use Rattle.std.proofs.Common.{◌≡◌, ◌≢◌, ℕ, List, [], ◌∷◌}
 use Rattle.std.proofs.Common.{◌++◌, drop, codes, decimal, Option, Some, None, refl, sym, ap, subst, ◌∙◌, arith}
 use Rattle.std.proofs.Common.{append_assoc, append-nil}
@@ -21,7 +21,7 @@ use Rattle.json_lines.proofs.CommaTexts.{no-maker, peel}
 pub result_text : Outcome → List ℕ
 result_text outcome = codes "\"result\":\"" ++ (outcome_word outcome ++ codes "\",\"type\":\"teach\"}\n")
 
--- the parts behind the ID, as a line has them and one by one
+-- the parts after the ID, as a line has them and one by one
 grouped-teach : (maker word more : List ℕ)
     → (((maker ++ ((codes ",\"result\":\"" ++ (word ++ codes "\"")) ++ codes ",\"type\":\"teach\"")) ++ codes "}")
     ++ codes "\n") ++ more
@@ -42,7 +42,7 @@ teach-unknown id maker outcome more = grouped-teach (or_null decimal maker) (out
 
 -- ---- the ends of teach lines
 
--- the outcome of a text that begins as the end of a teach line does: the outcomes differ in their first letters
+-- the outcome of a text that begins like the end of a teach line: the outcomes differ in their first letters
 outcome_in : List ℕ → Outcome
 outcome_in text =
     let letter = slice_index_or text 10 0 in
@@ -58,7 +58,7 @@ outcome_in-result Full more = refl
 outcome_in-result General more = refl
 outcome_in-result NoProfile more = refl
 
--- the same end has the same outcome, and the same behind it
+-- the same end has the same outcome, and the same text after it
 same-result : (a b : Outcome) (more : List ℕ) → result_text a ++ more ≡ result_text b ++ []
     → (a ≡ b) × (more ≡ [])
 same-result a b more e =
@@ -67,7 +67,7 @@ same-result a b more e =
     subst (λ o. result_text o ++ more ≡ result_text b ++ []) same e in
     (same, append_cancel_left (result_text b) more [] ends)
 
--- the maker, and what stands behind it, in two lines with the same text
+-- the maker, and what follows it, in two lines with the same text
 pub from-maker : (a b : Option ℕ) (x y s t : List ℕ) → s ≡ or_null decimal a ++ 44 ∷ x
     → t ≡ or_null decimal b ++ 44 ∷ y → s ≡ t → (or_null decimal a ≡ or_null decimal b) × (x ≡ y)
 from-maker a b x y s t in_s in_t e =
@@ -75,7 +75,6 @@ from-maker a b x y s t in_s in_t e =
 
 -- ---- one line and more
 
--- a teach line, and more
 pub teach-more : (line told : TeachLine) (more : List ℕ) → text (Teach line) ++ more ≡ text (Teach told) ++ []
     → (line.outcome ≡ told.outcome) × (more ≡ [])
 teach-more line told more e = one line.eep told.eep e
@@ -98,7 +97,7 @@ teach-more line told more e = one line.eep told.eep e
         let bytes : 110 ≡ 34 = ap (λ (t : List ℕ). slice_index_or t 7 0) h in
         absurd (omega (arith, bytes))
 
--- behind the ID a device's line goes on with its label, and a teach line that tells a profile with its maker
+-- after the ID a device's line continues with its label, and a teach line with a profile continues with its maker
 device-goes_on : (known : Device) (more : List ℕ) → slice_index_or (text (DeviceLine known) ++ more) 35 0 ≡ 108
 unfolding encode_with
 device-goes_on known more = refl
@@ -108,7 +107,6 @@ teach-goes_on : (eep : Eep) (line : TeachLine)
 unfolding encode_with
 teach-goes_on eep line = refl
 
--- a device's line, and more
 device-more : (known : Device) (told : TeachLine) (more : List ℕ)
     → text (DeviceLine known) ++ more ≢ text (Teach told) ++ []
 device-more known told more e = one told.eep e
@@ -122,7 +120,7 @@ device-more known told more e = one told.eep e
         let bytes : 34 ≡ 110 = ap (λ (t : List ℕ). slice_index_or t 7 0) h in
         absurd (omega (arith, bytes))
 
--- lines with no text are none
+-- no lines have the empty text
 no_lines : (lines : List DeskLine) → texts lines ≡ [] → lines ≡ []
 no_lines [] e = refl
 no_lines (line ∷ lines) e = absurd cc
@@ -131,11 +129,10 @@ no_lines (line ∷ lines) e = absurd cc
 abbrev pub IsTeachLine : List DeskLine → TeachLine → Type 0
 IsTeachLine lines told = (line : TeachLine) × (lines ≡ Teach line ∷ []) × (line.outcome ≡ told.outcome)
 
--- the fourth byte
 fourth : (t : List ℕ) (told : TeachLine) → t ≡ text (Teach told) ++ [] → slice_index_or t 3 0 ≡ 101
 fourth t told e = ap (λ (u : List ℕ). slice_index_or u 3 0) e
 
--- the first line is a teach line: the fourth byte of any other but a device's is another
+-- the first line is a teach line: the fourth byte of any other except a device's differs
 of_first : (first : DeskLine) (rest : List DeskLine) (told : TeachLine)
     → text first ++ texts rest ≡ text (Teach told) ++ []
     → IsTeachLine (first ∷ rest) told

@@ -1,4 +1,4 @@
--- Each word that says why stands for one reason.
+-- Each word for a reason stands for one reason.
 use Rattle.std.proofs.Common.{◌≡◌, ℕ, List, [], ◌∷◌, refl, ap, sym, ◌∙◌}
 use Rattle.std.specs.Prelude.{if◌then◌else◌}
 use Rattle.std.specs.Str.{bytes_eq}
@@ -11,7 +11,7 @@ use Rattle.teach_in.specs.declared.why.Why.TheVariants.{FromBroadcast, ForOthers
 use Rattle.teach_in.specs.declared.why.Why.TheVariants.{WindowClosed, OtherMode, Read, UnknownSender, WrongKind}
 use Rattle.teach_in.specs.declared.why.Why.TheVariants.{WrongLength, OtherMessage}
 
--- the first of some reasons with this word, or else the last of all
+-- the first of some reasons with this word, or otherwise the last of all
 with-word : List ℕ → List Why → Why
 with-word word [] = OtherMessage
 with-word word (why ∷ others) = if bytes_eq word (why_word why) then why else with-word word others

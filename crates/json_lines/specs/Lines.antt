@@ -1,6 +1,6 @@
--- The lines that the desk is sent, as values, and their texts, as bytes. Which lines there are, and their layout, is
--- an own choice: one JSON object (RFC 8259) with no space between its parts, its members in the byte order of their
--- names, and a line feed at the end.
+-- The lines for the desk, as values, and their texts, as bytes. Which lines there are, and their layout, is an own
+-- choice: one JSON object (RFC 8259) with no space between its parts, its members in the byte order of their names, and
+-- a line feed at the end.
 use Rattle.std.specs.Prelude.{ℕ, pos, ◌-ℤ◌, List, [], ◌∷◌, ◌++◌, map, length, slice_get, codes, decimal}
 use Rattle.std.specs.Prelude.{Option, Some, None, IfSome, ◌<◌, ◌^◌}
 use Rattle.std.specs.Fmt.{signed_decimal}
@@ -22,33 +22,30 @@ use Rattle.json_lines.specs.declared.error_lines.ErrorName.TheVariants.{Syntax, 
 use Rattle.json_lines.specs.declared.error_lines.ErrorName.TheVariants.{WrongProfile, UnsupportedProfile, Memory, Store}
 use Rattle.json_lines.specs.declared.error_lines.ErrorName.TheVariants as error
 
--- ---- what a line tells
+-- ---- the content of a line
 
--- the readings of a telegram: with which strength it was received, where that is known, the profile and the ID of its
--- sender, and what is read
+-- the readings of a telegram: its signal strength, if known, the profile and the ID of its sender, and the readings
 pub record ReadingLine : Type 0 where
   pub dbm : Option ℕ
   pub eep : Eep
   pub id : ℕ
   pub readings : List Entry
 
--- what came of a sender: its profile, where that is known, its ID, the number of its maker, where that is known, and
--- the outcome
+-- the outcome for a sender: its profile, if known, its ID, its manufacturer ID, if known, and the outcome
 pub record TeachLine : Type 0 where
   pub eep : Option Eep
   pub id : ℕ
   pub maker : Option ℕ
   pub outcome : Outcome
 
--- what the radio module answers: a return code, and the bytes behind it (EnOcean Serial Protocol 3, "Packet type 2:
+-- a response of the radio module: a return code, and the bytes after it (EnOcean Serial Protocol 3, "Packet type 2:
 -- RESPONSE")
 pub record Response : Type 0 where
   pub code : ℕ
   pub bytes : List ℕ
 
--- a line: the readings of a telegram; what came of a sender; a learned device; the end of a list of so many devices;
--- what was counted, and in which mode the gateway learns; a response of the radio module; an order that is done; why
--- something is not done. Own choice
+-- a line: the readings of a telegram; the outcome for a sender; a learned device; the end of a list of this many
+-- devices; the counters and the learn mode; a response of the radio module; an acknowledged order; an error. Own choice
 pub data DeskLine : Type 0 where
   Reading : (line : ReadingLine) → DeskLine
   Teach : (line : TeachLine) → DeskLine
@@ -68,7 +65,7 @@ HasNumbersInRange line =
 
 -- ---- the parts of a line
 
--- a text in quotation marks; it stands there as it is (RFC 8259, "Strings")
+-- a text in quotation marks, without escapes (RFC 8259, "Strings")
 abbrev pub in_quotes : List ℕ → List ℕ
 in_quotes text = codes "\"" ++ text ++ codes "\""
 
@@ -80,7 +77,7 @@ member_text member = in_quotes member.0 ++ codes ":" ++ member.1
 abbrev pub object_text : List (List ℕ × List ℕ) → List ℕ
 object_text members = codes "{" ++ join_by member_text (codes ",") members ++ codes "}"
 
--- the text of what is known. Own choice: null where it is not
+-- the text of a value that may be unknown. Own choice: then it is null
 abbrev pub or_null : {A : Type 0} → (A → List ℕ) → Option A → List ℕ
 or_null text_of None = codes "null"
 or_null text_of (Some known) = text_of known
@@ -117,7 +114,7 @@ named_text name (word text) = object_text ((codes "name", quoted name) ∷ (code
 named_text name (raw n) = object_text ((codes "name", quoted name) ∷ (codes "raw", decimal n) ∷ [])
 named_text name (out_of_range n) = object_text ((codes "name", quoted name) ∷ (codes "out_of_range", decimal n) ∷ [])
 
--- an entry: what is read under a name. Own choice
+-- an entry: a reading under a name. Own choice
 abbrev pub entry_text : Entry → List ℕ
 entry_text entry = named_text entry.name entry.meaning
 
@@ -210,6 +207,6 @@ text line = object_text (members_of line) ++ codes "\n"
 abbrev pub texts : List DeskLine → List ℕ
 texts = flat_map text
 
--- a line for each device, and behind them a line that counts them. Own choice
+-- a line for each device, and then a line with their count. Own choice
 abbrev pub listing : List Device → List DeskLine
 listing known = map DeviceLine known ++ ListEnd (length known) ∷ []

@@ -1,5 +1,5 @@
--- The packet lines, and their texts, as bytes. Of each packet such a line tells what it was, and by one word why what
--- was done with it was done. Own choice, with the layout of the other lines.
+-- The packet lines, and their texts, as bytes. Such a line shows what a packet was, and one word for why it was handled
+-- the way it was. Own choice, with the layout of the other lines.
 use Rattle.std.specs.Prelude.{ℕ, ◌+◌, ◌<◌, ◌^◌, IfSome, List, [], ◌∷◌, ◌++◌, codes, decimal}
 use Rattle.std.specs.List.{join_by}
 use Rattle.hex.specs.Hex.{IsBytes, encode_upper}
@@ -15,7 +15,7 @@ use Rattle.teach_in.specs.declared.why.Why.TheVariants.{FromBroadcast, ForOthers
 use Rattle.teach_in.specs.declared.why.Why.TheVariants.{WindowClosed, OtherMode, Read, UnknownSender, WrongKind}
 use Rattle.teach_in.specs.declared.why.Why.TheVariants.{WrongLength, OtherMessage}
 
--- the word of why; of what came of a sender, the outcome's. Own choice
+-- the word for the reason; for the outcome for a sender, the outcome's word. Own choice
 abbrev pub why_word : Why → List ℕ
 why_word Refused = codes "refused"
 why_word Response = codes "response"
@@ -40,7 +40,7 @@ id_string id = in_quotes (id_text id)
 
 -- ---- the members of a line, in the byte order of their names
 
--- how a telegram came, and of whom. Own choice
+-- how a telegram was received, and its sender. Own choice
 abbrev pub sender_members : ToldTelegram → List (List ℕ × List ℕ)
 sender_members telegram =
     (codes "dbm", or_null dbm_text telegram.dbm)
@@ -49,14 +49,14 @@ sender_members telegram =
     ∷ (codes "id", id_string telegram.id)
     ∷ (codes "maker", or_null decimal telegram.maker) ∷ []
 
--- what a telegram carries. Own choice
+-- the content of a telegram. Own choice
 abbrev pub content_members : ToldTelegram → List (List ℕ × List ℕ)
 content_members telegram =
     (codes "payload", in_quotes (encode_upper telegram.payload))
     ∷ (codes "rorg", in_quotes (byte_text telegram.rorg))
     ∷ (codes "status", in_quotes (byte_text telegram.status)) ∷ []
 
--- another packet: its type, and the number of bytes of its data. Own choice
+-- any other packet: its type, and the number of bytes of its data. Own choice
 abbrev pub other_members : ℕ → ℕ → List (List ℕ × List ℕ)
 other_members kind size = (codes "kind", decimal kind) ∷ (codes "size", decimal size) ∷ []
 
@@ -65,7 +65,7 @@ abbrev pub packet_members : ToldPacket → List (List ℕ × List ℕ)
 packet_members (Telegram telegram) = sender_members telegram ++ content_members telegram
 packet_members (Other kind size) = other_members kind size
 
--- the type of the line, and why. Own choice
+-- the type of the line, and the reason. Own choice
 abbrev pub end_members : Why → List (List ℕ × List ℕ)
 end_members why = (codes "type", in_quotes (codes "packet")) ∷ (codes "why", in_quotes (why_word why)) ∷ []
 
@@ -80,7 +80,7 @@ abbrev pub members_text : List (List ℕ × List ℕ) → List ℕ
 members_text = join_by member_text (codes ",")
 
 -- the length of the longest text of the members of a sender, of a content, and of an end, and of the longest line: with
--- both braces, a comma behind the sender's members and one behind the content's, and the line feed
+-- both braces, a comma after the sender's members and one after the content's, and the line feed
 abbrev pub longest_sender : ℕ
 longest_sender = 75
 
@@ -95,7 +95,7 @@ max_packet_line = longest_sender + longest_content + longest_end + 5
 
 -- ---- the numbers of a packet line are in the ranges of those of a packet
 
--- a telegram has bytes, IDs of four bytes, and a maker of at most two
+-- a telegram has bytes, IDs of four bytes, and a manufacturer ID of at most two
 pub record HasFieldsInRange (shown : ToldTelegram) : Type 0 where
   pub dbm : IfSome shown.dbm (λ byte. byte < 256)
   pub dest : IfSome shown.dest (λ id. id < 2 ^ 32)

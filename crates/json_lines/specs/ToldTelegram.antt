@@ -3,9 +3,8 @@ use Rattle.std.specs.Prelude.{ℕ, ◌==◌, List, Option, Some, None, if◌then
 use Rattle.erp1_telegrams.specs.declared.eep.Eep.{Eep}
 use Rattle.erp1_telegrams.specs.Telegram.{Telegram}
 
--- with which strength it was received, where that is known; the ID of the device that it is for, where it is not for
--- all; its sender's profile, where that is known, ID, and maker's number, where that is known; its payload, kind and
--- status (ISO/IEC 14543-3-10). Own choice
+-- its signal strength, if known; its destination ID, unless it is a broadcast; its sender's profile, if known, ID, and
+-- manufacturer ID, if known; its payload, kind and status (ISO/IEC 14543-3-10). Own choice
 pub record ToldTelegram : Type 0 where
   pub dbm : Option ℕ
   pub dest : Option ℕ
@@ -16,7 +15,7 @@ pub record ToldTelegram : Type 0 where
   pub rorg : ℕ
   pub status : ℕ
 
--- the ID of the device that a telegram is for, if it is not for all
+-- the destination ID of a telegram, unless it is a broadcast
 abbrev pub destination_told : ℕ → Option ℕ
 destination_told dest = if dest == 0xFFFF_FFFF then None else Some dest
 

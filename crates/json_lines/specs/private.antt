@@ -1,2 +1,2 @@
--- For private clauses: no public contract depends on these.
+-- For private postconditions: no public contract depends on these.
 pub mod LineData

@@ -1,39 +1,40 @@
-//! What the gateway counts.
+//! The counters of the gateway.
 ghost use Rattle.std.specs.Prelude.{◌≡◌};
 ghost use Rattle.json_lines.specs.Counts.{counted, none_counted};
 
-/// What an item is counted as.
+/// The counter that an input increments.
 #[derive(Clone, Copy, Debug, PartialEq, Eq)]
 pub enum Count {
-    /// A packet of which the desk is told nothing.
+    /// A packet without a line for the desk.
     Ignored,
     /// A telegram that was read.
     Reading,
-    /// An item that was refused because there was no memory, or by the store.
+    /// An input that failed: out of memory, or an error of the device store.
     Refused,
     /// A response of the radio module.
     Response,
-    /// A telegram of teach-in of which the desk is told.
+    /// A telegram for which the desk receives a teach line.
     Teach,
 }
 
-/// How many items came to what since the gateway was made. A count that has reached 18446744073709551615 stays there.
+/// How many inputs were counted under each name since the gateway was made. A counter that has reached
+/// 18446744073709551615 does not change.
 #[derive(Clone, Copy, Debug, PartialEq, Eq)]
 pub struct Counts {
-    /// Packets of which the desk was told nothing.
+    /// Packets without a line for the desk.
     pub ignored: u64,
-    /// Packets of which a reading line was told.
+    /// Packets for which the desk received a reading line.
     pub readings: u64,
-    /// Packets and orders that were refused because there was no memory, or by the store.
+    /// Packets and orders that failed: out of memory, or an error of the device store.
     pub refused: u64,
-    /// Packets of which a response line was told.
+    /// Packets for which the desk received a response line.
     pub responses: u64,
-    /// Packets of which a teach line was told.
+    /// Packets for which the desk received a teach line.
     pub teach: u64,
 }
 
 impl Counts {
-    /// Nothing is counted yet.
+    /// All counters are 0.
     pub fn none() -> Counts
         ensures { result ≡ none_counted }
     {
@@ -46,7 +47,7 @@ impl Counts {
         }
     }
 
-    /// Counts one item more.
+    /// Increments one counter.
     pub fn raise(&mut self, count: Count)
         ensures { self.new ≡ counted self.old count }
     {

@@ -1,4 +1,4 @@
-//! The lines of a listing.
+//! The lines of a list of devices.
 
 ghost use Rattle.std.specs.Prelude.{◌≡◌, IfOk};
 ghost use Rattle.serde_json.specs.Events.{SendsValue};
@@ -11,7 +11,7 @@ use learned_devices::Device;
 use serde::{Described, Serialize, Serializer};
 use std::alloc::{AllocError, Global};
 
-// What the line of a device tells.
+// The members of the line of a device.
 #[derive(Drop)]
 struct DeviceObject<'a> {
     device: &'a Device,
@@ -38,7 +38,7 @@ impl Serialize for DeviceObject<'_> {
     }
 }
 
-// What the line behind the devices tells.
+// The members of the line after the devices.
 #[derive(Drop)]
 struct ListObject {
     count: usize,
@@ -59,26 +59,25 @@ impl Serialize for ListObject {
     }
 }
 
-// The line of a device.
 fn device_line(alloc: Global, device: &Device) -> Result<Line, AllocError>
     ensures { IfOk result (λ line. line ≡ text (DeviceLine device.now)) }
 {
     line_of(alloc, &DeviceObject { device })
 }
 
-// The line behind so many devices.
+// The line after this many devices.
 fn list_end(alloc: Global, count: usize) -> Result<Line, AllocError>
     ensures { IfOk result (λ line. line ≡ text (ListEnd count)) }
 {
     line_of(alloc, &ListObject { count })
 }
 
-/// The lines of some devices in their order, and behind them the line of their count.
+/// The lines of some devices, in their order, and then the line of their count.
 ///
 /// `{"eep":"D5-00-01","id":"01800ABC","label":"Door \"A\"","maker":null,"type":"device"}`,
 /// `{"count":1,"type":"list"}`
 ///
-/// Any error is told as out of memory.
+/// Any error is returned as out of memory.
 pub fn device_lines(alloc: Global, devices: &[Device]) -> Result<Line, AllocError>
     ensures { IfOk result (λ lines. lines ≡ texts (listing devices.now)) }
 {

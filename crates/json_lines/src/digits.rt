@@ -1,4 +1,4 @@
-//! IDs and profiles as digits in place, which takes no memory.
+//! The digits of IDs and profiles, in arrays, which need no memory.
 
 ghost use Rattle.std.specs.Prelude.{◌≡◌, IsAscii};
 ghost use Rattle.json_lines.specs.Lines.{as_text, byte_text, eep_text, id_text};
@@ -16,7 +16,6 @@ static DIGITS: [u8; 512] = *b"\
     C0C1C2C3C4C5C6C7C8C9CACBCCCDCECFD0D1D2D3D4D5D6D7D8D9DADBDCDDDEDF\
     E0E1E2E3E4E5E6E7E8E9EAEBECEDEEEFF0F1F2F3F4F5F6F7F8F9FAFBFCFDFEFF";
 
-// The digits of a byte.
 pub(crate) fn byte_digits(byte: u8) -> [u8; 2]
     ensures text { result ≡ byte_text byte }
     ensures ascii { IsAscii result }
@@ -25,7 +24,6 @@ pub(crate) fn byte_digits(byte: u8) -> [u8; 2]
     [DIGITS[at], DIGITS[at + 1]]
 }
 
-// The digits of an ID.
 pub(crate) fn id_digits(id: u32) -> [u8; 8]
     ensures text { result ≡ id_text id }
     ensures ascii { IsAscii result }
@@ -53,7 +51,7 @@ pub(crate) fn eep_digits(eep: Eep) -> [u8; 8]
     ]
 }
 
-// The digits of a profile behind `as `.
+// The digits of a profile, after `as `.
 pub(crate) fn as_digits(eep: Eep) -> [u8; 11]
     ensures text { result ≡ as_text eep }
     ensures ascii { IsAscii result }
@@ -62,7 +60,6 @@ pub(crate) fn as_digits(eep: Eep) -> [u8; 11]
     [b'a', b's', b' ', a, b, c, d, e, f, g, h]
 }
 
-// Digits as a text.
 pub(crate) fn text_of(digits: &[u8]) -> &str
     requires { IsAscii digits.now }
     ensures { result.now ≡ digits.now }

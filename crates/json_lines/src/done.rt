@@ -1,9 +1,9 @@
-//! The line that answers an order that is done.
+//! The line that acknowledges an order.
 
 ghost use Rattle.std.specs.Prelude.{◌≡◌};
 ghost use Rattle.json_lines.specs.Lines.{Done, text};
 
-/// The line of an order that is done: `{"type":"ok"}` and a line feed. It takes no memory.
+/// The line that acknowledges an order: `{"type":"ok"}` and a line feed. Needs no memory.
 pub fn done_line() -> &'static [u8]
     ensures { result.now ≡ text Done }
 {

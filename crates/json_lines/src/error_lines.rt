@@ -1,12 +1,12 @@
-//! The error lines: literals, so that none of them takes memory.
+//! The error lines: literals, so that none of them needs memory.
 
 ghost use Rattle.std.specs.Prelude.{◌≡◌};
 ghost use Rattle.json_lines.specs.Lines.{Error, text};
 
-/// Why the gateway has not done what it was given.
+/// Why the gateway did not do what it was asked.
 #[derive(Clone, Copy, Debug, PartialEq, Eq)]
 pub enum ErrorName {
-    /// The line has not the shape of an order.
+    /// The line does not have the form of an order.
     Syntax,
     /// The line is longer than an order may be.
     TooLong,
@@ -14,20 +14,20 @@ pub enum ErrorName {
     Range,
     /// No device with this ID is learned.
     UnknownDevice,
-    /// The device has not the profile that the order is for.
+    /// The device does not have the profile that the order requires.
     WrongProfile,
-    /// As many other devices are learned as can be.
+    /// The registry is full: the maximum number of other devices is learned.
     Full,
     /// The gateway cannot read telegrams of this profile.
     UnsupportedProfile,
-    /// There is no memory. A change that was asked for may be found done after a stop.
+    /// Out of memory. After a crash, the requested update may turn out to be done.
     Memory,
-    /// The store of the learned devices refused. A change that was asked for may be found done after a stop.
+    /// The device store failed. After a crash, the requested update may turn out to be done.
     Store,
 }
 
 impl ErrorName {
-    /// The line of the error, as `{"error":"syntax","type":"error"}` and a line feed. It takes no memory.
+    /// The line of the error, such as `{"error":"syntax","type":"error"}` and a line feed. Needs no memory.
     pub fn line(self) -> &'static [u8]
         ensures { result.now ≡ text (Error self) }
     {

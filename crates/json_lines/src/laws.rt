@@ -1,4 +1,4 @@
-//! Laws of the definitions. Each function does nothing: its contract is the law.
+//! Theorems about the definitions. Each function does nothing: its contract is the theorem.
 ghost use Rattle.std.specs.Prelude.{◌≡◌, ◌≢◌, ℕ, List, [], ◌∷◌, ◌++◌};
 ghost use Rattle.json_lines.specs.Lines.{DeskLine, HasNumbersInRange, Teach, TeachLine, text, texts};
 ghost use Rattle.json_lines.specs.PacketLines.{HasPacketNumbersInRange, max_packet_line, packet_text, why_word};
@@ -12,13 +12,13 @@ pub fn teach_texts_are_of_teach_lines()
         → (line : TeachLine) × (lines ≡ Teach line ∷ []) × (line.outcome ≡ told.outcome) }
 {}
 
-/// Teach lines with the same text tell the same: the same profile, ID, maker and outcome.
+/// Teach lines with the same text have the same profile, ID, maker and outcome.
 pub fn teach_texts_tell_one_line()
     ensures { (line told : TeachLine) → HasNumbersInRange line → HasNumbersInRange told
         → text (Teach line) ≡ text (Teach told) → line ≡ told }
 {}
 
-/// Each word that says why stands for one reason.
+/// Each word for a reason stands for one reason.
 pub fn words_tell_why()
     ensures { (why other : Why) → why_word why ≡ why_word other → why ≡ other }
 {}
@@ -29,13 +29,13 @@ pub fn packet_texts_are_injective()
         → packet_text line ≡ packet_text other → line ≡ other }
 {}
 
-/// Whatever follows them, a line for the desk and a packet line are never the same text. So a reader can separate them
+/// Whatever follows them, a line for the desk and a packet line never have the same text. So a reader can separate them
 /// line by line.
 pub fn packet_lines_are_distinguishable()
     ensures { (line : DeskLine) (packet : PacketLine) (a b : List ℕ) → text line ++ a ≢ packet_text packet ++ b }
 {}
 
-/// The room of a packet line is the length of the longest.
+/// The capacity of a packet line is the length of the longest.
 pub fn packet_lines_have_room()
     ensures { MAX_PACKET_LINE ≡ max_packet_line }
 {}

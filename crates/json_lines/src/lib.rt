@@ -1,8 +1,8 @@
-//! The lines that the desk is sent: one JSON object each, with no space between its parts, the members in the byte
-//! order of their names, and a line feed at the end; and the counts that a status line tells.
+//! The lines for the desk: one JSON object each, with no space between its parts, the members in the byte order of
+//! their names, and a line feed at the end; and the counters in a status line.
 //!
-//! What a line tells is a value of `DeskLine`, in `specs/Lines.antt`, and its bytes are that value's `text`; what a
-//! packet line tells is a `PacketLine`, and its bytes are that value's `packet_text`, in `specs/PacketLines.antt`.
+//! A line is a value of `DeskLine`, in `specs/Lines.antt`, whose `text` is its bytes. A packet line is a `PacketLine`,
+//! whose `packet_text`, in `specs/PacketLines.antt`, is its bytes.
 #![tactic(auto)]
 
 mod counts;

@@ -7,7 +7,7 @@ use serde::Serialize;
 use std::alloc::{AllocError, Global};
 use std::marker::Model;
 
-/// A line for the desk, or several: the bytes of one JSON object each, and a line feed after it.
+/// One or more lines for the desk: the bytes of one JSON object each, and a line feed after it.
 #[derive(Drop)]
 pub struct Line {
     bytes: Vec<u8>,
@@ -31,14 +31,12 @@ impl Line {
         }
     }
 
-    // The line of these bytes.
     pub(crate) fn new(bytes: Vec<u8>) -> Line
         ensures { result ≡ bytes.items }
     {
         Line { bytes }
     }
 
-    // Puts another line behind it.
     pub(crate) fn append(&mut self, other: &Line) -> Result<(), AllocError>
         ensures { OnOk result (self.new ≡ self.old ++ other.now) }
     {
@@ -54,8 +52,8 @@ impl Line {
     }
 }
 
-// The line of what serializes itself. serde_json has other errors than memory, and no clause says that none of them can
-// come here. So any error is told as out of memory.
+// The line of a value that serializes itself. serde_json has other errors than out of memory, and no postcondition
+// excludes them here, so any error is returned as out of memory.
 pub(crate) fn line_of<T: Serialize>(alloc: Global, object: &T) -> Result<Line, AllocError>
     ensures { IfOk result (IsLineOf (T.writes object.now)) }
 {

@@ -1,4 +1,4 @@
-//! The line that tells what a packet was, and why what was done with it was done.
+//! The line that explains a packet: what it was, and why it was handled the way it was.
 
 ghost use Rattle.std.specs.Prelude.{◌≡◌, ◌+◌, ◌≤◌, ◌++◌, length};
 ghost use Rattle.arrayvec.specs.ArrayVec.{array_vec_len};
@@ -17,7 +17,7 @@ use erp1_telegrams::{Eep, Telegram};
 use std::marker::Model;
 use teach_in::Why;
 
-/// A telegram, and what is known about its sender. In contracts it is what the line shows of it, the record
+/// A telegram, and what is known about its sender. In contracts its value is what the line shows of it, the record
 /// `ToldTelegram` of `specs/ToldTelegram.antt`.
 #[derive(Clone, Debug, Drop)]
 pub struct ToldTelegram {
@@ -40,9 +40,9 @@ impl Model for ToldTelegram {
 /// What a packet was.
 #[derive(Clone, Debug, Drop)]
 pub enum ToldPacket {
-    /// It carries this telegram.
+    /// A packet that carries this telegram.
     Telegram(ToldTelegram),
-    /// It is another packet.
+    /// Any other packet.
     Other {
         /// The packet type.
         kind: u8,
@@ -51,16 +51,15 @@ pub enum ToldPacket {
     },
 }
 
-/// What a packet was, and why what was done with it was done.
+/// What a packet was, and why it was handled the way it was.
 #[derive(Clone, Debug, Drop)]
 pub struct PacketLine {
     /// What it was.
     pub packet: ToldPacket,
-    /// Why what was done with it was done.
+    /// Why it was handled the way it was.
     pub why: Why,
 }
 
-// The word of why.
 fn why_word(why: Why) -> &'static str
     ensures text { result.now ≡ why_word why }
     ensures short { length result.now ≤ 14 }
@@ -85,7 +84,7 @@ fn why_word(why: Why) -> &'static str
     }
 }
 
-// How a telegram came, and of whom.
+// How a telegram was received, and its sender.
 fn put_sender(shown: &ToldTelegram, out: &mut Text)
     requires { array_vec_len out.old + longest_sender ≤ max_packet_line }
     ensures items { out.new.items ≡ out.old.items ++ members_text (sender_members shown.now) }
@@ -103,7 +102,7 @@ fn put_sender(shown: &ToldTelegram, out: &mut Text)
     put_maker(shown.maker, out);
 }
 
-// What a telegram carries.
+// The content of a telegram.
 fn put_content(shown: &ToldTelegram, out: &mut Text)
     requires { array_vec_len out.old + longest_content ≤ max_packet_line }
     ensures items { out.new.items ≡ out.old.items ++ members_text (content_members shown.now) }
@@ -117,7 +116,7 @@ fn put_content(shown: &ToldTelegram, out: &mut Text)
     put_byte(shown.telegram.status(), out);
 }
 
-// Another packet.
+// Any other packet.
 fn put_other(kind: u8, size: u16, out: &mut Text)
     requires { array_vec_len out.old + 25 ≤ max_packet_line }
     ensures items { out.new.items ≡ out.old.items ++ members_text (other_members kind size) }
@@ -129,7 +128,6 @@ fn put_other(kind: u8, size: u16, out: &mut Text)
     put_number(size, out);
 }
 
-// What a packet was.
 fn put_packet(packet: &ToldPacket, out: &mut Text)
     requires { array_vec_len out.old + longest_sender + longest_content + 1 ≤ max_packet_line }
     ensures items { out.new.items ≡ out.old.items ++ members_text (packet_members packet.now) }
@@ -145,7 +143,7 @@ fn put_packet(packet: &ToldPacket, out: &mut Text)
     }
 }
 
-// The type of the line, and why.
+// The type of the line, and the reason.
 fn put_end(why: Why, out: &mut Text)
     requires { array_vec_len out.old + longest_end ≤ max_packet_line }
     ensures items { out.new.items ≡ out.old.items ++ members_text (end_members why) }
@@ -155,15 +153,15 @@ fn put_end(why: Why, out: &mut Text)
     put_string(why_word(why).as_bytes(), out);
 }
 
-/// The line that tells what a packet was, and by one word why what was done with it was done. Of a telegram: the
-/// signal strength in dBm, the ID of the device that it is for (`null` where it is for all), the profile, the ID and
-/// the maker's number of its sender, its payload, its kind and its status; `null` where something is not known. Of any
-/// other packet: its type, and the number of bytes of its data.
+/// The line that shows what a packet was, and one word for why it was handled the way it was. For a telegram: the
+/// signal strength in dBm, the destination ID (`null` for a broadcast), its sender's profile, ID and manufacturer ID,
+/// its payload, kind and status; `null` if something is not known. For any other packet: its type, and the number of
+/// bytes of its data.
 ///
 /// `{"dbm":-45,"dest":null,"eep":"D5-00-01","id":"01800ABC","maker":null,"payload":"09","rorg":"D5","status":"00",`
 /// `"type":"packet","why":"read"}`, `{"kind":4,"size":12,"type":"packet","why":"other_type"}`
 ///
-/// It takes no memory, and it has room for each line.
+/// Needs no memory; the array has capacity for each line.
 pub fn packet_line(line: &PacketLine) -> ArrayVec<u8, MAX_PACKET_LINE>
     ensures { result.items ≡ packet_text line.now }
 {

@@ -1,4 +1,4 @@
-//! What several lines tell: IDs, profiles and makers, each sent to a serializer.
+//! Parts that several lines share: IDs, profiles and makers, each sent to a serializer.
 
 ghost use Rattle.std.specs.Prelude.{OnOk};
 ghost use Rattle.serde_json.specs.Events.{SendsValue};
@@ -8,21 +8,19 @@ use crate::digits::{eep_digits, id_digits, text_of};
 use erp1_telegrams::Eep;
 use serde::Serializer;
 
-// An ID.
 pub(crate) fn put_id<S: Serializer>(id: u32, out: &mut S) -> Result<(), S::Error>
     ensures { OnOk result (SendsValue (id_data id) (S.written out.old) (S.written out.new)) }
 {
     out.str(text_of(&id_digits(id)))
 }
 
-// A profile.
 pub(crate) fn put_profile<S: Serializer>(eep: Eep, out: &mut S) -> Result<(), S::Error>
     ensures { OnOk result (SendsValue (profile_data eep) (S.written out.old) (S.written out.new)) }
 {
     out.str(text_of(&eep_digits(eep)))
 }
 
-// The number of a maker, or null.
+// A manufacturer ID, or null.
 pub(crate) fn put_maker<S: Serializer>(maker: Option<u16>, out: &mut S) -> Result<(), S::Error>
     ensures { OnOk result (SendsValue (or_null number_data maker) (S.written out.old) (S.written out.new)) }
 {

@@ -1,4 +1,4 @@
-//! The pieces of a packet line, each put behind the others in place, which takes no memory.
+//! The parts of a packet line, each appended in a fixed array, which needs no memory.
 
 ghost use Rattle.std.specs.Prelude.{◌≡◌, ◌+◌, ◌≤◌, ◌++◌, length, decimal};
 ghost use Rattle.arrayvec.specs.ArrayVec.{array_vec_len};
@@ -13,10 +13,10 @@ use arrayvec::ArrayVec;
 use erp1_telegrams::{BROADCAST, Eep};
 use itoa::Buffer;
 
-// What is written of a packet line.
+// The packet line so far.
 pub(crate) type Text = ArrayVec<u8, MAX_PACKET_LINE>;
 
-// A piece as it is.
+// A part, unchanged.
 pub(crate) fn put(piece: &[u8], out: &mut Text)
     requires { array_vec_len out.old + length piece.now ≤ max_packet_line }
     ensures items { out.new.items ≡ out.old.items ++ piece.now }
@@ -26,7 +26,7 @@ pub(crate) fn put(piece: &[u8], out: &mut Text)
     let _ = out.try_extend_from_slice(piece);
 }
 
-// A piece in quotation marks.
+// A part in quotation marks.
 pub(crate) fn put_string(piece: &[u8], out: &mut Text)
     requires { array_vec_len out.old + length piece.now + 2 ≤ max_packet_line }
     ensures items { out.new.items ≡ out.old.items ++ in_quotes piece.now }
@@ -37,7 +37,6 @@ pub(crate) fn put_string(piece: &[u8], out: &mut Text)
     out.push(b'"');
 }
 
-// A byte.
 pub(crate) fn put_byte(byte: u8, out: &mut Text)
     requires { array_vec_len out.old + 4 ≤ max_packet_line }
     ensures items { out.new.items ≡ out.old.items ++ in_quotes (byte_text byte) }
@@ -46,7 +45,6 @@ pub(crate) fn put_byte(byte: u8, out: &mut Text)
     put_string(&byte_digits(byte), out);
 }
 
-// An ID.
 pub(crate) fn put_id(id: u32, out: &mut Text)
     requires { array_vec_len out.old + 10 ≤ max_packet_line }
     ensures items { out.new.items ≡ out.old.items ++ id_string id }
@@ -55,7 +53,7 @@ pub(crate) fn put_id(id: u32, out: &mut Text)
     put_string(&id_digits(id), out);
 }
 
-// The ID of the device that a telegram is for, or null for a broadcast.
+// The destination ID of a telegram, or null for a broadcast.
 pub(crate) fn put_dest(dest: u32, out: &mut Text)
     requires { array_vec_len out.old + 10 ≤ max_packet_line }
     ensures items { out.new.items ≡ out.old.items ++ or_null id_string (destination_told dest) }
@@ -80,7 +78,6 @@ pub(crate) fn put_known_profile(eep: Option<Eep>, out: &mut Text)
     }
 }
 
-// A number.
 pub(crate) fn put_number(n: u16, out: &mut Text)
     requires { array_vec_len out.old + 5 ≤ max_packet_line }
     ensures items { out.new.items ≡ out.old.items ++ decimal n }
@@ -89,7 +86,7 @@ pub(crate) fn put_number(n: u16, out: &mut Text)
     put(Buffer::new().format(n).as_bytes(), out);
 }
 
-// The number of a maker, or null.
+// A manufacturer ID, or null.
 pub(crate) fn put_maker(maker: Option<u16>, out: &mut Text)
     requires { array_vec_len out.old + 5 ≤ max_packet_line }
     ensures items { out.new.items ≡ out.old.items ++ or_null decimal maker }
@@ -101,7 +98,6 @@ pub(crate) fn put_maker(maker: Option<u16>, out: &mut Text)
     }
 }
 
-// The signal strength.
 fn put_strength(byte: u8, out: &mut Text)
     requires { array_vec_len out.old + 4 ≤ max_packet_line }
     ensures items { out.new.items ≡ out.old.items ++ dbm_text byte }
@@ -122,7 +118,6 @@ pub(crate) fn put_dbm(dbm: Option<u8>, out: &mut Text)
     }
 }
 
-// The bytes of a payload.
 pub(crate) fn put_payload(payload: &[u8], out: &mut Text)
     requires short { length payload.now ≤ 14 }
     requires fits { array_vec_len out.old + 30 ≤ max_packet_line }

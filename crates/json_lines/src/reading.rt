@@ -1,4 +1,4 @@
-//! The line of a telegram's readings. Most packets make one, so it is written directly, without `serde_json`.
+//! The line of a telegram's readings. Most packets need one, so it is written directly, without `serde_json`.
 
 ghost use Rattle.std.specs.Prelude.{◌≡◌, ◌++◌, codes, decimal, IfOk, OnOk};
 ghost use Rattle.std.specs.Bool.{OnTrue};
@@ -50,8 +50,8 @@ fn sender_piece(eep: Eep, id: u32) -> [u8; 46]
     piece
 }
 
-// Whether a text needs no escape. It is also false for a text with a space or `!`, which saves a comparison for each
-// byte. No profile has such a text.
+// Whether a text needs no escape. Also false for a text with a space or `!`, which saves a comparison for each byte. No
+// profile has such a text.
 fn is_plain(text: &[u8]) -> bool
     ensures { OnTrue result (IsPlain text.now) }
 {
@@ -112,7 +112,6 @@ fn put_value(
     out.extend_from_slice(b"\"}")
 }
 
-// A word.
 fn put_word(name: &str, text: &str, out: &mut Vec<u8>) -> Result<(), AllocError>
     ensures { OnOk result (out.new.items ≡ out.old.items ++ named_text name.now (word text.now)) }
 {
@@ -135,7 +134,6 @@ fn put_number(name: &str, key: &[u8], raw: u32, out: &mut Vec<u8>) -> Result<(),
     out.extend_from_slice(b"}")
 }
 
-// One reading.
 fn put_reading(reading: &Reading, out: &mut Vec<u8>) -> Result<(), AllocError>
     ensures { OnOk result (out.new.items ≡ out.old.items ++ entry_text (entry_of reading.now)) }
 {
@@ -164,13 +162,12 @@ fn put_readings(readings: &[Reading], out: &mut Vec<u8>) -> Result<(), AllocErro
     Ok(())
 }
 
-/// The line that tells what a telegram says by this profile: the signal strength in dBm (0 minus the byte that the
-/// telegram came with; `null` where it came with none), the profile and the ID of the sender, and the readings in
-/// their order.
+/// The line of a telegram's readings by this profile: the signal strength in dBm (0 minus the byte that was received
+/// with the telegram; `null` if there was none), the profile and the ID of the sender, and the readings in their order.
 ///
 /// `{"dbm":-45,"eep":"D5-00-01","id":"01800ABC","readings":[{"name":"CO","word":"closed"}],"type":"reading"}`
 ///
-/// Any error is told as out of memory.
+/// Any error is returned as out of memory.
 pub fn reading_line(
     alloc: Global,
     telegram: &Telegram,

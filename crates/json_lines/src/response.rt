@@ -25,7 +25,7 @@ fn put_name<S: Serializer>(code: u8, out: &mut S) -> Result<(), S::Error>
     }
 }
 
-// What the line tells: the code, and the digits of the bytes behind it.
+// The members of the line: the code, and the digits of the bytes after it.
 #[derive(Drop)]
 struct ResponseObject<'a> {
     code: u8,
@@ -51,12 +51,12 @@ impl Serialize for ResponseObject<'_> {
     }
 }
 
-/// The line that tells what the radio module answers: the return code, the bytes behind it as hexadecimal digits, and
-/// the name of the code, `null` where it has none.
+/// The line of a response of the radio module: the return code, the bytes after it as hexadecimal digits, and the
+/// code's name, `null` if it has none.
 ///
 /// `{"code":0,"data":"FF800000","name":"OK","type":"response"}`
 ///
-/// Any error is told as out of memory.
+/// Any error is returned as out of memory.
 pub fn response_line(alloc: Global, code: u8, rest: &[u8]) -> Result<Line, AllocError>
     ensures { IfOk result (λ line. line ≡ text (ResponseLine (record { code = code; bytes = rest.now }))) }
 {

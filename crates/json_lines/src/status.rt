@@ -1,4 +1,4 @@
-//! The line of the counts and the mode.
+//! The line of the counters and the mode.
 
 ghost use Rattle.std.specs.Prelude.{◌≡◌, IfOk, OnOk};
 ghost use Rattle.serde_json.specs.Data.{string};
@@ -25,7 +25,7 @@ fn put_mode<S: Serializer>(mode: Mode, out: &mut S) -> Result<(), S::Error>
     }
 }
 
-// What the line tells.
+// The members of the line.
 #[derive(Drop)]
 struct StatusObject<'a> {
     counts: &'a Counts,
@@ -57,12 +57,11 @@ impl Serialize for StatusObject<'_> {
     }
 }
 
-/// The line that tells the counts, and in which mode the gateway learns: `closed`, `on`, `answer`, or `as ` and the
-/// profile.
+/// The line of the counters and the learn mode: `closed`, `on`, `answer`, or `as ` and the profile.
 ///
 /// `{"ignored":0,"mode":"closed","readings":1,"refused":0,"responses":0,"teach":0,"type":"status"}`
 ///
-/// Any error is told as out of memory.
+/// Any error is returned as out of memory.
 pub fn status_line(alloc: Global, counts: &Counts, mode: Mode) -> Result<Line, AllocError>
     ensures { IfOk result (λ line. line ≡ text (StatusLine counts.now mode)) }
 {

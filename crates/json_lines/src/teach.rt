@@ -1,4 +1,4 @@
-//! The line that tells what came of a sender.
+//! The teach line: the outcome for a sender.
 
 ghost use Rattle.std.specs.Prelude.{◌≡◌, IfOk, OnOk};
 ghost use Rattle.serde_json.specs.Events.{SendsValue};
@@ -36,7 +36,7 @@ fn put_known_profile<S: Serializer>(eep: Option<Eep>, out: &mut S) -> Result<(),
     }
 }
 
-// What the line tells.
+// The members of the line.
 #[derive(Drop)]
 struct TeachObject {
     eep: Option<Eep>,
@@ -67,7 +67,7 @@ impl Serialize for TeachObject {
     }
 }
 
-/// A teach line that is made before its verdict and told after it.
+/// A teach line that is built before its verdict and returned only for it.
 #[derive(Drop)]
 pub struct Draft {
     id: u32,
@@ -76,7 +76,7 @@ pub struct Draft {
 }
 
 impl Draft {
-    /// The line, on the verdict that it tells. It takes no memory.
+    /// The line, given the verdict that it reports. Needs no memory.
     pub fn tell(self, verdict: &Verdict) -> Line
         requires id { verdict.now.id ≡ self.id }
         requires outcome { verdict.now.outcome ≡ self.outcome }
@@ -87,12 +87,12 @@ impl Draft {
     }
 }
 
-/// The line that tells what comes of a sender: its profile, its ID and the number of its maker, `null` where they are
-/// not known, and the outcome.
+/// The draft of the line with the outcome for a sender: its profile, ID and manufacturer ID, `null` if not known, and
+/// the outcome.
 ///
 /// `{"eep":"D5-00-01","id":"01800ABC","maker":null,"result":"accepted","type":"teach"}`
 ///
-/// Any error is told as out of memory.
+/// Any error is returned as out of memory.
 pub fn teach_line(
     alloc: Global,
     id: u32,

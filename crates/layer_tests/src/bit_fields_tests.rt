@@ -1,4 +1,4 @@
-//! Fields whose values are known: in the middle of bytes, across them, at both ends, and as long as a field can be.
+//! Fields with known values: in the middle of bytes, across them, at both ends, and of maximum length.
 use bit_fields::{get, put};
 
 #[test]

@@ -1,13 +1,13 @@
-//! What `OverRead` and `OverWrite` ask of a reader and of a writer of std: one call for each of their own, also where
-//! it fails.
+//! The calls that `OverRead` and `OverWrite` make of a reader and of a writer of std: one for each of their own, even
+//! if it fails.
 ghost use Rattle.std.specs.Prelude.{◌≡◌, IfOk};
 
 use byte_io::{OverRead, OverWrite, Sink, Source};
 use std::io;
 use std::io::{Read, Write};
 
-/// A reader and a writer that counts its calls, fails at the first one alone, and else takes or gives all that is asked
-/// for.
+/// A reader and a writer that counts its calls, fails only at the first one, and otherwise takes or returns everything
+/// that is asked for.
 #[derive(Drop)]
 struct FailsOnce {
     calls: usize,

@@ -1,4 +1,4 @@
-//! Telegrams whose packets are known, each fault, the room that a packet needs, and the IDs of a gateway.
+//! Telegrams with known packets, each fault, the capacity that a packet needs, and the IDs of a gateway.
 use arrayvec::ArrayVec;
 use erp1_telegrams::{
     BROADCAST, Eep, FilterReason, Telegram, TelegramFault, filter_reason, is_base, is_own, read,
@@ -136,7 +136,7 @@ fn faults(rt: HostRuntime) {
     );
 }
 
-// The data of a telegram with so many bytes 00 of payload, from 01800ABC.
+// The data of a telegram with this many bytes 00 of payload, from 01800ABC.
 fn data_of(rorg: u8, payload_len: usize) -> ArrayVec<u8, 24> {
     let mut data = ArrayVec::new();
     let _fits = data.try_push(rorg);
@@ -147,7 +147,7 @@ fn data_of(rorg: u8, payload_len: usize) -> ArrayVec<u8, 24> {
     data
 }
 
-// For each kind all lengths up to fifteen bytes, read from a packet and given by a caller.
+// For each kind all lengths up to fifteen bytes, read from a packet and passed by a caller.
 #[test]
 fn lengths_of_payloads(rt: HostRuntime) {
     let cases: [(u8, usize, usize); 5] = [
@@ -179,7 +179,7 @@ fn lengths_of_payloads(rt: HostRuntime) {
     }
 }
 
-// Less than seven bytes of optional data tell nothing, and what is behind the seventh is passed over.
+// Fewer than seven bytes of optional data have no meaning, and bytes after the seventh are ignored.
 #[test]
 fn lengths_of_optional_data(rt: HostRuntime) -> Result<(), Fail> {
     let optional = [0x01, 0x01, 0x02, 0x03, 0x04, 0x2D, 0x00, 0x07];
@@ -335,7 +335,8 @@ struct Filtered {
     wanted: Option<FilterReason>,
 }
 
-// A telegram is handled if it is for all or for one of the gateway's own IDs, unless its sender is the broadcast ID.
+// A telegram is handled if it is broadcast or addressed to one of the gateway's own IDs, unless its sender is the
+// broadcast ID.
 const FILTERED: [Filtered; 9] = [
     Filtered {
         sender: 0x0180_0ABC,

@@ -1,4 +1,4 @@
-//! Headers and packets of the standard, and of this gateway's limits.
+//! Headers and packets of the standard, and at this gateway's limits.
 use arrayvec::ArrayVec;
 use esp3_frames::{
     Header, HeaderFault, MAX_PACKET, PacketFault, PacketRef, check8, check8_between, check8_next,
@@ -12,23 +12,21 @@ const CONTACT: [u8; 21] = [
     0xFF, 0xFF, 0x2D, 0x00, 0x1F,
 ];
 
-/// What a check byte is computed from.
+/// The input of a CRC.
 enum Of {
-    /// These bytes.
     Bytes(&'static [u8]),
-    /// A message with this check byte, and one more byte.
+    /// A message with this CRC, and one more byte.
     Next { before: u8, byte: u8 },
-    /// The last `len` bytes of a message, given the check bytes of the part before them and of the whole message.
+    /// The last `len` bytes of a message, given the CRCs of the part before them and of the whole message.
     Between { before: u8, all: u8, len: usize },
 }
 
-/// A check byte.
 struct Check {
     of: Of,
     wanted: u8,
 }
 
-/// Check bytes of the packet above and of short texts.
+/// CRCs of the packet above and of short texts.
 const CHECKS: [Check; 18] = [
     Check {
         of: Of::Bytes(&[0x00, 0x07, 0x07, 0x01]),
@@ -61,8 +59,8 @@ const CHECKS: [Check; 18] = [
         of: Of::Bytes(b"123456789"),
         wanted: 0xF4,
     },
-    // Of the packet above, the check byte of its header and that of its data; and then of rows of the bytes 3, 10, 17,
-    // .. (each 7 more than the last, modulo 256) behind "123456789". Another program computed them.
+    // The CRCs of the header and of the data of the packet above; and then of rows of the bytes 3, 10, 17, .. (each 7
+    // more than the last, modulo 256) after "123456789". Another program computed them.
     Check {
         of: Of::Between {
             before: 0xAC,
@@ -290,7 +288,7 @@ const PARTS: [Part; 8] = [
         is_packet: false,
         is_first: true,
     },
-    // One wrong check byte, though the other fits.
+    // One wrong CRC, though the other is correct.
     Part {
         bytes: &[
             0x55, 0x00, 0x07, 0x07, 0x01, 0x7B, 0xD5, 0x09, 0x01, 0x80, 0x0A, 0xBC, 0x00, 0x01,
@@ -351,8 +349,8 @@ fn parts_of_a_packet(rt: HostRuntime) {
     }
 }
 
-/// A header followed by `count` bytes 00: data, optional data and their check byte, which is 00 for such data. `wanted`
-/// has the type and the two lengths of the packet, if it is one.
+/// A header followed by `count` bytes 00: data, optional data and their CRC, which is 00 for such data. `wanted` has
+/// the type and the two lengths of the packet, if it is one.
 struct Zeros {
     header: [u8; 6],
     count: usize,
@@ -408,7 +406,7 @@ struct Written {
     len: usize,
 }
 
-/// The length is checked before the room: what is not too long does not fit here.
+/// The length is checked before the capacity: what is not too long does not fit here.
 const WRITTEN: [Written; 4] = [
     Written {
         data_len: 65_536,

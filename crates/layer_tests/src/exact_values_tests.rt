@@ -1,4 +1,4 @@
-//! Values that are known: inside the bounds, at them and one past them, in either order of the bounds.
+//! Known values: inside the bounds, at them and one past them, with the bounds in either order.
 use exact_values::{Fraction, over, scale};
 
 /// The numerator and the denominator.

@@ -1,4 +1,4 @@
-//! What the faults below the registry say.
+//! The texts of the faults below the registry.
 use actuator_commands::OrderFault;
 use byte_io::Failed;
 use erp1_telegrams::TelegramFault;
@@ -52,7 +52,7 @@ const OF_ORDERS: [(OrderFault, &str); 4] = [
     ),
 ];
 
-/// The faults say these texts.
+/// The faults have these texts.
 fn say<E: Error>(rt: &HostRuntime, cases: &[(E, &str)]) -> Result<(), Fail> {
     for (fault, wanted) in cases {
         if fault.to_string(rt.alloc())?.as_str() != *wanted {

@@ -1,4 +1,4 @@
-//! Command lines that are taken and that are refused, and what help and the version tell.
+//! Command lines that are accepted and that are rejected, and the texts of help and version.
 use clap::error::ErrorKind;
 use gateway_cli::{Access, LiveOptions, Opened, Options, Plan, Refused, Service, Task, read};
 use std::test::Fail;
@@ -11,7 +11,7 @@ fn words_of(rt: &HostRuntime, line: &str) -> Result<Vec<String>, Fail> {
     Ok(words)
 }
 
-/// `clap` refuses the line in this way.
+/// `clap` rejects the line in this way.
 fn refused(rt: &HostRuntime, line: &str, wanted: ErrorKind) -> Result<(), Fail> {
     let words = words_of(rt, line)?;
     match read(rt.alloc(), words.as_slice()) {
@@ -20,7 +20,7 @@ fn refused(rt: &HostRuntime, line: &str, wanted: ErrorKind) -> Result<(), Fail> 
     }
 }
 
-/// What is told where the line is refused: what `clap` prints for it, if `clap` refuses it.
+/// The text that is printed if the line is rejected: what `clap` prints for it, if `clap` rejects it.
 fn told(rt: &HostRuntime, line: &str) -> Result<String, Fail> {
     let words = words_of(rt, line)?;
     match read(rt.alloc(), words.as_slice()) {
@@ -343,7 +343,7 @@ fn refused_lines(rt: HostRuntime) -> Result<(), Fail> {
     Ok(())
 }
 
-// Each option of `live` that is left out is missed, and of none that is given twice is one value taken.
+// Each option of `live` that is left out is reported, and an option that is given twice is rejected.
 #[test]
 fn options_of_live(rt: HostRuntime) -> Result<(), Fail> {
     let options = [
@@ -368,7 +368,7 @@ fn options_of_live(rt: HostRuntime) -> Result<(), Fail> {
     Ok(())
 }
 
-/// A command line that is refused, and the text that is printed.
+/// A command line that is rejected, and the text that is printed.
 struct Text {
     line: &'static str,
     text: &'static str,
@@ -425,7 +425,7 @@ fn texts_told(rt: HostRuntime) -> Result<(), Fail> {
     Ok(())
 }
 
-/// Options, and the plan that they give.
+/// Options, and their plan.
 struct Planned {
     options: Options<'static>,
     plan: Plan<'static>,

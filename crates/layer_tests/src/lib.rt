@@ -1,5 +1,5 @@
-//! The tests of the crates below the gateway, of what is public of them; those of the registry stand beside it. Each of
-//! these crates, with tests of its own, would be proved once more for them.
+//! The tests of the public parts of the crates below the gateway, except `device_registry` and `learned_devices`, which
+//! have their own. If the crates tested here had tests of their own, they would be proved once more for them.
 #![tactic(auto)]
 
 #[cfg(test)]

@@ -1,4 +1,4 @@
-//! A number of each kind of row, with what it means, which profiles an arm reads, and the data of telegrams.
+//! A number for each kind of row, with its meaning; which profiles an arm reads; and the data of telegrams.
 use crate::readings::Wanted::{OutOfRange, Raw, Value, Word};
 use crate::readings::{is_said, telegram};
 use erp1_telegrams::Eep;
@@ -80,7 +80,7 @@ fn two_types(rt: HostRuntime) {
 
 #[test]
 fn payloads(rt: HostRuntime) -> Result<(), Fail> {
-    // each telegram, and what its payload is for a profile of 4BS
+    // each telegram, and its payload for a profile of 4BS
     let cases: [(u8, &[u8], Result<&[u8; 4], Unreadable>); 4] = [
         (
             0xA5,

@@ -1,4 +1,4 @@
-//! Telegrams of 4BS whose readings are known, each refusal, and the profiles.
+//! 4BS telegrams with known readings, each error, and the profiles.
 use crate::readings::Wanted::{OutOfRange, Raw, Value, Word};
 use crate::readings::{Read, Refusal, Types};
 use erp1_telegrams::Eep;
@@ -191,7 +191,7 @@ pub const READ: [Read; 17] = [
     },
 ];
 
-/// The reading that is there before a refusal.
+/// The reading that is there before an error.
 pub const BEFORE: Reading = Reading {
     name: "TI",
     what: What::Raw(7),

@@ -1,4 +1,4 @@
-//! Telegrams of RPS and 1BS whose readings are known, each refusal, and the profiles.
+//! RPS and 1BS telegrams with known readings, each error, and the profiles.
 use crate::readings::Wanted::{OutOfRange, Raw, Word};
 use crate::readings::{Read, Refusal, Types};
 use erp1_telegrams::Eep;
@@ -99,7 +99,7 @@ pub const READ: [Read; 9] = [
     },
 ];
 
-/// The reading that is there before a refusal.
+/// The reading that is there before an error.
 pub const BEFORE: Reading = Reading {
     name: "CO",
     what: What::Word("open"),

@@ -1,4 +1,4 @@
-//! Telegrams of VLD whose readings are known, each refusal, and the profiles.
+//! VLD telegrams with known readings, each error, and the profiles.
 use crate::readings::Wanted::{OutOfRange, Raw, Value, Word};
 use crate::readings::{Read, Refusal, Types};
 use erp1_telegrams::Eep;
@@ -18,7 +18,6 @@ const OTHER: Eep = Eep {
     typ: 0x13,
 };
 
-/// Blinds.
 const BLINDS: Eep = Eep {
     rorg: 0xD2,
     func: 0x05,
@@ -104,7 +103,7 @@ pub const READ: [Read; 7] = [
     },
 ];
 
-/// The reading that is there before a refusal.
+/// The reading that is there before an error.
 pub const BEFORE: Reading = Reading {
     name: "IO",
     what: What::Raw(1),

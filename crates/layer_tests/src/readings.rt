@@ -1,4 +1,4 @@
-//! The readings of telegrams, refusals, and the supported profiles of the three crates of profiles. The tables of each
+//! The readings of telegrams, errors, and the supported profiles of the three crates of profiles. The tables of each
 //! crate are in a file of its own.
 use crate::{profiles_4bs_tests, profiles_rps_tests, profiles_vld_tests};
 use erp1_telegrams::{BROADCAST, Eep, Telegram};
@@ -6,7 +6,7 @@ use profile_rows::{Reading, Readings, Unreadable, What};
 use std::process::Abort;
 use std::test::Fail;
 
-/// What a reading is expected to say: a value has a numerator, a denominator and a unit.
+/// The expected content of a reading: a value has a numerator, a denominator and a unit.
 #[derive(Clone, Copy)]
 pub enum Wanted {
     Value(i64, i64, &'static str),
@@ -39,7 +39,6 @@ pub struct Types {
     pub types: &'static [u8],
 }
 
-/// A crate of profiles.
 #[derive(Clone, Copy)]
 enum Crate {
     Rps,
@@ -66,7 +65,7 @@ pub(crate) fn telegram(rorg: u8, payload: &[u8], status: u8) -> Result<Telegram,
     Ok(Telegram::new(rorg, payload, 0x0180_0ABC, status, BROADCAST, None)?)
 }
 
-/// Whether a reading says what is wanted.
+/// Whether a reading has the expected content.
 pub(crate) fn is_said(what: What, wanted: Wanted) -> bool {
     match (what, wanted) {
         (What::Value(value, unit), Wanted::Value(num, den, wanted)) => {
@@ -113,7 +112,7 @@ fn worked_readings(rt: HostRuntime) -> Result<(), Fail> {
     are_read(&rt, Crate::Vld, &profiles_vld_tests::READ)
 }
 
-// A refusal leaves the readings that were there before.
+// An error leaves the readings that were there before.
 fn are_refused(rt: &impl Abort, by: Crate, before: Reading, rows: &[Refusal]) -> Result<(), Fail> {
     let mut readings = Readings::new();
     readings.push(before);

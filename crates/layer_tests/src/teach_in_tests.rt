@@ -1,4 +1,4 @@
-//! What telegrams are at teach-in, which profiles can be learned, what is planned about a sender, and the replies to
+//! The roles of telegrams in teach-in, the profiles that can be learned, the plans for a sender, and the replies to
 //! queries.
 mod four_byte;
 mod given;

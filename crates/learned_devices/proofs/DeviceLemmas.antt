@@ -1,4 +1,4 @@
--- What is known of one sender after a change at another, or at itself.
+-- The stored data of one sender after an update of another, or of itself.
 use Rattle.std.proofs.Common.{◌≡◌, ℕ, Option, Some, None, cond, nat_cmp}
 use Rattle.std.specs.Cmp.{nat_cmp_total}
 use Rattle.std.specs.Ordering.{eq_by_cmp}

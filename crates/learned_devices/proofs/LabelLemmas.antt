@@ -1,4 +1,4 @@
--- What holds of the bytes of every label.
+-- Properties of the bytes of every label.
 use Rattle.std.proofs.Common.{arith, ◌≡◌, ℕ, true, not, ◌&&◌, List, [], ◌∷◌}
 use Rattle.std.specs.Prelude.{nat_eq}
 use Rattle.std.specs.List.{list_all, starts_with, ends_with}
@@ -16,7 +16,7 @@ shown-ascii (b ∷ more) are =
     let shown = parts.0 in
     IsAscii-cons b more (grind (arith, nat_tests, shown)) (shown-ascii more parts.1)
 
--- what would be a label, were it not too long, is UTF-8
+-- a valid label of any length is UTF-8
 pub name-utf8 : (text : List ℕ) → is_name text ≡ true → IsUtf8 text
 name-utf8 text is =
     let parts =

@@ -1,8 +1,8 @@
--- Why a store of devices fails. Own choice.
+-- Why a device store fails. Own choice.
 use Rattle.std.specs.Prelude.{true, false}
 use Rattle.learned_devices.specs.declared.fault.StoreFault.{StoreFault}
 
--- there is no memory
+-- out of memory
 abbrev pub no_memory : StoreFault
 no_memory = record { is_memory = true }
 

@@ -1,12 +1,12 @@
--- What a store of devices keeps, whatever it is made of, and how an update changes that. Own choice.
+-- What a device store keeps, whatever it is made of, and how an update changes that. Own choice.
 use Rattle.std.specs.Prelude.{◌≡◌, ◌⊎◌}
 use Rattle.learned_devices.specs.Devices.{Devices, Change, changed}
 
--- What is known of a store at one moment.
+-- The state of a device store at one moment.
 pub record Kept : Type 1 where
   -- so far the medium has returned what was written to it; all that follows depends on this
   pub honest : Type 0
-  -- the store holds these devices, as long as it is open
+  -- the device store holds these devices, as long as it is open
   pub holds : Devices → Type 0
   -- a crash may leave these devices
   pub may_recover : Devices → Type 0
@@ -18,17 +18,17 @@ pub record Keeps (old new : Kept) (devices : Devices) : Type 0 where
   pub now : new.holds devices
   pub stop : (left : Devices) → new.may_recover left → old.may_recover left
 
--- the change is committed: the store holds it, and a crash leaves the devices with it and nothing else
+-- the update is committed: the device store holds it, and a crash leaves only the updated devices
 pub record Commits (new : Kept) (change : Change) (devices : Devices) : Type 0 where
   pub now : new.holds (changed devices change)
   pub stop : (left : Devices) → new.may_recover left → left ≡ changed devices change
 
--- a crash may leave what it could leave before, or the devices with the change, and nothing else
+-- a crash may leave only what it could leave before, or the updated devices
 abbrev pub MayLeave : Kept → Kept → Change → Devices → Type 0
 MayLeave old new change devices = (left : Devices) → new.may_recover left
     → old.may_recover left ⊎ (left ≡ changed devices change)
 
--- the call failed, at its write or before: the devices are as they were, but a crash may leave them with the change
+-- the call failed, at its write or before: the devices are as they were, but a crash may leave the updated ones
 pub record Pends (old new : Kept) (change : Change) (devices : Devices) : Type 0 where
   pub now : new.holds devices
   pub stop : MayLeave old new change devices

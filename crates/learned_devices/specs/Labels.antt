@@ -2,22 +2,22 @@
 use Rattle.std.specs.Prelude.{ℕ, Bool, not, ◌&&◌, nat_eq, nat_le, List, [], ◌∷◌, length}
 use Rattle.std.specs.List.{list_all, starts_with, ends_with}
 
--- the longest label, in bytes
+-- the maximum length of a label, in bytes
 abbrev pub max_label : ℕ
 max_label = 32
 
--- a byte that stands in a label: from space to `~` of ASCII
+-- a byte that a label may contain: from space to `~` of ASCII
 abbrev pub is_shown : ℕ → Bool
 is_shown byte = nat_le 0x20 byte && nat_le byte 0x7E
 
 abbrev pub space : List ℕ
 space = 0x20 ∷ []
 
--- a label of any length: shown bytes, of which neither the first nor the last is a space
+-- a label of any length: shown bytes, neither beginning nor ending with a space
 abbrev pub is_name : List ℕ → Bool
 is_name text =
     list_all is_shown text && not (starts_with nat_eq text space) && not (ends_with nat_eq text space)
 
--- a text that people know a device by, or the empty one
+-- the name of a device for people, or the empty text
 abbrev pub is_label : List ℕ → Bool
 is_label text = is_name text && nat_le (length text) max_label

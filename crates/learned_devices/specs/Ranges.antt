@@ -8,7 +8,7 @@ use Rattle.learned_devices.specs.Devices.{Devices, device_of}
 abbrev pub IsProfileInRange : Eep → Type 0
 IsProfileInRange eep = (eep.rorg < 256) × (eep.func < 256) × (eep.typ < 256)
 
--- the number of a maker, if it is known, has at most two bytes
+-- a manufacturer ID, if it is known, has at most two bytes
 abbrev pub IsMakerInRange : Option ℕ → Type 0
 IsMakerInRange maker = IfSome maker (λ maker. maker < 2 ^ 16)
 

@@ -1,4 +1,4 @@
--- The calls of a store of devices, from what it kept before to what it keeps afterwards. Own choice.
+-- The calls of a device store, from what it kept before to what it keeps afterwards. Own choice.
 use Rattle.std.specs.Prelude.{◌≡◌, ℕ, Bool, false, is_some, IsTrue, MatchBool, MatchResult}
 use Rattle.std.specs.Prelude.{List, Option, Result, Vec}
 use Rattle.std.specs.declared.alloc.Global.{Global}
@@ -17,7 +17,7 @@ pub record LooksUp {E : Type 0} (old new : Kept) (id : ℕ) (result : Result (Op
       → MatchResult result (λ found. (found ≡ device_of devices id) × Keeps old new devices)
       (λ _. Keeps old new devices)
 
--- a change is committed, or the call failed, at its write or before
+-- an update is committed, or the call failed, at its write or before
 pub record Updates {A E : Type 0} (old new : Kept) (change : Change) (result : Result A E) : Type 0 where
   pub clean : new.honest → old.honest
   pub registries : new.honest → new.sound
@@ -30,7 +30,7 @@ RefusesToLearn old new it devices Full = IsTrue (is_full devices it.id) × Keeps
 RefusesToLearn old new it devices (Refused fault) =
     MatchBool (is_full devices it.id) (Keeps old new devices) (Pends old new (learned it) devices)
 
--- a device is learned, in place of what was known of its sender, except for the label
+-- a device is learned and replaces the data of its sender, except for the label
 pub record Learns {A : Type 0} (old new : Kept) (it : Device) (result : Result A LearnFault) : Type 0 where
   pub clean : new.honest → old.honest
   pub registries : new.honest → new.sound
@@ -38,7 +38,7 @@ pub record Learns {A : Type 0} (old new : Kept) (it : Device) (result : Result A
       → MatchResult result (λ _. (is_full devices it.id ≡ false) × Commits new (learned it) devices)
       (RefusesToLearn old new it devices)
 
--- a sender is forgotten, also one of which nothing is known
+-- a sender is forgotten, even if it was not learned
 abbrev pub Forgets : {A E : Type 0} → Kept → Kept → ℕ → Result A E → Type 0
 Forgets old new id result = Updates old new (forgotten id) result
 

@@ -1,4 +1,4 @@
-//! A store of devices, and the receipts for its updates.
+//! A device store, and the receipts for its updates.
 ghost use Rattle.std.specs.Prelude.{◌≡◌, [], false, IfOk, IsTrue, OnOk};
 ghost use Rattle.learned_devices.specs.Devices.{Devices, Change, forgotten, learned, relabelled};
 ghost use Rattle.learned_devices.specs.Kept.{Kept};
@@ -7,16 +7,16 @@ ghost use Rattle.learned_devices.specs.StoreCalls.{LooksUp, Learns, Forgets, Rel
 use crate::fault::{LearnFault, StoreFault};
 use crate::{Device, Label};
 
-/// Proof that a store has committed an update. `DeviceStore::learn` and `DeviceStore::forget` make one, after the
-/// commit; its fields are private to this module. It does not name its store. It cannot be dropped; `spend` consumes
-/// it.
+/// Proof that a device store has committed an update. `DeviceStore::learn` and `DeviceStore::forget` make one, after
+/// the commit; its fields are private to this module. It does not name its store. It cannot be dropped; `spend`
+/// consumes it.
 pub struct Receipt {
     id: u32,
     is_learned: bool,
 }
 
 impl Receipt {
-    /// The sender, and whether it was learned, not forgotten.
+    /// The sender, and whether it was learned (true) or forgotten.
     pub fn spend(self) -> (u32, bool)
         ensures { (result.0 ≡ self.id) × (result.1 ≡ self.is_learned) }
     {
@@ -25,7 +25,7 @@ impl Receipt {
     }
 }
 
-/// A store of at most 1,000 devices, each by the ID of its sender.
+/// Stores at most 1,000 devices, each under the ID of its sender.
 pub trait DeviceStore {
     /// What it keeps.
     ghost kept: { Self → Kept };
@@ -37,21 +37,21 @@ pub trait DeviceStore {
     fn find(&mut self, id: u32) -> Result<Option<Device>, StoreFault>
         ensures { LooksUp (kept self.old) (kept self.new) id result };
 
-    /// Stores a device, in place of what was known of its sender. A known sender keeps its label. `Ok` is returned
-    /// after the commit.
+    /// Stores a device, in place of the known data of its sender. A known sender keeps its label. Returns `Ok` after
+    /// the commit.
     fn put(&mut self, device: Device) -> Result<(), LearnFault>
         requires { device.label ≡ [] }
         ensures learns { Learns (kept self.old) (kept self.new) device result }
         ensures written { (kept self.new).honest → (devices : Devices) → (kept self.old).holds devices →
             OnOk result (wrote self.old self.new (learned device) devices) };
 
-    /// Deletes the device of a sender, also if there is none. `Ok` is returned after the commit.
+    /// Deletes the device of a sender, if there is one. Returns `Ok` after the commit.
     fn delete(&mut self, id: u32) -> Result<(), StoreFault>
         ensures forgets { Forgets (kept self.old) (kept self.new) id result }
         ensures written { (kept self.new).honest → (devices : Devices) → (kept self.old).holds devices →
             OnOk result (wrote self.old self.new (forgotten id) devices) };
 
-    /// Gives a sender a label, if it is learned. Returns whether it is learned.
+    /// Labels a sender, if it is learned. Returns whether it is learned.
     fn relabel(&mut self, id: u32, label: Label) -> Result<bool, StoreFault>
         ensures relabels { Relabels (kept self.old) (kept self.new) id label result }
         ensures written { (kept self.new).honest → (devices : Devices) → (kept self.old).holds devices →
@@ -61,7 +61,7 @@ pub trait DeviceStore {
     fn all(&mut self) -> Result<Vec<Device>, StoreFault>
         ensures { ListsAll (kept self.old) (kept self.new) result };
 
-    /// Learns a device, as `put` stores it, and returns the receipt for it.
+    /// Learns a device, like `put`, and returns the receipt for it.
     fn learn(&mut self, device: Device) -> Result<Receipt, LearnFault>
         requires { device.label ≡ [] }
         ensures learns { Learns (kept self.old) (kept self.new) device result }
@@ -77,7 +77,7 @@ pub trait DeviceStore {
         })
     }
 
-    /// Forgets a sender, as `delete` does, and returns the receipt for it.
+    /// Forgets a sender, like `delete`, and returns the receipt for it.
     fn forget(&mut self, id: u32) -> Result<Receipt, StoreFault>
         ensures forgets { Forgets (kept self.old) (kept self.new) id result }
         ensures receipt { IfOk result (λ receipt. (receipt.id ≡ id) × (receipt.is_learned ≡ false)) }

@@ -1,10 +1,10 @@
-//! Why a call of a store of devices fails.
+//! Why a call of a device store fails.
 ghost use Rattle.std.specs.Prelude.{◌≡◌};
 ghost use Rattle.learned_devices.specs.Faults.{no_answer};
 
 use std::alloc::AllocError;
 
-/// Why a call of a store failed: there was no memory, or the database did not answer.
+/// Why a call of a device store failed: out of memory, or the database did not answer.
 #[derive(Clone, Copy, Debug, PartialEq, Eq, thiserror::Error)]
 #[error("{}", if *.is_memory {"there is no memory"} else {"the store does not answer"})]
 pub struct StoreFault {
@@ -19,7 +19,7 @@ impl StoreFault {
         StoreFault { is_memory: false }
     }
 
-    /// Whether there was no memory.
+    /// Whether it is out of memory.
     pub fn is_memory(&self) -> bool
         ensures { result ≡ self.now.is_memory }
     {
@@ -44,7 +44,7 @@ pub enum LearnFault {
     /// 1,000 other devices are learned.
     #[error("1,000 other devices are learned")]
     Full,
-    /// The store does not answer.
+    /// The device store does not answer, or is out of memory.
     #[error(transparent)]
     Refused(StoreFault),
 }

@@ -12,8 +12,8 @@ use std::alloc::AllocError;
 use std::fmt;
 use std::marker::Model;
 
-/// A text that people know a device by, or the empty one: at most `MAX_LABEL` bytes from space to `~` of ASCII, of
-/// which neither the first nor the last is a space. It lies in a fixed array. Own choice.
+/// The name of a device for people, or the empty text: at most `MAX_LABEL` bytes from space to `~` of ASCII, neither
+/// beginning nor ending with a space. It is stored in a fixed array. Own choice.
 #[derive(Drop)]
 pub struct Label {
     text: ArrayString<MAX_LABEL>,
@@ -42,8 +42,8 @@ fn are_shown(text: &[u8]) -> bool
     text.iter().all(is_shown)
 }
 
-/// Whether a text would be a label, were it not too long: bytes from space to `~` of ASCII, of which neither the first
-/// nor the last is a space. The empty text is one.
+/// Whether a text is a valid label, ignoring its length: bytes from space to `~` of ASCII, neither beginning nor ending
+/// with a space. The empty text is one.
 pub fn is_name(text: &[u8]) -> bool
     ensures { result ≡ is_name text.now }
 {
@@ -51,7 +51,7 @@ pub fn is_name(text: &[u8]) -> bool
 }
 
 impl Label {
-    /// The label of a device that was given none.
+    /// The label of a device without a label: the empty one.
     pub fn empty() -> Label
         ensures { result ≡ [] }
     {
@@ -60,7 +60,7 @@ impl Label {
         }
     }
 
-    /// The label with this text, where it is one.
+    /// The label with this text, or `None` if the text is not a label.
     pub fn new(text: &str) -> Option<Label>
         ensures some { IfSome result (λ label. label ≡ text.now) }
         ensures variant { IsSome result ↔ (is_label text.now ≡ true) }
@@ -89,7 +89,7 @@ impl Label {
         self.text.as_str()
     }
 
-    /// The same label. Unlike `clone`, which may be refused memory by its type, it has no error.
+    /// The same label. Unlike `clone`, it cannot fail.
     pub fn copied(&self) -> Label
         ensures { result ≡ self.now }
     {

@@ -1,4 +1,4 @@
-//! Laws of the definitions. Each function does nothing: its contract is the law.
+//! Theorems about the definitions. Each function does nothing: its contract is the theorem.
 ghost use Rattle.std.specs.Prelude.{ℕ, ◌≡◌, ◌≤◌, Some};
 ghost use Rattle.learned_devices.specs.declared.limits.TheConstants.{MAX_DEVICES, MAX_LABEL};
 ghost use Rattle.learned_devices.specs.Devices.{max_devices};
@@ -11,7 +11,7 @@ pub fn limits()
     ensures label { MAX_LABEL ≡ max_label }
 {}
 
-/// Each maker's number that a teach-in query can carry is in range: it has 11 bits.
+/// Each manufacturer ID that a teach-in query can carry is in range: it has 11 bits.
 pub fn makers_are_in_range()
     ensures { (maker : ℕ) → maker ≤ 0x7FF → IsMakerInRange (Some maker) }
 {}

@@ -1,4 +1,5 @@
-//! Devices, and what a store of devices does. A crate that depends on this one alone does not load a database.
+//! Learned devices, and the interface of a device store. A crate that depends only on this one does not load a
+//! database.
 #![tactic(auto)]
 
 ghost use Rattle.std.specs.Prelude.{◌≡◌};
@@ -17,21 +18,21 @@ pub use fault::{LearnFault, StoreFault};
 pub use label::{Label, is_name};
 pub use limits::{MAX_DEVICES, MAX_LABEL};
 
-/// What is known of a sender: plain numbers and a label, none of which takes memory.
+/// The stored data of a sender: plain numbers and a label, which need no memory.
 #[derive(Clone, Debug, Drop, PartialEq, Eq)]
 pub struct Device {
     /// The sender's ID, 0 to FFFFFFFE.
     pub id: u32,
     /// The profile of its telegrams.
     pub eep: Eep,
-    /// The number of its maker, 0 to 2047, where it told one.
+    /// Its manufacturer ID, 0 to 2047, if known.
     pub maker: Option<u16>,
-    /// The text that people know it by, or the empty one.
+    /// Its name for people, or the empty text.
     pub label: Label,
 }
 
 impl Device {
-    /// The same device. Unlike `clone`, which may be refused memory by its type, it has no error.
+    /// The same device. Unlike `clone`, it cannot fail.
     pub fn copied(&self) -> Device
         ensures { result ≡ self.now }
     {

@@ -1,10 +1,10 @@
-//! Which texts are labels, how devices are copied, and what faults print.
+//! Tests of labels, of copies of devices, and of the texts of faults.
 use crate::{Device, Label, LearnFault, MAX_DEVICES, MAX_LABEL, StoreFault, is_name};
 use erp1_telegrams::Eep;
 use std::alloc::AllocError;
 use std::test::Fail;
 
-/// The text of the label that is made of a text.
+/// The text of the label made from a text, if it is one.
 fn told(label: &Option<Label>) -> Option<&str> {
     label.as_ref().map(Label::as_str)
 }

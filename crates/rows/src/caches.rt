@@ -1,4 +1,4 @@
-//! Rows over registries that remember few senders and many: the same is written.
+//! Cases over registries that cache few senders and many: the output is the same.
 ghost use Rattle.std.specs.Prelude.{◌≤◌};
 
 use crate::scripts::row;
@@ -10,7 +10,7 @@ use gateway_main::{OverRead, OverWrite, replay};
 use sqlite::Connection;
 use std::alloc::Global;
 
-/// More reads than these rows take.
+/// More reads than these sessions need.
 const TURNS: u64 = 1000;
 
 pub(crate) fn tell(rt: &HostRuntime, telling: &mut Telling) -> Result<()> {
@@ -36,7 +36,7 @@ fn tell_of(rt: &HostRuntime, telling: &mut Telling, name: &str, cache: usize) ->
     telling.tell(rt, title.as_str(), is_well)
 }
 
-/// Whether this is what is written for a script over this registry.
+/// Whether this is written for a script over this registry.
 fn is_written<S: DeviceStore + Drop>(
     alloc: Global,
     registry: S,

@@ -1,4 +1,4 @@
-//! Streams that are made up, each cut in three ways: whatever the cuts, the same is written.
+//! Generated streams, each split in three ways: the output does not depend on the chunk boundaries.
 use crate::gateways::replay_new;
 use crate::telling::Telling;
 use anyhow::Result;
@@ -11,23 +11,22 @@ pub const CONTACT: [u8; 21] = [
     0xFF, 0xFF, 0x2D, 0x00, 0x1F,
 ];
 
-/// A response with four bytes behind its return code.
+/// A response with four bytes after its return code.
 const RESPONSE: [u8; 12] = [
     0x55, 0x00, 0x05, 0x00, 0x02, 0xCE, 0x00, 0xFF, 0x80, 0x00, 0x00, 0xDA,
 ];
 
-/// A header with a right check that announces 63 bytes.
+/// A header with a correct CRC that announces 63 bytes.
 const FALSE_HEADER: [u8; 6] = [0x55, 0x00, 0x3F, 0x00, 0x01, 0xA1];
 
 const FIRST: &[u8] = b"add 01800ABC D5-00-01\n";
 
-/// More reads than any script takes.
+/// More reads than any script needs.
 const TURNS: u64 = 1000;
 
-/// How many streams are made up.
 const STREAMS: u32 = 1000;
 
-/// Numbers without a pattern: a linear congruential generator.
+/// Pseudo-random numbers: a linear congruential generator.
 #[derive(Drop)]
 struct Chance {
     state: u32,
@@ -43,7 +42,7 @@ impl Chance {
     }
 }
 
-// Eight parts, each a packet, a false header, a first part of a packet, or noise.
+// Eight parts, each a packet, a false header, a prefix of a packet, or noise.
 fn stream(alloc: Global, chance: &mut Chance) -> Result<Vec<u8>> {
     let mut bytes = Vec::new(alloc);
     for _ in 0..8 {
@@ -62,7 +61,7 @@ fn stream(alloc: Global, chance: &mut Chance) -> Result<Vec<u8>> {
     Ok(bytes)
 }
 
-// Puts a piece of serial bytes behind a script.
+// Appends a chunk of serial bytes to a script.
 pub(crate) fn add_piece(script: &mut Vec<u8>, piece: &[u8]) -> Result<()> {
     const DIGITS: &[u8; 16] = b"0123456789ABCDEF";
     script.extend_from_slice(b"S ")?;
@@ -74,8 +73,8 @@ pub(crate) fn add_piece(script: &mut Vec<u8>, piece: &[u8]) -> Result<()> {
     Ok(())
 }
 
-// The script of a stream: one device is learned, then the pieces come, and then the counts are told. A longest piece
-// of 0 bytes leaves the lengths to chance.
+// The script of a stream: one device is learned, then the chunks follow, and then the counters are reported. If
+// `longest` is 0, the lengths are random.
 fn script(alloc: Global, bytes: &[u8], longest: usize, chance: &mut Chance) -> Result<Vec<u8>> {
     let mut script = Vec::new(alloc);
     script.extend_from_slice(FIRST)?;
@@ -95,7 +94,7 @@ fn script(alloc: Global, bytes: &[u8], longest: usize, chance: &mut Chance) -> R
     Ok(script)
 }
 
-/// What is written for a stream that is cut so, or nothing where the replay does not end well.
+/// The output for a stream that is split in this way, or nothing if the replay ends with an error.
 fn written(alloc: Global, bytes: &[u8], longest: usize, chance: &mut Chance) -> Result<Vec<u8>> {
     let script = script(alloc, bytes, longest, chance)?;
     let mut out = Vec::new(alloc);
@@ -108,7 +107,7 @@ fn written(alloc: Global, bytes: &[u8], longest: usize, chance: &mut Chance) -> 
     Ok(out)
 }
 
-/// What is written for the next stream, whole. None: other cuts change it.
+/// The output for the next stream, unsplit. `None`: other chunk boundaries change it.
 fn written_for_any_cut(alloc: Global, chance: &mut Chance) -> Result<Option<Vec<u8>>> {
     let bytes = stream(alloc, chance)?;
     let whole = written(alloc, bytes.as_slice(), 99, chance)?;
@@ -118,7 +117,7 @@ fn written_for_any_cut(alloc: Global, chance: &mut Chance) -> Result<Option<Vec<
     Ok(is_same.then_some(whole))
 }
 
-/// Of a hundred streams and more a packet is read.
+/// In more than a hundred streams, a packet is read.
 pub(crate) fn tell(rt: &HostRuntime, telling: &mut Telling) -> Result<()> {
     let mut chance = Chance { state: 2026 };
     let mut same = 0u32;

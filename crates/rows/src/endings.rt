@@ -1,4 +1,4 @@
-//! The statuses that the program ends with, and what it says of a fault.
+//! The exit statuses of the program, and its messages for faults.
 use crate::telling::Telling;
 use anyhow::Result;
 use gateway_core::StartFault;
@@ -36,7 +36,7 @@ fn tell_faults(rt: &HostRuntime, telling: &mut Telling) -> Result<()> {
     Ok(())
 }
 
-// What stops a gateway has a text of its own, for callers of the libraries.
+// Each cause that stops a gateway has a text of its own, for callers of the libraries.
 fn tell_texts(rt: &HostRuntime, telling: &mut Telling) -> Result<()> {
     for (text, wanted) in [
         (RunFault::Read.to_string(rt.alloc())?, "a read failed"),
@@ -129,7 +129,7 @@ fn status_of_line(alloc: Global, line: &str) -> Result<Option<u8>> {
     }
 }
 
-// A path that does not open is told before the close, and so is what a run came to.
+// A path that cannot be opened is reported before the close, and so is the result of a run.
 fn tell_closes(rt: &HostRuntime, telling: &mut Telling) -> Result<()> {
     let summary = Summary { items: 2 };
     let refused = sqlite::Error::SqliteFailure(sqlite::ErrorCode::TransactionState);

@@ -6,8 +6,8 @@ fn failed() -> io::Error {
     io::Error::from(io::ErrorKind::Other)
 }
 
-/// A reader that gives one part at each read, then nothing, and fails where it is not given room for just 256 bytes, or
-/// at the read of one number, the first being 1.
+/// A reader that returns one part at each read, then nothing. Fails if the buffer does not have exactly 256 bytes, or
+/// at the read with this number, the first being 1.
 #[derive(Drop)]
 pub struct Parts<'a> {
     parts: &'a [&'a [u8]],
@@ -40,8 +40,8 @@ impl<'a> Read for Parts<'a> {
     }
 }
 
-/// A writer that takes so many bytes at a call, and fails at the call of one number alone, the first being 1: so a
-/// second try is found out.
+/// A writer that takes at most this many bytes at a call, and fails only at the call with this number, the first being
+/// 1: so a second try is detected.
 #[derive(Drop)]
 pub struct Sips<'a> {
     taken: &'a mut Vec<u8>,

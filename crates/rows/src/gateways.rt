@@ -32,10 +32,10 @@ pub(crate) fn replay_new<R: Source, W: Sink>(
     Ok(replay(reader, writer, &mut gateway, explains, turns))
 }
 
-/// More reads than a script takes that is replayed by a gateway which has others too.
+/// More reads than a script needs that is replayed by a gateway after others.
 const TURNS: u64 = 100;
 
-/// What is written for a script that this gateway replays to its end.
+/// The output for a script that this gateway replays to its end.
 pub(crate) fn written_by<S: DeviceStore>(
     alloc: Global,
     gateway: &mut GatewayOver<S>,

@@ -1,8 +1,8 @@
-//! Hostile use: stores that refuse, stops, noise, inputs that break off, and readers and writers that fail.
+//! Hostile conditions: stores that fail, crashes, noise, inputs that end early, and readers and writers that fail.
 //!
-//! The wrong bodies that are named beside the cases were tried in one run, all at once, but for that of
-//! `a device that could not be told is kept`. Each case outside this module was `ok`. Which body a case differed by is
-//! told by its number; no body was tried alone.
+//! The mutants that are named beside the cases were tried in one run, all at once, except for that of `a device that
+//! could not be told is kept`. Each case outside this module was `ok`. The number in a case's output shows which mutant
+//! it differed by; no mutant was tried by itself.
 mod bytes;
 mod crashes;
 mod cuts;

@@ -1,4 +1,4 @@
-//! Serial lines and desks that are served in turns: what goes where, and what stands where after each fault.
+//! Serial lines and desks that are served in turns: which output gets what, and what it holds after each fault.
 use crate::fakes::{Parts, Sips, TakesNothing};
 use crate::gateways::{fresh, serve_new};
 use crate::telling::Telling;
@@ -17,7 +17,7 @@ const STATUS: &[u8] =
     b"{\"ignored\":1,\"mode\":\"closed\",\"readings\":0,\"refused\":0,\"responses\":0,\"teach\":0,\
     \"type\":\"status\"}\n";
 
-/// A contact telegram, how it is explained where it is not learned, what is told where it is, and its reading.
+/// A contact telegram, its explanation if it is not learned, its teach line when it is, and its reading.
 const CONTACT: &[u8] =
     b"\x55\x00\x07\x07\x01\x7A\xD5\x09\x01\x80\x0A\xBC\x00\x01\xFF\xFF\xFF\xFF\x2D\x00\x1F";
 
@@ -31,7 +31,7 @@ const KNOWN: &[u8] =
 const READING: &[u8] = b"{\"dbm\":-45,\"eep\":\"D5-00-01\",\"id\":\"01800ABC\",\
     \"readings\":[{\"name\":\"CO\",\"word\":\"closed\"}],\"type\":\"reading\"}\n";
 
-/// A query of universal teach-in, the reply to it, how it is explained, and what the desk is told.
+/// A UTE query, the reply to it, its explanation, and its teach line.
 const QUERY: &[u8] =
     b"\x55\x00\x0D\x07\x01\xFD\xD4\xA0\x01\x46\x00\x12\x01\xD2\x01\x80\x0A\xBC\x00\x01\
     \xFF\xFF\xFF\xFF\x2D\x00\x8A";
@@ -47,7 +47,6 @@ const QUERY_EXPLAINED: &[u8] =
 const TAUGHT: &[u8] =
     b"{\"eep\":\"D2-01-12\",\"id\":\"01800ABC\",\"maker\":70,\"result\":\"accepted\",\"type\":\"teach\"}\n";
 
-/// The question for the base ID.
 const BASE_QUESTION: &[u8] = b"\x55\x00\x01\x00\x05\x70\x08\x38";
 
 /// No call of a writer fails.
@@ -65,7 +64,7 @@ pub(crate) fn tell(rt: &HostRuntime, telling: &mut Telling) -> Result<()> {
     tell_writers_that_take_nothing(rt, telling)
 }
 
-/// How a gateway served some turns, and what went out.
+/// How a gateway served some turns, and what it wrote.
 #[derive(Drop)]
 pub struct Served {
     pub ended: Result<Summary, RunFault>,
@@ -74,13 +73,13 @@ pub struct Served {
 }
 
 impl Served {
-    /// Whether it ended so, with these bytes on each side.
+    /// Whether it ended with this result, with these bytes on each side.
     fn is(&self, ended: Result<Summary, RunFault>, radio: &[&[u8]], desk: &[&[u8]]) -> bool {
         self.ended == ended && is_all(&self.radio, radio) && is_all(&self.desk, desk)
     }
 }
 
-/// Whether the bytes are these parts, one behind the other.
+/// Whether the bytes are these parts, one after the other.
 fn is_all(bytes: &Vec<u8>, parts: &[&[u8]]) -> bool {
     let mut rest = bytes.as_slice();
     for part in parts {
@@ -105,8 +104,8 @@ fn serve(
     serve_by(alloc, &mut gateway, inputs, false, turns, 7, fails_at)
 }
 
-/// Serves two turns with explanations: a packet and two orders, and then a query. The writers take so many bytes at a
-/// call, and that to the desk fails at this call.
+/// Serves two turns with explanations: a packet and two orders, and then a query. The writers take at most this many
+/// bytes at a call, and that of the desk fails at this call.
 fn serve_explained(alloc: Global, most: usize, desk_fails_at: usize) -> Result<Served> {
     let mut gateway = fresh(alloc)?;
     let serial = [CONTACT, QUERY];
@@ -116,8 +115,8 @@ fn serve_explained(alloc: Global, most: usize, desk_fails_at: usize) -> Result<S
     serve_by(alloc, &mut gateway, inputs, true, 2, most, fails_at)
 }
 
-/// Serves turns by this gateway, with explanations or without, and with writers that take so many bytes at a call and
-/// fail at these calls.
+/// Serves turns by this gateway, with explanations or without, and with writers that take at most this many bytes at a
+/// call and fail at these calls.
 pub(crate) fn serve_by<S: DeviceStore>(
     alloc: Global,
     gateway: &mut GatewayOver<S>,
@@ -165,8 +164,8 @@ fn items(items: u64) -> Result<Summary, RunFault> {
     Ok(Summary { items })
 }
 
-// In a turn the serial line comes first: its packet is counted before the status is told, and a query before the window
-// is open is ignored.
+// In a turn the serial line comes first: its packet is counted before the status is reported, and a query before the
+// window is open is ignored.
 fn tell_order_of_sides(rt: &HostRuntime, telling: &mut Telling) -> Result<()> {
     let served = serve_parts(rt.alloc(), &[CONTACT], &[b"status\n".as_slice()], 1)?;
     telling.tell(
@@ -182,8 +181,8 @@ fn tell_order_of_sides(rt: &HostRuntime, telling: &mut Telling) -> Result<()> {
     )
 }
 
-// The reply goes out by radio as it is, and the desk is told what was learned. With 0 turns it ends well, and readers
-// and writers that fail are not asked.
+// The reply is sent by radio unchanged, and the desk receives what was learned. With 0 turns it returns `Ok`, and
+// readers and writers that would fail are not called.
 fn tell_both_outputs(rt: &HostRuntime, telling: &mut Telling) -> Result<()> {
     let alloc = rt.alloc();
     let desk = [b"learn on\r\nba".as_slice(), b"se\n"];
@@ -194,8 +193,7 @@ fn tell_both_outputs(rt: &HostRuntime, telling: &mut Telling) -> Result<()> {
     telling.tell(rt, "no turns", served.is(items(0), &[], &[]))
 }
 
-// A packet is explained before its own line. What goes out by radio is as without explanations, and so is what an order
-// comes to.
+// A packet is explained before its own line. Explanations change neither the radio bytes nor the answers to orders.
 fn tell_explanations(rt: &HostRuntime, telling: &mut Telling) -> Result<()> {
     let served = serve_explained(rt.alloc(), 7, NEVER)?;
     let told = [CONTACT_EXPLAINED, OK, OK, QUERY_EXPLAINED, TAUGHT];
@@ -203,8 +201,9 @@ fn tell_explanations(rt: &HostRuntime, telling: &mut Telling) -> Result<()> {
     telling.tell(rt, "packets that are explained", is_well)
 }
 
-// A packet may come in pieces, and bytes that are LF or digits are bytes like others on the serial line. A line of the
-// desk is always an order, and counts at its LF, without one CR. What is no line at the end of the turns is dropped.
+// A packet may arrive in chunks, and bytes that are LF or digits have no special meaning on the serial line. A line of
+// the desk is always an order, and is complete at its LF, without one CR. A partial line at the end of the turns is
+// dropped.
 fn tell_lines(rt: &HostRuntime, telling: &mut Telling) -> Result<()> {
     let serial = [b"S \n".as_slice(), &CONTACT[..10], &CONTACT[10..]];
     let desk = [b"add 01800ABC D5-00-01\n".as_slice(), b"S 00\nS", b"\n"];
@@ -222,7 +221,7 @@ fn drops_what_is_not_ended(alloc: Global) -> Result<bool> {
     Ok(first.is_empty() && second.as_slice() == SYNTAX)
 }
 
-/// What the desk is told in one more turn, in which it gives these bytes and the serial line none.
+/// What the desk receives in one more turn, in which it sends these bytes and the serial line none.
 fn desk_after<S: DeviceStore>(
     alloc: Global,
     gateway: &mut GatewayOver<S>,
@@ -247,7 +246,7 @@ fn desk_after<S: DeviceStore>(
     Ok(told)
 }
 
-/// Whether this is told for 100 letters, so many more, and this end, across three reads.
+/// Whether the desk receives this for 100 letters, this many more, and this end, across three reads.
 fn is_told(alloc: Global, length: usize, end: &[u8], wanted: &[u8]) -> Result<bool> {
     let line = [b'x'; 201];
     let (front, back) = line.split_at(100);
@@ -255,7 +254,7 @@ fn is_told(alloc: Global, length: usize, end: &[u8], wanted: &[u8]) -> Result<bo
     Ok(served.is(items(1), &[], &[wanted]))
 }
 
-// A line's end does not count to its 200 bytes.
+// A line's end does not count towards its 200 bytes.
 fn tell_lengths(rt: &HostRuntime, telling: &mut Telling) -> Result<()> {
     let cases: [(&str, usize, &[u8], &[u8]); 4] = [
         ("200 bytes of the desk and LF", 100, b"\n", SYNTAX),
@@ -289,7 +288,7 @@ fn serve_query(
     )
 }
 
-// Each read fails in turn: what came before it is done.
+// Each read fails in turn: what arrived before it is handled.
 fn tell_reads_that_fail(rt: &HostRuntime, telling: &mut Telling) -> Result<()> {
     let cases: [(&str, (usize, usize), &[&[u8]], &[&[u8]]); 4] = [
         ("the first read of the serial line", (1, 0), &[], &[]),
@@ -309,7 +308,7 @@ fn tell_reads_that_fail(rt: &HostRuntime, telling: &mut Telling) -> Result<()> {
     Ok(())
 }
 
-/// Whether the gateway ends with `Write`, with just so many first bytes on each writer, where its writers fail from
+/// Whether the gateway ends with `Write`, and each writer has exactly this many first bytes, if its writers fail from
 /// these calls on.
 fn breaks_off(alloc: Global, fails_at: (usize, usize), sent: usize, told: usize) -> Result<bool> {
     let all = serve_query(alloc, (0, 0), (NEVER, NEVER))?;
@@ -322,10 +321,10 @@ fn breaks_off(alloc: Global, fails_at: (usize, usize), sent: usize, told: usize)
     )
 }
 
-// Each write to the serial line fails in turn. The desk is told nothing of the packet or order, and nothing later. The
-// reply takes four writes of seven bytes, of which the last has six, and the question two. Then each write to the desk
-// fails in turn. The radio bytes of the packet or order are out, and nothing later. The window's line takes two writes,
-// the teach line twelve, of which the last has four, and the answer to `base` two.
+// Each write to the serial line fails in turn. The desk receives nothing for the packet or order, and nothing later.
+// The reply takes four writes of seven bytes, the last of which has six, and the request two. Then each write to the
+// desk fails in turn. The radio bytes of the packet or order are sent, and nothing later. The window's line takes two
+// writes, the teach line twelve, the last of which has four, and the answer to `base` two.
 fn tell_writes_that_fail(rt: &HostRuntime, telling: &mut Telling) -> Result<()> {
     let alloc = rt.alloc();
     for (fails_at, sent, told) in [
@@ -363,10 +362,10 @@ fn tell_explained_writes_that_fail(rt: &HostRuntime, telling: &mut Telling) -> R
     )
 }
 
-/// Returns the first number of bytes written to the desk before a failure at which its text does not break off there,
+/// Returns the first number of bytes written to the desk before a failure for which its text does not break off there,
 /// or the radio bytes are not exactly those up to there.
 fn first_wrong_explained(alloc: Global) -> Result<Option<usize>> {
-    // the bytes that the radio gets, and the lines that the desk gets after them
+    // the radio bytes, and the lines for the desk after them
     let parts: [(&[u8], &[u8]); 5] = [
         (b"", CONTACT_EXPLAINED),
         (b"", OK),

@@ -1,6 +1,6 @@
-//! The tests of `gateway_core`, `gateway_loop` and `gateway_main`, as a program: it replays each worked row, and runs
-//! the gateway over readers, writers, caches and disks that no row has. Each case is told by a line, as `NAME ok` or
-//! `NAME differs`.
+//! The tests of `gateway_core`, `gateway_loop` and `gateway_main`, as a program: it replays each golden session, and
+//! runs the gateway over readers, writers, caches and disks that no session has. It prints one line for each case,
+//! `NAME ok` or `NAME differs`.
 #![tactic(auto)]
 
 mod caches;

@@ -1,4 +1,4 @@
-//! A store that is one variable, to show that the gateway runs over any store of devices.
+//! A device store that is one variable, to show that the gateway runs over any device store.
 ghost use Rattle.std.specs.Prelude.{◌≡◌, [], ℕ};
 
 use crate::gateways::{BASE, written_by};
@@ -8,8 +8,8 @@ use gateway_core::GatewayOver;
 use learned_devices::{Device, DeviceStore, Label, LearnFault, StoreFault};
 use std::alloc::{AllocError, Global};
 
-/// A store with room for one device, which it forgets when the program ends. It guarantees nothing: the premise of
-/// its contracts (`honest`) never holds.
+/// A device store for one device, which is lost when the program ends. It guarantees nothing: the premise of its
+/// contracts (`honest`) never holds.
 #[derive(Drop)]
 struct OneDevice {
     alloc: Global,

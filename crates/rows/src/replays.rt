@@ -1,4 +1,4 @@
-//! Replays of short scripts, of readers and writers that fail, and of lines at their longest.
+//! Replays of short scripts, with readers and writers that fail, and with lines of maximum length.
 use crate::fakes::{Parts, Sips, TakesNothing};
 use crate::gateways::replay_new;
 use crate::scripts::row;
@@ -23,7 +23,7 @@ pub(crate) fn tell(rt: &HostRuntime, telling: &mut Telling) -> Result<()> {
     tell_explained_writes(rt, telling)
 }
 
-/// Whether a replay comes to this, and this is written.
+/// Whether a replay has this result, and this is written.
 fn comes_to<R: Source>(
     alloc: Global,
     reader: &mut R,
@@ -62,7 +62,7 @@ const CONTACT_READ: &[u8] =
     {\"dbm\":-45,\"eep\":\"D5-00-01\",\"id\":\"01800ABC\",\
     \"readings\":[{\"name\":\"CO\",\"word\":\"closed\"}],\"type\":\"reading\"}\n";
 
-// An order and a packet are two items, also where the packet lies in two pieces and the last line has no end.
+// An order and a packet are two inputs, even if the packet is in two chunks and the last line has no end.
 fn tell_items(rt: &HostRuntime, telling: &mut Telling) -> Result<()> {
     let script =
         b"add 01800ABC D5-00-01\nS 55000707017AD50901800ABC0001FFFFFFFF2D001F\n".as_slice();
@@ -75,7 +75,7 @@ fn tell_items(rt: &HostRuntime, telling: &mut Telling) -> Result<()> {
     telling.tell(rt, "two items in three lines", is_well)
 }
 
-/// A line of so many letters with this end. With 100 bytes of a piece before it, it lies across two reads.
+/// A line of this many letters with this end. With 100 bytes of a chunk before it, it is split between two reads.
 fn line_of(alloc: Global, length: usize, end: &[u8]) -> Result<Vec<u8>> {
     let mut script = Vec::new(alloc);
     script.extend_from_slice(b"S ")?;
@@ -86,7 +86,7 @@ fn line_of(alloc: Global, length: usize, end: &[u8]) -> Result<Vec<u8>> {
     Ok(script)
 }
 
-// A line's end does not count to its 200 bytes.
+// A line's end does not count towards its 200 bytes.
 fn tell_lengths(rt: &HostRuntime, telling: &mut Telling) -> Result<()> {
     let cases: [(&str, usize, &[u8], &[u8]); 6] = [
         ("200 bytes and LF", 200, b"\n", SYNTAX),
@@ -151,7 +151,7 @@ fn tell_writes(rt: &HostRuntime, telling: &mut Telling) -> Result<()> {
     )
 }
 
-// With explanations, each write fails in turn. Mutant: an outlet that goes on after a failed write of the line that
+// With explanations, each write fails in turn. Mutant: an output that continues after a failed write of the line that
 // explains a packet. It prints `at 83, differs`.
 fn tell_explained_writes(rt: &HostRuntime, telling: &mut Telling) -> Result<()> {
     let (script, text) = row(rt, "every-kind-of-item", true)?;
@@ -163,7 +163,7 @@ fn tell_explained_writes(rt: &HostRuntime, telling: &mut Telling) -> Result<()> 
     )
 }
 
-/// Returns the first number of bytes written before a failure at which the script's text with explanations does not
+/// Returns the first number of bytes written before a failure for which the script's text with explanations does not
 /// break off there.
 fn first_wrong_explained(alloc: Global, script: &[u8], text: &[u8]) -> Result<Option<usize>> {
     for out in 0..text.len() {

@@ -1,4 +1,4 @@
-//! The worked rows. Each is a session, `NAME.session`: the lines of a script, and below each what is written for it.
+//! The golden sessions. Each is a file, `NAME.session`: the lines of a script, and below each the output for it.
 //!
 //! - `> TEXT` is a line of the script. If `\ no LF` follows, it has no LF.
 //! - `+ TEXT` is a line that is written only with explanations.
@@ -9,7 +9,7 @@ use anyhow::Result;
 use gateway_main::{OverRead, OverWrite};
 use std::fs;
 
-/// More reads than any row takes.
+/// More reads than any session needs.
 const TURNS: u64 = 100_000;
 
 const NO_LF: &[u8] = b"\\ no LF\n";
@@ -25,7 +25,8 @@ pub(crate) fn tell(rt: &HostRuntime, telling: &mut Telling) -> Result<()> {
     Ok(())
 }
 
-/// Whether the row's script is replayed to its end, with explanations or without, and what is written for it is wanted.
+/// Whether the session's script is replayed to its end, with explanations or without, and its output is the expected
+/// one.
 fn is_replayed(rt: &HostRuntime, name: &str, explains: bool) -> Result<bool> {
     let alloc = rt.alloc();
     let (script, wanted) = row(rt, name, explains)?;
@@ -36,7 +37,7 @@ fn is_replayed(rt: &HostRuntime, name: &str, explains: bool) -> Result<bool> {
     Ok(done.is_ok() && written.as_slice() == wanted.as_slice())
 }
 
-/// A row's script, and what is wanted for it, with explanations or without.
+/// A session's script, and the expected output for it, with explanations or without.
 pub(crate) fn row(rt: &HostRuntime, name: &str, explains: bool) -> Result<(Vec<u8>, Vec<u8>)> {
     let alloc = rt.alloc();
     let session = fs::read(rt, format!(in alloc; "{name}.session")?)?;

@@ -1,7 +1,7 @@
-//! How each case is told.
+//! The report on each case.
 use anyhow::Result;
 
-/// Tells each case, and keeps whether all were as they ought to be.
+/// Reports each case, and keeps whether all were correct.
 #[derive(Drop)]
 pub struct Telling {
     all_well: bool,
@@ -12,7 +12,7 @@ impl Telling {
         Telling { all_well: true }
     }
 
-    /// Tells whether the case of this name is as it ought to be.
+    /// Reports whether the case of this name is correct.
     pub(crate) fn tell(&mut self, rt: &HostRuntime, name: &str, is_well: bool) -> Result<()> {
         let verdict = if is_well { "ok" } else { "differs" };
         println!(rt; "{name} {verdict}")?;
@@ -20,7 +20,7 @@ impl Telling {
         Ok(())
     }
 
-    /// Tells whether all cases of this name are as they ought to be. The first that is not is given by its number.
+    /// Reports whether all cases of this name are correct. The first that is not is given by its number.
     pub(crate) fn tell_first(
         &mut self,
         rt: &HostRuntime,

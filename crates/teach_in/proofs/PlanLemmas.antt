@@ -1,4 +1,4 @@
--- What holds of every plan, and of the query that a telegram is.
+-- Properties of every plan, and of the query in a telegram.
 use Rattle.std.proofs.Common.{◌≡◌, ◌≢◌, ◌⊎◌, inl, inr, ℕ, Bool, true, false, Option, refl, sym, ap, ◌∙◌, eqb-true}
 use Rattle.std.specs.Prelude.{if◌then◌else◌, ◌==◌, ◌&&◌, not}
 use Rattle.bit_fields.specs.Bits.{field}
@@ -21,7 +21,7 @@ use Rattle.teach_in.specs.Ute as ute
 use Rattle.teach_in.specs.Ute.{request_in, deletion, not_used}
 use Rattle.teach_in.specs.Plans.{add, plan_asked, is_learned_by, row_of, in_mode, plan_of}
 
--- what holds of both holds of the one that is chosen
+-- what holds for both holds for the one that is chosen
 pub either : {A : Type 0} (P : A → Type 0) (b : Bool) (one other : A) → P one → P other
     → P (if b then one else other)
 either P true one other of_one of_other = of_one
@@ -29,8 +29,8 @@ either P false one other of_one of_other = of_other
 
 -- ---- a plan
 
--- the outcomes that a telegram is refused with: it tells no profile, or one that is not supported, or asks for nothing
--- that is in use
+-- the outcomes with which a telegram is rejected: it has no profile, or an unsupported one, or a request that is not in
+-- use
 abbrev pub Refuses : Teach → Outcome → Type 0
 Refuses Bare NoProfile = Unit {0}
 Refuses (FourByte query) Unsupported = Unit {0}
@@ -43,11 +43,11 @@ abbrev pub IsOpen : Mode → Type 0
 IsOpen Closed = ⊥
 IsOpen mode = Unit {0}
 
--- it learns by what telegrams tell
+-- it learns by a telegram's own profile
 abbrev pub LearnsByTold : Mode → Type 0
 LearnsByTold mode = (mode ≡ Learn) ⊎ (mode ≡ LearnAnswer)
 
--- something may come of a telegram that is this at teach-in
+-- a telegram with this role may have an effect
 abbrev pub Hears : Mode → Teach → Type 0
 Hears mode (Ute query) = LearnsByTold mode
 Hears mode kind = IsOpen mode
@@ -60,11 +60,11 @@ hears-open Closed (Ute query) (inl is) = absurd cc
 hears-open Closed (Ute query) (inr is) = absurd cc
 hears-open Closed kind hears = absurd hears
 
--- it is a query that asks that its sender is forgotten
+-- it is a query to forget its sender
 abbrev pub AsksDeletion : Teach → Type 0
 AsksDeletion kind = (query : UteQuery) × (kind ≡ Ute query) × (request_in query ≡ deletion)
 
--- a property of plans for a telegram that is this at teach-in, in this mode: it holds of each plan that there may be
+-- a property of plans for a telegram with this role in teach-in, in this mode: it holds for each possible plan
 pub record OfPlans (P : Plan → Type 0) (t : Telegram) (kind : Teach) (mode : Mode) : Type 0 where
   pub silent : P Silent
   pub adds : Hears mode kind → (eep : Eep) (maker : Option ℕ) → P (add t eep maker)
@@ -111,11 +111,11 @@ module _ (P : Plan → Type 0) (t : Telegram) where
   of-row known Answer LearnAnswer each = each.silent
   of-row known Answer (LearnAs eep) each = each.silent
 
-  -- so it holds of this one
+  -- so it holds for this one
   pub of_plan : (mode : Mode) (known : Bool) → OfPlans P t (teach_in_of t) mode → P (plan_of t mode known)
   of_plan mode known each = of-row known (teach_in_of t) mode each
 
--- of a telegram of teach-in it does not matter whether its sender is known
+-- for a teach-in telegram it does not matter whether its sender is known
 pub plan-unasked : (t : Telegram) (mode : Mode) (known : Bool) (kind : Teach) → teach_in_of t ≡ kind → kind ≢ Plain
     → plan_of t mode known ≡ plan_of t mode false
 plan-unasked t mode known kind is teaches =
@@ -132,7 +132,7 @@ plan-unasked t mode known kind is teaches =
 
 -- ---- a query
 
--- the sender of a query, and of all else this one
+-- the sender of a query, and this one for any other role
 abbrev sender_in : ℕ → Teach → ℕ
 sender_in sender (FourByte query) = query.id
 sender_in sender (Ute query) = query.id
@@ -151,7 +151,7 @@ sender-in t =
     (either P (t.rorg == 0xD4) (ute_kind t.sender t.payload) Plain
     (either P (field t.payload 4 4 == 0) (Ute (record { id = t.sender; payload = t.payload })) Answer refl refl) refl))
 
--- a query is of the telegram's sender
+-- a query is from the telegram's sender
 pub query-sender : (t : Telegram) (query : FourByteQuery) → teach_in_of t ≡ FourByte query → query.id ≡ t.sender
 query-sender t query is = sym (ap (sender_in t.sender) is) ∙ sender-in t
 

@@ -1,4 +1,4 @@
--- The table of verdicts: what is planned about the sender of a telegram. Own choice: the modes and the verdicts.
+-- The table of plans for the sender of a telegram. Own choice: the modes and the plans.
 use Rattle.std.specs.Prelude.{ℕ, Bool, ◌==◌, ◌&&◌, ◌||◌, not, [], Option, Some, None, if◌then◌else◌}
 use Rattle.bit_fields.specs.Bits.{field}
 use Rattle.erp1_telegrams.specs.declared.eep.Eep.{Eep}
@@ -21,7 +21,7 @@ use Rattle.teach_in.specs.Ute.{request_in, deletion, not_used}
 abbrev pub add : Telegram → Eep → Option ℕ → Plan
 add t eep maker = Add (record { id = t.sender; eep = eep; maker = maker; label = [] })
 
--- the same where the profile has this RORG, and nothing where it has another
+-- the same if the profile has this RORG, and nothing if it has another
 abbrev pub add_kind : ℕ → Telegram → Eep → Option ℕ → Plan
 add_kind rorg t eep maker = if eep.rorg == rorg then add t eep maker else Silent
 
@@ -29,30 +29,29 @@ add_kind rorg t eep maker = if eep.rorg == rorg then add t eep maker else Silent
 abbrev pub contact : Eep
 contact = record { rorg = 0xD5; func = 0x00; typ = 0x01 }
 
--- the profile and the maker that a query tells, where the profile is supported
+-- the same with the profile and maker of a query, if the profile is supported
 abbrev pub add_told : Telegram → Eep → ℕ → Plan
 add_told t eep maker = if supported eep then add t eep (Some maker) else Refuse Unsupported
 
--- what a query of universal teach-in asks for; its sender is learned just as well where it is known
+-- the plan for a UTE query; its sender is also learned if it is already known
 abbrev pub plan_asked : Telegram → UteQuery → Plan
 plan_asked t query =
     if request_in query == deletion then Forget t.sender
     else if request_in query == not_used then Refuse General
     else add_told t (ute.eep_in query) (ute.maker_in query)
 
--- whether a telegram of data is one that its sender can be learned by: of RPS where a button is pressed (the bit at
--- offset 3), and each of VLD
+-- whether a sender can be learned by this data telegram: of RPS if a button is pressed (the bit at offset 3), and any
+-- of VLD
 abbrev pub is_learned_by : Telegram → Bool
 is_learned_by t = (t.rorg == 0xF6 && field t.payload 3 1 == 1) || t.rorg == 0xD2
 
--- a row of the table: what is planned by the profile that the telegram told, in the modes Learn and LearnAnswer, and by
--- the profile that the desk has given, in the mode LearnAs
+-- a row of the table: the plan by the telegram's own profile, in the modes Learn and LearnAnswer, and by the profile
+-- that the desk has given, in the mode LearnAs
 pub record Row : Type 0 where
   pub told : Plan
   pub given : Eep → Plan
 
--- The table: a row for each thing that a telegram may be at teach-in, which for data hangs on whether its sender is
--- known already.
+-- The table: a row for each role of a telegram in teach-in; for data it depends on whether the sender is already known.
 abbrev pub row_of : Telegram → Bool → Teach → Row
 row_of t known Contact = record { told = add t contact None; given = λ eep. add_kind 0xD5 t eep None }
 row_of t known Bare = record { told = Refuse NoProfile; given = λ eep. add_kind 0xA5 t eep None }
@@ -67,13 +66,13 @@ row_of t known Plain = record {
 row_of t known (Ute query) = record { told = plan_asked t query; given = λ eep. Silent }
 row_of t known Answer = record { told = Silent; given = λ eep. Silent }
 
--- what a row says in each mode
+-- the plan of a row in each mode
 abbrev pub in_mode : Row → Mode → Plan
 in_mode row Closed = Silent
 in_mode row Learn = row.told
 in_mode row LearnAnswer = row.told
 in_mode row (LearnAs eep) = row.given eep
 
--- what is planned about the sender of a telegram, by the mode and by whether it is known
+-- the plan for the sender of a telegram, by the mode and by whether it is known
 abbrev pub plan_of : Telegram → Mode → Bool → Plan
 plan_of t mode known = in_mode (row_of t known (teach_in_of t)) mode

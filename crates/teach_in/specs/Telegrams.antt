@@ -1,4 +1,4 @@
--- What a telegram is at teach-in (EnOcean Equipment Profiles 2.6, "Teach-in process").
+-- The role of a telegram in teach-in (EnOcean Equipment Profiles 2.6, "Teach-in process").
 use Rattle.std.specs.Prelude.{ℕ, ◌==◌, List, if◌then◌else◌}
 use Rattle.bit_fields.specs.Bits.{field}
 use Rattle.erp1_telegrams.specs.Telegram.{Telegram}
@@ -9,7 +9,7 @@ use Rattle.teach_in.specs.declared.telegrams.Teach.TheVariants.{Plain, Contact, 
 abbrev pub one_byte_kind : List ℕ → Teach
 one_byte_kind payload = if field payload 4 1 == 0 then Contact else Plain
 
--- 4BS: the learn bit DB0.3 is 0 at teach-in, DB0.7 is 1 where a profile and a maker are told, and DB0.4 is 1 in a reply
+-- 4BS: the learn bit DB0.3 is 0 at teach-in, DB0.7 is 1 if there are a profile and a maker, and DB0.4 is 1 in a reply
 -- ("4BS Telegram")
 abbrev pub four_byte_kind : ℕ → List ℕ → Teach
 four_byte_kind sender payload =
@@ -18,8 +18,8 @@ four_byte_kind sender payload =
     else if field payload 27 1 == 0 then FourByte (record { id = sender; payload = payload })
     else Answer
 
--- UTE: a query has the command 0 in DB6.3 to DB6.0, and any other is a reply ("Universal Uni- and
--- Bidirectional Teach-in")
+-- UTE: a query has the command 0 in DB6.3 to DB6.0, and any other is a reply ("Universal Uni- and Bidirectional
+-- Teach-in")
 abbrev pub ute_kind : ℕ → List ℕ → Teach
 ute_kind sender payload = if field payload 4 4 == 0 then Ute (record { id = sender; payload = payload }) else Answer
 

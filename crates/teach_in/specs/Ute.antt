@@ -1,6 +1,6 @@
--- Universal teach-in (UTE): queries that devices are taught in and out with, and the replies to them (EnOcean Equipment
--- Profiles 2.6, "Universal Uni- and Bidirectional Teach-in"). A telegram has seven bytes, DB6 to DB0. DB5 is the number
--- of channels, on which nothing hangs.
+-- UTE (universal teach-in): queries that teach devices in and out, and the replies to them (EnOcean Equipment Profiles
+-- 2.6, "Universal Uni- and Bidirectional Teach-in"). A telegram has seven bytes, DB6 to DB0. DB5 is the number of
+-- channels, which has no effect.
 use Rattle.std.specs.Prelude.{ℕ, Bool, ◌+◌, ◌*◌, ◌==◌, ◌∷◌, drop, Option, Some, None, option_map}
 use Rattle.bit_fields.specs.Bits.{field}
 use Rattle.erp1_telegrams.specs.declared.eep.Eep.{Eep}
@@ -10,26 +10,25 @@ use Rattle.teach_in.specs.declared.outcome.Outcome.TheVariants.{Accepted, Delete
 use Rattle.teach_in.specs.declared.ute.UteQuery.{UteQuery}
 use Rattle.teach_in.specs.Replies.{reply}
 
--- the profile that a query tells: its RORG in DB0, its FUNC in DB1, and its TYPE in DB2
+-- the profile of a query: its RORG in DB0, its FUNC in DB1, and its TYPE in DB2
 abbrev pub eep_in : UteQuery → Eep
 eep_in query =
     record { rorg = field query.payload 48 8; func = field query.payload 40 8; typ = field query.payload 32 8 }
 
--- the number of its maker, which has 11 bits: the high 3 bits in DB3.2 to DB3.0, and the low 8 in DB4
+-- its manufacturer ID, which has 11 bits: the high 3 bits in DB3.2 to DB3.0, and the low 8 in DB4
 abbrev pub maker_in : UteQuery → ℕ
 maker_in query = 256 * field query.payload 29 3 + field query.payload 16 8
 
--- whether it waits for a reply: DB6.6 is 0 then
+-- whether it waits for a reply: DB6.6 is then 0
 abbrev pub wants_reply : UteQuery → Bool
 wants_reply query = field query.payload 1 1 == 0
 
--- What it asks for, in DB6.5 and DB6.4: 0 is a teach-in, 1 a deletion, 2 leaves open which of the two, and 3 is not
--- used.
--- Own choice: that 2 is a teach-in, also where the sender is learned already.
+-- Its request, in DB6.5 and DB6.4: 0 is a teach-in, 1 a deletion, 2 leaves open which of the two, and 3 is not used.
+-- Own choice: 2 is a teach-in, even if the sender is already learned.
 abbrev pub request_in : UteQuery → ℕ
 request_in query = field query.payload 2 2
 
--- the request that the sender is forgotten
+-- the request to forget the sender
 abbrev pub deletion : ℕ
 deletion = 1
 
@@ -37,7 +36,7 @@ deletion = 1
 abbrev pub not_used : ℕ
 not_used = 3
 
--- what DB6.5 and DB6.4 of a reply say of an outcome, if they can say it
+-- DB6.5 and DB6.4 of a reply with this outcome, if there is one
 abbrev pub ute_code : Outcome → Option ℕ
 ute_code Accepted = Some 1
 ute_code Deleted = Some 2
@@ -50,7 +49,7 @@ ute_code outcome = None
 abbrev pub reply_first_byte : UteQuery → ℕ → ℕ
 reply_first_byte query code = 128 * field query.payload 0 1 + 16 * code + 1
 
--- the reply to a query, from the gateway with this base ID to the sender alone: the query, but for DB6
+-- the reply to a query, from the gateway with this base ID, addressed to the sender: the query, except for DB6
 abbrev pub ute_reply : UteQuery → Outcome → ℕ → Option Telegram
 ute_reply query outcome base =
     option_map (λ code. reply 0xD4 (reply_first_byte query code ∷ drop 1 query.payload) query.id base)

@@ -1,4 +1,4 @@
-//! Teach-in by 4BS telegrams that tell a profile, and the replies to them.
+//! 4BS teach-in with a profile, and the replies to it.
 ghost use Rattle.std.specs.Prelude.{◌≡◌, true, Some, IsSome};
 ghost use Rattle.erp1_telegrams.specs.Address.{is_base};
 ghost use Rattle.teach_in.specs.FourByte.{eep_in, four_byte_code, four_byte_reply, maker_in};
@@ -9,7 +9,7 @@ use crate::verdict::Verdict;
 use bit_fields::get;
 use erp1_telegrams::{Eep, Telegram, is_base, rorg};
 
-/// A 4BS telegram of teach-in that tells its sender's profile and maker.
+/// A 4BS teach-in telegram with its sender's profile and maker.
 ///
 /// EnOcean Equipment Profiles 2.6, "4BS Telegram", variations 2 and 3.
 #[derive(Clone, Copy, Debug, PartialEq, Eq)]
@@ -26,7 +26,7 @@ impl FourByteQuery {
         self.id
     }
 
-    /// The profile that it tells, of the RORG A5.
+    /// Its profile, of the RORG A5.
     pub fn eep(&self) -> Eep
         ensures { result ≡ eep_in self.now }
     {
@@ -35,7 +35,7 @@ impl FourByteQuery {
         Eep::new(rorg::FOUR_BS, func, typ)
     }
 
-    /// The number of its maker, 0 to 2047.
+    /// Its manufacturer ID, 0 to 2047.
     pub fn maker(&self) -> u16
         ensures { result ≡ maker_in self.now }
     {
@@ -43,7 +43,7 @@ impl FourByteQuery {
     }
 }
 
-// What DB0 of a reply says of this outcome.
+// DB0 of a reply with this outcome.
 fn four_byte_code(outcome: Outcome) -> u8
     requires { IsSome (four_byte_code outcome) }
     ensures { Some result ≡ four_byte_code outcome }
@@ -56,8 +56,8 @@ fn four_byte_code(outcome: Outcome) -> u8
     }
 }
 
-/// The reply to a query, on the verdict on its sender: for that sender alone, from the base ID, with the query's own
-/// bytes but for DB0. `base` is a base ID, and the outcome is `Accepted`, `Unsupported` or `Full`.
+/// The reply to a query, given the verdict on its sender: addressed to that sender, from the base ID, with the query's
+/// bytes except for DB0. `base` is a base ID, and the outcome is `Accepted`, `Unsupported` or `Full`.
 ///
 /// EnOcean Equipment Profiles 2.6, "4BS Telegram", variation 3.
 pub fn four_byte_reply(query: &FourByteQuery, verdict: &Verdict, base: u32) -> Telegram

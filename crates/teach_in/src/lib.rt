@@ -1,5 +1,5 @@
-//! Teach-in: what a telegram is to a gateway that learns, which profiles can be learned, what is planned about a sender
-//! in each mode, what came of the sender, and the replies to queries. Nothing here takes memory.
+//! Teach-in: the role of a telegram in it, the profiles that can be learned, the plan for a sender in each mode, the
+//! outcome, and the replies to queries. Nothing here needs memory.
 #![tactic(auto)]
 
 mod four_byte;

@@ -1,6 +1,6 @@
-//! What came of a sender.
+//! The outcome for a sender.
 
-/// What came of a sender that was to be learned or forgotten. Own choice, after the replies of EnOcean Equipment
+/// The outcome for a sender that was to be learned or forgotten. Own choice, after the replies of EnOcean Equipment
 /// Profiles 2.6, "Universal Uni- and Bidirectional Teach-in".
 #[derive(Clone, Copy, Debug, PartialEq, Eq)]
 pub enum Outcome {
@@ -10,10 +10,10 @@ pub enum Outcome {
     Deleted,
     /// Its profile is not supported.
     Unsupported,
-    /// As many other devices are learned as can be.
+    /// The registry is full: the maximum number of other devices is learned.
     Full,
-    /// It asked for nothing that is in use.
+    /// Its request is not in use.
     General,
-    /// It told no profile.
+    /// It has no profile.
     NoProfile,
 }

@@ -1,4 +1,4 @@
-//! What is planned about the sender of a telegram, by the table of verdicts.
+//! The plan for the sender of a telegram, by the table of plans.
 ghost use Rattle.std.specs.Prelude.{◌≡◌, Bool};
 ghost use Rattle.teach_in.specs.Telegrams.{teach_in_of};
 ghost use Rattle.teach_in.specs.Plans.{add, add_told, plan_asked, is_learned_by, plan_of, row_of};
@@ -13,7 +13,8 @@ use bit_fields::get;
 use erp1_telegrams::{Eep, Telegram, rorg};
 use learned_devices::{Device, Label};
 
-/// The profile of a contact, which its teach-in does not tell (EnOcean Equipment Profiles 2.6, "1BS Telegram").
+/// The profile of a contact, which its teach-in telegram does not contain (EnOcean Equipment Profiles 2.6, "1BS
+/// Telegram").
 const CONTACT: Eep = Eep {
     rorg: rorg::ONE_BS,
     func: 0x00,
@@ -32,7 +33,7 @@ fn add(telegram: &Telegram, eep: Eep, maker: Option<u16>) -> Plan
     })
 }
 
-// The same with what a query tells, where that profile is supported.
+// The same with the profile and maker of a query, if that profile is supported.
 fn add_told(telegram: &Telegram, eep: Eep, maker: u16) -> Plan
     ensures { result ≡ add_told telegram.now eep maker }
 {
@@ -43,7 +44,7 @@ fn add_told(telegram: &Telegram, eep: Eep, maker: u16) -> Plan
     }
 }
 
-// What a query of universal teach-in asks for.
+// The plan for a UTE query.
 fn plan_asked(telegram: &Telegram, query: &UteQuery) -> Plan
     ensures { result ≡ plan_asked telegram.now query.now }
 {
@@ -54,7 +55,7 @@ fn plan_asked(telegram: &Telegram, query: &UteQuery) -> Plan
     }
 }
 
-// What is planned in the modes that learn by what a telegram tells.
+// The plan in the modes that learn by a telegram's own profile.
 fn plan_told(telegram: &Telegram, teach: &Teach) -> Plan
     ensures { (known : Bool) → result ≡ (row_of telegram.now known teach.now).told }
 {
@@ -67,7 +68,7 @@ fn plan_told(telegram: &Telegram, teach: &Teach) -> Plan
     }
 }
 
-// Whether a telegram of data is one that its sender can be learned by.
+// Whether a sender can be learned by this data telegram.
 fn is_learned_by(telegram: &Telegram) -> bool
     ensures { result ≡ is_learned_by telegram.now }
 {
@@ -78,7 +79,7 @@ fn is_learned_by(telegram: &Telegram) -> bool
     }
 }
 
-// What is planned in the mode that learns with this profile.
+// The plan in the mode that learns with this profile.
 fn plan_as(telegram: &Telegram, teach: &Teach, eep: Eep, known: bool) -> Plan
     ensures { result ≡ (row_of telegram.now known teach.now).given eep }
 {
@@ -92,8 +93,8 @@ fn plan_as(telegram: &Telegram, teach: &Teach, eep: Eep, known: bool) -> Plan
     }
 }
 
-/// What is planned about the sender of a telegram, by what the telegram is at teach-in, by the mode, and by whether the
-/// sender is learned already.
+/// The plan for the sender of a telegram, by the telegram's role in teach-in, by the mode, and by whether the sender is
+/// already learned.
 pub fn plan_for(telegram: &Telegram, teach: &Teach, mode: Mode, known: bool) -> Plan
     requires { teach.now ≡ teach_in_of telegram.now }
     ensures { result ≡ plan_of telegram.now mode known }

@@ -1,4 +1,4 @@
-//! Which profiles can be learned.
+//! The profiles that can be learned.
 ghost use Rattle.std.specs.Prelude.{◌≡◌};
 ghost use Rattle.teach_in.specs.Profiles;
 

@@ -1,11 +1,11 @@
-//! Replies to telegrams of teach-in.
+//! Replies to teach-in telegrams.
 ghost use Rattle.std.specs.Prelude.{◌≡◌, IsTrue, length};
 ghost use Rattle.erp1_telegrams.specs.Telegram.{fits, is_kind};
 ghost use Rattle.teach_in.specs.Replies;
 
 use erp1_telegrams::Telegram;
 
-// A telegram from the base ID to one sender alone.
+// A telegram from the base ID, addressed to one sender.
 pub(crate) fn reply(rorg: u8, payload: &[u8], id: u32, base: u32) -> Telegram
     requires kind { IsTrue (is_kind rorg) }
     requires fits { IsTrue (fits rorg (length payload.now)) }

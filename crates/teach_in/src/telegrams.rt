@@ -1,4 +1,4 @@
-//! What a telegram is at teach-in.
+//! The role of a telegram in teach-in.
 ghost use Rattle.std.specs.Prelude.{◌≡◌, length};
 ghost use Rattle.teach_in.specs.Telegrams.{four_byte_kind, one_byte_kind, teach_in_of, ute_kind};
 
@@ -7,22 +7,22 @@ use crate::ute::UteQuery;
 use bit_fields::get;
 use erp1_telegrams::{Telegram, lrn_bit, rorg};
 
-/// What a telegram is at teach-in.
+/// The role of a telegram in teach-in.
 ///
 /// EnOcean Equipment Profiles 2.6, "Teach-in process".
 #[derive(Clone, Copy, Debug, PartialEq, Eq)]
 pub enum Teach {
-    /// It is data.
+    /// Data.
     Plain,
-    /// A 1BS telegram of teach-in, which tells no more.
+    /// A 1BS teach-in telegram, which contains nothing else.
     Contact,
-    /// A 4BS telegram of teach-in without a profile.
+    /// A 4BS teach-in telegram without a profile (variation 1).
     Bare,
-    /// A 4BS telegram of teach-in that tells its profile and its maker.
+    /// A 4BS teach-in telegram with its profile and maker.
     FourByte(FourByteQuery),
-    /// A query of universal teach-in.
+    /// A UTE query.
     Ute(UteQuery),
-    /// A reply to a telegram of teach-in.
+    /// A reply to a teach-in telegram.
     Answer,
 }
 
@@ -37,7 +37,7 @@ pub(crate) fn bytes_of<const N: usize>(payload: &[u8]) -> &[u8; N]
     }
 }
 
-// What the byte of a 1BS telegram says.
+// The role of a 1BS telegram with this byte.
 fn one_byte_kind(bytes: &[u8; 1]) -> Teach
     ensures { result ≡ one_byte_kind bytes.now }
 {
@@ -47,7 +47,7 @@ fn one_byte_kind(bytes: &[u8; 1]) -> Teach
     }
 }
 
-// What the bytes of a 4BS telegram of this sender say.
+// The role of a 4BS telegram of this sender with these bytes.
 fn four_byte_kind(id: u32, bytes: &[u8; 4]) -> Teach
     ensures { result ≡ four_byte_kind id bytes.now }
 {
@@ -66,7 +66,7 @@ fn four_byte_kind(id: u32, bytes: &[u8; 4]) -> Teach
     }
 }
 
-// What the bytes of a UTE telegram of this sender say.
+// The role of a UTE telegram of this sender with these bytes.
 fn ute_kind(id: u32, bytes: &[u8; 7]) -> Teach
     ensures { result ≡ ute_kind id bytes.now }
 {
@@ -79,7 +79,7 @@ fn ute_kind(id: u32, bytes: &[u8; 7]) -> Teach
     }
 }
 
-/// What a telegram is at teach-in.
+/// The role of a telegram in teach-in.
 pub fn classify(telegram: &Telegram) -> Teach
     ensures { result ≡ teach_in_of telegram.now }
 {

@@ -1,4 +1,4 @@
-//! Universal teach-in (UTE): queries that devices are taught in and out with, and the replies to them.
+//! UTE (universal teach-in): queries that teach devices in and out, and the replies to them.
 ghost use Rattle.std.specs.Prelude.{◌≡◌, true, ◌==◌, ◌<◌, Some, IsSome};
 ghost use Rattle.erp1_telegrams.specs.Address.{is_base};
 ghost use Rattle.teach_in.specs.Ute.{eep_in, reply_first_byte, maker_in, request_in, ute_code, ute_reply, wants_reply};
@@ -9,7 +9,7 @@ use crate::verdict::Verdict;
 use bit_fields::get;
 use erp1_telegrams::{Eep, Telegram, is_base, rorg};
 
-/// A query of universal teach-in, which tells its sender's profile and maker, and what is asked for.
+/// A UTE query, with its sender's profile and maker, and its request.
 ///
 /// EnOcean Equipment Profiles 2.6, "Universal Uni- and Bidirectional Teach-in".
 #[derive(Clone, Copy, Debug, PartialEq, Eq)]
@@ -18,7 +18,7 @@ pub struct UteQuery {
     pub(crate) payload: [u8; 7],
 }
 
-/// The request that the sender is forgotten.
+/// The request to forget the sender.
 pub(crate) const DELETION: u32 = 1;
 
 /// The request that is not in use.
@@ -32,7 +32,7 @@ impl UteQuery {
         self.id
     }
 
-    /// The profile that it tells.
+    /// Its profile.
     pub fn eep(&self) -> Eep
         ensures { result ≡ eep_in self.now }
     {
@@ -42,7 +42,7 @@ impl UteQuery {
         Eep::new(rorg, func, typ)
     }
 
-    /// The number of its maker, 0 to 2047.
+    /// Its manufacturer ID, 0 to 2047.
     pub fn maker(&self) -> u16
         ensures { result ≡ maker_in self.now }
     {
@@ -58,7 +58,7 @@ impl UteQuery {
         get::<7, 1, 1>(&self.payload) == 0
     }
 
-    // What it asks for: `DELETION`, `NOT_USED`, or any other, that the sender is learned.
+    // Its request: `DELETION`, `NOT_USED`, or any other, which asks to learn the sender.
     pub(crate) fn request(&self) -> u32
         ensures { result ≡ request_in self.now }
     {
@@ -66,7 +66,7 @@ impl UteQuery {
     }
 }
 
-// What DB6.5 and DB6.4 of a reply say of this outcome.
+// DB6.5 and DB6.4 of a reply with this outcome.
 fn ute_code(outcome: Outcome) -> u32
     requires { IsSome (ute_code outcome) }
     ensures code { Some result ≡ ute_code outcome }
@@ -89,9 +89,9 @@ fn reply_first_byte(query: &UteQuery, code: u32) -> u8
     (128 * get::<7, 0, 1>(&query.payload) + 16 * code + 1) as u8
 }
 
-/// The reply to a query, on the verdict on its sender: for that sender alone, from the base ID, with the query's own
-/// bytes but for DB6. `base` is a base ID, and the outcome is any but `NoProfile`. Whether the query waits for a reply,
-/// `wants_reply` tells.
+/// The reply to a query, given the verdict on its sender: addressed to that sender, from the base ID, with the query's
+/// bytes except for DB6. `base` is a base ID, and the outcome is any except `NoProfile`. `wants_reply` returns whether
+/// the query waits for a reply.
 ///
 /// EnOcean Equipment Profiles 2.6, "Universal Uni- and Bidirectional Teach-in".
 pub fn ute_reply(query: &UteQuery, verdict: &Verdict, base: u32) -> Telegram

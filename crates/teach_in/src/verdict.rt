@@ -4,8 +4,8 @@ ghost use Rattle.std.specs.Prelude.{◌≡◌, ◌≢◌, MatchBool};
 use crate::outcome::Outcome;
 use learned_devices::Receipt;
 
-/// What came of a sender. That it was learned or forgotten is told by the receipt of the change alone, so that change
-/// is committed.
+/// The outcome for a sender. That it was learned or forgotten requires the receipt of the update, so the update is
+/// committed.
 #[derive(Drop)]
 pub struct Verdict {
     id: u32,
@@ -13,7 +13,7 @@ pub struct Verdict {
 }
 
 impl Verdict {
-    /// The verdict on a change that is committed.
+    /// The verdict on an update that is committed.
     pub fn committed(receipt: Receipt) -> Verdict
         ensures id { result.id ≡ receipt.id }
         ensures outcome { MatchBool receipt.is_learned (result.outcome ≡ Outcome.Accepted)
@@ -28,7 +28,7 @@ impl Verdict {
         Verdict { id, outcome }
     }
 
-    /// The verdict where nothing changes: the outcome is neither `Accepted` nor `Deleted`.
+    /// The verdict if nothing changes: the outcome is neither `Accepted` nor `Deleted`.
     pub fn refused(id: u32, outcome: Outcome) -> Verdict
         requires accepted { outcome ≢ Outcome.Accepted }
         requires deleted { outcome ≢ Outcome.Deleted }
@@ -46,7 +46,7 @@ impl Verdict {
         self.id
     }
 
-    /// What came of it.
+    /// The outcome.
     pub fn outcome(&self) -> Outcome
         ensures { result ≡ self.now.outcome }
     {

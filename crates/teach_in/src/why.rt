@@ -1,39 +1,39 @@
-//! Why what was done with a packet was done.
+//! The reason why a packet was handled the way it was.
 use crate::outcome::Outcome;
 
-/// Why what was done with a packet was done.
+/// Why a packet was handled the way it was.
 #[derive(Clone, Copy, Debug, PartialEq, Eq)]
 pub enum Why {
-    /// There was no memory, or the store refused.
+    /// It failed: out of memory, or an error of the device store.
     Refused,
     /// The packet is a response.
     Response,
-    /// The packet is a response with no code.
+    /// The packet is a response without a return code.
     EmptyResponse,
-    /// The packet is of a type that is not for the gateway.
+    /// The packet has a type that the gateway does not use.
     OtherType,
-    /// The packet carries nothing that is read as a telegram.
+    /// The packet contains no telegram that can be read.
     NoTelegram,
     /// The telegram's sender is the broadcast ID.
     FromBroadcast,
-    /// The telegram is for another device.
+    /// The telegram is addressed to another device.
     ForOthers,
-    /// The telegram is a reply of teach-in.
+    /// The telegram is a teach-in reply.
     TeachInReply,
-    /// The telegram's sender was to be learned or forgotten, and this came of it.
+    /// The telegram's sender was to be learned or forgotten, with this outcome.
     Told(Outcome),
-    /// The telegram is one of teach-in, and the gateway does not learn.
+    /// It is a teach-in telegram, and the mode is closed.
     WindowClosed,
-    /// The telegram is one of teach-in that the mode in which the gateway learns does not take.
+    /// It is a teach-in telegram that the open mode does not accept.
     OtherMode,
     /// The telegram was read.
     Read,
     /// The telegram's sender is not learned.
     UnknownSender,
-    /// The telegram has not the kind of its sender's profile.
+    /// The telegram's kind is not that of its sender's profile.
     WrongKind,
-    /// The telegram's payload has not the length of its sender's profile.
+    /// The telegram's payload does not have the length of its sender's profile.
     WrongLength,
-    /// The telegram is a message that is not read by its sender's profile.
+    /// The telegram is a message that its sender's profile cannot read.
     OtherMessage,
 }

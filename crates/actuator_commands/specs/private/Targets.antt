@@ -1,4 +1,4 @@
--- Where the orders go.
+-- The recipients of orders.
 use Rattle.std.specs.Prelude.{Option, option_map}
 use Rattle.actuator_commands.specs.declared.orders.Order.{Order}
 use Rattle.actuator_commands.specs.declared.orders.Target.{Target}
@@ -9,6 +9,6 @@ abbrev pub target_of : Message → Target
 target_of (ToOne id payload_of) = One id
 target_of (ToAll offset payload) = All
 
--- where an order goes, if it goes to devices
+-- the recipients of an order, if it is for devices
 abbrev pub target : Order → Option Target
 target order = option_map target_of (message_of order)

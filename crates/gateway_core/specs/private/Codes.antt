@@ -1,4 +1,4 @@
--- Codes of the values that contracts see, as the checker wants them of a type with another in it.
+-- Codes of values in contracts, in the form that the checker needs for a type that contains another.
 use Rattle.std.specs.Prelude.{◌≡◌, ℕ, List, Option, Some, None, refl}
 use Rattle.std.specs.Coded.{Coded, code_by, coded×, coded_list, coded_option, coded_ℕ}
 use Rattle.erp1_telegrams.specs.declared.eep.Eep.{Eep}

@@ -1,4 +1,4 @@
--- For private clauses: what a refusal says.
+-- For private postconditions: the cause of a failure.
 use Rattle.std.specs.Prelude.{if◌then◌else◌}
 use Rattle.learned_devices.specs.declared.fault.StoreFault.{StoreFault}
 use Rattle.gateway_core.specs.declared.refusal.Refusal.{Refusal}

@@ -1,5 +1,4 @@
-//! How a device is learned and forgotten. The line that tells so is made before the write, and nothing is refused
-//! behind it.
+//! Learning and forgetting a device. The line that reports it is built before the write, so nothing can fail after it.
 ghost use Rattle.std.specs.Prelude.{◌≡◌, [], ◌∷◌};
 ghost use Rattle.json_lines.specs.Lines.{Error};
 ghost use Rattle.json_lines.specs.declared.error_lines.ErrorName.{ErrorName};
@@ -15,7 +14,7 @@ use json_lines::{ErrorName, Line, teach_line};
 use learned_devices::{Device, DeviceStore, LearnFault};
 use teach_in::{Outcome, Verdict};
 
-// What came of a device that is learned or forgotten, and the line that tells it.
+// The outcome for a device that was learned or forgotten, and the line that reports it.
 #[derive(Drop)]
 pub(crate) struct Committed {
     pub(crate) verdict: Verdict,
@@ -23,8 +22,8 @@ pub(crate) struct Committed {
 }
 
 impl<S: DeviceStore> Handler<S> {
-    // Learns a device, which comes without a label: a known sender keeps its own. It is `None` where the registry is
-    // full, which tells so before it writes.
+    // Learns a device without a label; a known sender keeps its own. Returns `None`, before any write, if the registry
+    // is full.
     pub(crate) fn learn(&mut self, device: Device) -> Result<Option<Committed>, Refusal>
         requires { device.label ≡ [] }
         ensures { Learns S.kept self.old device result self.new }
@@ -46,7 +45,7 @@ impl<S: DeviceStore> Handler<S> {
         Ok(Some(Committed { verdict, line }))
     }
 
-    // Forgets the device with this ID, learned or not. It is told with this profile and this maker.
+    // Forgets the device with this ID, learned or not. The line reports this profile and this maker.
     pub(crate) fn forget(
         &mut self,
         id: u32,

@@ -1,4 +1,4 @@
-//! What is done for an item that is taken.
+//! The result of an applied input.
 ghost use Rattle.std.specs.Prelude.{◌≡◌, ℕ, Bool, List, None, Some};
 ghost use Rattle.gateway_core.specs.Accounts.{because};
 ghost use Rattle.gateway_core.specs.Desks.{desk_bytes};
@@ -17,7 +17,7 @@ use json_lines::{ErrorName, done_line};
 use std::marker::Model;
 use teach_in::{Mode, Why};
 
-// What is done for a packet: its account, the mode that is set, if any, and the reply.
+// The result of a packet: its disposition, the mode that it sets, if any, and the reply.
 #[derive(Drop)]
 pub(crate) struct PacketDone {
     pub(crate) account: Account,
@@ -35,7 +35,7 @@ impl Model for PacketDone {
     ghost view = { λ done. record { answer = answer_of done.reply; account = Some done.account; mode = done.mode } };
 }
 
-// What is done for an order: the mode that is set, if any, and the reply.
+// The result of an order: the mode that it sets, if any, and the reply.
 #[derive(Drop)]
 pub(crate) struct OrderDone {
     pub(crate) mode: Option<Mode>,
@@ -52,7 +52,7 @@ impl Model for OrderDone {
     ghost view = { λ done. record { answer = answer_of done.reply; account = None; mode = done.mode } };
 }
 
-// Nothing goes out by radio.
+// Sends nothing by radio.
 fn reply_with(desk: Desk) -> Reply
     ensures { answer_of result ≡ said (desk_bytes desk) }
 {
@@ -70,7 +70,7 @@ pub(crate) fn told(desk: Desk) -> OrderDone
     }
 }
 
-// Of a packet this is told.
+// A packet with this text for the desk.
 pub(crate) fn accounted(account: Account, desk: Desk) -> PacketDone
     ensures account { result.account ≡ Some account }
     ensures mode { result.mode ≡ None }
@@ -83,7 +83,7 @@ pub(crate) fn accounted(account: Account, desk: Desk) -> PacketDone
     }
 }
 
-// Of a packet nothing is told, be it that its sender was looked up or not.
+// A packet without a text for the desk, whether its sender was looked up or not.
 pub(crate) fn ignored(why: Why) -> PacketDone
     ensures { (asked : Bool) → Gives result (Step.unsaid asked (because why)) }
 {
@@ -105,7 +105,7 @@ pub(crate) fn sets(mode: Mode) -> OrderDone
     }
 }
 
-// A device has the label that it was given.
+// The device has its new label.
 pub(crate) fn labelled() -> OrderDone
     ensures { (id : ℕ) (label : List ℕ) → Gives result (Step.labels id label) }
 {
@@ -124,7 +124,7 @@ pub(crate) fn sends_packet(packet: ArrayVec<u8, 64>) -> OrderDone
     }
 }
 
-// The answer to what is refused.
+// The answer to a failed input.
 pub(crate) fn refused(refusal: Refusal) -> Reply
     ensures { answer_of result ≡ said (cause_text (cause_in refusal)) }
 {

@@ -1,4 +1,4 @@
-//! How a line of the desk is handled.
+//! Handling a line of the desk.
 ghost use Rattle.std.specs.Prelude.{Ok};
 ghost use Rattle.teach_in.specs.declared.mode.Mode.TheVariants.{LearnAs};
 ghost use Rattle.actuator_commands.specs.Orders.{IsInRange};
@@ -28,7 +28,6 @@ fn open_as(eep: Eep) -> OrderDone
 }
 
 impl<S: DeviceStore> Handler<S> {
-    // Learns a device that the desk names.
     fn try_add(&mut self, id: u32, eep: Eep) -> Result<OrderDone, Refusal>
         ensures { Tries S.kept self.old (λ state. order_effect state (Ok (Order.Add id eep))) result self.new }
     {
@@ -43,7 +42,6 @@ impl<S: DeviceStore> Handler<S> {
         })
     }
 
-    // Forgets a device that the desk names.
     fn try_remove(&mut self, id: u32) -> Result<OrderDone, Refusal>
         ensures { Tries S.kept self.old (λ state. order_effect state (Ok (Order.Remove id))) result self.new }
     {
@@ -53,8 +51,8 @@ impl<S: DeviceStore> Handler<S> {
         }
     }
 
-    // Labels a device that the desk names, if it is learned. The answer is a fixed text, so nothing is refused after
-    // the write.
+    // Labels a device that the desk names, if it is learned. The answer never changes, so nothing can fail after the
+    // write.
     fn try_label(&mut self, id: u32, label: Label) -> Result<OrderDone, Refusal>
         ensures { Tries S.kept self.old (λ state. order_effect state (Ok (Order.Label id label))) result self.new }
     {
@@ -65,7 +63,6 @@ impl<S: DeviceStore> Handler<S> {
         }
     }
 
-    // Tells all devices.
     fn try_list(&mut self) -> Result<OrderDone, Refusal>
         ensures { Tries S.kept self.old (λ state. order_effect state (Ok Order.List)) result self.new }
     {
@@ -74,7 +71,7 @@ impl<S: DeviceStore> Handler<S> {
         Ok(told(Desk::Owned(lines)))
     }
 
-    // Tells the counts and the mode.
+    // Reports the counters and the mode.
     fn try_status(&self) -> Result<OrderDone, Refusal>
         ensures { Tries S.kept self.now (λ state. order_effect state (Ok Order.Status)) result self.now }
     {
@@ -82,7 +79,6 @@ impl<S: DeviceStore> Handler<S> {
         Ok(told(Desk::Owned(line)))
     }
 
-    // Does an order.
     fn try_order(&mut self, order: Order) -> Result<OrderDone, Refusal>
         requires { IsInRange order }
         ensures { Tries S.kept self.old (λ state. order_effect state (Ok order)) result self.new }
@@ -98,12 +94,11 @@ impl<S: DeviceStore> Handler<S> {
             Order::List => self.try_list(),
             Order::Status => self.try_status(),
             Order::Base => Ok(ask_base()),
-            // It goes to devices.
+            // An order to devices.
             order => self.try_send(&order),
         }
     }
 
-    // Handles a line, or refuses it.
     pub(crate) fn try_line(&mut self, line: &[u8]) -> Result<OrderDone, Refusal>
         ensures { Tries S.kept self.old (λ state. line_effect state line.now) result self.new }
     {

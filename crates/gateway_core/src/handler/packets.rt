@@ -1,4 +1,4 @@
-//! How a packet of the serial line is handled.
+//! Handling a packet of the serial line.
 ghost use Rattle.std.specs.Prelude.{◌≡◌, IfOk, Some};
 ghost use Rattle.esp3_frames.specs.Outcome.{packet_of};
 ghost use Rattle.learned_devices.specs.Devices.{device_of};
@@ -23,7 +23,7 @@ use profile_rows::Readings;
 use std::alloc::{AllocError, Global};
 use teach_in::{Teach, Why};
 
-// The line of what the telegram of this device tells, if its profile reads it.
+// The reading line for a telegram of this device, if its profile can read the telegram.
 fn reading(alloc: Global, telegram: &Telegram, device: &Device) -> Result<PacketDone, AllocError>
     ensures { IfOk result (λ done. Gives done (reading_effect telegram.now device.now
         (read_by device.now.eep telegram.now))) }
@@ -43,7 +43,7 @@ fn reading(alloc: Global, telegram: &Telegram, device: &Device) -> Result<Packet
 }
 
 impl<S: DeviceStore> Handler<S> {
-    // Tells what a data telegram of a learned sender says. Another sender is learned by it, where that is planned.
+    // Reports the readings of data from a learned sender, and learns another sender if that is planned.
     fn try_data(&mut self, telegram: &Telegram, teach: &Teach) -> Result<PacketDone, Refusal>
         requires { teach.now ≡ teach_in_of telegram.now }
         ensures { Tries S.kept self.old (λ state. case_effect state telegram.now
@@ -56,8 +56,8 @@ impl<S: DeviceStore> Handler<S> {
         Ok(done)
     }
 
-    // Handles a telegram by the first of its five cases: it is filtered out, it is a reply to a telegram of teach-in or
-    // such a telegram itself, or it is data, of a learned sender or of another.
+    // Handles a telegram by the first case that applies: filtered out, teach-in reply, teach-in telegram, data of a
+    // learned sender, data of another sender.
     pub(crate) fn try_telegram(
         &mut self,
         telegram: &Telegram,
@@ -78,7 +78,7 @@ impl<S: DeviceStore> Handler<S> {
         }
     }
 
-    // Handles a packet without a telegram, or refuses it.
+    // Handles a packet without a telegram, or fails.
     pub(crate) fn try_other(&self, packet: &PacketRef<'_>) -> Result<PacketDone, Refusal>
         ensures { Tries S.kept self.now (λ _. other_effect (packet_of packet.now)
             (Responses.response_in (packet_of packet.now))) result self.now }

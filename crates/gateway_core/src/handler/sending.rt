@@ -1,4 +1,4 @@
-//! How packets are sent: the telegrams of orders that go to devices, and the question for the base ID.
+//! Sending packets: the telegrams of orders to devices, and the request for the base ID.
 ghost use Rattle.std.specs.Prelude.{◌≡◌, Bool, Ok, true};
 ghost use Rattle.std.specs.Option.{option_copied};
 ghost use Rattle.esp3_frames.specs.Packet.{spelling};
@@ -24,7 +24,7 @@ use learned_devices::{Device, DeviceStore};
 /// The command CO_RD_IDBASE (EnOcean Serial Protocol 3, "CO_RD_IDBASE").
 const READ_BASE_ID: u8 = 8;
 
-// The packet that a telegram is sent in. It has room for each telegram.
+// The packet in which a telegram is sent. The buffer has capacity for every telegram.
 pub(crate) fn packet_with(telegram: &Telegram) -> ArrayVec<u8, 64>
     ensures { result.items ≡ spelling (sent telegram.now) }
 {
@@ -57,7 +57,7 @@ pub(crate) fn ask_base() -> OrderDone
     }
 }
 
-// Sends the telegram of an order, by what is known of its device, or tells why there is none.
+// Sends the telegram of an order, given its device, or reports why there is none.
 fn send(order: &Order, device: Option<&Device>, base: u32) -> OrderDone
     requires sends { sends order.now ≡ true }
     requires in_range { IsInRange order.now }
@@ -72,7 +72,6 @@ fn send(order: &Order, device: Option<&Device>, base: u32) -> OrderDone
 }
 
 impl<S: DeviceStore> Handler<S> {
-    // Does an order that goes to devices.
     pub(crate) fn try_send(&mut self, order: &Order) -> Result<OrderDone, Refusal>
         requires sends { sends order.now ≡ true }
         requires in_range { IsInRange order.now }

@@ -1,4 +1,4 @@
-//! How the sender of a telegram is learned or forgotten, or told why it is not, and what it is replied.
+//! Teach-in: learns or forgets the sender of a telegram, or reports why not, and replies to it.
 ghost use Rattle.std.specs.Prelude.{◌≡◌, ◌≢◌, [], false, IfOk, option_map};
 ghost use Rattle.learned_devices.specs.Devices.{Devices};
 ghost use Rattle.teach_in.specs.declared.outcome.Outcome.TheVariants as outcome;
@@ -34,8 +34,8 @@ fn mode_after_one(mode: Mode) -> Option<Mode>
 }
 
 impl<S: DeviceStore> Handler<S> {
-    // The packet that replies to a telegram of teach-in, if it gets one: a query of universal teach-in does that waits
-    // for one, and a 4BS query in the mode that answers.
+    // The packet that replies to a teach-in telegram: to a UTE query that waits for one, or to a 4BS query in the mode
+    // `LearnAnswer`.
     fn reply_packet(&self, teach: &Teach, verdict: &Verdict) -> Option<ArrayVec<u8, 64>>
         requires { MayReply teach.now verdict.now.id verdict.now.outcome }
         ensures { option_map (λ bytes. bytes.items) result
@@ -52,7 +52,7 @@ impl<S: DeviceStore> Handler<S> {
         }
     }
 
-    // Reports to the desk what came of a sender, and replies to the sender.
+    // Reports the outcome for a sender to the desk, and replies to the sender.
     fn answer_sender(&self, teach: &Teach, verdict: &Verdict, line: Line) -> Reply
         requires { MayReply teach.now verdict.now.id verdict.now.outcome }
         ensures { answer_of result ≡ record {
@@ -67,7 +67,7 @@ impl<S: DeviceStore> Handler<S> {
         }
     }
 
-    // Tells why nothing is done about a sender, and replies to it.
+    // Reports why nothing is done about a sender, and replies to it.
     fn refuse(
         &self,
         teach: &Teach,
@@ -128,8 +128,8 @@ impl<S: DeviceStore> Handler<S> {
         })
     }
 
-    // Does what is planned about the sender of a telegram: of one of teach-in, or of data, for which the store was
-    // asked and has told that the sender is not learned.
+    // Carries out the plan for the sender of a teach-in telegram, or of data whose sender was looked up and is not
+    // learned.
     pub(crate) fn try_plan(
         &mut self,
         telegram: &Telegram,
@@ -140,7 +140,7 @@ impl<S: DeviceStore> Handler<S> {
         ensures { Tries S.kept self.old (λ state. plan_effect state telegram.now asked
             (plan_of telegram.now state.mode false)) result self.new }
     {
-        // whether the sender is known is asked for data alone, and data of a known sender does not come here
+        // only the sender of data is looked up, and data of a known sender never gets here
         match plan_for(telegram, teach, self.mode, false) {
             Plan::Silent => Ok(ignored(why_silent(asked, self.mode))),
             Plan::Add(device) => self.try_accept(teach, device),

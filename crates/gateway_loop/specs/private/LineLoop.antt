@@ -1,4 +1,4 @@
--- What a player does with bytes, of which it takes the lines as they come.
+-- What a player does with bytes: it takes each line as it is completed.
 use Rattle.std.specs.Prelude.{◌≡◌, ℕ, List, ◌∷◌, ◌++◌, All}
 use Rattle.std.specs.List.{flat_map}
 use Rattle.std.specs.Str.Lines.{strip_carriage_return}
@@ -10,9 +10,9 @@ use Rattle.gateway_loop.specs.Outlets.{Way}
 use Rattle.gateway_loop.specs.private.EngineSteps.{EngineBreaks, Takes}
 use Rattle.gateway_loop.specs.Script.{IsOneLine, with_end}
 
--- Below, `bytes` are those of the line that was not ended at first, and those that came behind them.
+-- Below, `bytes` are those of the first partial line, followed by those that arrived after it.
 module _ {O S : Type 0} (stored : S → Kept) (way : Way O) (lines : Lines) where
-  -- the lines that LF ends in the bytes were taken, and of the line behind these the first bytes are kept
+  -- the lines that LF ends in the bytes were taken, and the first bytes of the partial line after them are kept
   pub record TakesBytes (old new : Player O S) (bytes : List ℕ) : Type 0 where
     pub ended : List (List ℕ)
     pub rest : List ℕ
@@ -21,7 +21,7 @@ module _ {O S : Type 0} (stored : S → Kept) (way : Way O) (lines : Lines) wher
     pub keeps : Keeps rest new.unended
     pub taken : Takes stored way old.engine new.engine (events_by lines ended)
 
-  -- an answer did not get out at one of the lines that LF ends in the bytes
+  -- an answer was not written completely at one of the lines that LF ends in the bytes
   pub record StopsAtLine (old new : Player O S) (bytes : List ℕ) : Type 0 where
     pub ended : List (List ℕ)
     pub line : List ℕ

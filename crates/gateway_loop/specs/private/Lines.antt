@@ -1,4 +1,4 @@
--- Lines as bytes, and the events that they are. Own choice.
+-- Lines as bytes, and their events. Own choice.
 use Rattle.std.specs.Prelude.{◌≡◌, ◌+◌, ℕ, List, take, map}
 use Rattle.std.specs.Str.Lines.{strip_carriage_return}
 use Rattle.actuator_commands.specs.Limits.{max_line}
@@ -7,11 +7,11 @@ use Rattle.gateway_loop.specs.declared.line_loop.Lines.{Lines}
 use Rattle.gateway_loop.specs.declared.line_loop.Lines.TheVariants.{OfScript, OfDesk}
 use Rattle.gateway_loop.specs.Script.{IsOneLine, event_of}
 
--- how many bytes are kept of a line: with CR they tell each line that is not too long from all that are
+-- how many bytes of a line are kept: with CR they distinguish each line that is not too long from all that are
 abbrev pub max_kept : ℕ
 max_kept = max_line + 2
 
--- what a line is, without its end: of the desk always an order
+-- the event of a line, without its end: a line of the desk is always an order
 abbrev pub event_by : Lines → List ℕ → Event
 event_by OfScript line = event_of line
 event_by OfDesk line = Line line
@@ -20,7 +20,7 @@ event_by OfDesk line = Line line
 abbrev pub events_by : Lines → List (List ℕ) → List Event
 events_by lines ended = map (λ line. event_by lines (strip_carriage_return line)) ended
 
--- of a line came these bytes, and not its end: the first of them are kept
+-- these bytes of a partial line have arrived: the first of them are kept
 pub record Keeps (tail kept : List ℕ) : Type 0 where
   pub one : IsOneLine tail
   pub is : kept ≡ take max_kept tail

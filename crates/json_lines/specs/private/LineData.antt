@@ -1,5 +1,4 @@
--- For private clauses: the JSON values whose texts the lines are, and what is said of the bytes that serde_json makes
--- of one.
+-- For private postconditions: the JSON values whose texts the lines are, and the bytes that serde_json makes of one.
 use Rattle.std.specs.Prelude.{◌≡◌, ℕ, List, [], ◌∷◌, ◌++◌, slice_get, codes, Option, Some, None}
 use Rattle.json.specs.Print.{escape}
 use Rattle.serde.specs.Event.{Log}
@@ -11,11 +10,11 @@ use Rattle.teach_in.specs.declared.mode.Mode.{Mode}
 use Rattle.json_lines.specs.declared.counts.Counts.{Counts}
 use Rattle.json_lines.specs.Lines.{TeachLine, id_text, eep_text, outcome_word, mode_word, code_names}
 
--- the text stands in a JSON string as it is, with no escape
+-- the text appears in a JSON string unchanged, with no escape
 abbrev pub IsPlain : List ℕ → Type 0
 IsPlain text = escape text ≡ text
 
--- the line is the text that is made of what was sent, and a line feed
+-- the line is the text made of what was sent, and a line feed
 pub record IsLineOf (Writes : Log → Log → Type 0) (line : List ℕ) : Type 0 where
   pub text : List ℕ
   pub log : Log
@@ -28,30 +27,27 @@ abbrev pub members : List (List ℕ × Data) → Members
 members [] = no_members
 members (m ∷ ms) = member m.0 m.1 (members ms)
 
--- an object of these members
+-- an object with these members
 abbrev pub object_of : List (List ℕ × Data) → Data
 object_of ms = object (members ms)
 
--- what is known, or null
+-- a value, or null if it is unknown
 abbrev pub or_null : {A : Type 0} → (A → Data) → Option A → Data
 or_null data_of None = null
 or_null data_of (Some known) = data_of known
 
--- a number that has no sign
+-- a number without a sign
 abbrev pub number_data : ℕ → Data
 number_data n = number (unsigned n)
 
--- an ID
 abbrev pub id_data : ℕ → Data
 id_data id = string (id_text id)
 
--- a profile
 abbrev pub profile_data : Eep → Data
 profile_data eep = string (eep_text eep)
 
 -- ---- the members of the lines
 
--- a teach line
 abbrev pub teach_members : TeachLine → List (List ℕ × Data)
 teach_members line =
     (codes "eep", or_null profile_data line.eep)
@@ -60,7 +56,6 @@ teach_members line =
     ∷ (codes "result", string (outcome_word line.outcome))
     ∷ (codes "type", string (codes "teach")) ∷ []
 
--- the line of a device
 abbrev pub device_members : Device → List (List ℕ × Data)
 device_members known =
     (codes "eep", profile_data known.eep)
@@ -69,11 +64,10 @@ device_members known =
     ∷ (codes "maker", or_null number_data known.maker)
     ∷ (codes "type", string (codes "device")) ∷ []
 
--- the line behind so many devices
+-- the line after this many devices
 abbrev pub list_members : ℕ → List (List ℕ × Data)
 list_members count = (codes "count", number_data count) ∷ (codes "type", string (codes "list")) ∷ []
 
--- a status line
 abbrev pub status_members : Counts → Mode → List (List ℕ × Data)
 status_members counts mode =
     (codes "ignored", number_data counts.ignored)

@@ -1,4 +1,4 @@
-//! The lines of each order, the ends of each range, and lines that are none.
+//! The lines of each order, the ends of each range, and lines that are no order.
 use actuator_commands::laws::{ids_are_spelled, lines_have_two_faults, orders_are_spelled};
 use actuator_commands::{Order, OrderFault, Quantity, id_of, parse};
 use erp1_telegrams::Eep;
@@ -31,7 +31,7 @@ const LAST: Eep = Eep {
     typ: 0xFF,
 };
 
-/// A line, and the order that it spells, or the reason why it is none.
+/// A line, and the order that it spells, or why it spells none.
 struct Spelled {
     line: &'static [u8],
     wanted: Result<Order, OrderFault>,
@@ -252,7 +252,7 @@ const SPELLED: [Spelled; 41] = [
         line: b"teach 127",
         wanted: Ok(Order::Teach { offset: 127 }),
     },
-    // Bytes that are no text.
+    // Bytes that are not text.
     Spelled {
         line: b"teach \xB2",
         wanted: Err(OrderFault::Syntax),
@@ -334,7 +334,7 @@ fn label_orders(rt: HostRuntime) {
     }
 }
 
-/// Lines with a number out of its range, or with a label of 33 bytes. Here as below `|` stands between two lines.
+/// Lines with a number out of its range, or with a label of 33 bytes. Here and below `|` separates lines.
 const OUT_OF_RANGE: &str = "\
     label FFFFFFFF|label ffffffff x|label FFFFFFFF x|\
     label 01800ABC ABCDEFGHIJKLMNOPQRSTUVWXYZ0123456|\
@@ -352,27 +352,27 @@ const OTHER_LETTERS: &str = "\
     remov 01800ABC|lists|List|lisT|statut|statu|learm on|Learn on|learn of|learn onn|learn On|\
     learn on Answer|learn on answers|learn at D5-00-01|learn AS D5-00-01|learn offf";
 
-/// Words that are missing, that are too many, or that stand in another order.
+/// Words that are missing, that are too many, or that are in another order.
 const OTHER_WORDS: &str = "\
     add|add 01800ABC|add 01800ABC D5-00-01 D5-00-01|add D5-00-01 01800ABC|remove|\
     remove 01800ABC D5-00-01|remove D5-00-01|01800ABC|list 01800ABC|status list|learn|learn as|\
     learn as on|learn answer|learn answer on|learn D5-00-01|learn on as D5-00-01|learn on D5-00-01|\
     learn on answer x|learn as D5-00-01 x|learn off x|learn off answer|on learn|on";
 
-/// Spaces that are too many, and other bytes in the place of one.
+/// Too many spaces, and other bytes in place of one.
 const OTHER_SPACES: &str = "\
     add  01800ABC D5-00-01|add 01800ABC  D5-00-01|add 01800ABC D5-00-01 | add 01800ABC D5-00-01|\
     remove |remove 01800ABC | list|status |remove\t01800ABC|add 01800ABC\tD5-00-01|list\t|list\r|\
     learn |learn  on|learn on  answer| learn on|learn on |learn on answer |learn as  D5-00-01|\
     learn as D5-00-01 |learn\t|learn\ton|learn on\tanswer|learn off\r|add 01800ABC D5-00-01\n";
 
-/// Digits that are too few, too many or none, the last beside an ID that is out of range.
+/// Too few digits, too many or none, the last with an ID that is out of range.
 const OTHER_DIGITS: &str = "\
     remove 1800ABC|remove 001800ABC|remove 01800ABG|remove 0x1800AB|add 01800ABC D5-00-1|\
     add 01800ABC D5-00-001|add 01800ABC D5_00-01|add 01800ABC D5-00_01|add 01800ABC D5-0G-01|\
     learn as D5-00|learn as D5-00-1|learn as D50001|add FFFFFFFF D5-00-0";
 
-/// Labels of the wrong shape, the last ones beside an ID that is out of range, or of 33 bytes.
+/// Labels of the wrong shape, the last ones with an ID that is out of range, or of 33 bytes.
 const NO_LABELS: &str = "\
     label|label |label x|label x 01800ABC|Label 01800ABC x|lable 01800ABC x|labels 01800ABC x|\
     01800ABC x|label 0180 x|label 001800ABC x|label 01800ABG x|label 01800ABCx|label 01800ABC |\
@@ -396,7 +396,7 @@ const OTHER_WORDS_TO_DEVICES: &str = "\
     lever 0 0 0|level 0 0|level 0 0 0 0|level 0 0 on|level 01800ABC 0 0|teech 5|teach|teach 5 5|\
     teach on|teach 01800ABC|5 teach";
 
-/// The same, with texts that are no number.
+/// The same, with texts that are not numbers.
 const NO_NUMBERS: &str = "\
     teach |teach 00|teach 05|teach 007|teach 0127|teach 00000|teach 000000|teach +5|teach +|\
     teach -5|teach -0|teach 5.|teach 5.0|teach 5e1|teach 0x5|teach 5a|teach a|teach /|teach :|\
@@ -409,7 +409,7 @@ const OTHER_SPACES_TO_DEVICES: &str = "\
     switch 01800ABC 0  on|switch\t01800ABC 0 on|switch 01800ABC\t0 on|switch 01800ABC 0\ton|\
     switch 01800ABC 0 on\r|level 0 0 0 |teach  5|teach 5 |base ";
 
-/// Lines that are no order by their shape, and so not out of range, though their numbers are.
+/// Lines without the shape of an order, and so not out of range, though their numbers are.
 const SHAPE_BEFORE_RANGE: &str = "\
     dim FFFFFFFF 31 007|dim 01800ABC 0 0101|switch 01800ABC 31 onn|switch FFFFFFFF 0 on 1|\
     level 128 101 0256|teach 128 ";

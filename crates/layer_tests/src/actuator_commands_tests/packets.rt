@@ -1,4 +1,4 @@
-//! The telegrams of orders: for whom they are, what they say, and the orders that have none.
+//! The telegrams of orders: their recipients, their content, and the orders that have none.
 use actuator_commands::{Order, OrderFault, Quantity, id_of, packet_of, parse};
 use arrayvec::ArrayVec;
 use erp1_telegrams::{BROADCAST, Eep, Telegram, is_base, read, write};
@@ -40,7 +40,7 @@ fn telegram(
     Ok(packet_of(&order, device.as_ref(), base))
 }
 
-/// Orders to a switch, and the packets that were made by hand of them. Here as below `|` stands between two cases.
+/// Orders to a switch, and their packets, which were made by hand. Here and below `|` separates cases.
 const PACKETS_TO_SWITCHES: &str = "\
     switch 01800ABC 0 on = 550009070156d2010064ff800000000301800abcff0024|\
     dim 01800ABC 1 40 = 550009070156d2010128ff800000000301800abcff00d8|\
@@ -79,7 +79,7 @@ const PACKED: [Packed; 3] = [
     },
 ];
 
-// All fields of a telegram but the signal strength.
+// All fields of a telegram except the signal strength.
 fn parts(telegram: &Telegram) -> (u8, &[u8], u32, u8, u32) {
     (
         telegram.rorg(),
@@ -117,7 +117,7 @@ fn packets(rt: HostRuntime) -> Result<(), Fail> {
     Ok(())
 }
 
-/// Orders to a device, and what the telegrams say.
+/// Orders to a device, and the content of their telegrams.
 const TO_SWITCHES: &str = "\
     switch 01800ABC 0 on = 010064|switch 01800ABC 0 off = 010000|switch 01800ABC 30 on = 011e64|\
     dim 01800ABC 0 0 = 010000|dim 01800ABC 5 50 = 010532|dim 01800ABC 30 100 = 011e64|\
@@ -131,7 +131,7 @@ const TO_BLINDS: &str = "\
     query 01800ABC 0 = 03|blind 01800ABC 0 = 007f0001|blind 01800ABC 1 = 017f0001|\
     blind 01800ABC 50 = 327f0001|blind 01800ABC 100 = 647f0001|stop 01800ABC = 02";
 
-/// Orders to all, each with its sender and what its telegram says.
+/// Orders to all, each with its sender and the content of its telegram.
 const TO_ALL: &str = "\
     central 0 on = FF800000 01000009|central 127 off = FF80007F 01000008|\
     level 0 0 0 = FF800000 0200000c|level 1 0 255 = FF800001 0200ff0c|\
@@ -234,7 +234,7 @@ const ORDERS_TO_SWITCHES: &str =
 
 const ORDERS_TO_BLINDS: &str = "blind 01800ABC 50|stop 01800ABC";
 
-/// Orders that give no telegram to a device of this profile, or with no device, and the reason.
+/// Orders without a telegram to a device of this profile, or with no device, and the reason.
 struct Refused {
     profile: Option<Profile>,
     base: u32,
@@ -340,7 +340,7 @@ const REFUSED: [Refused; 17] = [
         orders: ORDERS_TO_BLINDS,
         why: OrderFault::WrongProfile,
     },
-    // The last of the last base ID's offsets is the ID that no sender has.
+    // The last offset of the last base ID is the ID that no sender has.
     Refused {
         profile: None,
         base: LAST_BASE,

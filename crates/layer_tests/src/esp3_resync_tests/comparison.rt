@@ -1,4 +1,4 @@
-//! The framer beside the plain one: after each byte of 10,000 made-up streams both hold the same packets.
+//! The framer compared with the plain one: after each byte of 10,000 generated streams both hold the same packets.
 use crate::esp3_resync_tests::plain::PlainFramer;
 use crate::esp3_resync_tests::streams::feed_pieces;
 use esp3_frames::{check8, read_packet};
@@ -6,7 +6,7 @@ use esp3_resync::{Framer, PacketBuf};
 use std::alloc::{AllocError, Global};
 use std::test::Fail;
 
-// Numbers that look random.
+// Pseudo-random numbers.
 #[derive(Drop)]
 struct Draws {
     state: u64,
@@ -50,7 +50,7 @@ fn push_header(
     Ok(())
 }
 
-// A packet whose last byte is its check joined with `wrong`: 0 for a good one.
+// A packet whose last byte is its CRC XORed with `wrong`: 0 for a correct one.
 fn push_packet(
     bytes: &mut Vec<u8>,
     draws: &mut Draws,
@@ -69,8 +69,8 @@ fn push_packet(
     Ok(())
 }
 
-// One piece of a stream: noise, a sync byte, a header with nothing behind it, a packet, one with a wrong check, or a
-// part of one.
+// One part of a stream: noise, a sync byte, a header with nothing after it, a packet, one with a wrong CRC, or a part
+// of one.
 fn push_piece(
     bytes: &mut Vec<u8>,
     draws: &mut Draws,
@@ -96,7 +96,7 @@ fn push_piece(
     Ok(())
 }
 
-// Up to eleven short pieces.
+// Up to eleven short parts.
 fn short_stream(bytes: &mut Vec<u8>, draws: &mut Draws) -> Result<(), AllocError> {
     for _ in 0..draws.draw(12) {
         let (data_len, opt_len) = (draws.draw(9), draws.draw(3));
@@ -105,7 +105,7 @@ fn short_stream(bytes: &mut Vec<u8>, draws: &mut Draws) -> Result<(), AllocError
     Ok(())
 }
 
-// Up to five pieces of at most so much data, many as long as that, with short packets among them.
+// Up to five parts with at most this much data, many of them with exactly this much, and short packets among them.
 fn long_stream(bytes: &mut Vec<u8>, draws: &mut Draws, most_data: u64) -> Result<(), AllocError> {
     for _ in 0..draws.draw(6) {
         let (data_len, opt_len) = match draws.draw(3) {
@@ -139,8 +139,8 @@ fn header_at_distance(
     Ok(())
 }
 
-// The same after two packets that end up to 1,500 bytes before the end of the framer's memory, which has room for the
-// longest packet and 8,192 bytes more.
+// The same after two packets that end up to 1,500 bytes before the end of the framer's memory, which has capacity for
+// the longest packet and 8,192 more bytes.
 fn headers_at_end_of_memory(bytes: &mut Vec<u8>, draws: &mut Draws) -> Result<(), AllocError> {
     push_packet(bytes, draws, 65_535, 255, 0)?;
     let data_len = 7_930_u64.saturating_sub(draws.draw(1_500));
@@ -165,7 +165,8 @@ struct Counts {
     longest: u32,
 }
 
-// Both framers on the bytes, one after another: whether one is ready exactly where the other is, with the same packets.
+// Passes the bytes to both framers, one after another: whether one is ready exactly when the other is, with the same
+// packets.
 fn compare(alloc: Global, bytes: &[u8], counts: &mut Counts) -> Result<bool, AllocError> {
     let mut framer = Framer::new(alloc)?;
     let mut plain = PlainFramer::new(alloc);
@@ -222,7 +223,7 @@ fn as_a_plain_framer(rt: HostRuntime) -> Result<(), Fail> {
             (stream, counts.packets)
         );
     }
-    // tests/oracle/stream-counts makes the same streams, and finds so many packets by the rule.
+    // tests/oracle/stream-counts generates the same streams, and finds this many packets by the rule.
     assert_eq!(rt; counts.packets, 40_297);
     assert_eq!(rt; counts.longest, 22);
     Ok(())

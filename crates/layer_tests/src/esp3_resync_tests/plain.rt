@@ -1,9 +1,9 @@
-//! A framer that keeps nothing beside its bytes, and reads them again from the front after each one. The tests compare
-//! with it. It has the check byte and the header of `esp3_frames`, which have tests of their own.
+//! A framer that stores nothing except its bytes, and reads them again from the front after each one. The tests compare
+//! with it. It uses the CRC and the header of `esp3_frames`, which have tests of their own.
 use esp3_frames::{check8, read_header};
 use std::alloc::{AllocError, Global};
 
-// What stands at the head of some bytes: no packet whatever follows, a part of one, or a whole one of this length.
+// What some bytes begin with: no packet whatever follows, a part of one, or a whole one of this length.
 #[derive(Clone, Copy)]
 enum Head {
     Never,
@@ -15,8 +15,7 @@ fn byte_or(b: &[u8], i: usize, other: u8) -> u8 {
     b.get(i).copied().unwrap_or(other)
 }
 
-// Whether a packet may begin with these bytes, of which there are at most five. What has not come is taken for the
-// best.
+// Whether a packet may begin with these bytes, at most five. Missing bytes are assumed to be valid.
 fn may_begin(b: &[u8]) -> bool {
     byte_or(b, 0, 0x55) == 0x55 && [byte_or(b, 1, 0), byte_or(b, 2, 0), byte_or(b, 3, 1)] != [0; 3]
 }
@@ -43,7 +42,7 @@ fn head_of(b: &[u8]) -> Head {
     }
 }
 
-// How many bytes are to be skipped until a packet may stand at the head.
+// How many bytes to skip until a packet may begin.
 fn skipped(b: &[u8]) -> usize {
     for start in 0..b.len() {
         match head_of(&b[start..]) {
@@ -91,7 +90,7 @@ impl PlainFramer {
         Ok(())
     }
 
-    /// Puts the whole packet into `out`, and says whether there was one.
+    /// Moves the whole packet into `out`, and returns whether there was one.
     pub(crate) fn take(&mut self, out: &mut Vec<u8>) -> Result<bool, AllocError> {
         let Head::Whole(n) = head_of(&self.bytes) else {
             return Ok(false);

@@ -1,4 +1,4 @@
-//! Streams whose packets are known: false headers, the greatest packet, and what stands before and behind.
+//! Streams with known packets: false headers, the longest packet, and what precedes and follows packets.
 ghost use Rattle.std.specs.Prelude.{◌<◌};
 
 use esp3_resync::{Framer, PacketBuf};
@@ -70,7 +70,7 @@ const STREAMS: [Stream; 3] = [
         ],
         last: CONTACT_LAST,
     },
-    // A packet with the most data, and the greatest packet.
+    // A packet with the most data, and the longest packet.
     Stream {
         steps: &[
             Step {
@@ -180,21 +180,21 @@ fn streams(rt: HostRuntime) -> Result<(), Fail> {
     Ok(())
 }
 
-// The packet above, and the command that reads the base ID. Noise and a header with a wrong check byte precede the
-// first packet, and two more sync bytes the second.
+// The packet above, and the command that reads the base ID. Noise and a header with a wrong CRC precede the first
+// packet, and two more sync bytes the second.
 const TWO_PACKETS: [u8; 39] = [
     0x00, 0xAA, 0x55, 0x00, 0x07, 0x07, 0x01, 0x7B, 0x55, 0x00, 0x07, 0x07, 0x01, 0x7A, 0xD5, 0x09,
     0x01, 0x80, 0x0A, 0xBC, 0x00, 0x01, 0xFF, 0xFF, 0xFF, 0xFF, 0x2D, 0x00, 0x1F, 0x55, 0x55, 0x55,
     0x00, 0x01, 0x00, 0x05, 0x70, 0x08, 0x38,
 ];
 
-// Of each of the two, the type and the data.
+// The type and the data of each of the two.
 const TYPES_AND_DATA: [u8; 17] = [
     0x01, 0xD5, 0x09, 0x01, 0x80, 0x0A, 0xBC, 0x00, 0x01, 0xFF, 0xFF, 0xFF, 0xFF, 0x2D, 0x00, 0x05,
     0x08,
 ];
 
-/// More runs and packets than a piece has.
+/// More runs and packets than a chunk has.
 const MAX_TURNS: u32 = 1_000_000;
 
 // Pushes the bytes in runs, appends the type and the data of each packet, and returns the number of packets.
@@ -224,7 +224,7 @@ fn feed_runs(
     Ok(packets)
 }
 
-/// The same with a new framer, which gets the bytes in pieces of this length.
+/// The same with a new framer, which gets the bytes in chunks of this length.
 pub(crate) fn feed_pieces(
     alloc: Global,
     bytes: &[u8],
@@ -243,7 +243,7 @@ pub(crate) fn feed_pieces(
     Ok(packets)
 }
 
-// The pieces have every length, so some end within noise, a header, data or a check.
+// The chunks have every length, so some end within noise, a header, data or a CRC.
 #[test]
 fn packets_in_runs(rt: HostRuntime) -> Result<(), Fail> {
     let mut found = Vec::new(rt.alloc());
@@ -259,7 +259,7 @@ fn packets_in_runs(rt: HostRuntime) -> Result<(), Fail> {
     Ok(())
 }
 
-// The bytes held are moved to the front of their memory within the second of the greatest packets.
+// The bytes held are moved to the front of their memory within the second of the longest packets.
 #[test]
 fn greatest_packets_in_runs(rt: HostRuntime) -> Result<(), Fail> {
     let mut framer = Framer::new(rt.alloc())?;
@@ -314,7 +314,7 @@ const LENT: [Lent; 4] = [
     },
 ];
 
-// A packet is lent if it stands whole at the front of the bytes, and no byte is held.
+// A packet is lent if it is whole and at the front of the bytes, and no byte is held.
 #[test]
 fn packets_lent(rt: HostRuntime) -> Result<(), Fail> {
     let mut framer = Framer::new(rt.alloc())?;

@@ -1,4 +1,4 @@
-//! Lines whose bytes are known, and the counts.
+//! Lines with known bytes, and the counters.
 use erp1_telegrams::{BROADCAST, Eep, Telegram};
 use exact_values::{over, scale};
 use json_lines::{
@@ -23,8 +23,8 @@ const ACTUATOR: Eep = Eep {
     typ: 0x12,
 };
 
-/// What a reading says: a number over a divisor of 1 to 1000, in this unit, or one that is 0 C at 0 and -40 C at 255,
-/// or no value.
+/// The content of a reading: a number over a divisor of 1 to 1000, in this unit, or one that is 0 C at 0 and -40 C at
+/// 255, or no value.
 #[derive(Clone, Copy)]
 enum Given {
     Over(u32, u32, &'static str),
@@ -215,7 +215,7 @@ const SOME: Counts = Counts {
     teach: 5,
 };
 
-/// `SOME` after each count was raised as often as `OF_COUNTS` says.
+/// `SOME` after each counter was incremented as often as `OF_COUNTS` says.
 const RAISED: Counts = Counts {
     ignored: 2,
     readings: 4,
@@ -240,7 +240,7 @@ const OF_COUNTS: [(Count, usize); 5] = [
     (Count::Teach, 5),
 ];
 
-// A count at its greatest value stays there.
+// A counter at its maximum does not change.
 #[test]
 fn counts(rt: HostRuntime) {
     let mut counts = SOME;
@@ -255,7 +255,6 @@ fn counts(rt: HostRuntime) {
     assert_eq!(rt; (counts, Counts::none()), (RAISED, NONE));
 }
 
-/// Counts and a mode, and their line.
 struct OfStatus {
     counts: Counts,
     mode: Mode,
@@ -311,7 +310,6 @@ fn status_lines(rt: HostRuntime) -> Result<(), Fail> {
     Ok(())
 }
 
-/// A response, and its line.
 struct OfResponse {
     code: u8,
     data: &'static [u8],

@@ -1,4 +1,4 @@
-//! Long lines, with ample memory.
+//! Long lines, with enough memory.
 use erp1_telegrams::{BROADCAST, Eep, Telegram};
 use exact_values::over;
 use json_lines::{device_lines, reading_line, response_line};
@@ -14,7 +14,7 @@ const PANEL: Eep = Eep {
     typ: 0x05,
 };
 
-// `first`, so many times `part` with `between` between two, and `last`.
+// `first`, this many times `part` with `between` between two, and `last`.
 fn text(
     alloc: Global,
     first: &str,

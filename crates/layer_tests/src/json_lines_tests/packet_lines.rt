@@ -1,10 +1,9 @@
-//! Packet lines whose bytes are known.
+//! Packet lines with known bytes.
 use erp1_telegrams::{BROADCAST, Eep, Telegram};
 use json_lines::{MAX_PACKET_LINE, PacketLine, ToldPacket, ToldTelegram, packet_line};
 use std::test::Fail;
 use teach_in::{Outcome, Why};
 
-/// A telegram, and its line.
 struct OfTelegram {
     dbm: Option<u8>,
     dest: u32,
@@ -51,7 +50,7 @@ const OF_TELEGRAMS: [OfTelegram; 4] = [
         line: "{\"dbm\":null,\"dest\":\"FF800001\",\"eep\":null,\"id\":\"000000FE\",\"maker\":0,\
             \"payload\":\"F0\",\"rorg\":\"F6\",\"status\":\"3A\",\"type\":\"packet\",\"why\":\"for_others\"}\n",
     },
-    // The least of all.
+    // The shortest of all.
     OfTelegram {
         dbm: Some(0),
         dest: 0,
@@ -115,7 +114,6 @@ fn telegrams(rt: HostRuntime) -> Result<(), Fail> {
     Ok(())
 }
 
-/// Another packet, and its line.
 struct OfAnother {
     kind: u8,
     size: u16,

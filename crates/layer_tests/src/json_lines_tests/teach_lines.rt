@@ -1,4 +1,4 @@
-//! Teach lines whose bytes are known, as they are told on a verdict.
+//! Teach lines with known bytes, as returned for a verdict.
 use erp1_telegrams::Eep;
 use json_lines::teach_line;
 use std::test::Fail;
@@ -11,8 +11,8 @@ const ACTUATOR: Eep = Eep {
     typ: 0x12,
 };
 
-/// What came of a sender that was refused, and its line. Those of accepted and deleted ones need a receipt: `rows` has
-/// them.
+/// The outcome for a sender that was rejected, and its line. Those of accepted and deleted ones need a receipt: `rows`
+/// has them.
 struct Refused {
     eep: Option<Eep>,
     maker: Option<u16>,

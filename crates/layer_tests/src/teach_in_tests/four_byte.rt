@@ -1,4 +1,4 @@
-//! What a 4BS query tells, and the reply to it.
+//! The fields of a 4BS query, and the reply to it.
 use super::given::{BASE, SENDER, kind, parts, refused};
 use erp1_telegrams::Eep;
 use std::test::Fail;
@@ -124,7 +124,7 @@ fn queries(rt: HostRuntime) -> Result<(), Fail> {
     Ok(())
 }
 
-/// The first three bytes of a query, the reason for its refusal, the base ID, and the payload of the reply.
+/// The first three bytes of a query, the reason for its rejection, the base ID, and the payload of the reply.
 struct Reply {
     query: [u8; 3],
     why: Outcome,

@@ -1,4 +1,4 @@
-//! A sender, its telegrams and what is planned about it, which the tests share.
+//! A sender, its telegrams and the plan for it, which the tests share.
 ghost use Rattle.std.specs.Prelude.{◌≡◌};
 ghost use Rattle.std.specs.Prelude.{IfOk};
 
@@ -45,7 +45,7 @@ pub(crate) fn refused(id: u32, why: Outcome) -> Result<Verdict, Fail>
     Ok(Verdict::refused(id, why))
 }
 
-/// What is planned about the sender.
+/// The plan for the sender.
 #[derive(Clone, Copy)]
 pub enum Wanted {
     Silent,

@@ -1,4 +1,4 @@
-//! Which profiles can be learned.
+//! The profiles that can be learned.
 use erp1_telegrams::Eep;
 use teach_in::supported;
 

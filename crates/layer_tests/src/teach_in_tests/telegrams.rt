@@ -1,4 +1,4 @@
-//! What telegrams are at teach-in.
+//! The roles of telegrams in teach-in.
 use super::given::{BASE, SENDER, kind, refused};
 use arrayvec::ArrayVec;
 use std::process::Abort;
@@ -59,7 +59,7 @@ const KINDS: [Kind; 15] = [
         behind: &[0, 0, 0, 0, 0, 0],
         wanted: Some(Teach::Plain),
     },
-    // 4BS: the first three bytes say nothing of it, whatever they are.
+    // 4BS: the first three bytes do not matter, whatever they are.
     Kind {
         rorg: 0xA5,
         before: &[0; 3],
@@ -143,8 +143,8 @@ fn kinds(rt: HostRuntime) -> Result<(), Fail> {
     Ok(())
 }
 
-// The query has its sender and these bytes: the reply has them all but in DB6, of which it has the highest bit. What is
-// requested there besides makes another query.
+// The query has its sender and these bytes. The reply has the same bytes, except for DB6, which keeps only the highest
+// bit. Another request there makes another query.
 fn is_query(rt: &impl Abort, found: Teach, payload: [u8; 7]) -> Result<(), Fail> {
     let Teach::Ute(query) = found else {
         return Err(Fail::from("no query"));
@@ -166,7 +166,7 @@ fn is_query(rt: &impl Abort, found: Teach, payload: [u8; 7]) -> Result<(), Fail>
     Ok(())
 }
 
-// Each first byte: the low half alone tells a query from a reply.
+// Each first byte: only the low half distinguishes a query from a reply.
 #[test]
 fn universal_teach_in(rt: HostRuntime) -> Result<(), Fail> {
     for high in 0..16_u8 {

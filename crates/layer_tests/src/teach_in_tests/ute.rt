@@ -1,4 +1,4 @@
-//! What a query of universal teach-in tells and asks for, and the reply to it.
+//! The fields and the request of a UTE query, and the reply to it.
 use super::given::{BASE, SENDER, Wanted, is_wanted, kind, parts, planned, refused};
 use erp1_telegrams::Eep;
 use std::process::Abort;
@@ -222,7 +222,7 @@ const QUERIES: [Fields; 22] = [
     },
 ];
 
-// DB6 and DB5 have no part in the fields.
+// DB6 and DB5 do not affect the fields.
 #[test]
 fn queries(rt: HostRuntime) -> Result<(), Fail> {
     for (row, case) in QUERIES.iter().enumerate() {
@@ -236,13 +236,13 @@ fn queries(rt: HostRuntime) -> Result<(), Fail> {
     Ok(())
 }
 
-/// DB6 of queries, and whether they want a reply.
+/// DB6 of queries, and whether they wait for a reply.
 const WANTS_REPLY: [([u8; 8], bool); 2] = [
     ([0x00, 0x10, 0x20, 0x30, 0x80, 0x90, 0xA0, 0xB0], true),
     ([0x40, 0x50, 0x60, 0x70, 0xC0, 0xD0, 0xE0, 0xF0], false),
 ];
 
-// A reply is wanted where DB6.6 is 0, whatever the rest is.
+// A query waits for a reply if DB6.6 is 0, whatever the rest is.
 #[test]
 fn wants_replies(rt: HostRuntime) -> Result<(), Fail> {
     for (firsts, wanted) in &WANTS_REPLY {
@@ -275,7 +275,7 @@ const DELETION: [u8; 4] = [0x10, 0x50, 0x90, 0xD0];
 
 const NOT_USED: [u8; 4] = [0x30, 0x70, 0xB0, 0xF0];
 
-/// A profile of any RORG is learned, and the maker of more than one user is kept like every other.
+/// A profile of any RORG is learned, and the maker of more than one user is kept like any other.
 const PLANNED: [Planned; 8] = [
     // A teach-in, and a request that is not specified.
     Planned {
@@ -345,7 +345,8 @@ fn is_planned(rt: &impl Abort, mode: Mode, case: &Planned) -> Result<(), Fail> {
     Ok(())
 }
 
-// The request alone decides, in DB6.5 and DB6.4: not whether a reply is wanted, nor whether the sender is known.
+// Only the request, in DB6.5 and DB6.4, decides: not whether the query waits for a reply, nor whether the sender is
+// known.
 #[test]
 fn plans_by_the_request(rt: HostRuntime) -> Result<(), Fail> {
     for case in &PLANNED {
@@ -390,7 +391,7 @@ const UNHEARD: Planned = Planned {
     wanted: Wanted::Silent,
 };
 
-// No query is heard in the other modes, not even one that tells the very profile that the desk has given.
+// No query has an effect in the other modes, not even one with exactly the profile that the desk has given.
 #[test]
 fn plans_nothing_else(rt: HostRuntime) -> Result<(), Fail> {
     for mode in OTHER_MODES {
@@ -399,7 +400,7 @@ fn plans_nothing_else(rt: HostRuntime) -> Result<(), Fail> {
     Ok(())
 }
 
-/// Values of DB6, the other bytes of the query, the reason for its refusal, the base ID, and DB6 of the reply.
+/// Values of DB6, the other bytes of the query, the reason for its rejection, the base ID, and DB6 of the reply.
 struct Reply {
     firsts: &'static [u8],
     rest: [u8; 6],

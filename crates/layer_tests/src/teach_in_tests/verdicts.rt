@@ -1,4 +1,4 @@
-//! What is planned about a sender, but for universal teach-in.
+//! The plans for a sender, except for UTE.
 use super::given::{Wanted, is_wanted, planned};
 use erp1_telegrams::Eep;
 use std::process::Abort;
@@ -93,7 +93,7 @@ fn is_planned(
     Ok(())
 }
 
-// The answering mode is as the other; a known sender is learned anew.
+// The mode `LearnAnswer` is like `Learn`; a known sender is learned again.
 #[test]
 fn plans_by_the_telegram(rt: HostRuntime) -> Result<(), Fail> {
     for case in &BY_TELEGRAM {
@@ -106,7 +106,7 @@ fn plans_by_the_telegram(rt: HostRuntime) -> Result<(), Fail> {
     Ok(())
 }
 
-/// A telegram, whether it teaches a sender in, and the maker that it tells.
+/// A telegram, whether it teaches a sender in, and the maker in it.
 struct ByDesk {
     rorg: u8,
     payload: &'static [u8],
@@ -200,8 +200,8 @@ const PROFILES: [Eep; 4] = [
     },
 ];
 
-// By the profile that the desk gives: a sender is learned by telegrams of that profile's RORG alone, with the maker
-// that a query tells, and by data only while it is not known.
+// By the profile that the desk gives: a sender is learned only by telegrams of that profile's RORG, with the maker of a
+// query, and by data only while it is not known.
 #[test]
 fn plans_by_the_desk(rt: HostRuntime) -> Result<(), Fail> {
     for case in &BY_DESK {

@@ -1,8 +1,7 @@
-//! A contact telegram of which one byte is replaced, and a whole one behind it: the whole one alone is found, and at
-//! its last byte.
+//! A contact telegram with one byte replaced, and a whole one after it: only the whole one is found, at its last byte.
 //!
-//! A wrong byte in a header or in data is always seen by its check, and none of the headers that a sync byte in place
-//! of another makes has a right check. That no case holds the whole telegram back was found by another program too.
+//! A wrong byte in a header or in data is always detected by its CRC, and no header that begins at a sync byte in place
+//! of another byte has a correct CRC. Another program also found that no case holds the whole telegram back.
 use super::script::{Item, Known, State};
 use crate::cuts::{CONTACT, add_piece};
 use crate::gateways::{fresh, written_by};
@@ -11,8 +10,7 @@ use anyhow::Result;
 use gateway_core::{DeviceStore, GatewayOver};
 use std::alloc::Global;
 
-// A wrong body: a framer that does not compare the highest bit of the check of the data. Printed was
-// `at 1935, differs`.
+// Mutant: a framer that does not compare the highest bit of the CRC of the data. It prints `at 1935, differs`.
 pub(crate) fn tell(rt: &HostRuntime, telling: &mut Telling) -> Result<()> {
     let alloc = rt.alloc();
     let mut gateway = fresh(alloc)?;
@@ -20,8 +18,8 @@ pub(crate) fn tell(rt: &HostRuntime, telling: &mut Telling) -> Result<()> {
     telling.tell_first(rt, "each byte of a packet replaced by each other", wrong)
 }
 
-/// The number of the first case that goes wrong, if any: 256 times the place of the byte, and what stands for it. The
-/// last number is that of the counts behind all cases.
+/// The number of the first case that is wrong, if any: 256 times the index of the byte, plus the replacement. The last
+/// number is that of the counters after all cases.
 fn first_wrong<S: DeviceStore>(
     alloc: Global,
     gateway: &mut GatewayOver<S>,
@@ -43,7 +41,7 @@ fn first_wrong<S: DeviceStore>(
     Ok((!is_counted).then_some(number))
 }
 
-/// Whether a whole packet is read behind one of which a byte is replaced, and nothing else.
+/// Whether only the whole packet is read after one with a replaced byte.
 fn is_read_behind<S: DeviceStore>(
     alloc: Global,
     gateway: &mut GatewayOver<S>,

@@ -1,5 +1,5 @@
-//! The scripts over files of which one stops, at each of its calls in turn. The gateway goes on to the end of its
-//! script. Then all stops, and the files are opened again.
+//! The scripts over files one of which stops, at each of its calls in turn. The gateway continues to the end of its
+//! script. Then everything crashes, and the files are opened again.
 use super::disks::{
     Disks, Stop, Store, Which, closed, connected, empty_files, files_under, fused, is_blown,
     left_by,
@@ -15,30 +15,30 @@ use gateway_main::start;
 use sqlite::Connection;
 use std::alloc::Global;
 
-/// More calls than a run makes of a file.
+/// More calls of a file than a run makes.
 const MOST: usize = 5000;
 
-/// So many devices that their table has more than one page.
+/// Enough devices that their table has more than one page.
 const MANY: u32 = 350;
 
-/// How a run ends.
 #[derive(Clone, Copy, PartialEq, Eq)]
 enum End {
     /// No connection is made.
     NotConnected,
     /// The database is not prepared.
     NotPrepared,
-    /// The database is prepared, and no gateway is made: its connection is dropped, so nothing can be found behind it.
+    /// The database is prepared, but the gateway's start fails: its connection is dropped with the files, so these
+    /// cannot be opened again.
     NotStarted,
-    /// The script is done, and items were refused.
+    /// The script is done, and some inputs failed.
     Refused,
-    /// The script is done, and the file stops with no refusal.
+    /// The script is done, and the file stops without a failed input.
     JustEnough,
     /// The script is done, and the file does not stop.
     Whole,
 }
 
-/// What each run begins with.
+/// The initial state of a run.
 #[derive(Clone, Copy)]
 struct Trial<'a> {
     /// The script.
@@ -56,15 +56,15 @@ struct Trial<'a> {
 #[derive(Drop)]
 struct Course {
     state: State,
-    /// What a stop may leave of the sender: what was told last, then the changes that were refused since.
+    /// What a crash may leave of the sender: what was last acknowledged, then the updates that have failed since.
     left: Vec<Known>,
     is_refused: bool,
-    /// Whether each item was answered as it has to be.
+    /// Whether each input was answered correctly.
     is_well: bool,
 }
 
-// A wrong body: a registry that remembers a device which it was refused to learn. Printed were
-// `a log that stops, at 28, differs` and `a large database that stops, at 49, differs`.
+// Mutant: a registry that remembers a device that it failed to learn. It prints `a log that stops, at 28, differs` and
+// `a large database that stops, at 49, differs`.
 pub(crate) fn tell(rt: &HostRuntime, telling: &mut Telling) -> Result<()> {
     let alloc = rt.alloc();
     let empty = empty_files(alloc);
@@ -111,8 +111,8 @@ fn tell_trial(
     telling.tell_first(rt, name, wrong)
 }
 
-/// The first number of calls after which the file stops and a run is not as it has to be, if any. Runs end in each of
-/// these ways, and the last one with no stop.
+/// The first number of calls after which the file stops and a run is wrong, if any. Runs end in each of these ways, and
+/// the last one without a stop.
 fn first_wrong(alloc: Global, trial: &Trial<'_>, ends: &[End]) -> Result<Option<usize>> {
     let mut met = Vec::new(alloc);
     for calls in 0..MOST {
@@ -137,7 +137,7 @@ fn is_all_in(ends: &[End], met: &[End]) -> bool {
     true
 }
 
-/// The files of a registry that knows so many senders.
+/// The files of a registry that knows this many senders.
 fn made(alloc: Global, others: u32) -> Result<Disks> {
     match connected(alloc, empty_files(alloc), 9) {
         Ok(conn) => closed(filled(alloc, conn, others)?),
@@ -158,7 +158,7 @@ fn filled<C: SqlConnection + Drop>(alloc: Global, conn: C, others: u32) -> Resul
     Ok(conn)
 }
 
-/// Whether the database is prepared, or refused by the store. None: it is refused otherwise.
+/// Whether the database is prepared; false if it fails, and `None` if it is rejected for another cause.
 fn is_prepared<C: SqlConnection>(conn: &mut C) -> Option<bool> {
     if !conn.is_autocommit() {
         return None;
@@ -170,7 +170,7 @@ fn is_prepared<C: SqlConnection>(conn: &mut C) -> Option<bool> {
     }
 }
 
-/// A gateway, unless the store refuses it.
+/// A gateway, unless the database fails.
 fn started<C: SqlConnection + Drop>(
     alloc: Global,
     conn: C,
@@ -185,7 +185,7 @@ fn started<C: SqlConnection + Drop>(
     }
 }
 
-/// How the run ends whose file passes so many calls, and whether all was as it has to be.
+/// How the run ends whose file allows this many calls, and whether everything was correct.
 fn run(alloc: Global, trial: &Trial<'_>, calls: usize) -> Result<(End, bool)> {
     let files = fused(alloc, trial.files, trial.which, calls as u64)?;
     match connected(alloc, files, trial.pages) {
@@ -232,7 +232,7 @@ fn ended(alloc: Global, trial: &Trial<'_>, course: &Course, files: Disks) -> Res
     Ok((end, course.is_well && has_cause && is_found))
 }
 
-/// Runs the script by a gateway, and hands the connection back. None: there is no gateway.
+/// Runs the script by a gateway, and returns the connection. `None`: there is no gateway.
 fn run_script_over<C: SqlConnection + Drop>(
     alloc: Global,
     trial: &Trial<'_>,
@@ -265,7 +265,7 @@ fn run_script<S: DeviceStore>(
     Ok(course)
 }
 
-/// Takes an item that was answered so. An item that asks the store may be refused, by the word `store` alone.
+/// Follows an input with this answer. An input that needs the database may fail, only with the word `store`.
 fn follow(alloc: Global, course: &mut Course, item: Item, text: &[u8]) -> Result<()> {
     let change = item.change(course.state.known);
     if text == STORE && item.asks_store() {
@@ -286,7 +286,7 @@ fn follow(alloc: Global, course: &mut Course, item: Item, text: &[u8]) -> Result
     Ok(())
 }
 
-/// Whether one of these is found behind either stop, and the sender is learned again there.
+/// Whether one of these is found after either kind of crash, and the sender is then learned again.
 fn is_found_behind(alloc: Global, trial: &Trial<'_>, files: Disks, left: &[Known]) -> Result<bool> {
     let mut files = files;
     for stop in [Stop::OfProcess, Stop::OfMachine] {
@@ -335,7 +335,7 @@ fn is_found_by<S: DeviceStore>(
     Ok(is_learned && is_listed(alloc, list.as_slice(), others, left)?)
 }
 
-/// Whether a list tells one of these.
+/// Whether a list contains one of these.
 fn is_listed(alloc: Global, list: &[u8], others: u32, left: &[Known]) -> Result<bool> {
     for known in left {
         if State::new(*known, others).listed(alloc)?.as_bytes() == list {

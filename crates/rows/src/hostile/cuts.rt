@@ -1,4 +1,4 @@
-//! Scripts that end behind each of their bytes, and serial lines that end, or pause, behind each of theirs.
+//! Scripts that end after each of their bytes, and serial lines that end, or pause, after each of theirs.
 use super::script::{ITEMS, Item, Known, OK, SYNTAX, State, outcome_of};
 use super::turns::{ended, paused, serve_new};
 use crate::replays::is_written;
@@ -9,15 +9,15 @@ use std::alloc::Global;
 /// A contact telegram with a wrong last byte.
 const WRONG_LAST_BYTE: &[u8] = b"S 55000707017AD50901800ABC0001FFFFFFFF2D001E";
 
-/// A line of a script, and what is written for it.
+/// A line of a script, and its output.
 #[derive(Drop)]
 struct Line {
     line: &'static [u8],
     text: Vec<u8>,
 }
 
-// Two wrong bodies: a replay that drops a last line of one byte, and a live gateway that drops a piece of one byte. All
-// three cases printed `at 1, differs`, the first two for the replay.
+// Two mutants: a replay that drops a last line of one byte, and a live gateway that drops a chunk of one byte. All
+// three cases print `at 1, differs`, the first two for the replay.
 pub(crate) fn tell(rt: &HostRuntime, telling: &mut Telling) -> Result<()> {
     let alloc = rt.alloc();
     let script = lines_of(alloc, &ITEMS, &[])?;
@@ -51,7 +51,7 @@ fn add_lines(
     Ok(())
 }
 
-/// The lines of these items, and, where there are any, those of others behind a packet with a wrong last byte.
+/// The lines of these inputs, and, if there are any, those of others after a packet with a wrong last byte.
 fn lines_of(alloc: Global, items: &[Item], behind: &[Item]) -> Result<Vec<Line>> {
     let mut lines = Vec::new(alloc);
     let mut state = State::new(Known::Nothing, 0);
@@ -66,7 +66,7 @@ fn lines_of(alloc: Global, items: &[Item], behind: &[Item]) -> Result<Vec<Line>>
     Ok(lines)
 }
 
-/// The first number of bytes behind which the script ends and other text is written than has to be, if any.
+/// The first number of bytes after which the script ends and the output is wrong, if any.
 fn first_wrong_end(alloc: Global, lines: &[Line]) -> Result<Option<usize>> {
     let mut script = Vec::new(alloc);
     let mut text = Vec::new(alloc);
@@ -100,8 +100,8 @@ fn joined(alloc: Global, parts: (&[u8], &[u8])) -> Result<Vec<u8>> {
     Ok(bytes)
 }
 
-/// What is written for the first part of a line, of which the rest does not come. It is a line itself, if it is not
-/// empty: a piece that holds no whole packet, or an order, of which `learn on` alone is one that can be read.
+/// The output for a prefix of a line, whose rest does not arrive. It is a line itself, if it is not empty: a chunk
+/// without a whole packet, or an order, of which only `learn on` is valid.
 fn text_of_part(part: &[u8]) -> &'static [u8] {
     match part.strip_prefix(b"S ".as_slice()) {
         Some(digits) if digits.len() % 2 == 0 => b"",
@@ -111,7 +111,7 @@ fn text_of_part(part: &[u8]) -> &'static [u8] {
     }
 }
 
-/// The first number of serial bytes behind which the line ends or pauses and other bytes go out than have to, if any.
+/// The first number of serial bytes after which the line ends or pauses and the output is wrong, if any.
 fn first_wrong_line(alloc: Global) -> Result<Option<usize>> {
     let mut number = 0usize;
     for (at, item) in ITEMS.iter().enumerate() {
@@ -128,7 +128,7 @@ fn first_wrong_line(alloc: Global) -> Result<Option<usize>> {
     Ok(None)
 }
 
-/// Whether all goes out where so many bytes of a packet come in one turn, and the others in the next.
+/// Whether everything is written if this many bytes of a packet arrive in one turn, and the others in the next.
 fn is_pause_well(alloc: Global, at: usize, len: usize) -> Result<bool> {
     let served = serve_new(alloc, &paused(alloc, at, len)?)?;
     let wanted = outcome_of(alloc, &ITEMS)?;
@@ -139,7 +139,7 @@ fn is_pause_well(alloc: Global, at: usize, len: usize) -> Result<bool> {
     )
 }
 
-/// Whether the packets before it and all orders are answered where the line ends behind so many bytes of a packet.
+/// Whether the packets before it and all orders are answered if the line ends after this many bytes of a packet.
 fn is_line_end_well(alloc: Global, at: usize, len: usize) -> Result<bool> {
     let mut items = Vec::new(alloc);
     for (turn, item) in ITEMS.iter().enumerate() {

@@ -1,4 +1,4 @@
-//! Files in memory, of which one stops, connections over them, and what a stop of all leaves.
+//! Files in memory, one of which stops, connections over them, and what a crash of all leaves.
 use anyhow::{Result, bail};
 use sqlite::{Alter, Connection, FileStore, Files, Options};
 use sqlite_disk::{Crash, Disk, Fuse, Memory};
@@ -15,16 +15,15 @@ pub enum Which {
     Database,
 }
 
-/// What a stop leaves of what was written and not synced.
+/// What a crash leaves of what was written and not synced.
 #[derive(Clone, Copy)]
 pub enum Stop {
-    /// The process dies: all of it.
+    /// The process dies: everything.
     OfProcess,
     /// The machine stops: nothing.
     OfMachine,
 }
 
-/// New files.
 pub(crate) fn empty_files(alloc: Global) -> Disks {
     Files {
         log: Fuse::new(Memory::new(alloc), u64::MAX),
@@ -39,7 +38,7 @@ fn copied(alloc: Global, file: &Fuse<Memory>, calls: u64) -> Result<Fuse<Memory>
     Ok(Fuse::new(copy, calls))
 }
 
-/// Copies of the files, of which one passes so many calls, and then refuses each.
+/// Copies of the files, one of which allows this many calls, and then fails each.
 pub(crate) fn fused(alloc: Global, files: &Disks, which: Which, calls: u64) -> Result<Disks> {
     let (log, db) = match which {
         Which::Log => (calls, u64::MAX),
@@ -51,7 +50,7 @@ pub(crate) fn fused(alloc: Global, files: &Disks, which: Which, calls: u64) -> R
     })
 }
 
-/// Whether the file passes no call any more.
+/// Whether the file does not allow any more calls.
 pub(crate) fn is_blown(files: &mut Disks, which: Which) -> bool {
     match which {
         Which::Log => !files.log.may_be_used() || files.log.len().is_err(),
@@ -59,7 +58,7 @@ pub(crate) fn is_blown(files: &mut Disks, which: Which) -> bool {
     }
 }
 
-/// Copies of what a stop leaves of the files. They pass each call.
+/// Copies of what a crash leaves of the files. They allow each call.
 pub(crate) fn left_by(alloc: Global, files: &mut Disks, stop: Stop) -> Result<Disks> {
     if let Stop::OfMachine = stop {
         files.log.crash();
@@ -71,7 +70,7 @@ pub(crate) fn left_by(alloc: Global, files: &mut Disks, stop: Stop) -> Result<Di
     })
 }
 
-/// A connection over the files that keeps so many pages in memory, or the files again.
+/// A connection over the files that keeps this many pages in memory, or the files again.
 pub(crate) fn connected(
     alloc: Global,
     files: Disks,
@@ -96,7 +95,7 @@ pub(crate) fn closed(conn: Connection<Store>) -> Result<Disks> {
     }
 }
 
-/// The files of a connection that is left as it is.
+/// The files of a connection that is left unchanged.
 pub(crate) fn files_under(conn: Connection<Store>) -> Disks {
     store_of(conn).close()
 }

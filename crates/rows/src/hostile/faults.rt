@@ -1,4 +1,4 @@
-//! Replays of the script in which one read or one write fails, at each place in turn: what is written then, and what
+//! Replays of the script in which one read or one write fails, at each position in turn: what is then written, and what
 //! the gateway knows.
 use super::script::{ITEMS, Known, Outcome, State, outcome_of, outcome_of_first};
 use crate::fakes::{Parts, Sips};
@@ -11,11 +11,11 @@ use gateway_core::{DeviceStore, GatewayOver};
 use gateway_main::{OverRead, OverWrite, RunFault, Summary, replay, start};
 use std::alloc::Global;
 
-/// More reads than these scripts take.
+/// More reads than these scripts need.
 const TURNS: u64 = 1000;
 
-// Two wrong bodies: engines that close the window at a read that fails, and at a write that fails. Printed were
-// `at 83, differs` and `at 188, differs`.
+// Two mutants: event loops that close the window at a read that fails, and at a write that fails. They print `at 83,
+// differs` and `at 188, differs`.
 pub(crate) fn tell(rt: &HostRuntime, telling: &mut Telling) -> Result<()> {
     let alloc = rt.alloc();
     let wrong = first_wrong_read(alloc)?;
@@ -33,7 +33,7 @@ struct Replayed {
     written: Vec<u8>,
 }
 
-/// Replays by a reader that gives these parts and a writer that takes one byte at a call, which fail at these calls.
+/// Replays by a reader that returns these parts and a writer that takes one byte at a call, which fail at these calls.
 fn replay_parts<S: DeviceStore>(
     alloc: Global,
     gateway: &mut GatewayOver<S>,
@@ -51,7 +51,7 @@ fn replay_parts<S: DeviceStore>(
     Ok(Replayed { ended, written })
 }
 
-/// Whether the gateway knows this.
+/// Whether this is what the gateway knows.
 pub(crate) fn knows<S: DeviceStore>(
     alloc: Global,
     gateway: &mut GatewayOver<S>,
@@ -64,7 +64,6 @@ pub(crate) fn knows<S: DeviceStore>(
     Ok(behind == Some(counts.as_bytes()))
 }
 
-/// The text of the script.
 fn script(alloc: Global) -> Result<Vec<u8>> {
     let mut script = Vec::new(alloc);
     for item in ITEMS {
@@ -74,8 +73,8 @@ fn script(alloc: Global) -> Result<Vec<u8>> {
     Ok(script)
 }
 
-/// The first number of bytes that came one by one before a read failed, where not just the lines that had ended were
-/// answered, or the lines behind them are answered otherwise when they come again.
+/// The first number of bytes, read one by one before a read failed, for which not exactly the ended lines were
+/// answered, or the lines after them are answered otherwise when they are sent again.
 fn first_wrong_read(alloc: Global) -> Result<Option<usize>> {
     let script = script(alloc)?;
     let mut ended = 0usize;
@@ -106,7 +105,7 @@ fn is_read_fault_well(alloc: Global, script: &[u8], came: usize, ended: usize) -
     )
 }
 
-/// Whether the items from this one on are answered as if nothing had failed.
+/// Whether the inputs from this one on are answered as if nothing had failed.
 fn goes_on<S: DeviceStore>(
     alloc: Global,
     gateway: &mut GatewayOver<S>,
@@ -127,7 +126,7 @@ fn goes_on<S: DeviceStore>(
     Ok(behind == Some(written.as_slice()))
 }
 
-/// The first number of bytes that were out as a write failed where anything is wrong.
+/// The first number of bytes that were written before a write failed, if anything is wrong then.
 fn first_wrong_write(alloc: Global) -> Result<Option<usize>> {
     for done in 0..ITEMS.len() {
         let before = outcome_of_first(alloc, done)?;
@@ -141,7 +140,7 @@ fn first_wrong_write(alloc: Global) -> Result<Option<usize>> {
     Ok(None)
 }
 
-/// Whether the text breaks off behind so many bytes, and the item in it is done.
+/// Whether the text breaks off after this many bytes, and the input in it is done.
 fn is_write_fault_well(alloc: Global, out: usize, item: &Outcome) -> Result<bool> {
     let script = script(alloc)?;
     let mut gateway = fresh(alloc)?;
@@ -159,10 +158,10 @@ fn is_write_fault_well(alloc: Global, out: usize, item: &Outcome) -> Result<bool
     )
 }
 
-// A wrong body, tried in a run of its own without the rows, the caches, the endings and the made-up streams: an engine
-// that removes the sender where a write fails. This case differed, and so did each write of a replay and of a live
+// Mutant, tried in a run of its own without the sessions, the caches, the endings and the generated streams: an event
+// loop that removes the sender if a write fails. This case differed, and so did each write of a replay and of a live
 // gateway, both at 0.
-/// Whether a device is found again whose teach-in was done, and could not be told.
+/// Whether a device is found again whose teach-in was done, and could not be reported.
 fn is_kept_untold(alloc: Global) -> Result<bool> {
     let mut gateway = fresh(alloc)?;
     let script = b"learn on\nS 55000D0701FDD4A00146001201D201800ABC0001FFFFFFFF2D008A\n".as_slice();
@@ -172,7 +171,7 @@ fn is_kept_untold(alloc: Global) -> Result<bool> {
     Ok(is_broken && is_found_again(alloc, gateway)?)
 }
 
-/// Whether the actuator is listed where the gateway's database is opened again.
+/// Whether the actuator is listed when the gateway's database is opened again.
 fn is_found_again<C: SqlConnection + Drop>(
     alloc: Global,
     gateway: GatewayOver<RegistryOver<C>>,

@@ -1,5 +1,5 @@
-//! A live gateway that serves the script, and of which one read or one write fails, at each place in turn: what is out
-//! then, and what the gateway knows.
+//! A live gateway that serves the script, in which one read or one write fails, at each position in turn: what is then
+//! written, and what the gateway knows.
 use super::faults::knows;
 use super::script::{ITEMS, Outcome, outcome_of_first};
 use super::turns::{Turns, serve, whole};
@@ -10,14 +10,14 @@ use anyhow::Result;
 use gateway_main::RunFault;
 use std::alloc::Global;
 
-/// What fails, each time the call of one number: a read of the serial line and one of the desk, or a write to each.
+/// What fails, each time the call with one number: a read of the serial line and one of the desk, or a write to each.
 #[derive(Clone, Copy)]
 enum Failing {
     Reads((usize, usize)),
     Writes((usize, usize)),
 }
 
-// The wrong bodies of `faults` printed `at 4, differs` and `at 188, differs` here.
+// The mutants of `faults` print `at 4, differs` and `at 188, differs` here.
 pub(crate) fn tell(rt: &HostRuntime, telling: &mut Telling) -> Result<()> {
     let wrong = first_wrong_read(rt.alloc())?;
     telling.tell_first(rt, "each read of a live gateway fails in turn", wrong)?;
@@ -41,7 +41,7 @@ fn first_wrong_read(alloc: Global) -> Result<Option<usize>> {
     Ok(None)
 }
 
-/// Whether so many items are done where these reads fail, of the serial line and of the desk, and nothing more.
+/// Whether exactly this many inputs are done if these reads fail, of the serial line and of the desk.
 fn is_read_well(
     alloc: Global,
     turns: &Turns,
@@ -53,7 +53,7 @@ fn is_read_well(
     is_fault_well(alloc, turns, Failing::Reads(fails_at), went, &done)
 }
 
-/// The first number of bytes that were out on one side as a write there failed, where anything is wrong.
+/// The first number of bytes that were written on one side before a write there failed, if anything is wrong then.
 fn first_wrong_write(alloc: Global) -> Result<Option<usize>> {
     let turns = whole(alloc)?;
     for done in 0..ITEMS.len() {
@@ -75,8 +75,8 @@ fn first_wrong_write(alloc: Global) -> Result<Option<usize>> {
     Ok(None)
 }
 
-/// Whether a live gateway in which this fails ends with its fault, just so many bytes are out by radio and to the desk,
-/// and it knows what it does behind the items.
+/// Whether a live gateway in which this fails ends with its fault, exactly this many bytes are written by radio and to
+/// the desk, and it knows what it should after the inputs.
 fn is_fault_well(
     alloc: Global,
     turns: &Turns,

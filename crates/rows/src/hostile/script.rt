@@ -1,9 +1,9 @@
-//! A script with each kind of item but labels, and one with labels, both about one sender, and what is to be answered
-//! to them. It is written out from the rules of the gateway, and calls nothing of it.
+//! A script with each kind of input except labels, and one with labels, both about one sender, and the expected
+//! answers. They are written from the rules of the gateway, and use none of its code.
 use anyhow::Result;
 use std::alloc::Global;
 
-/// An item of the script: an order of the desk, or a packet.
+/// An input of the script: an order of the desk, or a packet.
 #[derive(Clone, Copy)]
 pub enum Item {
     /// The order that adds the sender as a contact.
@@ -12,9 +12,9 @@ pub enum Item {
     Contact,
     /// The order that opens the window and has queries answered.
     Open,
-    /// A universal teach-in query of the sender as an actuator.
+    /// A UTE query of the sender as an actuator.
     Actuator,
-    /// A 4BS teach-in query of the sender as a sensor.
+    /// A 4BS query of the sender as a sensor.
     Sensor,
     /// The order that lists the devices.
     List,
@@ -22,13 +22,13 @@ pub enum Item {
     Response,
     /// The order that removes the sender.
     Remove,
-    /// The order that gives the sender its label. It is given to a contact alone, or to a stranger.
+    /// The order that labels the sender. It is only given if the sender is a contact or unknown.
     Label,
-    /// The order that tells the counts.
+    /// The order that reports the counters.
     Status,
 }
 
-/// The script. With ample memory and a store that refuses nothing its second `Remove` finds nobody.
+/// The script. With enough memory and a database that does not fail its second `Remove` finds nobody.
 pub const ITEMS: [Item; 10] = [
     Item::Add,
     Item::Contact,
@@ -42,8 +42,8 @@ pub const ITEMS: [Item; 10] = [
     Item::Status,
 ];
 
-/// The script with labels. With ample memory and a store that refuses nothing its second `Add` keeps the label, and its
-/// second `Label` finds nobody.
+/// The script with labels. With enough memory and a database that does not fail its second `Add` keeps the label, and
+/// its second `Label` finds nobody.
 pub const LABELS: [Item; 9] = [
     Item::Add,
     Item::Label,
@@ -56,7 +56,7 @@ pub const LABELS: [Item; 9] = [
     Item::Label,
 ];
 
-/// What is known of the sender.
+/// What is known about the sender.
 #[derive(Clone, Copy, PartialEq, Eq)]
 pub enum Known {
     Nothing,
@@ -87,7 +87,7 @@ const RESPONSE: &str = "{\"code\":0,\"data\":\"\",\"name\":\"OK\",\"type\":\"res
 
 const UNKNOWN: &str = "{\"error\":\"unknown_device\",\"type\":\"error\"}\n";
 
-/// What goes out by radio for the two queries.
+/// What is sent by radio for the two queries.
 const ACTUATOR_REPLY: &str = "55000d0701fdd4910146001201d2ff800000000301800abcff00f3";
 
 const SENSOR_REPLY: &str = "55000a0701eba5082846f0ff800000000301800abcff00d8";
@@ -109,12 +109,12 @@ impl Item {
         }
     }
 
-    /// The digits of a packet. None: it is an order.
+    /// The digits of a packet. `None`: it is an order.
     pub(crate) fn digits(self) -> Option<&'static [u8]> {
         self.line().strip_prefix(b"S ".as_slice())
     }
 
-    /// Whether its answer may need the store.
+    /// Whether its answer may need the database.
     pub(crate) fn asks_store(self) -> bool {
         match self {
             Item::Open | Item::Response | Item::Status => false,
@@ -122,7 +122,8 @@ impl Item {
         }
     }
 
-    /// What is known of the sender once it is told that this item learned, forgot or labelled it, if it does.
+    /// What is known about the sender once an acknowledgement says that this input learned, forgot or labelled it, if
+    /// it does.
     pub(crate) fn change(self, known: Known) -> Option<Known> {
         match self {
             Item::Add if known == Known::Labelled => Some(known),
@@ -136,17 +137,17 @@ impl Item {
     }
 }
 
-/// What an item is answered.
+/// The answer to an input.
 #[derive(Drop)]
 pub struct Answer {
-    /// The digits of what goes out by radio, or none.
+    /// The digits of the radio bytes, or none.
     pub radio: &'static str,
-    /// What the desk is told.
+    /// The text for the desk.
     pub desk: String,
 }
 
 impl Answer {
-    /// Puts what a replay writes behind this text.
+    /// Appends what a replay writes to this text.
     pub(crate) fn add_to(&self, text: &mut Vec<u8>) -> Result<()> {
         if !self.radio.is_empty() {
             text.extend_from_slice(b"S ")?;
@@ -161,7 +162,7 @@ impl Answer {
 /// What the gateway knows.
 #[derive(Clone, Copy)]
 pub struct State {
-    /// What it knows of the sender.
+    /// What it knows about the sender.
     pub known: Known,
     /// How many other senders it knows. They are contacts, and have the IDs from 1 on.
     pub others: u32,
@@ -174,7 +175,7 @@ pub struct State {
 }
 
 impl State {
-    /// That of a new gateway which finds the sender so.
+    /// The state of a new gateway that finds this about the sender.
     pub(crate) fn new(known: Known, others: u32) -> State {
         State {
             known,
@@ -188,12 +189,12 @@ impl State {
         }
     }
 
-    /// An item was refused.
+    /// An input failed.
     pub(crate) fn refuse(&mut self) {
         self.refused = self.refused.saturating_add(1);
     }
 
-    /// Takes an item, and says what it is answered.
+    /// Applies an input, and returns its answer.
     pub(crate) fn take(&mut self, alloc: Global, item: Item) -> Result<Answer> {
         match item {
             Item::Contact => self.hear_contact(alloc),
@@ -206,7 +207,7 @@ impl State {
         }
     }
 
-    // Takes an item for which nothing goes out by radio, and says what the desk is told.
+    // Applies an input without radio bytes, and returns the text for the desk.
     fn take_quietly(&mut self, alloc: Global, item: Item) -> Result<String> {
         match item {
             Item::Add => {
@@ -266,7 +267,6 @@ impl State {
         Ok(String::from_utf8_lossy(alloc, OK)?)
     }
 
-    /// What `list` is answered.
     pub(crate) fn listed(&self, alloc: Global) -> Result<String> {
         let mut text = String::new(alloc);
         for id in 1..=self.others {
@@ -290,7 +290,6 @@ impl State {
         Ok(text)
     }
 
-    /// What `status` is answered.
     pub(crate) fn status(&self, alloc: Global) -> Result<String> {
         let mode = if self.is_answering {
             "answer"
@@ -314,7 +313,7 @@ fn eep_and_maker(known: Known) -> (&'static str, &'static str) {
     }
 }
 
-// The label of the sender, as a list tells it.
+// The label of the sender in a list.
 fn label_of(known: Known) -> &'static str {
     match known {
         Known::Labelled => "Door \\\"A\\\"",
@@ -322,7 +321,7 @@ fn label_of(known: Known) -> &'static str {
     }
 }
 
-/// The line that tells what became of the sender.
+/// The line with the outcome for the sender.
 fn taught(alloc: Global, known: Known, outcome: &str) -> Result<String> {
     let (eep, maker) = eep_and_maker(known);
     Ok(format!(in alloc;
@@ -330,7 +329,7 @@ fn taught(alloc: Global, known: Known, outcome: &str) -> Result<String> {
     )?)
 }
 
-/// What a gateway comes to, and what goes out.
+/// The last state of a gateway, and its output.
 #[derive(Drop)]
 pub struct Outcome {
     pub state: State,
@@ -338,11 +337,11 @@ pub struct Outcome {
     pub written: Vec<u8>,
     /// What a live gateway sends by radio.
     pub radio: Vec<u8>,
-    /// What it tells the desk.
+    /// What it sends to the desk.
     pub desk: Vec<u8>,
 }
 
-/// What a new gateway comes to that takes these items.
+/// The outcome for a new gateway with these inputs.
 pub(crate) fn outcome_of(alloc: Global, items: &[Item]) -> Result<Outcome> {
     let mut it = Outcome {
         state: State::new(Known::Nothing, 0),
@@ -360,7 +359,7 @@ pub(crate) fn outcome_of(alloc: Global, items: &[Item]) -> Result<Outcome> {
     Ok(it)
 }
 
-/// What a new gateway comes to that takes so many first items of the script.
+/// The outcome for a new gateway with this many first inputs of the script.
 pub(crate) fn outcome_of_first(alloc: Global, items: usize) -> Result<Outcome> {
     outcome_of(alloc, &ITEMS[..items.min(ITEMS.len())])
 }

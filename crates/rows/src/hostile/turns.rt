@@ -1,4 +1,4 @@
-//! The script as the turns of a live gateway: in each turn one item comes.
+//! The script as the turns of a live gateway: one input arrives in each turn.
 use super::script::{ITEMS, Item};
 use crate::fakes::Parts;
 use crate::gateways::fresh;
@@ -7,7 +7,7 @@ use anyhow::Result;
 use gateway_core::{DeviceStore, GatewayOver};
 use std::alloc::Global;
 
-/// What comes in turns.
+/// What arrives in turns.
 #[derive(Drop)]
 pub struct Turns {
     serial: Vec<Vec<u8>>,
@@ -55,7 +55,8 @@ pub(crate) fn whole(alloc: Global) -> Result<Turns> {
     Ok(turns)
 }
 
-/// The turns of the script, but that the packet of this number comes in two turns, so many bytes of it in the first.
+/// The turns of the script, except that the packet with this number arrives in two turns, this many bytes of it in the
+/// first.
 pub(crate) fn paused(alloc: Global, at: usize, len: usize) -> Result<Turns> {
     let mut turns = Turns::new(alloc);
     for (number, item) in ITEMS.iter().enumerate() {
@@ -72,7 +73,7 @@ pub(crate) fn paused(alloc: Global, at: usize, len: usize) -> Result<Turns> {
     Ok(turns)
 }
 
-/// The turns of the script, but that no serial bytes come behind so many of the packet of this number.
+/// The turns of the script, except that no serial bytes follow this many of the packet with this number.
 pub(crate) fn ended(alloc: Global, at: usize, len: usize) -> Result<Turns> {
     let mut turns = Turns::new(alloc);
     for (number, item) in ITEMS.iter().enumerate() {

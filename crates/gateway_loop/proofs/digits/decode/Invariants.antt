@@ -4,7 +4,7 @@ use Rattle.hex.specs.Hex.{decode_pairs}
 use Rattle.hex.proofs.Pairs.{prepend}
 use Rattle.gateway_loop.proofs.digits.decode.Given as goal
 
--- the pairs so far are digits, and stand for the bytes so far, or there is one that is none
+-- the pairs so far are digits, and stand for the bytes so far, or one of them is not a digit
 abbrev pub invariant-loop-i : goal.invariant-loop-i
 invariant-loop-i l = record {
   read : l.seen < 16

@@ -36,7 +36,7 @@ loop-turn-init g c =
 pub take_piece-requires : goal.take_piece-requires
 take_piece-requires g c = c.loop-turn.invariant.idle
 
--- ---- the serial line cannot be read
+-- ---- a read of the serial line fails
 
 pub returns-in_default-clause-err : goal.returns-in_default-clause-err
 returns-in_default-clause-err g c =
@@ -75,7 +75,7 @@ returns-in_default-clause-whole g c =
           (ap (λ t. t.failed) c.in_default.ensures.told ∙ ap one_more serial.well) all.serial_well),
     )
 
--- ---- an answer to a packet does not get out
+-- ---- an answer to a packet is not written completely
 
 pub returns-in_default-take_piece-clause-err : goal.returns-in_default-take_piece-clause-err
 returns-in_default-take_piece-clause-err g c =
@@ -125,7 +125,7 @@ returns-in_default-take_piece-clause-whole g c =
           part.answers part.last part.out room.serial_out room.desk_out all.serial_written all.desk_written),
     )
 
--- ---- the desk cannot be read
+-- ---- a read of the desk fails
 
 pub returns-in_default-read-clause-err : goal.returns-in_default-read-clause-err
 returns-in_default-read-clause-err g c =
@@ -170,7 +170,7 @@ returns-in_default-read-clause-whole g c =
           room.desk_in (ap (λ t. t.failed) c.in_default-read.ensures.told ∙ ap one_more desk.well) all.desk_well),
     )
 
--- ---- an answer to an order does not get out
+-- ---- an answer to an order is not written completely
 
 pub returns-in_default-take_bytes-clause-err : goal.returns-in_default-take_bytes-clause-err
 returns-in_default-take_bytes-clause-err g c =

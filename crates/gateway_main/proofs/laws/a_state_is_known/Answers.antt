@@ -5,7 +5,7 @@ use Rattle.device_registry.specs.Holding.{HoldsSome, kept_by}
 use Rattle.gateway_core.specs.Handling.{HandlerValue, KnowsState}
 use Rattle.gateway_main.proofs.laws.a_state_is_known.Goals as goal
 
--- the base ID, the mode and the counts are known of themselves, and the devices by the registry
+-- the base ID, the mode and the counters are known by themselves, and the devices by the registry
 knows_state : {C : Type 0} (state : C → State) (v : HandlerValue C) → HoldsSome (state v.registry)
     → KnowsState (kept_by state) v
 knows_state state v holds clean =

@@ -8,7 +8,7 @@ use Rattle.std.proofs.lemmas.List.Concat.{flat_map-append}
 use Rattle.json_lines.specs.Lines.{DeviceLine, text}
 use Rattle.json_lines.proofs.devices.device_lines.Goals as goal
 
--- the pieces of so many items, and that of the next
+-- the texts of this many devices, and that of the next
 one_more : {X Y : Type 0} (line : X → Y) (piece : Y → List ℕ) (items : List X) (i : ℕ) (item : X) → i < length items
     → item ≡ get_or items i item
     → flat_map piece (map line (take i items)) ++ piece (line item) ≡ flat_map piece (map line (take (i + 1) items))

@@ -7,7 +7,7 @@ use Rattle.json.specs.Print.{escape}
 use Rattle.json_lines.proofs.ReadingTexts.{value_pieces}
 use Rattle.json_lines.proofs.reading.put_value.Goals as goal
 
--- what a call that appends gives where it succeeds
+-- the text after a call that appends, if it succeeds
 if_ok : {T E : Type 0} (r : Result T E) (new long short : List ℕ) → new ≡ (if is_ok r then long else short)
     → OnOk r (new ≡ long)
 if_ok (Ok x) new long short h = h

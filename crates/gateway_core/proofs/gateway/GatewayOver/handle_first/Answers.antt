@@ -5,7 +5,7 @@ use Rattle.esp3_frames.specs.Outcome.{packet_of}
 use Rattle.gateway_core.specs.Calls.{Value}
 use Rattle.gateway_core.proofs.gateway.GatewayOver.handle_first.Goals as goal
 
--- between the two calls the packet waits
+-- between the two calls the packet is ready
 pub returns-clause-taken : goal.returns-clause-taken
 returns-clause-taken g c =
     let Over = g.row.S.Denot in

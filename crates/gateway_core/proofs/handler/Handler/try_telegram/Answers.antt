@@ -11,7 +11,7 @@ use Rattle.teach_in.proofs.ForCallers.{plan-unasked}
 use Rattle.gateway_core.proofs.TryLemmas.{tries-alone, tries-same}
 use Rattle.gateway_core.proofs.handler.Handler.try_telegram.Goals as goal
 
--- what the filter returns for a telegram
+-- the filter's result for a telegram
 abbrev Filters : ℕ → Telegram → Option FilterReason → Type 0
 Filters base t found =
     MatchOption found (is_passed_over base t ≡ false)

@@ -46,7 +46,7 @@ Kept g old now = record {
       old.items now.items;
 }
 
--- what is known once a reply went out
+-- what is known once a reply was written
 abbrev Answered : (g : Over) → Engine g.row.O.Denot g.row.S.Denot → Engine g.row.O.Denot g.row.S.Denot
     → Value g.row.S.Denot → HandledPacket → Type 0
 Answered g now new next handled = record {
@@ -57,7 +57,7 @@ Answered g now new next handled = record {
   put : g.O.Outlet.way.puts now.outlet new.outlet (packet_answer handled ∷ []);
 }
 
--- one reply more went out, so what the loop keeps holds again
+-- one more reply was written, so what the loop keeps holds again
 one_more_out : (g : Over) (old now new : Engine g.row.O.Denot g.row.S.Denot) (next : Value g.row.S.Denot)
     (handled : HandledPacket) → Kept g old now
     → Moves g.S.DeviceStore.kept now.gateway.now (Next (Some (packet_answer handled))) next

@@ -41,7 +41,7 @@ returns-in-Some-clause-taken g c =
     (rw c.answer_packet.ensures.kept c.in-Some.ensures.taken.2) c.in_ok-answer_packet.ensures.put
     c.answer_packet.ensures.counted)
 
--- else the bytes up to the one that makes packets ready
+-- otherwise the bytes up to the one that makes packets ready
 
 pub returns-in_err-drain-clause-taken : goal.returns-in_err-drain-clause-taken
 returns-in_err-drain-clause-taken g c =

@@ -1,7 +1,7 @@
 use Rattle.std.proofs.lemmas.Result.{on_ok_weaker}
 use Rattle.json_lines.proofs.status.StatusObjectSerialize.serialize.Goals as goal
 
--- a member is its key, what is sent for it, and the members behind it
+-- a member is its key, what is sent for it, and the members after it
 pub returns : goal.returns
 returns g c =
     on_ok_weaker c.end_map.result (λ ended. (
