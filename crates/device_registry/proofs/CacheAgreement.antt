@@ -60,13 +60,13 @@ still old new clean ready keeps entry right = record {
 }
 
 -- a look-up was answered, and is remembered
-pub found_recalled : (old new : State) (id : ℕ) (known : Option Device) (before after : List Entry)
+pub found_recalled : (old new : State) (id : ℕ) (known : Option Device) (before later : List Entry)
     → (HasCleanDisk new → HasCleanDisk old) → (HasCleanDisk new → IsReady old × IsReady new)
     → (HasCleanDisk new → (devices : Devices) → HasDevices old devices
     → (known ≡ device_of devices id) × Keeps (kept old) (kept new) devices)
-    → CacheAgrees old before → ((e : Entry) → Contains after e → Contains before e ⊎ (e ≡ (id, known)))
-    → CacheAgrees new after
-found_recalled old new id known before after early sure found recalls kept entry has clean =
+    → CacheAgrees old before → ((e : Entry) → Contains later e → Contains before e ⊎ (e ≡ (id, known)))
+    → CacheAgrees new later
+found_recalled old new id known before later early sure found recalls kept entry has clean =
     let it = sure clean in
     let was_devices = it.0.devices in
     let had = held it.0 in
@@ -113,14 +113,14 @@ abbrev known_after : Devices → Change → Option Learned
 known_after devices change = after (get devices change.sender) change.deed
 
 -- a change is committed, and its sender is remembered
-pub changed_recalled : (old new : State) (change : Change) (known : Option Device) (before between after : List Entry)
+pub changed_recalled : (old new : State) (change : Change) (known : Option Device) (before between later : List Entry)
     → (HasCleanDisk new → HasCleanDisk old) → (HasCleanDisk new → IsReady old × IsReady new)
     → (HasCleanDisk new → (devices : Devices) → HasDevices old devices → Commits (kept new) change devices)
     → (HasCleanDisk old → (devices : Devices) → HasDevices old devices
     → known ≡ option_map (device change.sender) (known_after devices change))
     → CacheAgrees old before → ((e : Entry) → Contains between e → Contains before e × (e.0 ≢ change.sender))
-    → ((e : Entry) → Contains after e → Contains between e ⊎ (e ≡ (change.sender, known))) → CacheAgrees new after
-changed_recalled old new change known before between after early sure commits is recalls taken kept entry has clean =
+    → ((e : Entry) → Contains later e → Contains between e ⊎ (e ≡ (change.sender, known))) → CacheAgrees new later
+changed_recalled old new change known before between later early sure commits is recalls taken kept entry has clean =
     let it = sure clean in
     let id = change.sender in
     elim (kept entry has) [
@@ -145,10 +145,10 @@ changed_recalled old new change known before between after early sure commits is
     ]
 
 -- nothing is learned, and what is remembered of the others stays
-pub full_recalled : (old new : State) (before after : List Entry) → (HasCleanDisk new → HasCleanDisk old)
+pub full_recalled : (old new : State) (before later : List Entry) → (HasCleanDisk new → HasCleanDisk old)
     → (HasCleanDisk new → IsReady old × IsReady new)
     → (HasCleanDisk new → (devices : Devices) → HasDevices old devices → Keeps (kept old) (kept new) devices)
     → CacheAgrees old before
-    → ((e : Entry) → Contains after e → Contains before e) → CacheAgrees new after
-full_recalled old new before after early sure keeps recalls fewer =
-    listed_recalled old new after early sure keeps (fewer_recalled old before after recalls fewer)
+    → ((e : Entry) → Contains later e → Contains before e) → CacheAgrees new later
+full_recalled old new before later early sure keeps recalls fewer =
+    listed_recalled old new later early sure keeps (fewer_recalled old before later recalls fewer)

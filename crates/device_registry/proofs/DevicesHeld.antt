@@ -128,10 +128,10 @@ module _ (before : Database) (registry : IsRegistry Second before) where
         is = is;
       })
 
-one_more : (b : Bool) (n with_it without : ℕ) → with_it ≡ cond b n (n + 1) → without ≡ cond b (n - 1) n
+count-with : (b : Bool) (n with_it without : ℕ) → with_it ≡ cond b n (n + 1) → without ≡ cond b (n - 1) n
     → nat_le max_devices without ≡ false → n ≤ max_devices → with_it ≤ max_devices
-one_more true n with_it without more less room few = omega arith
-one_more false n with_it without more less room few = grind (arith, nat_tests)
+count-with true n with_it without more less room few = omega arith
+count-with false n with_it without more less room few = grind (arith, nat_tests)
 
 not_more : (b : Bool) (n without : ℕ) → without ≡ cond b (n - 1) n → without ≤ n
 not_more true n without less = omega arith
@@ -191,7 +191,7 @@ module _ (before after : Database) (devices : Devices) (had : Registers before d
         let size : length (after.trees r.tables.devices) ≡ len (insert devices id it) =
         sym (len_is (after.trees r.tables.devices) all once) ∙ ap len is in
         let few : len (insert devices id it) ≤ max_devices =
-        one_more (contains_key devices id) (len devices) _ _ (len-insert nat_cmp_total devices id it)
+        count-with (contains_key devices id) (len devices) _ _ (len-insert nat_cmp_total devices id it)
         (len-remove nat_cmp_total devices id) room (few_devices before devices had) in
         registers_after before r after (insert devices id it) schema
         (put.others.objects devices_beside (no_index_there before.schema before.trees sound)) r.whole.row

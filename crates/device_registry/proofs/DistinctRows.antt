@@ -23,24 +23,24 @@ use Rattle.device_registry.proofs.SenderTests.{entries_are, risen_len}
 use Rattle.device_registry.proofs.SchemaTests.{none_any}
 
 -- no row has the rowid of this one
-abbrev pub IsFree : Row → List Row → Type 0
-IsFree new = AllByRecursion (λ r. rowid r ≢ rowid new)
+abbrev pub HasNewRowid : Row → List Row → Type 0
+HasNewRowid new = AllByRecursion (λ r. rowid r ≢ rowid new)
 
-turned : (new : Row) (rows : List Row) → IsFree new rows → AllByRecursion (λ r. rowid new ≢ rowid r) rows
+turned : (new : Row) (rows : List Row) → HasNewRowid new rows → AllByRecursion (λ r. rowid new ≢ rowid r) rows
 turned new rows free =
     all_weaker (λ r. rowid r ≢ rowid new) (λ r. rowid new ≢ rowid r) (λ r other same. other (sym same)) rows free
 
-back : (new : Row) (rows : List Row) → AllByRecursion (λ r. rowid new ≢ rowid r) rows → IsFree new rows
+back : (new : Row) (rows : List Row) → AllByRecursion (λ r. rowid new ≢ rowid r) rows → HasNewRowid new rows
 back new rows free =
     all_weaker (λ r. rowid new ≢ rowid r) (λ r. rowid r ≢ rowid new) (λ r other same. other (sym same)) rows free
 
-pub untaken : (new : Row) (rows : List Row) → is_taken rows new ≡ false → IsFree new rows
+pub untaken : (new : Row) (rows : List Row) → is_taken rows new ≡ false → HasNewRowid new rows
 untaken new rows h = all_weaker (λ r. is_eq (value_cmp (rowid r) (rowid new)) ≡ false) (λ r. rowid r ≢ rowid new)
     (λ r other same. absurd (let tied : is_eq (value_cmp (rowid r) (rowid new)) ≡ true =
     ap (λ v. is_eq (value_cmp v (rowid new))) same ∙ ap is_eq (tied_itself value_cmp_total (rowid new)) in cc)) rows
     (none_any (λ r. is_eq (value_cmp (rowid r) (rowid new))) rows h)
 
-pub apart_put : (new : Row) (rows : List Row) → IsFree new rows → RowidsDiffer rows → RowidsDiffer (put_row new rows)
+pub apart_put : (new : Row) (rows : List Row) → HasNewRowid new rows → RowidsDiffer rows → RowidsDiffer (put_row new rows)
 apart_put new [] free apart = (tt, tt)
 apart_put new (r ∷ rows) free apart =
     elim (value_cmp (rowid r) (rowid new)) as
@@ -54,7 +54,7 @@ int_tied : (a b : ℕ) → value_cmp (Int (pos a)) (Int (pos b)) ≡ Equal → a
 int_tied a b h = let e = sym (value_cmp-Int (pos a) (pos b)) ∙ h in grind (arith, ints, nat_tests)
 
 -- a row that is put beside the others is one more
-pub put_permutes : (new : Row) (it : IsDevice new) (rows : List Row) → AllByRecursion IsDevice rows → IsFree new rows
+pub put_permutes : (new : Row) (it : IsDevice new) (rows : List Row) → AllByRecursion IsDevice rows → HasNewRowid new rows
     → IsPermutation (new ∷ rows) (put_row new rows)
 put_permutes new it [] all free = IsPermutation-refl (new ∷ [])
 put_permutes new it (r ∷ rows) all free =

@@ -35,7 +35,7 @@ use Rattle.device_registry.proofs.StatementTexts.{put_terms}
 use Rattle.device_registry.proofs.SenderTests.{equal_ids}
 use Rattle.device_registry.proofs.DeviceChecks.{checked}
 use Rattle.device_registry.proofs.TablesAlone.{StandsAlone, no_shares}
-use Rattle.device_registry.proofs.DistinctRows.{IsFree, untaken}
+use Rattle.device_registry.proofs.DistinctRows.{HasNewRowid, untaken}
 use Rattle.device_registry.proofs.RowWrites.{cast_int, cast_none, cast_label, went, same_value, SparesOthers, spares}
 use Rattle.device_registry.proofs.RowWrites.{spares_as, spares_then}
 
@@ -44,7 +44,7 @@ pub record IsPut (schema : Schema) (devices id : ℕ) (it : Learned) (before aft
   pub device : IsDevice (stored id it)
   pub gone : List ℤ
   pub same : AllByRecursion (λ i. i ≡ pos id) gone
-  pub fresh : IsFree (stored id it) (without_all (before devices) gone)
+  pub fresh : HasNewRowid (stored id it) (without_all (before devices) gone)
   pub rows : after devices ≡ put_row (stored id it) (without_all (before devices) gone)
   pub others : SparesOthers schema devices before after
 
@@ -85,7 +85,7 @@ module _ (schema : Schema) (limit : Option ℕ) (keys : Keys) (params : Row) (d 
   task = record { limit = limit; keys = keys; schema = schema; table = device_table Second d; params = params }
 
   puts : (db : Trees) (w : Written) → Puts task (stored id it) db (Ok w)
-      → (w.trees d ≡ put_row (stored id it) (db d)) × SparesOthers schema d db w.trees × IsFree (stored id it) (db d)
+      → (w.trees d ≡ put_row (stored id it) (db d)) × SparesOthers schema d db w.trees × HasNewRowid (stored id it) (db d)
   puts db w h =
       let done = went h in
       let trees : w.trees ≡ done.0 = ap (λ (it : Written). it.trees) (same_value done.2) in
@@ -99,7 +99,7 @@ module _ (schema : Schema) (limit : Option ℕ) (keys : Keys) (params : Row) (d 
 
   clears : (db : Trees) (found : List Row) (w : Written) → Clears task Replace (stored id it) db found (Ok w)
       → (w.trees d ≡ put_row (stored id it) (without_all (db d) (ids_of found))) × SparesOthers schema d db w.trees
-      × IsFree (stored id it) (without_all (db d) (ids_of found))
+      × HasNewRowid (stored id it) (without_all (db d) (ids_of found))
   clears db [] w h = puts db w h
   clears db (x ∷ more) w h =
       let done = went h in
@@ -108,7 +108,7 @@ module _ (schema : Schema) (limit : Option ℕ) (keys : Keys) (params : Row) (d 
       let put = puts done.0 w done.2 in (
         put.0 ∙ ap (put_row (stored id it)) step.rows,
         spares_then schema d db done.0 w.trees (spares schema keys db done.0 edit step) put.1,
-        subst (IsFree (stored id it)) step.rows put.2,
+        subst (HasNewRowid (stored id it)) step.rows put.2,
       )
 
   conflicting : (db : Trees) (found : List Row) → AllByRecursion IsDevice (db d)

@@ -19,22 +19,22 @@ use Rattle.sqlite_rules.specs.Edit.{put_all}
 use Rattle.device_registry.specs.Table.Rows.{RowidsDiffer, IsDevice, entry_of, devices_in}
 use Rattle.device_registry.proofs.RowsAsMap.{seen, key_is}
 use Rattle.device_registry.proofs.SenderTests.{two}
-use Rattle.device_registry.proofs.DistinctRows.{IsFree, put_permutes, apart_turned}
+use Rattle.device_registry.proofs.DistinctRows.{HasNewRowid, put_permutes, apart_turned}
 
 -- ---- rows that are put one after another
 
 -- no row of the first has the rowid of one of the second
-abbrev AreFree : List Row → List Row → Type 0
-AreFree rows there = AllByRecursion (λ new. IsFree new there) rows
+abbrev HaveNewRowids : List Row → List Row → Type 0
+HaveNewRowids rows there = AllByRecursion (λ new. HasNewRowid new there) rows
 
 puts_permute : (rows there : List Row) → AllByRecursion IsDevice rows → AllByRecursion IsDevice there
-    → RowidsDiffer rows → AreFree rows there → IsPermutation (rows ++ there) (put_all there rows)
+    → RowidsDiffer rows → HaveNewRowids rows there → IsPermutation (rows ++ there) (put_all there rows)
 puts_permute [] there news all once free = IsPermutation-refl there
 puts_permute (new ∷ rows) there news all once free =
     let put = put_row new there in
     let more = all-put_row IsDevice new there news.0 all in
-    let still : AllByRecursion (λ r. IsFree r put) rows =
-    all_both (λ r. rowid new ≢ rowid r) (λ r. IsFree r there) (λ r. IsFree r put)
+    let still : AllByRecursion (λ r. HasNewRowid r put) rows =
+    all_both (λ r. rowid new ≢ rowid r) (λ r. HasNewRowid r there) (λ r. HasNewRowid r put)
     (λ r other beside. all-put_row (λ b. rowid b ≢ rowid r) new there other beside) rows once.0 free.1 in
     IsPermutation-trans _ _ _
     (IsPermutation-sym _ _ (IsPermutation-middle rows new there))
@@ -47,7 +47,7 @@ pub copied : (rows : List Row) → AllByRecursion IsDevice rows → RowidsDiffer
 copied rows news once = subst (λ rs. IsPermutation rs (put_all [] rows)) (append-nil rows)
     (puts_permute rows [] news tt once (free_all rows))
   where
-    free_all : (rows : List Row) → AllByRecursion (λ new. IsFree new []) rows
+    free_all : (rows : List Row) → AllByRecursion (λ new. HasNewRowid new []) rows
     free_all [] = tt
     free_all (row ∷ rows) = (tt, free_all rows)
 

@@ -33,7 +33,7 @@ unrefused state =
         unsays = λ asked account. ignores account;
         reads = λ known line. refl;
         admits = λ hears eep maker known planned. refl;
-        deletes = λ learning asks. refl;
+        removes = λ learning asks. refl;
         refuses = λ hears need line is. refl;
       };
       passes = ignores;
@@ -63,7 +63,7 @@ packets-counted state packet =
         unsays = λ asked account is. refl;
         reads = λ known line. refl;
         admits = λ hears eep maker known planned. refl;
-        deletes = λ learning asks. refl;
+        removes = λ learning asks. refl;
         refuses = λ hears need line is. refl;
       };
       passes = λ account is. refl;
@@ -94,7 +94,7 @@ teach-counted state line packet =
         unsays = λ asked account is e. absurd (no_line line e);
         reads = λ known read e. absurd (other-line (Reading read) line (λ never. never) e);
         admits = λ hears eep maker known planned e. refl;
-        deletes = λ learning asks e. refl;
+        removes = λ learning asks e. refl;
         refuses = λ hears need line is e. refl;
       };
       passes = λ account is e. absurd (no_line line e);
@@ -112,7 +112,7 @@ teach-told state packet =
         reads = λ known read e. absurd cc;
         admits = λ hears eep maker known planned e.
             (told_of (record { id = t.sender; eep = eep; maker = maker; label = [] }) Accepted, append-nil _);
-        deletes = λ learning asks e. (line_with t.sender (teach_in_of t) Deleted, append-nil _);
+        removes = λ learning asks e. (line_with t.sender (teach_in_of t) Deleted, append-nil _);
         refuses = λ hears need line is e. (line, append-nil _);
       };
       passes = λ account is e. absurd cc;
@@ -160,7 +160,7 @@ has-account state packet =
         unsays = λ asked account is. (account, refl, ignoring-says account.why is);
         reads = λ known line. (_, refl, (line, refl));
         admits = λ hears eep maker known planned. (_, refl, (_, refl, refl));
-        deletes = λ learning asks. (_, refl, (_, refl, refl));
+        removes = λ learning asks. (_, refl, (_, refl, refl));
         refuses = λ hears need line is. (_, refl, (line, refl, refl));
       };
       passes = λ account is. (account, refl, ignoring-says account.why is);

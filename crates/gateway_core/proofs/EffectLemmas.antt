@@ -127,7 +127,7 @@ pub record OfTelegram (P : Effect → Type 0) (state : State) (t : Telegram) : T
   pub admits : Hears state.mode (teach_in_of t) → (eep : Eep) (maker : Option ℕ) (known : Bool)
       → plan_of t state.mode known ≡ add t eep maker
       → P (accepts state (teach_in_of t) (record { id = t.sender; eep = eep; maker = maker; label = [] }))
-  pub deletes : LearnsByTold state.mode → AsksDeletion (teach_in_of t) → P (deletes state (teach_in_of t) t.sender)
+  pub removes : LearnsByTold state.mode → AsksDeletion (teach_in_of t) → P (deletes state (teach_in_of t) t.sender)
   pub refuses : Hears state.mode (teach_in_of t) → (need : Need) (line : TeachLine) → IsRefusal line.outcome
       → P (record (tells_sender state (teach_in_of t) line) { need = need })
 
@@ -144,7 +144,7 @@ module _ (P : Effect → Type 0) (state : State) (t : Telegram) (each : OfTelegr
         adds = λ hears eep maker planned.
             either P (is_full state.devices t.sender) _ _ (each.refuses hears NeedsStore _ tt)
             (each.admits hears eep maker known planned);
-        forgets = λ told asks planned. each.deletes told asks;
+        forgets = λ told asks planned. each.removes told asks;
         refuses = λ hears outcome is planned.
             each.refuses hears _ (line_with t.sender (teach_in_of t) outcome)
             (is-refusal t.sender (teach_in_of t) outcome is);

@@ -107,7 +107,7 @@ item-promises state item =
         unsays = λ asked account is change e. absurd cc;
         reads = λ known line change e. absurd cc;
         admits = λ hears eep maker known planned change e. asked _ (_, refl, refl, refl) change e;
-        deletes = λ learning asks change e. asked (forgotten t.sender) refl change e;
+        removes = λ learning asks change e. asked (forgotten t.sender) refl change e;
         refuses = λ hears need line is change e. absurd cc;
       };
       passes = λ account is change e. absurd cc;

@@ -204,7 +204,7 @@ item-keeps state (Received packet) in_range bytes =
         admits = λ hears eep maker known planned.
             let plan = subst IsPlanInRange planned (planned-in t state.mode known in_range.1) in
             ((plan.0, sender-below packet t carried bytes, plan.1), after-one state.mode);
-        deletes = λ learning asks. (tt, tt);
+        removes = λ learning asks. (tt, tt);
         refuses = λ hears need line is. (tt, tt);
       };
       passes = λ account is. (tt, tt);
@@ -339,10 +339,10 @@ deleted-in state (Received packet) known in_range bytes (t, carried, id, query, 
       subst IsMakerInRange (sym maker) carried_in.1,
     )
 
-of_device : (state : State) (item : Item) (line : TeachLine) (outcome : Outcome) (known : Device)
+device-in : (state : State) (item : Item) (line : TeachLine) (outcome : Outcome) (known : Device)
     → line.outcome ≡ outcome → IsDeviceInRange known → change_of state item ≡ Some (acknowledged_change outcome known)
     → text (Teach line) ≡ text (Teach (told_of known outcome)) → IsOfDevice state item line
-of_device state item line outcome known word in_range change same =
+device-in state item line outcome known word in_range change same =
     let one = subst (λ o. text (Teach line) ≡ text (Teach (told_of known o))) (sym word) same in record {
       known = known;
       in_range = in_range;
@@ -358,8 +358,8 @@ tells_in_range state item fate line in_range bytes answered word =
     elim word [
       | inl accepted ↦
           let (known, same, asks) = subst Of accepted tells.1 in
-          of_device state item line Accepted known accepted (learned-in state item known in_range bytes asks) asks same
+          device-in state item line Accepted known accepted (learned-in state item known in_range bytes asks) asks same
       | inr deleted ↦
           let (known, same, gone, asks) = subst Of deleted tells.1 in
-          of_device state item line Deleted known deleted (deleted-in state item known in_range bytes gone) asks same
+          device-in state item line Deleted known deleted (deleted-in state item known in_range bytes gone) asks same
     ]

@@ -82,7 +82,7 @@ packet-replies state packet bytes =
             admits = λ hears eep maker learned planned e.
                 let known : Device = record { id = t.sender; eep = eep; maker = maker; label = [] } in
                 (t, carried, told_of known Accepted, append-nil _, replies Accepted hears e);
-            deletes = λ learning (query, asked, wants) e.
+            removes = λ learning (query, asked, wants) e.
                 let hears = subst (Hears state.mode) (sym asked) learning in
                 let line = line_with t.sender (teach_in_of t) Deleted in
                 (t, carried, line, append-nil _, replies line.outcome hears e);

@@ -121,7 +121,7 @@ packet-tells state line packet =
         admits = λ hears eep maker learned planned e.
             let known : Device = record { id = t.sender; eep = eep; maker = maker; label = [] } in
             told Gone line (accepts state (teach_in_of t) known) known Accepted e (λ is. (known, is, refl));
-        deletes = λ learning asks e. deleted-tells state packet t line carried asks e;
+        removes = λ learning asks e. deleted-tells state packet t line carried asks e;
         refuses = λ hears need other is e.
             subst (Tells Gone (tells_sender state (teach_in_of t) other) line) (same-outcome other line e)
             (refused-tells Gone state (teach_in_of t) other line other.outcome is);
@@ -178,7 +178,7 @@ packet-answers state packet change =
         admits = λ hears eep maker learned planned e.
             let known : Device = record { id = t.sender; eep = eep; maker = maker; label = [] } in
             (told_of known Accepted, append-nil _, (known, refl, refl));
-        deletes = λ learning asks e. deleted-answers state packet t carried asks;
+        removes = λ learning asks e. deleted-answers state packet t carried asks;
         refuses = λ hears need line is e. absurd cc;
       };
       passes = λ account is e. absurd cc;

@@ -151,9 +151,9 @@ pub refused-gives : (done : Done) (state : State) (t : Telegram) (kind : Teach) 
     (outcome : Outcome) → kind ≡ teach_in_of t → id ≡ t.sender → line_with id kind outcome ≡ line
     → Gives done (tells_sender state kind line)
     → Gives done (plan_effect state t true (Refuse outcome))
-refused-gives done state t kind id line outcome is sent_by told =
+refused-gives done state t kind id line outcome is sent_by is_told =
     subst (Gives done)
-    (ap (tells_sender state kind) (sym told)
+    (ap (tells_sender state kind) (sym is_told)
     ∙ ap (λ i. tells_sender state kind (line_with i kind outcome)) sent_by
     ∙ ap (λ k. tells_sender state k (line_with t.sender k outcome)) is)
 
@@ -411,14 +411,14 @@ module _ {S : Type 0} (stored : S → Kept) where
         addition-pending old.registry new.registry devices known (full (state_of old devices))
         (done (state_of old devices)) (adds devices) (cause_of fault) pends)
 
-    pub tries-full : (told : Done) → Learns stored old known (Ok None) new
-        → ((devices : Devices) → Gives told (full (state_of new devices)))
-        → Tries stored old (λ state. addition state.devices known (full state) (done state)) (Ok told) new
-    tries-full told learns gives =
+    pub tries-full : (made : Done) → Learns stored old known (Ok None) new
+        → ((devices : Devices) → Gives made (full (state_of new devices)))
+        → Tries stored old (λ state. addition state.devices known (full state) (done state)) (Ok made) new
+    tries-full made learns gives =
         tries-registry old new _ _ _ learns.alone
         (λ devices (is, keeps).
         rw (is, (adds devices).stays)
-        (gives-before old new told full devices learns.alone.same (gives devices), keeps))
+        (gives-before old new made full devices learns.alone.same (gives devices), keeps))
 
     -- out of memory for the line that reports it
     pub tries-untold : (fault : StoreFault) → Learns stored old known (Ok None) new
@@ -431,14 +431,14 @@ module _ {S : Type 0} (stored : S → Kept) where
           keeps,
         ))
 
-    pub tries-learned : (committed : Committed) (told : Done) → Learns stored old known (Ok (Some committed)) new
-        → ((devices : Devices) → Gives told (done (state_of new devices)))
-        → Tries stored old (λ state. addition state.devices known (full state) (done state)) (Ok told) new
-    tries-learned committed told learns gives =
+    pub tries-learned : (committed : Committed) (made : Done) → Learns stored old known (Ok (Some committed)) new
+        → ((devices : Devices) → Gives made (done (state_of new devices)))
+        → Tries stored old (λ state. addition state.devices known (full state) (done state)) (Ok made) new
+    tries-learned committed made learns gives =
         tries-registry old new _ _ _ learns.alone
         (λ devices (is, commits).
         rw (is, (adds devices).learns)
-        (gives-before old new told done devices learns.alone.same (gives devices), commits))
+        (gives-before old new made done devices learns.alone.same (gives devices), commits))
 
   module _ (old new : HandlerValue S) (line : TeachLine) (effect : State → Effect)
       (drops : (devices : Devices) → Drops line.id (effect (state_of old devices))) where
@@ -451,14 +451,14 @@ module _ {S : Type 0} (stored : S → Kept) where
         refused-comes old.registry new.registry devices (effect (state_of old devices)) (forgotten line.id) refusal
         all.needs all.forgets)
 
-    pub tries-forgotten : (committed : Committed) (told : Done) → Forgets stored old line (Ok committed) new
-        → ((devices : Devices) → Gives told (effect (state_of new devices)))
-        → Tries stored old effect (Ok told) new
-    tries-forgotten committed told forgets gives =
+    pub tries-forgotten : (committed : Committed) (made : Done) → Forgets stored old line (Ok committed) new
+        → ((devices : Devices) → Gives made (effect (state_of new devices)))
+        → Tries stored old effect (Ok made) new
+    tries-forgotten committed made forgets gives =
         tries-registry old new _ _ _ forgets.alone
         (λ devices commits.
         rw ((drops devices).forgets)
-        (gives-before old new told effect devices forgets.alone.same (gives devices), commits))
+        (gives-before old new made effect devices forgets.alone.same (gives devices), commits))
 
   -- an order's telegram is sent, or an error reports why there is none
   pub telegram-comes : (old new : S) (devices : Devices) (asked : Bool)

@@ -55,7 +55,7 @@ packet-changes state packet =
             let known : Device = record { id = t.sender; eep = eep; maker = maker; label = [] } in
             let learning = hears-open state.mode (teach_in_of t) hears in
             inl (t, carried, known, refl, refl, not-closed state.mode learning, hears, refl);
-        deletes = λ learning asks. inr (inl (t, carried, asks, refl, learning, refl));
+        removes = λ learning asks. inr (inl (t, carried, asks, refl, learning, refl));
         refuses = λ hears need line is. inr (inr (refl, refl));
       };
       passes = λ account is. inr (inr (refl, refl));

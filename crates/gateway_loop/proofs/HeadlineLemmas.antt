@@ -64,17 +64,17 @@ whole_prefix bytes = record { rest = []; whole = sym (append-nil bytes) }
 
 -- the text of some answers, and a part of that of one more
 module _ (says : Answer → List ℕ) (answers : List Answer) (last : Answer) where
-  one_more : flat_map says (answers ++ last ∷ []) ≡ flat_map says answers ++ says last
-  one_more = flat_map-append says answers (last ∷ []) ∙ ap (λ t. flat_map says answers ++ t) (append-nil (says last))
+  with-last : flat_map says (answers ++ last ∷ []) ≡ flat_map says answers ++ says last
+  with-last = flat_map-append says answers (last ∷ []) ∙ ap (λ t. flat_map says answers ++ t) (append-nil (says last))
 
   fewer_prefix : IsPrefix (flat_map says answers) (flat_map says (answers ++ last ∷ []))
-  fewer_prefix = record { rest = says last; whole = one_more }
+  fewer_prefix = record { rest = says last; whole = with-last }
 
   part_prefix : (part missing : List ℕ) → says last ≡ part ++ missing
       → IsPrefix (flat_map says answers ++ part) (flat_map says (answers ++ last ∷ []))
   part_prefix part missing whole = record {
     rest = missing;
-    whole = one_more ∙ ap (λ t. flat_map says answers ++ t) whole
+    whole = with-last ∙ ap (λ t. flat_map says answers ++ t) whole
         ∙ sym (append_assoc (flat_map says answers) part missing);
   }
 
@@ -108,12 +108,12 @@ desks-with_piece read (Some piece) =
 -- ---- inputs
 
 -- an event that was begun brings the first of its inputs
-record BringsMore (items begun : List Item) : Type 0 where
+record BringsMore (items started : List Item) : Type 0 where
   more : List Item
-  whole : items ≡ begun ++ more
+  whole : items ≡ started ++ more
 
-begun_brings : (s : List ℕ) (event begun : Event) (later : List Event) → IsBegun event begun
-    → BringsMore (items_of s (event ∷ later)) (items_of s (begun ∷ []))
+begun_brings : (s : List ℕ) (event started : Event) (later : List Event) → IsBegun event started
+    → BringsMore (items_of s (event ∷ later)) (items_of s (started ∷ []))
 begun_brings s (Piece bytes) (Piece some) later (m, is) =
     let first = map Received (brought s some) in
     let second = map Received (brought (s ++ some) m) in

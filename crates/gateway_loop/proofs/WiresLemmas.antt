@@ -17,17 +17,17 @@ use Rattle.gateway_loop.specs.Turns.{Turn}
 use Rattle.gateway_loop.specs.Wires.{way_of_wires, wires}
 use Rattle.gateway_loop.proofs.CallCountLemmas.{not_well}
 
-module _ {R D S : Type 0} (stored : S → Kept) (serials : sinks.Ghosts R) (desks : sinks.Ghosts D)
+module _ {R D S : Type 0} (stored : S → Kept) (serial_sinks : sinks.Ghosts R) (desk_sinks : sinks.Ghosts D)
     (entry now : Engine (Wires R D) S) (gateway : Value S) (serial : R) (desk : D) (e : gateway ≡ now.gateway.now)
     (f : serial ≡ now.outlet.serial.now) (h : desk ≡ now.outlet.desk.now) where
   abbrev way : Way (Wires R D)
-  way = way_of_wires serials desks
+  way = way_of_wires serial_sinks desk_sinks
 
   abbrev old_sinks : SinkValue × SinkValue
-  old_sinks = (sink_value serials entry.outlet.serial.now, sink_value desks entry.outlet.desk.now)
+  old_sinks = (sink_value serial_sinks entry.outlet.serial.now, sink_value desk_sinks entry.outlet.desk.now)
 
   abbrev new_sinks : SinkValue × SinkValue
-  new_sinks = (sink_value serials serial, sink_value desks desk)
+  new_sinks = (sink_value serial_sinks serial, sink_value desk_sinks desk)
 
   abbrev ways : Way (SinkValue × SinkValue)
   ways = wires entry.outlet.explains
@@ -78,6 +78,6 @@ module _ {R D S : Type 0} (stored : S → Kept) (serials : sinks.Ghosts R) (desk
       → HasRoom old_sinks.0.counts 0 → HasRoom old_sinks.1.counts 0
       → WentWell old_sinks.0.counts new_sinks.0.counts → WentWell old_sinks.1.counts new_sinks.1.counts → ⊥
   not_all_well answers last (same, inl broken) room others well wells =
-      not_well old_sinks.0.counts (serials.counts now.outlet.serial.now) room broken.0.went (rw f at well)
+      not_well old_sinks.0.counts (serial_sinks.counts now.outlet.serial.now) room broken.0.went (rw f at well)
   not_all_well answers last (same, inr broken) room others well wells =
-      not_well old_sinks.1.counts (desks.counts now.outlet.desk.now) others broken.1.went (rw h at wells)
+      not_well old_sinks.1.counts (desk_sinks.counts now.outlet.desk.now) others broken.1.went (rw h at wells)

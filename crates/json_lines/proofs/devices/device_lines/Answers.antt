@@ -9,10 +9,10 @@ use Rattle.json_lines.specs.Lines.{DeviceLine, text}
 use Rattle.json_lines.proofs.devices.device_lines.Goals as goal
 
 -- the texts of this many devices, and that of the next
-one_more : {X Y : Type 0} (line : X → Y) (piece : Y → List ℕ) (items : List X) (i : ℕ) (item : X) → i < length items
+with-next : {X Y : Type 0} (line : X → Y) (piece : Y → List ℕ) (items : List X) (i : ℕ) (item : X) → i < length items
     → item ≡ get_or items i item
     → flat_map piece (map line (take i items)) ++ piece (line item) ≡ flat_map piece (map line (take (i + 1) items))
-one_more line piece items i item within is =
+with-next line piece items i item within is =
     rw (next, take-suc items i item within, map-append, flat_map-append, ← is, append-nil) refl
   where
     next : i + 1 ≡ suc i
@@ -23,5 +23,5 @@ loop-device-preserved c =
     let line : c.in_ok-device_line.field-0 ≡ text (DeviceLine c.device-item.result) = c.in_ok-device_line.ensures in
     let added : c.append.new.self ≡ c.loop-device.lines ++ c.in_ok-device_line.field-0 = search rules in
     added ∙ ap₂ (λ (told next : List ℕ). told ++ next) c.loop-device.invariant line
-    ∙ one_more DeviceLine text c.args.devices.now c.loop-device.device-index c.device-item.result (search arith)
+    ∙ with-next DeviceLine text c.args.devices.now c.loop-device.device-index c.device-item.result (search arith)
     c.device-item.is
