@@ -6,11 +6,11 @@ use Rattle.sqlite.specs.declared.error.ErrorCode.TheVariants.{OutOfMemory}
 use Rattle.learned_devices.specs.declared.fault.StoreFault.{StoreFault}
 use Rattle.learned_devices.specs.Faults.{no_answer, no_memory}
 
--- SQLite had no memory, or does not answer
+-- SQLite was out of memory, or failed in another way
 abbrev pub fault_of : Error → StoreFault
 fault_of (SqliteFailure OutOfMemory) = no_memory
 fault_of _ = no_answer
 
--- where this is so, the error is that there was no memory: if it is not, this is not so
+-- the condition implies that the error is out of memory; any other error implies that the condition is false
 abbrev pub IsMemoryWhere : Type 0 → Error → Type 0
 IsMemoryWhere Whole error = (fault_of error).is_memory ≡ false → ¬ Whole

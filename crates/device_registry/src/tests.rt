@@ -1,4 +1,4 @@
-//! What the calls do to a database, what is remembered, and what a refusal or a stop leaves.
+//! What the calls do to a database, what is cached, and what a failure or a crash leaves.
 mod acts;
 mod cache;
 mod crashes;
