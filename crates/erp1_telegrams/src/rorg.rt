@@ -1,4 +1,4 @@
-//! The kinds of telegrams that the gateway reads, each by its RORG (ISO/IEC 14543-3-10, "RORG").
+//! The RORGs of the telegrams that the gateway reads (ISO/IEC 14543-3-10, "RORG").
 
 /// Repeated switch communication.
 pub const RPS: u8 = 0xF6;
