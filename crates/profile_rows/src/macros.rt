@@ -1,5 +1,5 @@
-//! The macros that write what a profile reads. A row of a table is written as
-//! `"NAME" (offset, length) [condition] kind(arguments);`, where the kinds are the functions of the module `rows`.
+//! The macros that decode the rows of a profile. A row of a table is written as `"NAME" (offset, length) [condition]
+//! kind(arguments);`, in which the kinds are the functions of the module `rows`.
 
 /// Sets `readings: &mut Readings` to what rows read in the bytes of a payload, in the order of the rows. There are at
 /// most eight rows. A condition is empty, a field as `(7, 1) = 1` or `(8, 3) > 4`, a variable of the caller as
