@@ -31,7 +31,7 @@ list_is : IsPlainSelect list_objects_text list_select
 unfolding everything
 list_is = record { read = record { parsed = _; read = refl; is = refl; timeless = refl } }
 
--- without such a table or view, SQLite rejects the name as that of a table
+-- if no table or view has the name, compiling the text fails with `NoSuchTable`
 module _ (schema : Schema) (no_table : table_named schema (codes "sqlite_schema") ≡ None)
     (no_view : view_named schema (codes "sqlite_schema") ≡ None) where
   list_named : named schema (core_of list_select) list_select.order no_page ≡ Err NoSuchTable

@@ -11,6 +11,6 @@ abbrev pub fault_of : Error → StoreFault
 fault_of (SqliteFailure OutOfMemory) = no_memory
 fault_of _ = no_answer
 
--- the condition implies that the error is out of memory; any other error implies that the condition is false
+-- if the condition holds, the error is that SQLite was out of memory
 abbrev pub IsMemoryWhere : Type 0 → Error → Type 0
 IsMemoryWhere Whole error = (fault_of error).is_memory ≡ false → ¬ Whole

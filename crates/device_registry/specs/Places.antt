@@ -31,7 +31,7 @@ abbrev pub lacks_counts : Schema → Bool
 lacks_counts schema =
     list_any (λ table. table.is_counted) schema.tables && is_none (table_named schema (codes "sqlite_sequence"))
 
--- no table counts its rowids that way, if this is asked
+-- in version 1, no table counts its rowids without SQLite's table of the counts
 abbrev pub are_counted : Version → Schema → Bool
 are_counted First schema = not (lacks_counts schema)
 are_counted Second schema = true

@@ -22,7 +22,7 @@ pub enum OpenFault {
     /// The database holds something else, or under our names something that is no registry of version 1 or 2.
     #[error("the database is no registry of version 1 or 2")]
     NotARegistry,
-    /// The database fails.
+    /// Out of memory, or the database failed.
     #[error(transparent)]
     Refused(StoreFault),
 }

@@ -1,6 +1,5 @@
-//! The learned devices, in a SQLite database. The answer of a call is what the database holds; a cache holds the
-//! senders that were looked up last. A call that changes a device returns after the commit; `learn` and `forget` return
-//! a receipt.
+//! The learned devices, in a SQLite database. Calls return what the database holds; a cache holds the senders that were
+//! looked up last. A call that changes a device returns after the commit; `learn` and `forget` return a receipt.
 //!
 //! Every statement about what is stored has one premise, which is that of `sqlite`: so far the disk has returned what
 //! was written (`HasCleanDisk`).

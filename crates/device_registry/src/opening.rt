@@ -40,7 +40,7 @@ fn check_open<C: SqlConnection>(conn: &mut C) -> Result<(), Error>
     Ok(())
 }
 
-/// Recognizes or creates the registry in the database.
+/// Accepts the registry in the database, migrates it, or creates it.
 fn make_or_take<C: SqlConnection>(conn: &mut C) -> Result<(), OpenFault>
     requires idle { (C.state conn.old).in_transaction ≡ false }
     requires rest { HasCleanDisk (C.state conn.old) → IsAtRest (C.state conn.old) }

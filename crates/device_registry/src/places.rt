@@ -76,7 +76,8 @@ fn lacks_counts(schema: &Schema) -> bool
     counts(schema) && schema.table_named(b"sqlite_sequence").is_none()
 }
 
-/// Whether no table counts its rowids that way. Only a registry of version 1 needs this: for its migration.
+/// Whether a registry of this version allows these tables. In version 1 no table may count its rowids without SQLite's
+/// table of the counts, because the migration would add that table.
 fn are_counted(schema: &Schema, version: Version) -> bool
     ensures { result ≡ are_counted version schema.now }
 {

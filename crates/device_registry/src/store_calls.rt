@@ -85,7 +85,6 @@ pub(crate) fn list<C: SqlConnection>(conn: &mut C) -> Result<Vec<Row>, Error>
     conn.query_all_prepared(&all, &[])
 }
 
-/// Runs the statement that upserts a device.
 fn run_put<C: SqlConnection>(
     conn: &mut C,
     id: i64,
@@ -121,7 +120,6 @@ pub(crate) fn put<C: SqlConnection>(conn: &mut C, device: Device) -> Result<usiz
     )
 }
 
-/// Runs the statement that forgets a sender.
 fn run_forget<C: SqlConnection>(conn: &mut C, id: i64) -> Result<usize, Error>
     ensures runs { HasCleanDisk (C.state conn.new) → Executes forget_text (Int id ∷ [])
         (C.state conn.old) (C.state conn.new) result }

@@ -29,8 +29,8 @@ fn check_of(b: u8) -> u8
     TABLE[b as usize]
 }
 
-/// The CRC of a message with one more byte `b`, if `c` is the CRC of the message so far: the CRC of the single byte `c
-/// ^ b`. The empty message has the CRC 0.
+/// The CRC of a message with one more byte `b`, if `c` is the CRC of the message so far: the CRC of the single byte
+/// `c ^ b`. The empty message has the CRC 0.
 ///
 /// EnOcean Serial Protocol 3, "CRC8 calculation".
 pub fn check8_next(c: u8, b: u8) -> u8

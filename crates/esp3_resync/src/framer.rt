@@ -98,7 +98,7 @@ impl Framer {
         })
     }
 
-    /// Whether a packet is ready. If not, the rest may become one.
+    /// Whether a packet is ready. The rest may become one more packet.
     pub fn is_ready(&self) -> bool
         ensures ready { IsTrue result ↔ (0 < length self.now.ready) }
         ensures rest { MayBecomePacket self.now.rest }

@@ -5,8 +5,8 @@ ghost use Rattle.exact_values.specs.Fraction.{ratio};
 
 use crate::divisor::greatest_common_divisor;
 
-/// An exact fraction. The functions of this crate return it in lowest terms: 1024/51, -40/1. In contracts it is `ratio
-/// f`, the record `Ratio` of `specs/Ratio.antt`. The default is 0/1.
+/// An exact fraction. The functions of this crate return it in lowest terms: 1024/51, -40/1. In contracts it is
+/// `ratio f`, the record `Ratio` of `specs/Ratio.antt`. The default is 0/1.
 #[derive(Clone, Copy, Debug, PartialEq, Eq)]
 pub struct Fraction {
     num: i64,

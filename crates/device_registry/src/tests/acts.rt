@@ -13,7 +13,7 @@ use std::test::Fail;
 /// A call of a registry, or a look into its cache.
 #[derive(Clone, Copy)]
 pub enum Act {
-    /// A sender has this device, or is not learned.
+    /// The look-up of a sender finds this device, or none.
     Finds(u32, Option<Known>),
     /// The device is learned.
     Learns(Known),

@@ -9,7 +9,6 @@ use std::alloc::Global;
 use std::process::Abort;
 use std::test::Fail;
 
-/// The two versions.
 const VERSIONS: [Version; 2] = [Version::First, Version::Second];
 
 /// Databases that do not have both tables as they should be, in either version. For each: its statements, a query that
@@ -317,7 +316,6 @@ INSERT INTO enogate_device_v2 VALUES (5, 1, 1, NULL)
 INSERT INTO enogate_device_v2 VALUES (5, 1, 1, x'41')
 INSERT INTO enogate_device_v2 (id, eep, maker) VALUES (5, 1, 1)";
 
-// Our own tables do not accept these rows.
 fn are_not_taken<S: Fresh>(alloc: Global, rt: &impl Abort) -> Result<(), Fail> {
     let mut conn = S::fresh(alloc)?;
     prepares(rt, &mut conn)?;

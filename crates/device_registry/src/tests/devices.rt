@@ -23,7 +23,6 @@ fn learns_finds_and_forgets(rt: HostRuntime) -> Result<(), Fail> {
     play::<MemStore>(rt.alloc(), &rt, 64, &acts, &[])
 }
 
-/// The longest label.
 const LONGEST: &str = "~ abcdefghijklmnopqrstuvwxyz 012";
 
 #[test]

@@ -100,7 +100,6 @@ fn is_find_refused<R: Remembering>(
     }
 }
 
-// Whether the database fails in `learn`.
 fn is_learn_refused<R: Remembering>(
     rt: &impl Abort,
     registry: &mut R,
@@ -131,7 +130,6 @@ fn is_relabel_refused<R: Remembering>(
     }
 }
 
-// Whether the database fails in `forget`.
 fn is_forget_refused<R: Remembering>(
     rt: &impl Abort,
     registry: &mut R,
