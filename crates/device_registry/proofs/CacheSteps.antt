@@ -1,4 +1,4 @@
--- What the operations of the cache preserve.
+-- The operations of the cache, and what they preserve.
 use Rattle.std.proofs.Common.{◌≡◌, ◌≢◌, ◌⊎◌, inl, inr, ℕ, Bool, true, false, List, [], ◌∷◌, Some, Result, Ok}
 use Rattle.std.proofs.Common.{Err, OnOk, OnErr, Contains, sym, ap, subst, ◌∙◌, eqb}
 use Rattle.std.proofs.lemmas.Bool.{cases_Bool, eqb-true, eq-eqb}

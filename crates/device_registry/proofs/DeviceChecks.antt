@@ -1,4 +1,4 @@
--- What the CHECKs of the device table imply for a row that passes them.
+-- The CHECKs of the device table, and what they imply for a row that passes them.
 use Rattle.std.proofs.Common.{◌≡◌, ◌≤ℤ◌, ℕ, ℤ, pos, negsuc, Bool, true, false, not, ◌&&◌}
 use Rattle.std.proofs.Common.{Some, refl, sym, ap, ◌∙◌, arith}
 use Rattle.std.specs.Ordering.{is_le, is_ge}

@@ -204,7 +204,7 @@ module _ (a b c d e : State) (i j k l : ℕ) (registry : IsRegistry First a.now)
       ran.changed in
       (it.0, it.1, it.2, ran.sound)
 
-  -- so it is a registry of version 2 with the devices of version 1, if it is listed
+  -- therefore it is a registry of version 2 with the devices of version 1, if it is listed
   pub migrates : (AreListed Second e.now.trees → Registers e.now (devices_in (rows_of First (a.now.trees t.devices))))
       × IsDatabase e.now
   migrates =

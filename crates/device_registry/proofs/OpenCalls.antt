@@ -42,7 +42,7 @@ use Rattle.device_registry.proofs.DevicesHeld.{held_by, held_once}
 before : {old new : State} {P : Trees → Type 0} → Survives old new P → HasCleanDisk new → HasCleanDisk old
 before survives clean = omega (arith, clean, survives.clean)
 
--- what was queried holds of the unchanged state between
+-- a property that a query established in an unchanged state also holds of the state before it
 pub taken_if : (version : Version) (r : Result Bool Error) (old mid new : State) → IsUnchanged old mid
     → HasTables version old.now.schema → AreListed version old.now.trees
     → IfOk r (λ yes. IsUnchanged mid new × (IsTrue yes → (t : HasTables version mid.now.schema)
@@ -347,7 +347,7 @@ opened_if old mid new law (Ok v) was it written =
     }
 opened_if old mid new law (Err e) was it written = tt
 
--- what a crash leaves after a failure
+-- the crash states after a failure
 pub leaves : (old mid new : State) → (HasCleanDisk mid → IsUnchanged old mid × IsAtRest old) → Survives old mid (λ _. ⊥)
     → Survives mid new (KeepsFound mid.now.trees) → HasCleanDisk new
     → (trees : Trees) → new.may_leave trees → old.may_leave trees

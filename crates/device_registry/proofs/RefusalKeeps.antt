@@ -1,4 +1,4 @@
--- What a connection shows after a failure.
+-- The state of a connection after a failure.
 use Rattle.std.proofs.Common.{◌≡◌, inl, inr, ℕ, List, [], false, Ok, Err, Result, IsTrue, IfErr, OnErr, sym, subst, ◌∙◌}
 use Rattle.sqlite.specs.Order.{Row}
 use Rattle.sqlite.specs.declared.error.Error.{Error}
@@ -51,7 +51,7 @@ pub err_told : {T E P : Type 0} (r : Result T E) → P → OnErr r P
 err_told (Ok v) p = tt
 err_told (Err e) p = p
 
--- what is known of an open connection before a call
+-- facts about an open connection before a call
 pub not_run_kept : (sql : List ℕ) (params : Row) (old new : State) (e : Error) → (IsTrue old.is_open → IsAtRest old)
     → IsNotRun old new sql params e → IsTrue new.is_open → IsAtRest new × (new.now ≡ old.now)
 not_run_kept sql params old new e rest h is_open =

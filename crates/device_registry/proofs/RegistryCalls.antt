@@ -27,7 +27,7 @@ use Rattle.device_registry.specs.Table.Rows.{listed}
 use Rattle.device_registry.proofs.DevicesHeld.{held_once, registers_once, room_for_known}
 use Rattle.device_registry.proofs.StatementSteps.{ready_on}
 
--- the invariant of a registry: what holds of its connection between two calls
+-- the invariant of a registry, about its connection between two calls
 abbrev pub IsWell : State → Type 0
 IsWell s = (HasCleanDisk s → AreRegistries s.may_leave) × StaysReady s
 
@@ -457,7 +457,7 @@ module _ (old mid : State) (id : ℕ) where
           ∙ ap (λ (l : Learned). Some (record { eep = l.eep; maker = l.maker; label = it.label }))
           (labels_apart was it label is)
 
-    -- a row is written over the same devices
+    -- the row of a device is written over the same devices
     pub written_after : {C : Type 0} (state : C → State) (last : C) (change : Change) {T E : Type 0} (r : Result T E)
         → (HasCleanDisk mid → (devices : Devices) → HasDevices mid devices → OnOk r
         (WritesRow state last change devices))

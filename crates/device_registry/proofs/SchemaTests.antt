@@ -1,4 +1,4 @@
--- What the tests of a schema imply.
+-- The tests of a schema, and what they imply.
 use Rattle.std.proofs.Common.{inl, inr, suc, ◌≡◌, ◌≢◌, ℕ, ◌+◌, ◌==◌, List, [], ◌∷◌, Bool, true, false, not}
 use Rattle.std.proofs.Common.{◌&&◌, ◌||◌, Some, None, Option, if◌then◌else◌, subst, refl, sym, ap, ◌∙◌, arith, IsTrue}
 use Rattle.std.proofs.Common.{is_some, is_none, slice_get, option_map, option_and_then, codes}

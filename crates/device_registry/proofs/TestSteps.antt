@@ -1,4 +1,4 @@
--- What a test of two parts implies for each part.
+-- A test of two parts, and what it implies for each part.
 use Rattle.std.proofs.Common.{◌≡◌, ◌&&◌, Bool, true, false, refl}
 
 pub both : (a b : Bool) → (a && b) ≡ true → (a ≡ true) × (b ≡ true)

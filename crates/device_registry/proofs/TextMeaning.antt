@@ -66,7 +66,7 @@ module _ {schema : Schema} {name : List ℕ} {table : Table} {at : ℕ} (stands 
       counts) stands.classes
       ∙ typed.accepted
 
-  -- so it is a program if the table exists
+  -- therefore it is a program if the table exists
   pub program_is : (d : Draft) → IsTyped table (query_of d) → program schema [] d ≡ Ok (program_of (query_of d))
   unfolding program
   program_is d typed = rw (accepted_over (query_of d) typed)

@@ -1,4 +1,4 @@
--- What the errors of SQLite are reported as.
+-- The fault for each error of SQLite.
 use Rattle.std.specs.Prelude.{◌≡◌, false}
 use Rattle.sqlite.specs.declared.error.Error.{Error}
 use Rattle.sqlite.specs.declared.error.Error.TheVariants.{SqliteFailure}

@@ -1,4 +1,4 @@
--- What a registry holds, what a crash may leave of it, and what its calls write.
+-- The devices that a registry holds, those that a crash may leave, and what its calls write.
 use Rattle.std.specs.Prelude.{◌≡◌, ◌⊎◌, ℕ, false, IsTrue, [], Some, None, Ok}
 use Rattle.std.specs.FinMap.{empty, get}
 use Rattle.sqlite.specs.State.{State, HasCleanDisk, Executes}
@@ -57,13 +57,13 @@ pub record Opens (old new : State) (devices : Devices) : Type 0 where
   pub stop : (left : Devices) → MayFind new left → left ≡ devices
 
 -- The state was changed exactly by the text that rewrites the version row unchanged, which counts one row. Outside a
--- transaction this is a commit. It is an observable change, because the store counts the row. A later rollback would
--- leave the same.
+-- transaction this is a commit. It is an observable change, because SQLite counts the row. A later rollback would leave
+-- the same.
 abbrev pub IsRenewed : State → State → Type 0
 IsRenewed old new = Executes renew_text [] old new (Ok 1)
 
 -- The last operation on the state is the statement that upserts the row of the change's sender, over the same devices.
--- It is an observable change, because the store counts the row.
+-- It is an observable change, because SQLite counts the row.
 pub record WritesRow {C : Type 0} (state : C → State) (new : C) (change : Change) (devices : Devices) : Type 0 where
   pub row : Learned
   pub is : after (get devices change.sender) change.deed ≡ Some row

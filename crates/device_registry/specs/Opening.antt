@@ -1,4 +1,4 @@
--- What an open finds, and what it leaves.
+-- The states that an open finds and leaves.
 use Rattle.std.specs.Prelude.{ℕ, ◌≡◌, ◌≢◌, ◌⊎◌, ◌≤◌, IsTrue, false}
 use Rattle.std.specs.FinMap.{len}
 use Rattle.sqlite.specs.Effect.{Database, IsDatabase}
@@ -91,7 +91,7 @@ RefusesAndDrops {C} state conn fault =
 abbrev pub FewAreHeld : Type 0
 FewAreHeld = (trees : Trees) (devices : Devices) → Holds trees devices → len devices ≤ max_devices
 
--- what an open finds in what a crash left is unique, however often it is opened
+-- the devices that an open finds in what a crash left are unique, however often it is opened
 abbrev pub FoundAgain : Type 0
 FoundAgain = (trees : Trees) (left found : Devices) → Finds trees left → Finds trees found → left ≡ found
 
@@ -99,7 +99,7 @@ FoundAgain = (trees : Trees) (left found : Devices) → Finds trees left → Fin
 abbrev pub MayFindNext : State → Devices → Type 0
 MayFindNext s devices = (trees : Trees) × s.may_leave trees × Finds trees devices
 
--- whatever a crash leaves at this moment, the next open finds some devices there
+-- the next open finds some devices in whatever a crash leaves at this moment
 abbrev pub FindsSomeNext : State → Type 0
 FindsSomeNext s = (trees : Trees) → s.may_leave trees → (devices : Devices) × Finds trees devices
 
@@ -112,7 +112,8 @@ RefusedOpensKeep {C} state = (old new : C) (fault : OpenFault) → HasCleanDisk 
     × ((devices : Devices) → MayFindNext (state new) devices → MayFindNext (state old) devices
     ⊎ (IsTrue (state old).is_open × Finds (state old).committed.trees devices))
 
--- What can be found is never rejected as no registry. Whatever a crash leaves of an opened registry can be found.
+-- No open rejects, as no registry, a database in which devices are found. They are found in whatever a crash leaves of
+-- an opened registry.
 abbrev pub RegistriesAreRecognized : {C : Type 0} → (C → State) → Type 0
 RegistriesAreRecognized {C} state = ((trees : Trees) → IsHeld trees → (devices : Devices) × Finds trees devices)
     × ((old new : C) (fault : OpenFault) (devices : Devices) → HasCleanDisk (state new)
@@ -130,7 +131,7 @@ HandedOn {C} state = (closed opened : C) (devices found : Devices) → HasCleanD
     → IsCommitted (state closed)
     → HasDevices (state closed) devices → Opens (state closed) (state opened) found → found ≡ devices
 
--- after the store has closed the files of a registry, an open of these files finds exactly what the registry held
+-- after SQLite has closed the files of a registry, an open of these files finds exactly what the registry held
 abbrev pub ClosedFilesAreFound : {D : Type 0} → Ghosts D → Type 0
 ClosedFilesAreFound {D} g =
     (closed opened : Held (FileStore D g)) (files : Files D) (devices : Devices) → IsCopied closed files
@@ -139,7 +140,7 @@ ClosedFilesAreFound {D} g =
     × ((found : Devices) → Finds (file_state opened).committed.trees found → found ≡ devices)
 
 -- If two files hold what a crash could leave in them, an open of these files finds devices that this crash could leave.
--- (`next_run` of the crate `sqlite` says this of the trees; a store numbers its pages while its disk is clean.)
+-- (`next_run` of the crate `sqlite` says this of the trees; a file store numbers its pages while its disk is clean.)
 abbrev pub CrashedFilesAreFound : {D : Type 0} → Ghosts D → Type 0
 CrashedFilesAreFound {D} g =
     (stopped opened : Held (FileStore D g)) (image : _) → IsTrue (view stopped.store).is_numbered

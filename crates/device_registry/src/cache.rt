@@ -40,7 +40,7 @@ pub fn cached(cache: &mut Cache, id: u32) -> Option<Option<Device>>
 }
 
 /// Adds or replaces the entry of a sender; a full cache then evicts its least recently used entry. If there is no
-/// memory, the cache stays as it was.
+/// memory, the cache does not change.
 pub fn remember(cache: &mut Cache, id: u32, known: Option<Device>)
     ensures put { (cache.new ≡ cache.old)
         ⊎ (cache.new ≡ lru_cache (put_entries nat_eq cache.old id known) cache.old.cap) }

@@ -51,8 +51,8 @@ impl<C: SqlConnection> DeviceTable<C> {
         found(&rows)
     }
 
-    /// Upserts a device, unless the registry is full, and returns whether there is room for it. The device already has
-    /// the label that its sender keeps.
+    /// Upserts a device, unless the registry is full, and returns whether it did. The device already has the label that
+    /// its sender keeps.
     pub fn learn(&mut self, device: Device) -> Result<bool, Error>
         requires { HasCleanDisk (C.state self.old) → (devices : Devices) → HasDevices (C.state self.old) devices →
             after (get devices device.id) (Learn device.eep device.maker) ≡ Some (known_of device) }

@@ -80,9 +80,9 @@ fn make_or_take<C: SqlConnection>(conn: &mut C) -> Result<(), OpenFault>
 }
 
 /// Makes the database a registry of version 2. It accepts one that exists, migrates one of version 1 with the same
-/// devices and no labels, and creates the two tables in a database that has none of ours. This is what `open` does to
-/// the database, but the connection stays with the caller, with no open transaction. A second call leaves every row as
-/// it is. `Ok` comes after a commit: for an accepted registry, the version row is rewritten unchanged.
+/// devices and no labels, and creates the two tables in a database that has none of ours. `open` does the same to the
+/// database; here the connection stays with the caller, with no open transaction. A second call leaves every row as it
+/// is. `Ok` is returned after a commit: for an accepted registry, the version row is rewritten unchanged.
 ///
 /// `NotARegistry` means that the database is something else, and it is as it was. After `Refused` it holds what it
 /// held, perhaps with the two tables, or as version 2.

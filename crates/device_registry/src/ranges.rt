@@ -1,6 +1,6 @@
 //! The ranges of the numbers in the device table.
 
-/// The greatest sender ID: FFFFFFFF is none (EnOcean Serial Protocol 3, "Packet type 1: RADIO_ERP1").
+/// The greatest sender ID: FFFFFFFF is not a sender (EnOcean Serial Protocol 3, "Packet type 1: RADIO_ERP1").
 pub(crate) const MAX_SENDER: u32 = 4_294_967_294;
 
 /// The greatest number of a profile, which has three bytes (EnOcean Equipment Profiles 2.6, "Structure").

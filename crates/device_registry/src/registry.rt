@@ -260,8 +260,8 @@ impl<C: SqlConnection> RegistryOver<C> {
         }
     }
 
-    /// Returns the connection unchanged, with no open transaction. What the registry holds is committed. Before opening
-    /// it again, check `is_autocommit`: nothing is known about a disk that did not return what was written.
+    /// Returns the connection unchanged, with no open transaction; all devices of the registry are committed. Before
+    /// opening it again, check `is_autocommit`: nothing is known about a disk that did not return what was written.
     pub fn close(self) -> C
         ensures same { result ≡ self }
         ensures hands_on { HandsOn (C.state self) }

@@ -18,10 +18,10 @@ use sqlite::types::ValueRef;
 use sqlite::{Alter, Connection, Error, Row, Statement};
 use sqlite_schema::schema::Schema;
 
-/// What the registry needs of a connection: calls of `sqlite::Connection` and of its statements, with their contracts,
-/// and two of the registry's own, `make_tables` and `migrate_tables`.
+/// The operations that the registry needs of a connection: calls of `sqlite::Connection` and of its statements, with
+/// their contracts, and two of the registry's own, `make_tables` and `migrate_tables`.
 pub trait SqlConnection {
-    /// What the connection shows, what is committed, and what a crash may leave.
+    /// The state: what the connection shows, what is committed, and what a crash may leave.
     ghost state: { Self → State };
 
     /// Whether no transaction is open.

@@ -1,5 +1,5 @@
 //! The registry's calls of the database, one statement each. Each call first compiles a statement, which fails on a
-//! closed connection: nothing is known of what a closed connection writes.
+//! closed connection: nothing is known about the writes of a closed connection.
 ghost use Rattle.std.specs.Prelude.{◌≡◌, [], ◌∷◌, map, pos, false, Ok, OnOk, OnErr, IfOk, IfErr};
 ghost use Rattle.std.specs.FinMap.{insert};
 ghost use Rattle.sqlite.specs.declared.types.Value.TheVariants.{Int, Text};

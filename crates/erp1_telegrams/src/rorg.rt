@@ -12,5 +12,5 @@ pub const FOUR_BS: u8 = 0xA5;
 /// A payload of variable length.
 pub const VLD: u8 = 0xD2;
 
-/// Universal teach-in.
+/// Universal teach-in (UTE).
 pub const UTE: u8 = 0xD4;

@@ -48,7 +48,7 @@ fn addressee(opt: &[u8]) -> (u32, Option<u8>)
 }
 
 /// Appends the packet in which the telegram is sent: with 3 subtelegrams, dBm FF and security level 0, and with the
-/// telegram's own status. `NoRoom` if the packet does not fit after the contents of `out`, which then stays as it was.
+/// telegram's own status. `NoRoom` if the packet does not fit after the contents of `out`, which then does not change.
 /// A packet has at most 34 bytes, so it fits after 30.
 pub fn write(t: &Telegram, out: &mut ArrayVec<u8, 64>) -> Result<(), PacketFault>
     ensures outcome { result ≡ (if nat_lt (64 - array_vec_len out.old) (length (spelling (sent t.now)))

@@ -1,4 +1,4 @@
--- What a header implies about its packet.
+-- Headers, and what they imply about their packets.
 use Rattle.std.proofs.Common.{◌≡◌, ℕ, ◌+◌, ◌*◌, ◌/◌, ◌%◌, ◌<◌, ◌≤◌, Bool, true, false, cond, List, []}
 use Rattle.std.proofs.Common.{◌∷◌, ◌++◌, length, take, drop, get_or, refl, sym, ap, ◌∙◌, arith}
 use Rattle.std.proofs.Common.{length-take, length-drop}
@@ -62,7 +62,7 @@ tail_check m r w n en ew =
     ap (λ (i : ℕ). get_or w i 0) en ∙ ap (λ (y : List ℕ). get_or y (length m) 0) ew ∙ at
     ∙ sym (ap (λ (i : ℕ). check (take i w)) en ∙ ap (λ (y : List ℕ). check (take (length m) y)) ew ∙ ap check front)
 
--- what a test of the lengths implies
+-- the facts that a test of the lengths implies
 pub record Fitting (h l o : ℕ) : Type 0 where
   pub high : h < 256
   pub low : l < 256
@@ -135,7 +135,7 @@ six_first b f w h ef ew = (
       ∙ ap (λ (y : List ℕ). take 6 b ++ y) ew ∙ take-append-drop 6 b,
 )
 
--- what a header that is read implies
+-- the facts that a header that is read implies
 pub record Heads (s h l o k c : ℕ) (x : Header) : Type 0 where
   pub sync : s ≡ 0x55
   pub checked : c ≡ check (h ∷ l ∷ o ∷ k ∷ [])

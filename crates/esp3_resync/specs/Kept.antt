@@ -1,4 +1,4 @@
--- What a buffer keeps of a returned packet.
+-- The contents of a buffer for a returned packet.
 use Rattle.std.specs.Prelude.{◌≡◌, ℕ, ◌+◌, ◌≤◌, List, length, take, drop, vec_capacity, Option, Some, None, IfSome}
 use Rattle.std.specs.Global.{Vec}
 use Rattle.esp3_frames.specs.Packet.{Packet, max_packet}
@@ -8,7 +8,7 @@ use Rattle.esp3_frames.specs.declared.packet.Header.{Header}
 abbrev pub packet_with : Header → List ℕ → Packet
 packet_with h v = record { kind = h.kind; body = take h.data_len v; opt = drop h.data_len v }
 
--- what a buffer keeps: nothing yet, or a packet
+-- the contents of a buffer: nothing yet, or a packet
 abbrev pub kept : Option Header → List ℕ → Option Packet
 kept None v = None
 kept (Some h) v = Some (packet_with h v)

@@ -1,4 +1,4 @@
--- What a call that reads a telegram returns and leaves.
+-- The result of a call that reads a telegram, and the readings that it leaves.
 use Rattle.std.specs.Prelude.{Bool, List, if◌then◌else◌, Option, Some, None, Result, Ok, Err}
 use Rattle.profile_rows.specs.Reading.{Entry, entries}
 use Rattle.profile_rows.specs.declared.reading.Reading.{Reading}

@@ -42,7 +42,7 @@ macro_rules! read_rows {
 }
 
 /// Sets `readings: &mut Readings` to what the rows of the first arm that names the profile read, and returns whether
-/// there is such an arm. If not, `readings` stays as it was. An arm is written as
+/// there is such an arm. If not, `readings` does not change. An arm is written as
 /// `(RORG, FUNC, [TYPE, ..]) => { rows }`. Example, for `eep: Eep` and `bytes: &[u8; 1]`:
 ///
 /// ```text

@@ -43,7 +43,7 @@ pub fn supports(eep: Eep) -> bool
 }
 
 /// Decodes a telegram by a profile: sets `readings` to its readings, in the order of the profile's rows (EnOcean
-/// Equipment Profiles 2.6). On an error `readings` stays as it was. The first error that applies is returned, in this
+/// Equipment Profiles 2.6). On an error `readings` does not change. The first error that applies is returned, in this
 /// order: `NotSupported` if the profile is not supported, `WrongKind` if the telegram does not have the RORG of the
 /// profile, `WrongLength` if the payload does not have four bytes, and `OtherMessage` if the telegram is a 4BS
 /// teach-in.

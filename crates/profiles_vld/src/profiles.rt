@@ -33,7 +33,7 @@ pub fn supports(eep: Eep) -> bool
 }
 
 /// Decodes a telegram by a profile: sets `readings` to its readings, in the order of the profile's rows (EnOcean
-/// Equipment Profiles 2.6). On an error `readings` stays as it was. The first error that applies is returned, in this
+/// Equipment Profiles 2.6). On an error `readings` does not change. The first error that applies is returned, in this
 /// order: `NotSupported` if the profile is not supported, and `WrongKind` if the telegram does not have the RORG of the
 /// profile. Then, for D2-01, `OtherMessage` if the command is neither 4 nor 7, and `WrongLength` if the payload does
 /// not have three bytes (command 4) or six bytes (command 7). For D2-05-00, `WrongLength` if the payload does not have

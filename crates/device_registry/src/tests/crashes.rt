@@ -1,4 +1,4 @@
-//! What a failure of the disk leaves in the registry, and what a crash after it leaves in the files.
+//! The states of the registry after a failure of the disk, and of its files after a crash that follows.
 use super::acts::{Act, take_all};
 use super::disks::{
     Disks, Refusal, Stop, Which, closed, connected, empty_files, refusing, stopped,

@@ -194,7 +194,7 @@ pub fn refusing(
     })
 }
 
-/// What a crash leaves.
+/// The state that a crash leaves.
 #[derive(Drop)]
 pub struct Left {
     /// Copies of the files, which no longer fail.
@@ -234,7 +234,7 @@ pub fn closed(conn: Connection<FileStore<Stumbling<Fuse<Memory>>>>) -> Result<Di
     Ok(conn.close_files().ok().ok_or("not closed")?)
 }
 
-/// What a crash at this moment leaves of a connection.
+/// The state that a crash at this moment leaves of a connection.
 pub fn stopped(
     alloc: Global,
     conn: Connection<FileStore<Stumbling<Fuse<Memory>>>>,
@@ -253,7 +253,7 @@ fn files_of<D: Disk + Drop>(store: FileStore<D>) -> Files<D> {
     store.close()
 }
 
-// What a crash leaves of a disk; the result no longer fails.
+// The disk that a crash leaves; it no longer fails.
 fn left_of(disk: Stumbling<Fuse<Memory>>, stop: Stop) -> Stumbling<Fuse<Memory>> {
     let mut file = disk.into_inner();
     if stop == Stop::OfMachine {
@@ -262,7 +262,7 @@ fn left_of(disk: Stumbling<Fuse<Memory>>, stop: Stop) -> Stumbling<Fuse<Memory>>
     Stumbling::new(file, 0)
 }
 
-// What a crash leaves of these files.
+// The state that a crash leaves of these files.
 fn left_by(alloc: Global, files: Disks, stop: Stop) -> Result<Left, Fail> {
     let syncs = files.log.syncs();
     let Files { log, db } = files;

@@ -1,4 +1,4 @@
--- What a framer knows about the front of its bytes.
+-- A framer's knowledge about the front of its bytes.
 use Rattle.std.specs.Prelude.{◌≡◌, ◌≢◌, ℕ, ◌+◌, ◌<◌, ◌≤◌, List, [], ◌⊎◌, length, take, drop, slice_index}
 use Rattle.std.specs.Prelude.{Option, Some, None, Ok}
 use Rattle.esp3_frames.specs.Packet.{Packet}

@@ -8,7 +8,7 @@ use Rattle.device_registry.proofs.registry.RegistryOver.learn_kept.Goals as goal
 pub learn-requires : goal.learn-requires
 learn-requires g c = rw (← c.self.view_is) at c.requires
 
--- ---- there is room
+-- ---- the registry is not full
 
 pub invariant_of-self : goal.invariant_of-self
 invariant_of-self g c =
