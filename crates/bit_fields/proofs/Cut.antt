@@ -70,7 +70,6 @@ number-part xs offset len h within =
     ∙ (ap (λ n. n % 2 ^ len) (shr_high _ (length xs - (offset + len)) _ (back-below xs offset len k))
     ∙ mod_low _ len _ (middle-below xs offset len k))
 
--- a part of a part
 pub part-part : (xs : List ℕ) (a r len m : ℕ) → r + len ≤ m
     → take len (drop r (take m (drop a xs))) ≡ take len (drop (a + r) xs)
 part-part xs a r len m h =

@@ -22,7 +22,6 @@ pub AreBits-back : (xs ys : List ℕ) → AreBits (xs ++ ys) → AreBits ys
 AreBits-back [] ys h = h
 AreBits-back (x ∷ xs) ys h = AreBits-back xs ys h.1
 
--- the number of concatenated bits
 pub number-append : (xs ys : List ℕ) → number (xs ++ ys) ≡ number xs * 2 ^ length ys + number ys
 unfolding number
 number-append [] ys = omega arith
@@ -33,7 +32,6 @@ number-append (x ∷ xs) ys =
     let i : number (xs ++ ys) ≡ number xs * 2 ^ length ys + number ys = number-append xs ys in
     rw (p, i) (omega arith)
 
--- three lists of bits, concatenated
 pub number-three : (xs ys zs : List ℕ) →
     number (xs ++ (ys ++ zs)) ≡ (number xs * 2 ^ length ys + number ys) * 2 ^ length zs + number zs
 number-three xs ys zs =

@@ -41,7 +41,6 @@ use Rattle.device_registry.proofs.RowWrites.{without_once}
 use Rattle.device_registry.proofs.DevicesHeld.{few_devices, fewer}
 use Rattle.device_registry.proofs.StatementSteps.{compiled_query_stays}
 
--- the rows of other senders
 abbrev pub others : ℕ → List Row → List Env
 others id rows =
     flat_map (λ r. cond (list_all (holds (asked id ∷ r ∷ [])) (is_other ∷ [])) ((asked id ∷ r ∷ []) ∷ []) []) rows

@@ -136,7 +136,6 @@ module _ (a b c : State) (i j : ℕ) (clear : IsClear a.now.schema) (sound : IsD
         made.2,
       )
 
-  -- each earlier table still exists, with its rows
   kept_all : (table : Table) → Has a.now.schema.tables table
       → Has c.now.schema.tables table × (c.now.trees table.tree ≡ a.now.trees table.tree)
   kept_all table has =
@@ -232,7 +231,6 @@ module _ {S : Type 0} (g : Ghosts S) (old start : Held S) (is : start ≡ record
       (makes (state g (record old { in_transaction = true })) (state g first.0) (state g second.0) (state g third.0)
       first.1 second.1 third.1 (cleared (state g old).now.schema was.0) was.1 first.2 second.2 third.2)
 
-  -- it is a sound database
   pub sound_inside : (mid : Held S) → HasCleanDisk (state g mid) → IsInside g making start mid
       → IsDatabase (state g mid).now
   sound_inside mid clean it = (ran mid it clean).1

@@ -67,7 +67,6 @@ module _ {S : Type 0} (g : Ghosts S) (old start : Held S) (is : start ≡ record
       → IsRegistry First (state g old).now × IsDatabase (state g old).now
   before new it clean = first (omega (arith, clean, (since g old start new is it).stop.clean))
 
-  -- it is a sound database
   pub sound_inside : (mid : Held S) → HasCleanDisk (state g mid) → IsInside g migration start mid
       → IsDatabase (state g mid).now
   sound_inside mid clean it =

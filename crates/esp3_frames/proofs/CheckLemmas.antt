@@ -246,7 +246,7 @@ check_next m b h =
     ∙ sym (eighth_xor (check m) b hc h)
     ∙ sym (check_one (bit_xor (check m) b) x)
 
--- the table
+-- the table entry of a byte is its CRC
 in_table : ℕ → Bool
 in_table b = eqb (get_or TABLE b 0) (eighth b)
 

@@ -40,7 +40,7 @@ module _ (w : List ℕ) (h : Header) (has : HasHeader w (Some h)) where
   behind : front_of w ≡ front_behind h.data_len h.opt_len h.kind (drop 6 w)
   behind = front-good w h has.0 has.1
 
-  -- the index of the CRC, counted from the header or from its end
+  -- the byte of the CRC, by its index after the header and by its index in the packet
   last : get_or (drop 6 w) (announced_len h) 0 ≡ get_or w (announced_len h + 6) 0
   last =
       let e : 6 + announced_len h ≡ announced_len h + 6 = omega arith in

@@ -51,7 +51,6 @@ fn read_label(row: &Row, at: usize) -> Option<Label>
     }
 }
 
-/// The profile with this number.
 fn eep_of_number(number: u32) -> Eep
     ensures { result ≡ eep_of number }
 {

@@ -259,7 +259,6 @@ fn is_left_by_prepare<S: Alter>(
     has_objects(alloc, rt, conn, before.as_str())
 }
 
-// Each of these databases, in a version, is rejected.
 fn are_refused<S: Fresh>(
     alloc: Global,
     rt: &impl Abort,

@@ -135,7 +135,7 @@ pub enum Which {
 #[derive(Clone, Copy)]
 pub enum Refusal {
     Nothing,
-    /// All calls fail after the first ones; this is their number.
+    /// All calls fail except this many at the beginning.
     From(u64),
     /// The write with this number is reported as failed, although its bytes are in the file.
     Write(u64),

@@ -22,6 +22,7 @@ pub trait Remembering {
     /// The cache entry of a sender, if there is one. The order of the entries does not change.
     fn remembered(&self, id: u32) -> Option<Option<Device>>;
 
+    /// The number of cached senders.
     fn count_remembered(&self) -> usize;
 }
 
