@@ -48,7 +48,8 @@ abbrev pub other : Version → Version
 other First = Second
 other Second = First
 
--- No table counts its rowids without SQLite's table of the counts: creating the device table of version 2 would add it.
+-- In version 1, no table counts its rowids without SQLite's table of the counts: creating the device table of version 2
+-- would add it.
 abbrev pub AreCounted : Version → Schema → Type 0
 AreCounted First schema = lacks_sequence schema ≡ false
 AreCounted Second schema = Unit {0}
