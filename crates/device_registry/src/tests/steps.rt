@@ -275,7 +275,7 @@ pub enum Trial {
     Calls(usize),
     /// A cached sender, and an uncached one.
     LookUps,
-    /// A `learn`, after which the connection may be opened again; and a crash.
+    /// A `learn`, and a crash; the flag says whether the connection is opened again in between.
     Learning(bool),
     /// `prepare` of an empty database, and a crash.
     Preparing,
