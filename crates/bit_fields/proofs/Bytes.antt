@@ -84,7 +84,7 @@ part-bits bytes first count h =
     let l : length (drop first bytes) ≡ length bytes - first = length-drop first bytes in
     sym (ap (take (8 * count)) (drop-bits first bytes (omega arith)) ∙ take-bits count (drop first bytes) (omega arith))
 
--- bytes with the same bits are the same
+-- bytes with the same bits are equal
 pub same_from_bits : (xs ys : List ℕ) → All (λ byte. byte < 2 ^ 8) xs → All (λ byte. byte < 2 ^ 8) ys
     → bits xs ≡ bits ys → xs ≡ ys
 unfolding bits

@@ -1,4 +1,4 @@
--- A list of bits, cut before and behind a part of it.
+-- A list of bits, split before and after a part of it.
 use Rattle.std.proofs.Common.{◌≡◌, ℕ, ◌+◌, ◌-◌, ◌*◌, ◌/◌, ◌%◌, ◌^◌, ◌<◌, ◌≤◌, List, ◌++◌}
 use Rattle.std.proofs.Common.{length, take, drop, sym, ap, ◌∙◌, arith, length-drop, subst}
 use Rattle.std.proofs.lemmas.Nat.{shr_high, mod_low}
@@ -6,7 +6,7 @@ use Rattle.std.proofs.lemmas.List.{take-append-drop, length-take-le, drop-drop, 
 use Rattle.bit_fields.specs.Bits.{number}
 use Rattle.bit_fields.proofs.Numbers.{AreBits, AreBits-front, AreBits-back, number-three, number-below}
 
--- a list of bits, cut before and behind len bits at offset
+-- a list of bits, split before and after len bits at offset
 pub record Cut (xs : List ℕ) (offset len : ℕ) : Type 0 where
   pub whole : take offset xs ++ (take len (drop offset xs) ++ drop (offset + len) xs) ≡ xs
   pub len_front : length (take offset xs) ≡ offset
@@ -37,7 +37,7 @@ cut xs offset len h within =
       back = AreBits-back middle back (AreBits-back front (middle ++ back) all);
     }
 
--- the number of a list of bits, by its three parts
+-- the number of a list of bits, from its three parts
 pub number-cut : (xs : List ℕ) (offset len : ℕ) → Cut xs offset len →
     number xs ≡ (number (take offset xs) * 2 ^ len + number (take len (drop offset xs))) * 2 ^
     (length xs - (offset + len)) + number (drop (offset + len) xs)
@@ -61,7 +61,7 @@ pub back-below : (xs : List ℕ) (offset len : ℕ) → Cut xs offset len →
 back-below xs offset len h =
     subst (λ (k : ℕ). number (drop (offset + len) xs) < 2 ^ k) h.len_back (number-below _ h.back)
 
--- the number spelled by len bits from place offset, by the number that all bits spell
+-- the number of the len bits at offset, from the number of all bits
 pub number-part : (xs : List ℕ) (offset len : ℕ) → AreBits xs → offset + len ≤ length xs →
     number xs / 2 ^ (length xs - (offset + len)) % 2 ^ len ≡ number (take len (drop offset xs))
 number-part xs offset len h within =
@@ -70,7 +70,6 @@ number-part xs offset len h within =
     ∙ (ap (λ n. n % 2 ^ len) (shr_high _ (length xs - (offset + len)) _ (back-below xs offset len k))
     ∙ mod_low _ len _ (middle-below xs offset len k))
 
--- a part of a part
 pub part-part : (xs : List ℕ) (a r len m : ℕ) → r + len ≤ m
     → take len (drop r (take m (drop a xs))) ≡ take len (drop (a + r) xs)
 part-part xs a r len m h =

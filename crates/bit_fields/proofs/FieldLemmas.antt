@@ -1,4 +1,4 @@
--- Fields of bytes, read and set.
+-- Getting and setting fields of bytes.
 use Rattle.std.proofs.Common.{◌≡◌, ℕ, ◌+◌, ◌-◌, ◌*◌, ◌/◌, ◌%◌, ◌^◌, ◌<◌, ◌≤◌, List, ◌++◌}
 use Rattle.std.proofs.Common.{length, take, drop, sym, ap, ◌∙◌, arith, length-append, length-drop, subst, ◌⊎◌, inl, inr}
 use Rattle.std.proofs.Common.{zero-add}
@@ -10,7 +10,7 @@ use Rattle.bit_fields.proofs.Bytes.{length-bits, bits-append, AreBits-bits, part
 use Rattle.bit_fields.proofs.Cut.{cut, number-part, part-part}
 use Rattle.bit_fields.proofs.Middle.{number-with_middle, Keeps, keeps, keeps-inside}
 
--- a field, by the number that the bytes from first on spell that hold it, with below bits behind it
+-- a field, from the number of the count bytes from first on that contain it, with below bits after it
 pub field_from_part : (bytes : List ℕ) (offset len first count below : ℕ) → 8 * first ≤ offset
     → 8 * (first + count) ≡ offset + len + below → first + count ≤ length bytes →
     number (bits (take count (drop first bytes))) / 2 ^ below % 2 ^ len ≡ field bytes offset len
@@ -29,7 +29,7 @@ field_from_part bytes offset len first count below begins ends within =
     ∙ (part-part (bits bytes) (8 * first) r len (8 * count) (omega arith)
     ∙ ap (λ k. take len (drop k (bits bytes))) place))
 
--- a field set inside a part of the bytes
+-- a field set within a part of the bytes
 WithField-part : (f p p' b : List ℕ) (offset len value below : ℕ) → length p' ≡ length p → 8 * length f ≤ offset
     → 8 * (length f + length p) ≡ offset + len + below → value < 2 ^ len →
     number (bits p') ≡ number-with_middle (number (bits p)) below len value
@@ -57,7 +57,7 @@ WithField-part f p p' b offset len value below l begins ends fits e =
       behind = rw (new, old, ← place) all.behind;
     }
 
--- the same, where the part is count bytes from first on
+-- the same for the part of count bytes from first on
 pub WithField-by_part : (bytes new : List ℕ) (offset len value first count below : ℕ) → 8 * first ≤ offset
     → 8 * (first + count) ≡ offset + len + below → first + count ≤ length bytes → value < 2 ^ len →
     length new ≡ length (take count (drop first bytes)) →
@@ -75,7 +75,7 @@ WithField-by_part bytes new offset len value first count below begins ends withi
     subst (λ (old : List ℕ). WithField old offset len value (f ++ (new ++ b))) whole
     (WithField-part f p new b offset len value below l (rw lf begins) (rw (lf, lp) ends) fits h)
 
--- a field before offset is read from the bits before offset, and one behind from those behind
+-- a field before offset depends only on the bits before offset, and one after it only on those after it
 field_of_front : (bytes : List ℕ) (place other len : ℕ) → other + len ≤ place →
     field bytes other len ≡ number (take len (drop other (take place (bits bytes))))
 unfolding field

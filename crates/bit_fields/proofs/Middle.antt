@@ -10,18 +10,18 @@ use Rattle.bit_fields.specs.Bits.{number}
 use Rattle.bit_fields.proofs.Numbers.{AreBits, same_from_number}
 use Rattle.bit_fields.proofs.Cut.{cut, number-cut, middle-below, back-below}
 
--- number with value in the len bits that have below bits under them
+-- the number with the len bits above its lowest below bits replaced by value
 unfoldable pub number-with_middle : ℕ → ℕ → ℕ → ℕ → ℕ
 number-with_middle number below len value =
     (number / 2 ^ (len + below) * 2 ^ len + value) * 2 ^ below + number % 2 ^ below
 
--- a number with new bits in its middle spells the same bits before and behind them
+-- a number with new bits in its middle has the same bits before and after them
 pub record Keeps (xs : List ℕ) (offset len value : ℕ) (ys : List ℕ) : Type 0 where
   pub field_is : number (take len (drop offset ys)) ≡ value
   pub before : take offset ys ≡ take offset xs
   pub behind : drop (offset + len) ys ≡ drop (offset + len) xs
 
--- a number with a new middle is spelled by bits with a new middle
+-- a number with a new middle has the bits with a new middle
 pub keeps : (xs ys : List ℕ) (offset len value : ℕ) → AreBits xs → AreBits ys → length ys ≡ length xs
     → offset + len ≤ length xs → value < 2 ^ len →
     number ys ≡ number-with_middle (number xs) (length xs - (offset + len)) len value → Keeps xs offset len value ys
@@ -102,7 +102,7 @@ number-with_middle-by_shifts n below len value fits =
     (ap (λ k. n / 2 ^ k * 2 ^ (below + len) + (value * 2 ^ below + n % 2 ^ below)) (add_comm below len)
     ∙ (ap (λ q. n / 2 ^ (len + below) * q + (value * 2 ^ below + n % 2 ^ below)) p ∙ omega arith))
 
--- the same in 64 bits, as machine numbers are shifted
+-- the same in 64 bits, with the shifts of machine numbers
 pub shifted_and_masked : (wide below len value : ℕ) → wide < 2 ^ 64 → below + len < 64 → value < 2 ^ len →
     bit_or (wide / 2 ^ (below + len) * 2 ^ (below + len) % 2 ^ 64)
     (bit_or (value * 2 ^ below % 2 ^ 64) (bit_and wide (1 * 2 ^ below % 2 ^ 64 - 1)))
@@ -115,7 +115,7 @@ shifted_and_masked wide below len value small narrow fits =
     let mask : 1 * 2 ^ below % 2 ^ 64 ≡ 2 ^ below = one_shl below 64 (omega arith) in
     rw (high, new, mask) (number-with_middle-by_shifts wide below len value fits)
 
--- a new middle leaves a number as short as it was
+-- a new middle keeps a number in its range
 pub number-with_middle-below : (wide rest len below value : ℕ) → wide < 2 ^ (rest + (len + below)) → value < 2 ^ len →
     number-with_middle wide below len value < 2 ^ (rest + (len + below))
 unfolding number-with_middle

@@ -1,4 +1,4 @@
--- Lists of bits, and the numbers that they spell.
+-- Lists of bits, and their numbers.
 use Rattle.std.proofs.Common.{◌≡◌, ℕ, ◌+◌, ◌*◌, ◌^◌, ◌<◌, ◌≤◌, List, [], ◌∷◌, ◌++◌, length, refl}
 use Rattle.std.proofs.Common.{sym, ap, ◌∙◌, arith, length-append, append_assoc, suc, lit<}
 use Rattle.std.proofs.lemmas.Nat.{pow-add, mul-le, same_from_place}
@@ -22,7 +22,6 @@ pub AreBits-back : (xs ys : List ℕ) → AreBits (xs ++ ys) → AreBits ys
 AreBits-back [] ys h = h
 AreBits-back (x ∷ xs) ys h = AreBits-back xs ys h.1
 
--- the number of joined bits
 pub number-append : (xs ys : List ℕ) → number (xs ++ ys) ≡ number xs * 2 ^ length ys + number ys
 unfolding number
 number-append [] ys = omega arith
@@ -33,7 +32,6 @@ number-append (x ∷ xs) ys =
     let i : number (xs ++ ys) ≡ number xs * 2 ^ length ys + number ys = number-append xs ys in
     rw (p, i) (omega arith)
 
--- three lists of bits, joined
 pub number-three : (xs ys zs : List ℕ) →
     number (xs ++ (ys ++ zs)) ≡ (number xs * 2 ^ length ys + number ys) * 2 ^ length zs + number zs
 number-three xs ys zs =
@@ -50,7 +48,7 @@ number-below (x ∷ xs) h =
     mul-le x (2 ^ length xs) 1 (2 ^ length xs) (omega (arith, h.0)) (omega arith) in
     rw p (omega arith)
 
--- bits that spell one number are the same
+-- lists of bits with the same number and length are equal
 pub same_from_number : (xs ys : List ℕ) → AreBits xs → AreBits ys → length xs ≡ length ys → number xs ≡ number ys
     → xs ≡ ys
 unfolding number

@@ -1,8 +1,8 @@
-//! Numbers in a few bytes, the most significant byte first.
+//! Big-endian numbers of a few bytes.
 ghost use Rattle.std.specs.Prelude.{◌≡◌, ◌*◌, ◌^◌, ◌<◌, ◌≤◌, length};
 ghost use Rattle.bit_fields.specs.Bits.{bits, number};
 
-/// The number that the bytes spell.
+/// The number in the bytes, the most significant byte first.
 pub(crate) fn read(bytes: &[u8]) -> u64
     requires { length bytes.now ≤ 5 }
     ensures { result ≡ number (bits bytes.now) }
@@ -14,7 +14,7 @@ pub(crate) fn read(bytes: &[u8]) -> u64
     wide
 }
 
-/// Has the bytes spell the number `wide`.
+/// Writes the number `wide` into the bytes, the most significant byte first.
 pub(crate) fn write(bytes: &mut [u8], wide: u64)
     requires few { length bytes.old ≤ 5 }
     requires fits { wide < 2 ^ (8 * length bytes.old) }

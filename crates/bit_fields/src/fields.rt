@@ -1,4 +1,4 @@
-//! One field, read and written.
+//! Getting and setting one field.
 ghost use Rattle.std.specs.Prelude.{◌≡◌, ◌+◌, ◌*◌, ◌^◌, ◌<◌, ◌≤◌, length};
 ghost use Rattle.bit_fields.specs.Bits.{field, WithField};
 
@@ -35,14 +35,14 @@ pub fn put<const N: usize, const O: usize, const L: usize>(bytes: &mut [u8; N], 
     set_field_at(&mut bytes[..], O, L, value);
 }
 
-// The bytes that hold a field: from `first` to before `end`, and the last `below` bits of them stand behind the field.
+// The bytes that contain a field: from `first` to before `end`. Their last `below` bits are after the field.
 struct Span {
     first: usize,
     end: usize,
     below: usize,
 }
 
-// The bytes that hold the field of `len` bits at `offset`.
+// The bytes that contain the field of `len` bits at `offset`.
 fn span_of(offset: usize, len: usize) -> Span
     requires { len ≤ 32 }
     ensures begins { (8 * result.first ≤ offset) × (offset < 8 * result.first + 8) }
@@ -57,7 +57,7 @@ fn span_of(offset: usize, len: usize) -> Span
     }
 }
 
-// `get` for an offset and a length that are known only when it runs.
+// `get` for an offset and a length that are known only at run time.
 fn field_at(bytes: &[u8], offset: usize, len: usize) -> u32
     requires within { offset + len ≤ 8 * length bytes.now }
     requires width { len ≤ 32 }
@@ -69,7 +69,7 @@ fn field_at(bytes: &[u8], offset: usize, len: usize) -> u32
     (wide >> below & ((1u64 << len) - 1)) as u32
 }
 
-// `put` for an offset and a length that are known only when it runs.
+// `put` for an offset and a length that are known only at run time.
 fn set_field_at(bytes: &mut [u8], offset: usize, len: usize, value: u32)
     requires within { offset + len ≤ 8 * length bytes.old }
     requires width { len ≤ 32 }

@@ -1,6 +1,5 @@
-//! Fields of bits in the payload of a telegram: each is read as a number and written from one, and stands at a bit
-//! offset counted from the most significant bit of the first byte (EnOcean Equipment Profiles 2.6). Nothing here takes
-//! memory.
+//! Bit fields in the payload of a telegram, read and written as numbers. A field has a bit offset, counted from the
+//! most significant bit of the first byte (EnOcean Equipment Profiles 2.6). Nothing here allocates.
 #![tactic(auto)]
 
 mod big_endian;

@@ -1,10 +1,10 @@
--- How counts of calls go on.
+-- How the counters of calls change.
 use Rattle.std.proofs.Common.{◌≡◌, ℕ, ap, ◌∙◌, false}
 use Rattle.std.specs.Prelude.{Ok, ◌==◌, if◌then◌else◌}
 use Rattle.std.proofs.lemmas.Bool.{ne_eqb}
 use Rattle.byte_io.specs.Counts.{Counts, counted, one_more, WentWell}
 
--- a call that answers some bytes went well
+-- a call that returns some bytes succeeded
 pub went_well : (E : Type 0) (old mid new : Counts) (n : ℕ) → WentWell old mid → new ≡ counted {E = E} mid (Ok n)
     → (n ≡ 0 → ⊥) → WentWell old new
 went_well E old mid new n before e some =

@@ -1,4 +1,4 @@
--- How the writes of a text go on.
+-- The steps of writing a text.
 use Rattle.std.proofs.Common.{◌≡◌, ℕ, ◌-◌, List, ◌++◌, length, take, drop, ap, sym, ◌∙◌, append_assoc}
 use Rattle.std.proofs.Common.{length-drop, Option}
 use Rattle.std.specs.Io.KnownBytes.{Appends}
@@ -6,7 +6,7 @@ use Rattle.std.proofs.KnownBytes.{Appends-trans}
 use Rattle.std.proofs.lemmas.List.{take-append-drop}
 use Rattle.std.proofs.Math.Seq.{take-length}
 
--- what is written so far, and what is left
+-- what is written so far, and what remains
 pub record Left (old new : Option (List ℕ)) (text rest : List ℕ) : Type 0 where
   pub done : List ℕ
   pub whole : text ≡ done ++ rest

@@ -1,6 +1,6 @@
--- What a source is asked for. Own choice.
+-- The size of one read. Own choice.
 use Rattle.std.specs.Prelude.{ℕ}
 
--- how many bytes one read gives at most
+-- the maximum number of bytes that one read returns
 abbrev pub max_read : ℕ
 max_read = 256

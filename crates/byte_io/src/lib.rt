@@ -1,5 +1,5 @@
-//! Where bytes come from and where they go. Sources and sinks count their calls; a text is written whole, over writes
-//! that take what they like.
+//! Sources and sinks of bytes. They count their calls. A text is written whole, even if single writes accept only part
+//! of it.
 #![tactic(auto)]
 
 mod sink;

@@ -1,4 +1,4 @@
-//! Where bytes go.
+//! Sinks: outputs for bytes.
 ghost use Rattle.std.specs.Prelude.{◌≡◌, ◌≤◌, ◌<◌, ℕ, List, Option, IfOk, length};
 ghost use Rattle.std.specs.Io.KnownBytes.{WriteAppends};
 ghost use Rattle.byte_io.specs.Counts.{Counts, counted, none_yet};
@@ -6,16 +6,16 @@ ghost use Rattle.byte_io.specs.Counts.{Counts, counted, none_yet};
 use crate::tally::{Failed, Tally};
 use std::io::Write;
 
-/// Where bytes go.
+/// An output for bytes.
 pub trait Sink {
-    /// The bytes that it holds, where they are known.
+    /// The bytes that it holds, if they are known.
     ghost held: { Self → Option (List ℕ) };
 
-    /// How the writes so far went.
+    /// The counters of the writes so far.
     ghost counts: { Self → Counts };
 
-    /// Takes some first bytes of the text, which is not empty, perhaps none, and says how many. After `Failed` it holds
-    /// what it held before.
+    /// Writes some prefix of the text, perhaps an empty one, and returns its length. The text is not empty. After
+    /// `Failed` the sink holds what it held before.
     fn write(&mut self, text: &[u8]) -> Result<usize, Failed>
         requires { 0 < length text.now }
         ensures within { IfOk result (λ n. n ≤ length text.now) }
@@ -23,8 +23,8 @@ pub trait Sink {
         ensures told { counts self.new ≡ counted (counts self.old) result };
 }
 
-/// A sink over a writer of `std`. It counts its writes, those that failed, and those that took 0 bytes; each count
-/// stays at its greatest value.
+/// A sink over a writer of `std`. It counts its writes, those that failed, and those that accepted 0 bytes; each
+/// counter stays at its maximum.
 #[derive(Drop)]
 pub struct OverWrite<W> {
     writer: W,
@@ -32,7 +32,7 @@ pub struct OverWrite<W> {
 }
 
 impl<W: Write> OverWrite<W> {
-    /// A sink that has made no write to this writer.
+    /// A sink that has made no write to this writer yet.
     pub fn new(writer: W) -> OverWrite<W>
         ensures bytes { ⟦<OverWrite<W> as Sink>⟧.held result ≡ W.contents writer }
         ensures told { ⟦<OverWrite<W> as Sink>⟧.counts result ≡ none_yet }

@@ -1,4 +1,4 @@
-//! Where bytes come from.
+//! Sources: inputs of bytes.
 ghost use Rattle.std.specs.Prelude.{◌≡◌, ◌≤◌, ◌<◌, ℕ, List, Option, IfOk, length};
 ghost use Rattle.std.specs.Io.KnownBytes.{ReadConsumes};
 ghost use Rattle.byte_io.specs.Counts.{Counts, counted, none_yet};
@@ -7,17 +7,17 @@ ghost use Rattle.byte_io.specs.Limits.{max_read};
 use crate::tally::{Failed, Tally};
 use std::io::Read;
 
-/// Where bytes come from.
+/// An input of bytes.
 pub trait Source {
-    /// The bytes that reads will give from here on, where they are known.
+    /// The bytes that later reads will return, if they are known.
     ghost left: { Self → Option (List ℕ) };
 
-    /// How the reads so far went.
+    /// The counters of the reads so far.
     ghost counts: { Self → Counts };
 
-    /// Reads some bytes into the front of the buffer, which has room for 1 to 256, and says how many. 0
-    /// bytes say that none is left; of a terminal, which may bring more later, that none came in time. After `Failed`
-    /// nothing is lost: no byte was taken from the source.
+    /// Reads some bytes into the front of the buffer, which is 1 to 256 bytes long, and returns their number. 0 means
+    /// that none is left, or, for a terminal, which may receive more later, that none came in time. After `Failed`
+    /// nothing is lost: no byte was read from the source.
     fn read(&mut self, buffer: &mut [u8]) -> Result<usize, Failed>
         requires { (0 < length buffer.old) × (length buffer.old ≤ max_read) }
         ensures within { IfOk result (λ n. n ≤ length buffer.new) }
@@ -25,8 +25,8 @@ pub trait Source {
         ensures told { counts self.new ≡ counted (counts self.old) result };
 }
 
-/// A source over a reader of `std`. It counts its reads, those that failed, and those that gave 0 bytes; each count
-/// stays at its greatest value.
+/// A source over a reader of `std`. It counts its reads, those that failed, and those that returned 0 bytes; each
+/// counter stays at its maximum.
 #[derive(Drop)]
 pub struct OverRead<R> {
     reader: R,
@@ -34,7 +34,7 @@ pub struct OverRead<R> {
 }
 
 impl<R: Read> OverRead<R> {
-    /// A source that has made no read of this reader.
+    /// A source that has made no read of this reader yet.
     pub fn new(reader: R) -> OverRead<R>
         ensures bytes { ⟦<OverRead<R> as Source>⟧.left result ≡ R.remaining reader }
         ensures told { ⟦<OverRead<R> as Source>⟧.counts result ≡ none_yet }

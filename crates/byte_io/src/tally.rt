@@ -1,16 +1,16 @@
-//! How the calls of a reader or of a writer went.
+//! The counters of a reader or writer.
 ghost use Rattle.std.specs.Prelude.{◌≡◌};
 ghost use Rattle.byte_io.specs.Counts.{counted, none_yet};
 
 use std::marker::Model;
 use thiserror::Error;
 
-/// A read or a write that failed.
+/// A failed read or write.
 #[derive(Clone, Copy, Debug, PartialEq, Eq, Error)]
 #[error("a read or a write failed")]
 pub struct Failed;
 
-/// How many calls were made, how many failed, and how many answered 0 bytes. Each count stays at its greatest value.
+/// The number of calls, of those that failed, and of those that returned 0 bytes. Each counter stays at its maximum.
 #[derive(Drop)]
 pub(crate) struct Tally {
     calls: u64,
@@ -37,7 +37,7 @@ impl Tally {
         }
     }
 
-    /// Counts a call with this answer.
+    /// Counts a call with this result.
     pub(crate) fn count(&mut self, answer: Result<usize, Failed>)
         ensures { self.new ≡ counted self.old answer }
     {

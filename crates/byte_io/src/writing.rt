@@ -1,11 +1,11 @@
-//! Texts are written to a sink.
+//! Writing texts to a sink.
 ghost use Rattle.byte_io.specs.Counts.{Went};
 ghost use Rattle.byte_io.specs.Writes.{Writes};
 
 use crate::sink::Sink;
 use crate::tally::Failed;
 
-/// Writes the whole text. After `Failed` a first part of it is written, and not all.
+/// Writes the whole text. After `Failed` a proper prefix of it is written.
 pub fn write_text<W: Sink>(writer: &mut W, text: &[u8]) -> Result<(), Failed>
     ensures written { Writes (W.held writer.old) (W.held writer.new) result text.now }
     ensures told { Went result (W.counts writer.old) (W.counts writer.new) }

@@ -1,4 +1,4 @@
--- What is remembered stays right.
+-- Cache entries stay correct.
 use Rattle.std.proofs.Common.{◌≡◌, ◌≢◌, ◌⊎◌, inl, inr, ℕ, List, [], Option, Some, None, Contains}
 use Rattle.std.proofs.Common.{arith, true, false, refl, sym, ap, subst, ◌∙◌, nat_cmp}
 use Rattle.std.specs.Option.{option_map}
@@ -32,7 +32,7 @@ pub fewer_recalled : (s : State) (old new : List Entry) → CacheAgrees s old
     → ((e : Entry) → Contains new e → Contains old e) → CacheAgrees s new
 fewer_recalled s old new recalls kept entry has clean = recalls entry (kept entry has) clean
 
--- what is recalled is what every list of devices says that the registry may be said to have
+-- a cached entry agrees with every list of devices that the registry may hold
 pub recalled : (s : State) (id : ℕ) (known : Option Device) → HasCleanDisk s → EntryAgrees s (id, known)
     → (devices : Devices) → HasDevices s devices → known ≡ device_of devices id
 recalled s id known clean right devices has = right.is ∙ ap (λ (m : Devices). device_of m id)
@@ -44,12 +44,12 @@ unmoved s devices has = record { now = has; stop = λ left may. may }
 held : {s : State} (ready : IsReady s) → HasDevices s ready.devices
 held ready = λ _ _. ready.shows.registers
 
--- and it tells that the registry is ready
+-- and it implies that the registry is ready
 pub told_ready : (s : State) (entry : Entry) → EntryAgrees s entry → IsReady s × IsReady s
 told_ready s entry right =
     let it : IsReady s = record { devices = right.devices; shows = right.shows } in (it, it)
 
--- an entry that was right is right after a call that keeps each list of devices
+-- a correct entry stays correct after a call that keeps each list of devices
 still : (old new : State) → HasCleanDisk new → IsReady new
     → ((devices : Devices) → HasDevices old devices → HasDevices new devices) → (entry : Entry) → EntryAgrees old entry
     → EntryAgrees new entry
@@ -59,7 +59,7 @@ still old new clean ready keeps entry right = record {
   is = right.is;
 }
 
--- a look-up was answered, and is remembered
+-- a look-up was answered, and its result is cached
 pub found_recalled : (old new : State) (id : ℕ) (known : Option Device) (before later : List Entry)
     → (HasCleanDisk new → HasCleanDisk old) → (HasCleanDisk new → IsReady old × IsReady new)
     → (HasCleanDisk new → (devices : Devices) → HasDevices old devices
@@ -91,7 +91,7 @@ listed_recalled old new entries early sure keeps recalls entry has clean =
     still old new clean (sure clean).1 (λ devices had. (keeps clean devices had).now) entry
     (recalls entry has (early clean))
 
--- a change is at its sender alone
+-- a change affects only its sender
 apart : (a b : ℕ) → a ≢ b → eq_by_cmp nat_cmp a b ≡ false
 apart a b h = grind (arith, nat_tests)
 
@@ -108,11 +108,11 @@ there : (devices : Devices) (id : ℕ) (entry : Option Learned) → get (entered
 there devices id (Some it) = get-insert nat_cmp_total devices id it id ∙ rw (tied id) refl
 there devices id None = get-remove nat_cmp_total devices id id ∙ rw (tied id) refl
 
--- what is known of a sender after the change
+-- the data of a sender after the change
 abbrev known_after : Devices → Change → Option Learned
 known_after devices change = after (get devices change.sender) change.deed
 
--- a change is committed, and its sender is remembered
+-- a change is committed, and its sender is cached
 pub changed_recalled : (old new : State) (change : Change) (known : Option Device) (before between later : List Entry)
     → (HasCleanDisk new → HasCleanDisk old) → (HasCleanDisk new → IsReady old × IsReady new)
     → (HasCleanDisk new → (devices : Devices) → HasDevices old devices → Commits (kept new) change devices)
@@ -144,7 +144,7 @@ changed_recalled old new change known before between later early sure commits is
           })
     ]
 
--- nothing is learned, and what is remembered of the others stays
+-- nothing is learned, and the other entries stay
 pub full_recalled : (old new : State) (before later : List Entry) → (HasCleanDisk new → HasCleanDisk old)
     → (HasCleanDisk new → IsReady old × IsReady new)
     → (HasCleanDisk new → (devices : Devices) → HasDevices old devices → Keeps (kept old) (kept new) devices)

@@ -1,4 +1,4 @@
--- What the steps of the cache keep.
+-- The operations of the cache, and what they preserve.
 use Rattle.std.proofs.Common.{◌≡◌, ◌≢◌, ◌⊎◌, inl, inr, ℕ, Bool, true, false, List, [], ◌∷◌, Some, Result, Ok}
 use Rattle.std.proofs.Common.{Err, OnOk, OnErr, Contains, sym, ap, subst, ◌∙◌, eqb}
 use Rattle.std.proofs.lemmas.Bool.{cases_Bool, eqb-true, eq-eqb}
@@ -13,7 +13,7 @@ not_both true h k = absurd cc
 not_both false h k = absurd cc
 
 module _ {V : Type 0} where
-  -- what a look-up finds is an entry
+  -- a look-up finds an entry of the cache
   pub looked_up : (id : ℕ) (entries : List (ℕ × V)) (v : V) → lookup (eqb id) entries ≡ Some v
       → Contains entries (id, v)
   looked_up id entries v h =
@@ -33,7 +33,7 @@ module _ {V : Type 0} where
       ]
   kept_if (Err b) old new id v ok err e has = inl (subst (λ (c : LruCache ℕ V). Contains c.entries e) err has)
 
-  -- the entry is put, or there is no memory for it
+  -- the entry is added, or there is no memory for it
   pub put_or_not : {A B : Type 0} (r : Result A B) (old new : LruCache ℕ V) (id : ℕ) (v : V)
       → OnOk r (new ≡ lru_cache (put_entries eqb old id v) old.cap) → OnErr r (new ≡ old)
       → (new ≡ old) ⊎ (new ≡ lru_cache (put_entries eqb old id v) old.cap)

@@ -1,4 +1,4 @@
--- What the statement makes of the database that copies the devices of the first version.
+-- The effect of the statement that copies the devices of version 1.
 use Rattle.std.proofs.Common.{◌≡◌, ℕ, pos, List, [], ◌∷◌, map, Some, None, Option, Ok, refl, sym, ap, subst, ◌∙◌}
 use Rattle.std.proofs.Common.{slice_get}
 use Rattle.std.specs.List.{AllByRecursion}
@@ -34,7 +34,7 @@ use Rattle.device_registry.proofs.RowWrites.{spares, spares_as}
 
 -- ---- the rows that are copied
 
--- what the query gives of a row
+-- the output of the query for a row
 abbrev given : Row → Output
 given row = ([], row)
 
@@ -46,7 +46,7 @@ plain : (rows : List Row) → map (λ (o : Output). o.1) (map given rows) ≡ ro
 plain [] = refl
 plain (row ∷ rows) = ap (λ rs. row ∷ rs) (plain rows)
 
--- they are the devices of the first version, in some order
+-- they are the devices of version 1, in some order
 asks : (d : ℕ) (db : Trees) (rows : List Row) → IsAnswer (copy_query d) (overlay db []) [] rows
     → IsPermutation (rows_of First (db d)) rows
 asks d db rows a =
@@ -57,7 +57,7 @@ asks d db rows a =
     (IsPermutation-map (λ (o : Output). o.1) (map given (rows_of First (db d))) a.ordered
     (subst (λ k. IsPermutation k a.ordered) kept a.same)))
 
--- ---- they are stored as they are
+-- ---- they are stored unchanged
 
 -- a row of a device with the empty label
 IsPlain : Row → Type 0
@@ -95,7 +95,7 @@ stored_as_given n (row ∷ rows) there all =
     ∙ ap (λ r. r ∷ numbered Chosen (put_row r there) more) kept
     ∙ ap (λ rs. row ∷ rs) (stored_as_given n rows (put_row row there) all.1)
 
--- the devices are put into the empty table, and no other changes
+-- the devices are inserted into the empty table, and no other table changes
 pub copies : (schema : Schema) (to n d : ℕ) (limit : Option ℕ) (mode : Mode) (db : Trees) (text : List ℕ)
     (tally : Tally) (after : Database) → slice_get schema.tables to ≡ Some (device_table Second n)
     → StandsAlone schema n → db n ≡ [] → AllByRecursion IsDevice (rows_of First (db d))

@@ -1,4 +1,4 @@
--- What the query that counts the other senders shows.
+-- The rows of the query that counts the other senders.
 use Rattle.std.proofs.Common.{nat_le, ◌≤◌, min, get_or, arith, ◌≡◌, ℕ, pos, List, [], ◌∷◌, ◌++◌, map, filter}
 use Rattle.std.proofs.Common.{length, suc, Bool, true, false, not, cond, Some, refl, sym, ap, subst, ◌∙◌, codes, is_eq}
 use Rattle.std.proofs.Common.{Ordering, Less, Equal, Greater, Result, IfOk, IfErr}
@@ -41,7 +41,6 @@ use Rattle.device_registry.proofs.RowWrites.{without_once}
 use Rattle.device_registry.proofs.DevicesHeld.{few_devices, fewer}
 use Rattle.device_registry.proofs.StatementSteps.{compiled_query_stays}
 
--- the rows of other senders
 abbrev pub others : ℕ → List Row → List Env
 others id rows =
     flat_map (λ r. cond (list_all (holds (asked id ∷ r ∷ [])) (is_other ∷ [])) ((asked id ∷ r ∷ []) ∷ []) []) rows
@@ -70,7 +69,7 @@ one_row order [] z = absurd z
 one_row order (r ∷ []) z = ap (λ x. x ∷ []) (z.0.2 ∙ one_value order z.0.0 z.0.1)
 one_row order (r ∷ s ∷ more) z = absurd z.1
 
--- one row, with how many other senders there are
+-- one row, with the number of other senders
 counted : (d id : ℕ) (db : Trees) (rows : List Row) → IsAnswer (others_query d) (overlay db []) (asked id) rows
     → rows ≡ (count (length (others id (db d))) ∷ []) ∷ []
 counted d id db rows a =
@@ -138,7 +137,7 @@ others_plain s ready =
     let r = ready.shows.registers.registry in
     (count_means s.now.schema r.tables.devices_at r.tables.devices r.tables.devices_stand).plain
 
--- nothing is written by it
+-- the query writes nothing
 pub others_stay : {V : Type 0} (id : ℕ) (text : List ℕ) (old mid new : State) (items : V → List Row)
     (r : Result V Error)
     → Stays old mid → (HasCleanDisk mid → text ≡ count_others_text) → (HasCleanDisk mid → IsReady mid)
@@ -157,7 +156,7 @@ shown_number v n row more is number = ap (λ (rows : List Row). column (get_or r
 same_number : (m n : ℕ) → ◌≡◌ {A = Value} (Int (pos m)) (Int (pos n)) → m ≡ n
 same_number m n e = cc
 
--- the count is that of the other senders, since they are few
+-- the count is exactly that of the other senders, since they are few
 full_told : (others n : ℕ) → count others ≡ Int (pos n) → others ≤ max_devices
     → nat_le max_devices n ≡ nat_le max_devices others
 full_told others n is few =

@@ -1,4 +1,4 @@
--- What the text that counts the other devices means.
+-- The meaning of the text that counts the other devices.
 use Rattle.std.proofs.Common.{ℕ, [], ◌∷◌, codes, false, None, Some, refl}
 use Rattle.sqlite.specs.declared.types.Value.TheVariants.{Null}
 use Rattle.sqlite.specs.Term.{lit}

@@ -1,4 +1,4 @@
--- What the texts that create the tables mean, where the names are free.
+-- The meaning of the texts that create the tables, if the names are free.
 use Rattle.std.proofs.Common.{◌≡◌, ℕ, not, ◌&&◌, ◌==◌, List, [], length, slice_range, is_some, true}
 use Rattle.std.proofs.Common.{false, Option, None, Some, Ok, refl, ap, ◌∙◌}
 use Rattle.std.proofs.lemmas.Bool.{or_parts}
@@ -30,12 +30,12 @@ unused schema name free =
     no_some None h = refl
     no_some (Some x) h = absurd cc
 
--- a text that makes a table, of which nothing else is in the statement
+-- a text that only creates a table
 pub record Makes (schema : Schema) (text : List ℕ) : Type 0 where
   pub means : Means schema text CreateTable
   pub alone : statement_of text (understood schema text) ≡ text
 
--- the text defines this table, of which SQLite computes no other value, and nothing else is in it
+-- the text only defines this table, which has no other value that SQLite computes
 module _ {text : List ℕ} (table : Table) {def : Defined} (it : IsRead text (written.CreateTable def))
     (whole : slice_range text it.parsed.start it.parsed.end ≡ text) (named : def.name ≡ table.name)
     (own : is_reserved def.name ≡ false) (is : define.table [] def ≡ Ok table)

@@ -1,4 +1,4 @@
--- What the CHECKs of the device table say of a row that passes them.
+-- The CHECKs of the device table, and what they imply for a row that passes them.
 use Rattle.std.proofs.Common.{◌≡◌, ◌≤ℤ◌, ℕ, ℤ, pos, negsuc, Bool, true, false, not, ◌&&◌}
 use Rattle.std.proofs.Common.{Some, refl, sym, ap, ◌∙◌, arith}
 use Rattle.std.specs.Ordering.{is_le, is_ge}
@@ -18,7 +18,7 @@ use Rattle.learned_devices.specs.Devices.{Learned}
 use Rattle.device_registry.specs.Table.Rows.{IsDevice, stored, eep_number, maker_number}
 use Rattle.device_registry.proofs.TestSteps.{both}
 
--- the test of a CHECK that a number lies between two
+-- the test of a CHECK that a number is between two others
 between : ℤ → ℤ → ℤ → Bool
 between low high n =
     not (is_false (binary And (binary (Compare Ge Binary) (Int n) (Int low))
@@ -44,7 +44,7 @@ lies_between low high n h =
     both _ _ (sym (truths (is_ge (value_cmp (Int n) (Int low))) (is_le (value_cmp (Int n) (Int high)))) ∙ h) in
     (at_least n low two.0, at_most n high two.1)
 
--- a row that is put in passes them, so it is that of a device, if its label is one
+-- an inserted row passes them, so it is that of a device, if its label is valid
 pub checked : (d id : ℕ) (it : Learned) → is_label it.label ≡ true
     → passes_checks (device_table Second d) (stored id it) ≡ true → IsDevice (stored id it)
 unfolding between

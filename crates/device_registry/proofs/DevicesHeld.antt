@@ -1,4 +1,4 @@
--- What a database holds is one thing, and how it changes where rows are written.
+-- A database holds one list of devices; how a write of rows changes it.
 use Rattle.std.proofs.Common.{is_some, ◌<◌, ℤ}
 use Rattle.std.proofs.Common.{◌≡◌, ◌≢◌, ℕ, ◌≤◌, ◌+◌, ◌-◌, Bool, true, false, cond, nat_le}
 use Rattle.std.proofs.Common.{refl, List, [], ◌∷◌}
@@ -62,7 +62,7 @@ registers_by version db a b one other =
 pub registers_once : (db : Database) (a b : Devices) → Registers db a → Registers db b → a ≡ b
 registers_once = registers_by Second
 
--- the trees of a sound database tell its schema, and so its devices
+-- the trees of a sound database determine its schema, and so its devices
 pub held_by : (version : Version) (trees : Trees) (a b : Devices) → HoldsAs version trees a → HoldsAs version trees b
     → a ≡ b
 held_by version trees a b one other =
@@ -79,7 +79,7 @@ held_once = held_by Second
 
 -- ---- after a write
 
--- where the list of the objects is as it was, they are listed as they were
+-- if the list of objects is unchanged, the tables are still listed
 pub listed_still : (version : Version) (before after : Trees) → after catalog_tree ≡ before catalog_tree
     → AreListed version before → AreListed version after
 listed_still version before after same listed =
@@ -108,7 +108,7 @@ table_beside schema trees t sound has =
     beside t.tree (zipped_left IsTableRow _ schema.tables t sound.lists.listed.tables has).2.described.low
 
 module _ (before : Database) (registry : IsRegistry Second before) where
-  -- the tables stand as they did
+  -- the tables are unchanged in the schema
   pub registers_after : (after : Database) (devices : Devices) → after.schema ≡ before.schema
       → after.trees catalog_tree ≡ before.trees catalog_tree → (row : Row)
       → after.trees registry.tables.meta ≡ row ∷ [] → IsVersion Second row
@@ -155,7 +155,7 @@ fewer devices id = not_more (contains_key devices id) (len devices) _ (len-remov
 one_less : (n without : ℕ) → without ≡ n - 1 → n ≤ max_devices → nat_le max_devices without ≡ false
 one_less n without less few = let low : without < max_devices = omega (arith, less, few) in grind (arith, nat_tests)
 
--- there is room for a known sender
+-- the registry is not full for a known sender
 pub room_for_known : (db : Database) (devices : Devices) (id : ℕ) (it : Learned) → Registers db devices
     → get devices id ≡ Some it → is_full devices id ≡ false
 room_for_known db devices id it had known =

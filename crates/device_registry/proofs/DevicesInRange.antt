@@ -1,4 +1,4 @@
--- What a registry holds is in range.
+-- The devices of a registry are in range.
 use Rattle.std.proofs.Common.{inl, inr, ℤ, pos, negsuc, ◌<◌, ◌^◌, List, [], ◌∷◌}
 use Rattle.std.proofs.Common.{Some, sym, subst, arith}
 use Rattle.std.specs.Prelude.{◌≤ℤ◌}

@@ -1,4 +1,4 @@
--- Rows of which no two have one rowid, in whatever order.
+-- Rows with different rowids, in any order.
 use Rattle.std.proofs.Common.{◌≡◌, ◌≢◌, ℕ, pos, true, false, cond, List, [], ◌∷◌, map, length, Some, refl, sym, ap}
 use Rattle.std.proofs.Common.{◌∙◌, arith, is_eq, Ordering, Less, Equal, Greater, nat_cmp}
 use Rattle.std.specs.List.{AllByRecursion}
@@ -53,7 +53,7 @@ apart_put new (r ∷ rows) free apart =
 int_tied : (a b : ℕ) → value_cmp (Int (pos a)) (Int (pos b)) ≡ Equal → a ≡ b
 int_tied a b h = let e = sym (value_cmp-Int (pos a) (pos b)) ∙ h in grind (arith, ints, nat_tests)
 
--- a row that is put beside the others is one more
+-- a row that is inserted beside the others is one more
 pub put_permutes : (new : Row) (it : IsDevice new) (rows : List Row) → AllByRecursion IsDevice rows → HasNewRowid new rows
     → IsPermutation (new ∷ rows) (put_row new rows)
 put_permutes new it [] all free = IsPermutation-refl (new ∷ [])
@@ -69,7 +69,7 @@ put_permutes new it (r ∷ rows) all free =
         ∙ sym it.id_is))
     placed more Greater is = IsPermutation-refl (new ∷ r ∷ rows)
 
--- the rows by rising rowid
+-- the rows by ascending rowid
 pub ranked : List Row → List Row
 ranked [] = []
 ranked (r ∷ rows) = put_row r (ranked rows)
@@ -110,7 +110,7 @@ pub entries_ranked : (rows : List Row) → AllByRecursion IsDevice rows
 entries_ranked rows all = ap entries (sym (ranked_same rows all))
     ∙ entries_are (ranked rows) (ranked_all IsDevice rows all) (ranked_rises rows)
 
--- there are as many as rows
+-- there are as many devices as rows
 pub len_is : (rows : List Row) → AllByRecursion IsDevice rows → RowidsDiffer rows → len (devices_in rows) ≡ length rows
 len_is rows all apart =
     ap len (sym (ranked_same rows all)) ∙ risen_len (ranked rows) (ranked_all IsDevice rows all) (ranked_rises rows)

@@ -1,4 +1,4 @@
--- What the statement makes of the database that drops the table of the first version.
+-- The effect of the statement that drops the device table of version 1.
 use Rattle.std.proofs.Common.{◌≡◌, ℕ, Bool, true, false, ◌&&◌, List, [], Some, None, Option, Ok}
 use Rattle.std.proofs.Common.{MatchBool, refl, sym, ap, subst, ◌∙◌, inl, inr, is_some, slice_get}
 use Rattle.std.specs.List.{AllByRecursion, list_any}
@@ -37,7 +37,7 @@ left_false : (a b : Bool) → a ≡ false → (a && b) ≡ false
 left_false true b h = absurd cc
 left_false false b h = refl
 
--- no foreign key acts where rows go of a table that none refers to
+-- no foreign key acts when rows of a table are deleted that no key refers to
 unacted : (schema : Schema) (keys : Keys) (table : Table) → AllByRecursion (SparesName table.name) schema.tables
     → is_acted_on schema keys table ≡ false
 unacted schema keys table spares =
@@ -49,7 +49,7 @@ unacted schema keys table spares =
     (λ (ref : Reference). (same_name table.name ref.parent && is_some (deed_for keys true ref)) ≡ false)
     (λ ref other. left_false _ _ (turned table.name ref.parent other)) t.references none)) schema.tables spares)
 
--- the table goes, and no other changes
+-- the table is dropped, and no other changes
 pub drops : (schema : Schema) (at d : ℕ) (limit : Option ℕ) (mode : Mode) (db : Trees) (text : List ℕ) (tally : Tally)
     (after : Database) → slice_get schema.tables at ≡ Some (device_table First d)
     → AllByRecursion (SparesName (device_name First)) schema.tables

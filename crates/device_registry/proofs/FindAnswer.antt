@@ -1,4 +1,4 @@
--- What the query that looks a sender up shows.
+-- The rows of the query that looks up a sender.
 use Rattle.std.proofs.Common.{arith, cond, nat_cmp, ◌≡◌, inl, inr, ℕ, List, [], ◌∷◌, map, Some, None}
 use Rattle.std.proofs.Common.{Option, option_map, refl, sym, ap, subst, ◌∙◌}
 use Rattle.std.specs.FinMap.{get, remove, get-from_entries, get-remove, same_map, nat_cmp-IsAntisymmetric}
@@ -74,14 +74,14 @@ looked_up old new id rows ready h = (
   λ devices shows. finds old new id rows devices shows.registers h,
 )
 
--- ---- a sender of which nothing is known
+-- ---- an unknown sender
 
 none_known : (id : ℕ) (known : Option Learned) (rows : List Row) → AreFound (option_map (device id) known) rows
     → rows ≡ [] → known ≡ None
 none_known id None rows h none = refl
 none_known id (Some it) rows h none = absurd (let e = sym h.1 ∙ none in cc)
 
--- what is not there is not taken out
+-- removing an unknown sender changes nothing
 pub unknown_is_removed : (devices : Devices) (id : ℕ) (rows : List Row) → AreFound (device_of devices id) rows
     → rows ≡ [] → remove devices id ≡ devices
 unknown_is_removed devices id rows h none = same_map nat_cmp_total nat_cmp-IsAntisymmetric _ _

@@ -1,4 +1,4 @@
--- What the text that finds a device means.
+-- The meaning of the text that finds a device.
 use Rattle.std.proofs.Common.{ℕ, List, [], ◌∷◌, codes, None, Some, refl}
 use Rattle.sqlite.specs.Collation.TheVariants.{Binary}
 use Rattle.sqlite.specs.Schema.{Schema}

@@ -1,4 +1,4 @@
--- What the statement that forgets a sender makes of the database.
+-- The effect of the statement that forgets a sender.
 use Rattle.std.proofs.Common.{slice_get, ◌≡◌, ◌⊎◌, inl, inr, ℕ, pos, cond, List, [], ◌∷◌, map, Some, None}
 use Rattle.std.proofs.Common.{Option, Ok, sym, ap, subst, ◌∙◌, arith, nat_cmp}
 use Rattle.std.specs.List.{AllByRecursion}
@@ -33,7 +33,7 @@ use Rattle.device_registry.proofs.RowsAsMap.{seen, devices_without, without_are_
 use Rattle.device_registry.proofs.SenderTests.{asked, hits, found, no_rows, overlay_is}
 use Rattle.device_registry.proofs.RowWrites.{went, same_value, SparesOthers, spares, spares_as, without_once}
 
--- the rows are without that of the sender
+-- the rows without that of the sender
 pub record IsForgotten (id : ℕ) (before after : List Row) : Type 0 where
   pub map_is : devices_in after ≡ remove (devices_in before) id
   pub rows : AllByRecursion IsDevice after
@@ -52,7 +52,7 @@ not_there id rows none =
     ∙ ap (cond (eq_by_cmp nat_cmp q id) None) (sym (get-from_entries nat_cmp_total _ q))
     ∙ sym (get-remove nat_cmp_total (devices_in rows) id q))
 
--- the rowids that the statement takes out
+-- the rowids that the statement deletes
 taken : (d id : ℕ) (db : Trees) (rows : List Row) → AllByRecursion IsDevice (db d) → RowidsDiffer (db d)
     → IsAnswer (forget_query d) (overlay db []) (asked id) rows
     → ((seen id (db d) ≡ None) × (ids_of rows ≡ [])) ⊎ (ids_of rows ≡ pos id ∷ [])
@@ -75,7 +75,7 @@ taken d id db rows all once a =
           ∙ ap (λ v. id_in v ∷ []) some.3)
     ]
 
--- a tree without the rowids that were taken
+-- a tree without the deleted rowids
 left : (id : ℕ) (table rows : List Row) → AllByRecursion IsDevice table → RowidsDiffer table
     → ((seen id table ≡ None) × (ids_of rows ≡ [])) ⊎ (ids_of rows ≡ pos id ∷ [])
     → IsForgotten id table (without_all table (ids_of rows))

@@ -1,4 +1,4 @@
--- What the text that forgets a device means.
+-- The meaning of the text that forgets a device.
 use Rattle.std.proofs.Common.{ℕ, [], refl}
 use Rattle.sqlite.specs.Schema.{Schema}
 use Rattle.sqlite.specs.Command.TheVariants.{Delete}

@@ -1,4 +1,4 @@
--- What the query that lists all devices shows.
+-- The rows of the query that lists all devices.
 use Rattle.std.proofs.Common.{◌≡◌, ℕ, List, [], ◌∷◌, map, refl, sym, ap, subst, ◌∙◌, Less, Equal}
 use Rattle.std.specs.List.{AllByRecursion, flat_map}
 use Rattle.std.specs.Ordering.{ordering_then}
@@ -64,7 +64,7 @@ listed_are : (rows : List Row) → map listed (map shown rows) ≡ map (λ entry
 listed_are [] = refl
 listed_are (row ∷ rows) = ap (λ ds. listed (shown row) ∷ ds) (listed_are rows)
 
--- the query shows the rows by rising sender
+-- the query shows the rows by ascending sender
 pub shows_ranked : (version : Version) (d : ℕ) (db : Trees) (rows : List Row)
     → AllByRecursion IsDevice (rows_of version (db d)) → RowidsDiffer (rows_of version (db d))
     → IsAnswer (all_query version d) (overlay db []) [] rows → rows ≡ map shown (ranked (rows_of version (db d)))

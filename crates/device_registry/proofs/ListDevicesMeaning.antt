@@ -1,4 +1,4 @@
--- What the texts that list the devices mean.
+-- The meaning of the texts that list the devices.
 use Rattle.std.proofs.Common.{ℕ, List, [], ◌∷◌, codes, None, Some, refl}
 use Rattle.sqlite.specs.Collation.TheVariants.{Binary}
 use Rattle.sqlite.specs.Schema.{Schema}
@@ -34,7 +34,7 @@ unfolding everything
 all_is First = record { read = record { parsed = _; read = refl; is = refl; timeless = refl } }
 all_is Second = record { read = record { parsed = _; read = refl; is = refl; timeless = refl } }
 
--- The rowid has no collation, and a text that is written out has none.
+-- The rowid has no collation, and neither has a literal text.
 pub all_means : (version : Version) (schema : Schema) (at d : ℕ)
     → Stands schema (device_name version) (device_table version d) at
     → Means schema (find_all_text version) (Select (program_of (all_query version d)) (shown_columns version))

@@ -1,4 +1,4 @@
--- What the listing of a database's objects shows.
+-- The rows of the list of a database's objects.
 use Rattle.std.proofs.Common.{◌≡◌, List, [], ◌∷◌, map, codes, true, Ok, sym, ◌∙◌, ap, subst}
 use Rattle.sqlite.specs.Order.{Row}
 use Rattle.sqlite.specs.Command.TheVariants.{Select}
@@ -14,12 +14,12 @@ use Rattle.device_registry.proofs.StatementTexts.{program_of}
 use Rattle.device_registry.proofs.ListObjectsMeaning.{lists, list_query_is, list_means, list_plain}
 use Rattle.device_registry.specs.Table.{list_objects_text}
 
--- the text on the objects reads the listing under any sound database
+-- the text for the objects reads the list under any sound database
 listed : (db : Database) → IsDatabase db → (reads_listing db.schema list_objects_text ≡ true)
     × (understood db.schema list_objects_text ≡ if_select (compiled listing_schema list_objects_text))
 listed db sound = lists db.schema (no_table db.schema db.trees sound) (no_view db.schema db.trees sound)
 
--- what the listing shows of a sound database
+-- what the list shows of a sound database
 pub listing_shows : (old new : State) (rows : List Row) → IsDatabase old.now → Shown list_objects_text [] old new rows
     → (db : Database) × (db.trees 0 ≡ put_all [] (map shown (old.now.trees catalog_tree)))
     × Reads (Select (program_of list_query_is) (codes "name" ∷ codes "type" ∷ codes "sql" ∷ [])) db [] rows
@@ -33,6 +33,6 @@ listing_shows old new rows sound h =
     let source = subst (λ b. IsSourceOf b old.now it.0) means.0 it.1 in
     (it.0, source.1, subst (λ k. Reads k it.0 [] rows) (ap command_of (sym known) ∙ list_means) it.2, it.3)
 
--- the listing is plain under any sound database
+-- the query is plain under any sound database
 pub listing_plain : (db : Database) → IsDatabase db → IsPlain (understood db.schema list_objects_text)
 listing_plain db sound = subst IsPlain (sym (listed db sound).1) list_plain

@@ -1,4 +1,4 @@
--- What the text that lists a database's objects means, where no table or view has the name that it reads.
+-- The meaning of the text that lists a database's objects, if no table or view has the name that it reads.
 use Rattle.std.proofs.Common.{◌≡◌, [], ◌∷◌, codes, true, false, None, Err, refl}
 use Rattle.sqlite.specs.Term.{col}
 use Rattle.sqlite.specs.Schema.{Schema}
@@ -31,7 +31,7 @@ list_is : IsPlainSelect list_objects_text list_select
 unfolding everything
 list_is = record { read = record { parsed = _; read = refl; is = refl; timeless = refl } }
 
--- where no table or view has the name, the text is refused for it
+-- if no table or view has the name, compiling the text fails with `NoSuchTable`
 module _ (schema : Schema) (no_table : table_named schema (codes "sqlite_schema") ≡ None)
     (no_view : view_named schema (codes "sqlite_schema") ≡ None) where
   list_named : named schema (core_of list_select) list_select.order no_page ≡ Err NoSuchTable

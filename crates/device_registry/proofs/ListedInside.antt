@@ -1,4 +1,4 @@
--- The list of the objects, queried inside a transaction of ours.
+-- The list of objects, queried inside a transaction of the registry.
 use Rattle.std.proofs.Common.{◌≡◌, ◌⊎◌, inl, inr, List, [], Ok, Err, Result, IfOk, IfErr, true, sym, subst, ◌∙◌}
 use Rattle.std.proofs.Common.{arith, ℕ}
 use Rattle.sqlite.specs.declared.error.Error.{Error}
@@ -18,7 +18,7 @@ use Rattle.device_registry.proofs.StatementSteps.{not_shown, shown_same}
 use Rattle.device_registry.proofs.TablesRecognized.{ours_told}
 use Rattle.device_registry.proofs.TransactionSteps.{uncommitted_then}
 
--- nothing is committed by it
+-- the query commits nothing
 seen_commit : {V : Type 0} (items : V → List Row) (old new : State) (r : Result V Error) → IsDatabase old.now
     → IfOk r (λ v. Shown list_objects_text [] old new (items v))
     → IfErr r (λ e. FailsToQuery list_objects_text [] old new e ⊎ IsTooLate list_objects_text [] old new e)
@@ -45,7 +45,7 @@ module _ {S : Type 0} (g : Ghosts S) (texts : List (List ℕ)) (a b c : Held S) 
     kept = λ clean. seen_commit items (state g b) (state g c) r (sound (early clean)) (ok clean) (err clean);
   })
 
-  -- and where it has our lines they are listed
+  -- if it shows our lines, the tables are listed
   pub listed_inside : (version : Version) (rows : List Row) → IsUncommitted (state g a) (state g c)
       → (HasCleanDisk (state g c) → Shown list_objects_text [] (state g b) (state g c) rows)
       → are_ours version rows ≡ true → IsListedInside g version texts a c

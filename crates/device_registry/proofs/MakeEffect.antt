@@ -1,4 +1,4 @@
--- From the statements that make the two tables to a registry of no devices.
+-- The statements that create the two tables make a registry without devices.
 use Rattle.std.proofs.Common.{◌≡◌, ℕ, List, [], ◌∷◌, length, ◌≤◌, ◌<◌, false, None, Option, Ok}
 use Rattle.std.proofs.Common.{OnOk, IfErr, true, Result, arith, IsTrue, MatchBool, refl, sym, ap, subst, ◌∙◌}
 use Rattle.std.specs.List.{AllByRecursion}
@@ -46,7 +46,7 @@ use Rattle.sqlite_catalog.proofs.StepLemmas.{table_below}
 use Rattle.sqlite_rules.specs.Lists.{Has}
 use Rattle.sqlite_rules.proofs.ListLemmas.{all_has}
 
--- a table is made, empty, and the tables that were there keep their rows
+-- a table is created, empty, and the other tables keep their rows
 pub creates : (limit : Option ℕ) (mode : Mode) (old after : Database) (text : List ℕ) (tally : Tally) (table : Table)
     → table_defined_by text ≡ Ok table → lacks_sequence (created old.schema table) ≡ false
     → Does limit mode [] old text None CreateTable (Ok (tally, after))
@@ -92,7 +92,7 @@ registers db t one none listed = record {
   is = ap (λ rows. devices_in rows) none;
 }
 
--- the tables are made
+-- the tables are created
 module _ (a b c : State) (i j : ℕ) (clear : IsClear a.now.schema) (sound : IsDatabase a.now)
     (first : ExecutesInside 0 meta_text [] a b (Ok i))
     (second : ExecutesInside 0 (device_text Second) [] b c (Ok j)) where
@@ -136,7 +136,6 @@ module _ (a b c : State) (i j : ℕ) (clear : IsClear a.now.schema) (sound : IsD
         made.2,
       )
 
-  -- each table that was there is there, with its rows
   kept_all : (table : Table) → Has a.now.schema.tables table
       → Has c.now.schema.tables table × (c.now.trees table.tree ≡ a.now.trees table.tree)
   kept_all table has =
@@ -165,7 +164,7 @@ module _ (a b c : State) (i j : ℕ) (clear : IsClear a.now.schema) (sound : IsD
       subst (λ s. StandIn s (next_tree a.now.schema) (next_tree (with_meta a.now.schema))) (sym after.0)
       (record { tables = t.0; meta_is = t.1; devices_is = t.2 })
 
--- each table that was there is there still, with the rows that it had
+-- each earlier table still exists, with the same rows
 abbrev KeepsAll : Database → Database → Type 0
 KeepsAll old new = (table : Table) → Has old.schema.tables table
     → Has new.schema.tables table × (new.trees table.tree ≡ old.trees table.tree)
@@ -212,14 +211,14 @@ makes a b c d i j k clear sound first second third =
 abbrev pub making : List (List ℕ)
 making = meta_text ∷ device_text Second ∷ write_version_text ∷ []
 
--- where the two tables are listed with our texts, it is a registry of no devices
+-- if the two tables are listed with our texts, it is a registry without devices
 abbrev IsMade : Database → Database → Type 0
 IsMade old db = (AreListed Second db.trees → Registers db empty) × IsDatabase db × KeepsAll old db
 
 module _ {S : Type 0} (g : Ghosts S) (old start : Held S) (is : start ≡ record old { in_transaction = true })
     (free : HasCleanDisk (state g old) → IsTrue (is_clear (state g old).now.schema)
     × IsDatabase (state g old).now) where
-  -- what it shows behind the three texts
+  -- what it shows after the three texts
   ran : (mid : Held S) → IsInside g making start mid → HasCleanDisk (state g mid)
       → IsMade (state g old).now (state g mid).now
   ran mid it clean =
@@ -232,7 +231,6 @@ module _ {S : Type 0} (g : Ghosts S) (old start : Held S) (is : start ≡ record
       (makes (state g (record old { in_transaction = true })) (state g first.0) (state g second.0) (state g third.0)
       first.1 second.1 third.1 (cleared (state g old).now.schema was.0) was.1 first.2 second.2 third.2)
 
-  -- it is a database
   pub sound_inside : (mid : Held S) → HasCleanDisk (state g mid) → IsInside g making start mid
       → IsDatabase (state g mid).now
   sound_inside mid clean it = (ran mid it clean).1

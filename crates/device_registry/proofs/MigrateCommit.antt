@@ -25,7 +25,7 @@ use Rattle.device_registry.proofs.TransactionSteps.{since}
 abbrev pub migration : List (List ℕ)
 migration = device_text Second ∷ copy_text ∷ drop_text ∷ renew_text ∷ []
 
--- where the tables are listed with our texts, the database is a registry of those devices
+-- if the tables are listed with our texts, the database is a registry of those devices
 abbrev IsMade : (old : Database) → IsRegistry First old → Database → Type 0
 IsMade old was db =
     (AreListed Second db.trees → Registers db (devices_in (rows_of First (old.trees was.tables.devices))))
@@ -36,7 +36,7 @@ apart_by_name : (name : List ℕ) (tree : ℕ) (table : Table) → KeepsTree nam
     → same_name table.name name ≡ false → table.tree ≢ tree
 apart_by_name name tree table keeps other same = absurd (let e = sym (keeps same) ∙ other in cc)
 
--- what the texts make of a first version
+-- the effect of the texts on a registry of version 1
 module _ {S : Type 0} (g : Ghosts S) (old start mid : Held S) (is : start ≡ record old { in_transaction = true })
     (it : IsInside g migration start mid) (was : IsRegistry First (state g old).now)
     (was_sound : IsDatabase (state g old).now) (clean : HasCleanDisk (state g mid)) where
@@ -67,7 +67,6 @@ module _ {S : Type 0} (g : Ghosts S) (old start : Held S) (is : start ≡ record
       → IsRegistry First (state g old).now × IsDatabase (state g old).now
   before new it clean = first (omega (arith, clean, (since g old start new is it).stop.clean))
 
-  -- it is a database
   pub sound_inside : (mid : Held S) → HasCleanDisk (state g mid) → IsInside g migration start mid
       → IsDatabase (state g mid).now
   sound_inside mid clean it =

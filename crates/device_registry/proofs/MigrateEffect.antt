@@ -1,4 +1,4 @@
--- From the statements of the migration to a registry of the second version with the same devices.
+-- The statements of the migration make a registry of version 2 with the same devices.
 use Rattle.std.proofs.Common.{◌≡◌, ◌≢◌, ◌≤◌, ◌<◌, ◌==◌, not, ℕ, List, [], ◌∷◌, length, None, Ok}
 use Rattle.std.proofs.Common.{refl, sym, ap, subst, ◌∙◌, arith}
 use Rattle.std.specs.List.{AllByRecursion}
@@ -46,7 +46,7 @@ use Rattle.device_registry.proofs.TablesMigrated.{is_kept, apart_trees}
 use Rattle.device_registry.proofs.TablesMigrated.{new_lone, has_added, meta_apart, meta_lone, left_lone, migrated}
 use Rattle.device_registry.proofs.RowWrites.{SparesOthers}
 
--- rows that are put into an empty table in some order, beside the row of the version, are a registry of their devices
+-- rows inserted into an empty table in any order, with the version row, are a registry of their devices
 registers : (db : Database) (t : HasTables Second db.schema) (devices rows : List Row)
     → db.trees t.meta ≡ version_row ∷ [] → db.trees t.devices ≡ put_all [] rows → IsPermutation devices rows
     → AllByRecursion IsDevice devices → RowidsDiffer devices → length devices ≤ max_devices
@@ -90,7 +90,7 @@ module _ (a b c d e : State) (i j k l : ℕ) (registry : IsRegistry First a.now)
   abbrev tree : ℕ
   tree = fresh a.now sound t
 
-  -- ---- the table is made
+  -- ---- the table is created
 
   made : (b.now.schema ≡ schema_b) × (b.now.trees tree ≡ []) × KeepsRows a.now.schema.tables a.now.trees b.now.trees
       × IsDatabase b.now
@@ -178,7 +178,7 @@ module _ (a b c d e : State) (i j k l : ℕ) (registry : IsRegistry First a.now)
   kept_in_d table has =
       all_has (λ (x : Table). d.now.trees x.tree ≡ c.now.trees x.tree) d.now.schema.tables table left.1 has
 
-  -- the tree of the version is as it was all along
+  -- the tree of the version never changed
   version_in_d : d.now.trees t.meta ≡ registry.whole.row ∷ []
   version_in_d =
       let was = has_got a.now.schema.tables t.meta_at (meta_table t.meta) t.meta_stands.there in
@@ -204,7 +204,7 @@ module _ (a b c d e : State) (i j k l : ℕ) (registry : IsRegistry First a.now)
       ran.changed in
       (it.0, it.1, it.2, ran.sound)
 
-  -- so it is a registry of the second version, with the devices of the first, where it is listed so
+  -- therefore it is a registry of version 2 with the devices of version 1, if it is listed
   pub migrates : (AreListed Second e.now.trees → Registers e.now (devices_in (rows_of First (a.now.trees t.devices))))
       × IsDatabase e.now
   migrates =
@@ -219,7 +219,7 @@ module _ (a b c d e : State) (i j k l : ℕ) (registry : IsRegistry First a.now)
         written.3,
       )
 
-  -- and each other table has the rows that it had
+  -- and each other table has the same rows
   pub others_kept : (table : Table) → Has a.now.schema.tables table → table.tree ≢ t.meta → table.tree ≢ t.devices
       → Has e.now.schema.tables table × (e.now.trees table.tree ≡ a.now.trees table.tree)
   others_kept table has not_meta not_first =

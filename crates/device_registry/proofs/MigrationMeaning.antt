@@ -1,4 +1,4 @@
--- What the texts mean that copy the devices of the first version and drop its table.
+-- The meaning of the texts that copy the devices of version 1 and drop its table.
 use Rattle.std.proofs.Common.{◌≡◌, ℕ, List, [], ◌∷◌, codes, false, None, Some, Ok, refl}
 use Rattle.sqlite.specs.declared.types.Value.TheVariants as value
 use Rattle.sqlite.specs.Term.{lit, col}
@@ -25,14 +25,14 @@ use Rattle.device_registry.proofs.WriteMeaning.{insert_means}
 use Rattle.device_registry.specs.Table.{copy_text, drop_text, device_name, device_table}
 use Rattle.device_registry.specs.Stored.{Stands}
 
--- the columns that are filled, and their places in a row
+-- the columns that are filled, and their indexes in a row
 abbrev filled : List (List ℕ)
 filled = codes "id" ∷ codes "eep" ∷ codes "maker" ∷ codes "label" ∷ []
 
 abbrev filled_places : List ℕ
 filled_places = 0 ∷ 2 ∷ 3 ∷ 4 ∷ []
 
--- the devices of the first version, each with the empty label
+-- the devices of version 1, each with the empty label
 abbrev copied : PlainSelect
 copied = plain_select (device_name First) (column_read (codes "id") ∷ column_read (codes "eep")
     ∷ column_read (codes "maker") ∷ One (Text []) None (codes "''") ∷ []) None []
@@ -42,7 +42,7 @@ copy_read : IsRead copy_text
 unfolding everything
 copy_read = record { parsed = _; read = refl; is = refl; timeless = refl }
 
--- what they are as a query, before it is laid out as rows of the second version
+-- the same as a query, before its output is arranged as rows of version 2
 abbrev copy_draft : ℕ → Draft
 copy_draft d = draft_of (device_table First d)
     (plain_query d [] (col 1 0 ∷ col 1 2 ∷ col 1 3 ∷ lit (value.Text []) ∷ []))

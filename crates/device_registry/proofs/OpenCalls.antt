@@ -1,4 +1,4 @@
--- From the clauses of the calls of an open to the registry.
+-- From the postconditions of the calls of an open to the registry.
 use Rattle.std.proofs.Common.{◌≡◌, ◌≢◌, ◌⊎◌, inl, inr, ℕ, Bool, Some, None, Option, Ok, Err, Result, IfOk}
 use Rattle.std.proofs.Common.{MatchOption, IfErr, OnOk, refl, sym, ap, subst, ◌∙◌, arith, IsTrue}
 use Rattle.sqlite.specs.declared.error.Error.{Error}
@@ -38,11 +38,11 @@ use Rattle.device_registry.proofs.SchemaTests.{cleared}
 use Rattle.device_registry.proofs.StatementSteps.{unchanged}
 use Rattle.device_registry.proofs.DevicesHeld.{held_by, held_once}
 
--- the disk was honest before
+-- the disk was clean before
 before : {old new : State} {P : Trees → Type 0} → Survives old new P → HasCleanDisk new → HasCleanDisk old
 before survives clean = omega (arith, clean, survives.clean)
 
--- what was asked of the state between, which is as it was
+-- a property that a query established in an unchanged state also holds of the state before it
 pub taken_if : (version : Version) (r : Result Bool Error) (old mid new : State) → IsUnchanged old mid
     → HasTables version old.now.schema → AreListed version old.now.trees
     → IfOk r (λ yes. IsUnchanged mid new × (IsTrue yes → (t : HasTables version mid.now.schema)
@@ -83,13 +83,13 @@ one_version First Second schema one two = absurd (other_version schema one two)
 one_version Second First schema one two = absurd (other_version schema two one)
 one_version Second Second schema one two = refl
 
--- the trees of two sound databases tell one schema
+-- the trees of two sound databases determine one schema
 one_schema : (trees : Trees) (a b : Database) → a.trees ≡ trees → b.trees ≡ trees → IsDatabase a → IsDatabase b
     → a.schema ≡ b.schema
 one_schema trees a b p q one two = same_schema trees a.schema b.schema (subst (IsSound a.schema) p one)
     (subst (IsSound b.schema) q two)
 
--- ---- a database in which the tables can be made
+-- ---- a database in which the tables can be created
 
 -- a database that is a registry has tables
 not_bare : (version : Version) (trees : Trees) (db : Database) → db.trees ≡ trees → IsDatabase db
@@ -125,9 +125,9 @@ begun_stop {old} {new} rest clear h = survives_weaker old new (λ trees. Holds t
       holds = holds;
     }) h
 
--- ---- what the database was asked for
+-- ---- what the database was queried for
 
--- the state between is as it was, and a registry of this version
+-- the state between is unchanged, and a registry of this version
 abbrev pub Took : Version → State → State → Type 0
 Took version old mid = HasCleanDisk mid → IsAtRest old × IsUnchanged old mid × IsRegistry version old.now
 
@@ -144,9 +144,9 @@ took version {old} {mid} {o} some is rest survives asked clean =
           (λ version. IsRegistry version old.now)) (some ∙ ap (λ v. Some v) is) it.1,
     )
 
--- ---- a registry of the second version
+-- ---- a registry of version 2
 
--- a database that may be taken is a registry
+-- a database that can be accepted is a registry
 shown : (s : State) → IsAtRest s → IsRegistry Second s.now → (devices : Devices) × Shows s devices
 shown s rest it = (
   devices_in (s.now.trees it.tables.devices),
@@ -167,7 +167,7 @@ ready old mid rest same it =
     let was = shown old rest it in
     record { devices = was.0; shows = (unchanged old mid same same.0.is_open).1 was.0 was.1 }
 
--- what was asked between changed nothing
+-- the queries in between changed nothing
 pub same_rows : (old mid new : State) → IsUnchanged old mid → KeepsRows mid new → KeepsRows old new
 same_rows old mid new same kept =
     let db : mid.now ≡ old.now = same.0.now_is in
@@ -215,9 +215,9 @@ taken_stop {old} {mid} {new} asked first second =
     })
     first second
 
--- ---- a registry of the first version
+-- ---- a registry of version 1
 
--- the devices of a registry of the first version
+-- the devices of a registry of version 1
 first_shown : (s : State) → IsAtRest s → IsRegistry First s.now
     → (devices : Devices) × RegistersAs First s.now devices × HoldsAs First s.now.trees devices
 first_shown s rest it =
@@ -228,7 +228,7 @@ first_shown s rest it =
       record { db = s.now; same = refl; sound = rest.sound; registers = registers },
     )
 
--- the state between is as it was
+-- the state between is unchanged
 first_between : (old mid : State) → IsUnchanged old mid → (devices : Devices) → RegistersAs First old.now devices
     → RegistersAs First mid.now devices
 first_between old mid same devices = subst (λ db. RegistersAs First db devices) (sym same.0.now_is)
@@ -253,7 +253,7 @@ module _ {old mid new : State} {P : Trees → Type 0} (asked : Took First old mi
         },
       )
 
-  -- it was no registry that was opened before
+  -- it was not a registry of version 2
   pub migrated_other : {A : Type 0} → HasCleanDisk new → IsHeld old.now.trees → A
   migrated_other clean is_held =
       let it = asked (before survives clean) in
@@ -279,7 +279,7 @@ migrated_stop {old} {mid} {new} asked first second =
     })
     first second
 
--- no version of it is a registry as this program leaves it, and its tables cannot be made
+-- it is a registry of neither version as this program leaves it, and the tables cannot be created
 pub is_other : (s : State) → IsAtRest s → ((version : Version) → ¬ IsOwn version s.now.trees)
     → (IsTrue (is_clear s.now.schema) → ⊥) → IsOther s.now.trees
 is_other s rest none unclear devices (inl (version, holds)) = none version (record {
@@ -292,7 +292,7 @@ is_other s rest none unclear devices (inr (free, is)) = unclear (free_found s re
 
 -- ---- what is opened
 
--- a stop leaves the last commit
+-- a crash leaves the last commit
 abbrev pub LeavesLast : State → Type 0
 LeavesLast s = (trees : Trees) → s.may_leave trees → trees ≡ s.committed.trees
 
@@ -305,7 +305,7 @@ pub registries : (s : State) (devices : Devices) → Shows s devices → LeavesL
 registries s devices shows leaves trees may =
     record { devices = devices; holds = left s devices shows leaves trees may }
 
--- what the connection showed when it was asked, it shows still
+-- after a query the connection still shows the same
 pub rests : (old mid : State) → IsUnchanged old mid → IsAtRest old → IsAtRest mid
 rests old mid same rest = record {
   is_open = same.0.is_open;
@@ -330,7 +330,7 @@ pub another : (old mid : State) → IsUnchanged old mid → IsAtRest old → IsO
     → IsOther old.committed.trees
 another old mid same rest other = subst IsOther (last old mid same rest) other
 
--- while it is open, a stop leaves the last commit
+-- while it is open, a crash leaves the last commit
 abbrev pub Settles : State → Type 0
 Settles s = (trees : Trees) → IsTrue s.is_open → s.may_leave trees → trees ≡ s.committed.trees
 
@@ -347,7 +347,7 @@ opened_if old mid new law (Ok v) was it written =
     }
 opened_if old mid new law (Err e) was it written = tt
 
--- what a stop leaves after a refusal
+-- the crash states after a failure
 pub leaves : (old mid new : State) → (HasCleanDisk mid → IsUnchanged old mid × IsAtRest old) → Survives old mid (λ _. ⊥)
     → Survives mid new (KeepsFound mid.now.trees) → HasCleanDisk new
     → (trees : Trees) → new.may_leave trees → old.may_leave trees
@@ -374,7 +374,7 @@ survives_itself s P = record {
   crash = λ clean trees may. inl may;
 }
 
--- the store did not answer, and nothing was asked of it
+-- the database failed before anything was queried
 pub not_asked : (s : State) (fault : StoreFault) → RefusesToOpen s s (Refused fault)
 not_asked s fault = record {
   survives = survives_itself s (KeepsFound s.committed.trees);
@@ -383,7 +383,7 @@ not_asked s fault = record {
   stop = λ clean trees may. inl may;
 }
 
--- the connection is shut, or does not answer
+-- the connection is closed, or the call fails
 pub refused_first : (old new : State) (fault : OpenFault) → fault ≢ NotARegistry → Survives old new (λ _. ⊥)
     → RefusesToOpen old new fault
 refused_first old new fault other survives = record {
@@ -393,7 +393,7 @@ refused_first old new fault other survives = record {
   stop = λ clean. nothing old new survives clean;
 }
 
--- and what the registry says of a database is what is said of the connection that it was asked of
+-- and what the registry reports about a database holds of the connection before the query
 pub refused_then : {T : Type 0} (r : Result T OpenFault) (old mid new : State)
     → (HasCleanDisk mid → IsUnchanged old mid × IsAtRest old) → Survives old mid (λ _. ⊥)
     → Survives mid new (KeepsFound mid.now.trees)
@@ -422,7 +422,7 @@ refused_then (Err fault) old mid new was first second other same = record {
   stop = λ clean. leaves old mid new was first second clean;
 }
 
--- ---- what a stop left, found again
+-- ---- what a crash left, found again
 
 pub rows_on : {T : Type 0} (r : Result T OpenFault) (old mid new : State) → IsUnchanged old mid → IsAtRest old
     → OnOk r (IsHeld mid.now.trees → KeepsRows mid new) → OnOk r (IsHeld old.committed.trees → KeepsRows old new)
@@ -500,7 +500,7 @@ crashed_files_are_found g stopped opened image numbered registries may found =
 
 -- ---- other tables
 
--- what was asked before changed nothing
+-- earlier queries changed nothing
 others_from : (old mid new : State) → IsUnchanged old mid → KeepsOthers mid.now new.now → KeepsOthers old.now new.now
 others_from old mid new same = subst (λ db. KeepsOthers db new.now) same.0.now_is
 
@@ -509,7 +509,7 @@ pub others_then : {T E : Type 0} (r : Result T E) (old mid new : State) → IsUn
 others_then (Ok v) old mid new same kept = others_from old mid new same kept
 others_then (Err e) old mid new same kept = tt
 
--- a registry that is taken keeps every row
+-- an accepted registry keeps every row
 pub taken_others : {old mid new : State} {P : Trees → Type 0} → Took Second old mid → Survives mid new P
     → (HasCleanDisk new → IsReady mid → KeepsRows mid new) → HasCleanDisk new → KeepsOthers old.now new.now
 taken_others {old} {mid} {new} asked survives kept clean =

@@ -1,4 +1,4 @@
--- An open does to a registry what the text does that writes its version row as it stands, and nothing else.
+-- On a registry, an open has exactly the effect of the text that rewrites its version row unchanged.
 use Rattle.std.proofs.Common.{◌≡◌, Bool, ℕ, List, [], inl, inr, Ok, Err, Result, OnOk, Option, sym, ap, subst, subst₂}
 use Rattle.std.proofs.Common.{◌∙◌, if◌then◌else◌, unwrap_or, false, arith}
 use Rattle.std.proofs.lemmas.Bool.{cases_Bool}
@@ -31,7 +31,7 @@ use Rattle.device_registry.proofs.VersionMeaning.{renew_means}
 use Rattle.device_registry.proofs.VersionWrites.{changes_one}
 
 module _ (old mid new : State) (same : IsUnchanged old mid) (limit : mid.step_limit ≡ old.step_limit) where
-  -- of a state a write sees only what stayed
+  -- a write depends only on the unchanged parts of a state
   writes_from : (returning : Option Returning) (command : Command) (text : List ℕ) (params : Row) (count : ℕ)
       → Writes mid new returning command text params count → Writes old new returning command text params count
   writes_from returning command text params count w =
@@ -56,7 +56,7 @@ module _ (old mid new : State) (same : IsUnchanged old mid) (limit : mid.step_li
         last_rowid = w.last_rowid ∙ ap (unwrap_or w.tally.last) same.1.last_rowid;
       }
 
-  -- so an UPDATE that was executed on the one was executed on the other
+  -- so an UPDATE that was executed on one state was also executed on the other
   updates_from : (sql : List ℕ) (params : Row) (at : ℕ) (program : Program) (count : ℕ)
       → command_of (understood old.now.schema sql) ≡ Update at program
       → Executes sql params mid new (Ok count) → Executes sql params old new (Ok count)
@@ -86,7 +86,7 @@ module _ (old mid new : State) (same : IsUnchanged old mid) (limit : mid.step_li
         ],
       )
 
--- what was asked before the text changed nothing
+-- the queries before the text changed nothing
 renewed_between : (old mid new : State) → HasTables Second old.now.schema → IsUnchanged old mid
     → Survives old mid (λ _. ⊥)
     → IsRenewed mid new → IsRenewed old new
@@ -106,7 +106,7 @@ renewed_by {old} {mid} {new} count asked first second runs clean is_held =
     renewed_between old mid new it.2.tables it.1 first
     (subst (λ n. Executes renew_text [] mid new (Ok n)) one (runs clean))
 
--- of a registry, too
+-- the same for a registry
 pub written_by : (old mid new : State) (count : ℕ) (devices : Devices) → Shows old devices → IsUnchanged old mid
     → Survives old mid (λ _. ⊥) → IsReady mid → Executes renew_text [] mid new (Ok count) → IsRenewed old new
 written_by old mid new count devices shows same survives ready runs =

@@ -1,4 +1,4 @@
--- What the statement that puts a device in makes of the database.
+-- The effect of the statement that upserts a device.
 use Rattle.std.proofs.Common.{◌≡◌, ◌≢◌, inl, inr, ℕ, ℤ, pos, Bool, true, false, not, List, [], ◌∷◌, Some, None}
 use Rattle.std.proofs.Common.{Option, Ok, refl, sym, ap, subst, ◌∙◌, ◌&&◌, ◌||◌, slice_get}
 use Rattle.std.specs.List.{AllByRecursion}
@@ -39,7 +39,7 @@ use Rattle.device_registry.proofs.DistinctRows.{HasNewRowid, untaken}
 use Rattle.device_registry.proofs.RowWrites.{cast_int, cast_none, cast_label, went, same_value, SparesOthers, spares}
 use Rattle.device_registry.proofs.RowWrites.{spares_as, spares_then}
 
--- the row is put, in place of the one with its rowid, and nothing else changes
+-- the row is upserted, and nothing else changes
 pub record IsPut (schema : Schema) (devices id : ℕ) (it : Learned) (before after : Trees) : Type 0 where
   pub device : IsDevice (stored id it)
   pub gone : List ℤ

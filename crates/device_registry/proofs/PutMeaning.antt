@@ -1,4 +1,4 @@
--- What the text that puts a device in means.
+-- The meaning of the text that upserts a device.
 use Rattle.std.proofs.Common.{ℕ, [], ◌∷◌, codes, refl}
 use Rattle.sqlite.specs.Schema.{Schema}
 use Rattle.sqlite.specs.Source.TheVariants as source

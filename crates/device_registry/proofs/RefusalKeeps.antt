@@ -1,4 +1,4 @@
--- What a connection shows after a refusal.
+-- The state of a connection after a failure.
 use Rattle.std.proofs.Common.{◌≡◌, inl, inr, ℕ, List, [], false, Ok, Err, Result, IsTrue, IfErr, OnErr, sym, subst, ◌∙◌}
 use Rattle.sqlite.specs.Order.{Row}
 use Rattle.sqlite.specs.declared.error.Error.{Error}
@@ -14,7 +14,7 @@ use Rattle.device_registry.proofs.StatementSteps.{IsSpared, not_run, not_execute
 pub unchanged_remains : (old new : State) → IsUnchanged old new → Remains old new
 unchanged_remains old new same is_open rest = (rests old new same rest, same.0.now_is)
 
--- it goes back to what was committed, which is what it showed
+-- it returns to what was committed, which is what it showed
 pub back_at : (old new : State) → IsTrue new.is_open → new.in_transaction ≡ false → new.now ≡ old.now
     → new.committed ≡ old.committed → IsAtRest old → IsAtRest new × (new.now ≡ old.now)
 back_at old new is_open idle same last rest = (
@@ -40,18 +40,18 @@ spared_open : (old new : State) → IsSpared old new → IsTrue new.is_open → 
 spared_open old new (inl same) is_open = same.0.was_open
 spared_open old new (inr back) is_open = back.was_open is_open
 
--- what was asked before changed nothing
+-- earlier queries changed nothing
 pub remains_after : (old mid new : State) → IsUnchanged old mid → Remains mid new → Remains old new
 remains_after old mid new same remains is_open rest =
     let it = remains is_open (rests old mid same rest) in (it.0, it.1 ∙ same.0.now_is)
 
--- ---- in an answer
+-- ---- in a result
 
 pub err_told : {T E P : Type 0} (r : Result T E) → P → OnErr r P
 err_told (Ok v) p = tt
 err_told (Err e) p = p
 
--- what an open connection is known to be before it is asked
+-- facts about an open connection before a call
 pub not_run_kept : (sql : List ℕ) (params : Row) (old new : State) (e : Error) → (IsTrue old.is_open → IsAtRest old)
     → IsNotRun old new sql params e → IsTrue new.is_open → IsAtRest new × (new.now ≡ old.now)
 not_run_kept sql params old new e rest h is_open =

@@ -1,4 +1,4 @@
--- From what the statements do to what the calls of the registry promise.
+-- From the effects of the statements to the postconditions of the registry's calls.
 use Rattle.std.specs.Result.{IsErr}
 use Rattle.std.specs.Prelude.{Vec}
 use Rattle.std.specs.declared.alloc.Global.{Global}
@@ -27,7 +27,7 @@ use Rattle.device_registry.specs.Table.Rows.{listed}
 use Rattle.device_registry.proofs.DevicesHeld.{held_once, registers_once, room_for_known}
 use Rattle.device_registry.proofs.StatementSteps.{ready_on}
 
--- what a registry knows of its connection between two calls: its invariant
+-- the invariant of a registry, about its connection between two calls
 abbrev pub IsWell : State → Type 0
 IsWell s = (HasCleanDisk s → AreRegistries s.may_leave) × StaysReady s
 
@@ -52,7 +52,7 @@ module _ (old new : State) (stays : Stays old new) (well : IsWell old) where
     stop = λ left (trees, may, holds). (trees, stays.stop clean trees may, holds);
   }
 
-  -- the devices that the call was asked of
+  -- the devices that the registry had before the call
   pub had : HasCleanDisk new → IsReady new → (devices : Devices) → HasDevices old devices → Shows old devices
   had clean now devices has =
       let early = stays.clean clean in
@@ -78,7 +78,7 @@ pub kept_pends : (old new : State) (change : Change) (devices : Devices) → Kee
     → Pends (kept old) (kept new) change devices
 kept_pends old new change devices keeps = record { now = keeps.now; stop = λ left may. inl (keeps.stop left may) }
 
--- the call was asked of a ready registry, which is ready
+-- the registry was ready before the call, and is ready after it
 pub ready_both : (old new : State) → Stays old new → IsWell old → HasCleanDisk new → IsReady new
     → IsReady old × IsReady new
 ready_both old new stays well clean ready =
@@ -89,7 +89,7 @@ pub ready_if : {T E : Type 0} (r : Result T E) (old new : State) → Stays old n
 ready_if (Ok v) old new stays well clean ready = ready_both old new stays well clean ready
 ready_if (Err e) old new stays well clean ready = tt
 
--- ---- a change was tried
+-- ---- a change was attempted
 
 module _ {T E : Type 0} (old mid new : State) (change : Change) (result : Result T E) (stays : Stays old mid)
     (well : IsWell old) (turns : Turns mid new change result) where
@@ -101,7 +101,7 @@ module _ {T E : Type 0} (old mid new : State) (change : Change) (result : Result
         record { devices = changed it.devices change; holds = written.1 it.devices it.shows }
   ]
 
-  -- and refused
+  -- and failed
   pub refused_well : (HasCleanDisk new → GoesOn mid new) → IsWell new
   refused_well goes_on = (
     tried_registries,
@@ -133,7 +133,7 @@ module _ {T E : Type 0} (old mid new : State) (change : Change) (result : Result
     record { devices = changed was.devices change; shows = made was.devices was.shows },
   )
 
-  -- or made
+  -- or was made
   made_shows : ((devices : Devices) → Shows mid devices → Shows new (changed devices change)) → HasCleanDisk new
       → IsReady mid → (devices : Devices) → HasDevices old devices → Shows new (changed devices change)
   made_shows made clean was devices has =
@@ -163,7 +163,7 @@ module _ {T E : Type 0} (old mid new : State) (change : Change) (result : Result
             (record { db = new.now; same = same; sound = shows.sound; registers = shows.registers });
       }
 
--- ---- the arms of an answer
+-- ---- the cases of a result
 
 on_both : {T E : Type 0} (P : T → Type 0) (Q : Type 0) (r : Result T E) → IfOk r P → Q
     → MatchResult r (λ x. P x × Q) (λ _. Q)
@@ -180,7 +180,7 @@ pub told_all : {E : Type 0} (r : Result (Vec Device Global) E) (rows shown : Lis
 told_all (Ok all) rows shown devices read same told = read ∙ ap (map listed) same ∙ told
 told_all (Err e) rows shown devices read same told = tt
 
--- ---- what the calls promise
+-- ---- the postconditions of the calls
 
 by_case : {A B : Type 0} (is : Bool) → A → B → MatchBool is A B
 by_case true a b = a
@@ -207,7 +207,7 @@ module _ (old new : State) (stays : Stays old new) (well : IsWell old) where
         (told clean devices has) (keeps old new stays well clean devices has);
   }
 
-  -- the store did not answer before the write
+  -- the database failed before the write
   pub adds_not : {E : Type 0} (it : Device) (r : Result Bool E) → IsErr r → Adds (kept old) (kept new) it r
   adds_not it (Ok room) is = absurd (cc)
   adds_not it (Err error) is = record {
@@ -289,14 +289,14 @@ module _ {T F : Type 0} (old mid new : State) (result : Result T F) (stays : Sta
         (was (turns.clean clean)) last devices has;
   }
 
--- ---- what is put in place of what was known
+-- ---- what is upserted
 
--- a change that makes this of its sender puts it in
+-- a change whose result is this device of its sender upserts it
 pub becomes : (devices : Devices) (change : Change) (it : Learned)
     → after (get devices change.sender) change.deed ≡ Some it → changed devices change ≡ insert devices change.sender it
 becomes devices change it makes = ap (entered devices change.sender) makes
 
--- so it does where the registry shows the devices that it was asked of
+-- the same if the registry shows the devices that it had before the call
 pub puts_it : (old mid : State) → Stays old mid → IsWell old → (change : Change) (it : Learned)
     → (HasCleanDisk old → (devices : Devices) → HasDevices old devices
     → after (get devices change.sender) change.deed ≡ Some it)
@@ -308,7 +308,7 @@ puts_it old mid stays well change it makes clean devices shows =
 
 -- ---- a label
 
--- there is room for a known sender
+-- the registry is not full for a known sender
 pub room_if_known : (s : State) (id : ℕ) (label : List ℕ) (it : Learned)
     → (HasCleanDisk s → (devices : Devices) → HasDevices s devices → after (get devices id) (Relabel label) ≡ Some it)
     → HasCleanDisk s → (devices : Devices) → Shows s devices → is_full devices id ≡ false
@@ -333,7 +333,7 @@ stays_itself s = record {
 
 -- ---- a look-up first
 
--- it has the profile and the maker that it had
+-- the profile and the maker are unchanged
 labels_apart : (was it : Device) (label : List ℕ)
     → known_of it ≡ record { eep = was.eep; maker = was.maker; label = label }
     → known_of was ≡ record { eep = it.eep; maker = it.maker; label = was.label }
@@ -361,7 +361,7 @@ pends_then a b c change devices first second = record {
 }
 
 module _ (old mid : State) (id : ℕ) where
-  -- which was not answered
+  -- the look-up failed
   pub learns_unlooked : {A : Type 0} (it : Device) (fault : StoreFault) → LooksUp (kept old) (kept mid) id (Err fault)
       → Learns {A = A} (kept old) (kept mid) it (Err (Refused fault))
   learns_unlooked it fault looks = record {
@@ -386,7 +386,7 @@ module _ (old mid : State) (id : ℕ) where
   unknown None e = refl
   unknown (Some it) e = absurd (let none = e in cc)
 
-  -- nothing is known of the sender
+  -- the sender is unknown
   pub relabels_unknown : (label : List ℕ) → LooksUp {E = StoreFault} (kept old) (kept mid) id (Ok None)
       → Relabels {E = StoreFault} (kept old) (kept mid) id label (Ok false)
   relabels_unknown label looks = record {
@@ -396,7 +396,7 @@ module _ (old mid : State) (id : ℕ) where
         (unknown (get devices id) it.0, it.1);
   }
 
-  -- the label of a device is that of what is known
+  -- the label of a device is that of the stored data
   label_in_device : (id : ℕ) (known : Option Learned)
       → kept_label (option_map known_of (option_map (device id) known)) ≡ kept_label known
   label_in_device id None = refl
@@ -423,7 +423,7 @@ module _ (old mid : State) (id : ℕ) where
         by_full true then = keeps_then old mid new devices keeps then
         by_full false then = pends_then old mid new (learned it) devices keeps then
 
-    -- what was told of the sender is so of whatever the registry holds now
+    -- the answer about the sender holds of whatever the registry holds now
     module _ (ready : HasCleanDisk mid → IsReady old × IsReady mid) where
       told_now : HasCleanDisk mid → (devices : Devices) → HasDevices mid devices → known ≡ device_of devices id
       told_now clean devices has =
@@ -457,7 +457,7 @@ module _ (old mid : State) (id : ℕ) where
           ∙ ap (λ (l : Learned). Some (record { eep = l.eep; maker = l.maker; label = it.label }))
           (labels_apart was it label is)
 
-    -- a row written over the same devices
+    -- the row of a device is written over the same devices
     pub written_after : {C : Type 0} (state : C → State) (last : C) (change : Change) {T E : Type 0} (r : Result T E)
         → (HasCleanDisk mid → (devices : Devices) → HasDevices mid devices → OnOk r
         (WritesRow state last change devices))
@@ -505,7 +505,7 @@ module _ (old mid : State) (id : ℕ) where
           );
     }
 
--- the label of a device says nothing of how it is learned
+-- the label of a device makes no difference when it is learned
 pub learns_alike : {A : Type 0} (old new : State) (it other : Device) (r : Result A LearnFault) → other.id ≡ it.id
     → other.eep ≡ it.eep → other.maker ≡ it.maker → Learns (kept old) (kept new) other r
     → Learns (kept old) (kept new) it r
@@ -529,7 +529,7 @@ learns_alike old new it other r id eep maker learns =
     unlabelled (Err Full) devices done = done
     unlabelled (Err (Refused fault)) devices done = done
 
--- the connection is handed on
+-- the connection is returned
 pub hands_on : (s : State) → IsWell s → HandsOn s
 hands_on s well = record {
   idle = λ clean is_open. (well.1 clean is_open).shows.idle;
@@ -543,9 +543,9 @@ hands_on s well = record {
       };
 }
 
--- ---- whatever registry there is
+-- ---- any registry
 
--- where the connection is shut, any devices do
+-- if the connection is closed, any devices will do
 some_by : (s : State) (is_open : Bool) → s.is_open ≡ is_open → HasCleanDisk s → StaysReady s
     → (devices : Devices) × HasDevices s devices
 some_by s true is clean ready = let it = ready clean is in (it.devices, λ _ _. it.shows.registers)

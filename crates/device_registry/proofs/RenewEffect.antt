@@ -1,4 +1,4 @@
--- What the statement that writes the second version makes of the database.
+-- The effect of the statement that writes version 2.
 use Rattle.std.proofs.Common.{true, false, drop, ◌≡◌, ℕ, pos, not, List, [], ◌∷◌, map, Some, None, Option}
 use Rattle.std.proofs.Common.{Ok, refl, ap, subst, ◌∙◌, slice_get, is_eq, cond, length}
 use Rattle.std.specs.List.{flat_map}
@@ -57,7 +57,7 @@ taken_out : (row : Row) → column row 0 ≡ Int (pos 1) → without_rowid (pos 
 taken_out row key = ap (λ v. cond (not (is_eq (value_cmp v (Int (pos 1))))) (row ∷ []) []) key
     ∙ ap (λ o. cond (not (is_eq o)) (row ∷ []) []) (value_cmp-Int (pos 1) (pos 1))
 
--- the one row is replaced by that of the second version
+-- the only row is replaced by that of version 2
 pub replaced : (m : ℕ) (db : Trees) (row : Row) (key : column row 0 ≡ Int (pos 1)) → db m ≡ row ∷ []
     → edited db (edit_of db (meta_table m) (ids_of (written row ∷ [])) Given 1 (written row ∷ [])) ≡ version_row ∷ []
 replaced m db row key one = rw (key, cast_version m, one, taken_out row key) refl
@@ -72,7 +72,7 @@ null_is (Real x) h = absurd cc
 null_is (Text t) h = absurd cc
 null_is (Blob b) h = absurd cc
 
--- the row of the second version is what the statement writes
+-- the row of version 2 is what the statement writes
 pub version_is : (m : ℕ) (row : Row) (it : IsVersion Second row) → are_typed (meta_table m).key 0 (meta_table m).columns
     (drop 1 row) ≡ true → row ≡ version_row
 version_is m [] it h = absurd (let e : ◌≡◌ {A = Value} Null (Int (pos 1)) = it.key in cc)

@@ -1,4 +1,4 @@
--- What holds of every statement that writes rows.
+-- Facts about every statement that writes rows.
 use Rattle.std.proofs.Common.{◌≡◌, ◌≢◌, ◌⊎◌, inl, inr, ℕ, ℤ, Bool, true, false, not, cond, List}
 use Rattle.std.proofs.Common.{Some, Ok, Err, Result, refl, sym, subst, ◌∙◌, slice_get}
 use Rattle.sqlite.specs.declared.types.Value.{Value}
@@ -17,7 +17,7 @@ use Rattle.sqlite_rules.specs.Edit.{Edit, Applies, IsNoIndex}
 use Rattle.sqlite_catalog.proofs.LayoutLemmas.{ascending_filter}
 use Rattle.device_registry.proofs.TablesAlone.{at_place}
 
--- the other tables' rows are as they were, and so is the list of the objects
+-- the rows of the other tables are unchanged, and so is the list of objects
 pub record SparesOthers (schema : Schema) (tree : ℕ) (before after : Trees) : Type 0 where
   pub tables : (i : ℕ) (t : Table) → slice_get schema.tables i ≡ Some t → t.tree ≢ tree → after t.tree ≡ before t.tree
   pub objects : tree ≢ catalog_tree → IsNoIndex schema catalog_tree → after catalog_tree ≡ before catalog_tree
@@ -30,12 +30,12 @@ spares schema keys db next edit step = record {
   objects = λ other none. step.others catalog_tree (λ e. other (sym e)) none;
 }
 
--- so it is of what a step left in which nothing else was done
+-- the same for the result of a step after which nothing else was done
 pub spares_as : (schema : Schema) (tree : ℕ) (db mid next : Trees) → next ≡ mid → SparesOthers schema tree db mid
     → SparesOthers schema tree db next
 spares_as schema tree db mid next same = subst (SparesOthers schema tree db) (sym same)
 
--- and of two steps
+-- and for two steps
 pub spares_then : (schema : Schema) (tree : ℕ) (db mid next : Trees) → SparesOthers schema tree db mid
     → SparesOthers schema tree mid next → SparesOthers schema tree db next
 spares_then schema tree db mid next one two = record {

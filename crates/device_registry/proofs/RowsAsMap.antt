@@ -1,4 +1,4 @@
--- What an edit of the rows does to the devices.
+-- The effect of a change of the rows on the devices.
 use Rattle.std.proofs.Common.{◌/◌, ◌%◌, ◌+◌, ◌*◌, ap₂, ◌≡◌, ◌≢◌, ◌<◌, ◌⊎◌, inl, inr, ℕ, ℤ, pos}
 use Rattle.std.proofs.Common.{Bool, true, false, not, cond, List, [], ◌∷◌, map, Some, None, Option, refl, sym, ap, ◌∙◌}
 use Rattle.std.proofs.Common.{arith, is_eq, Ordering, Less, Equal, Greater, nat_cmp}
@@ -62,7 +62,7 @@ apart a b h = grind (arith, nat_tests)
 abbrev pub seen : ℕ → List Row → Option Learned
 seen q rows = find nat_cmp q (map entry_of rows)
 
--- a look-up in which two tests are never both true
+-- a look-up with two tests that are never both true
 swapped : {A : Type 0} (a b : Bool) (x y z : A) → (a ≡ true → b ≡ true → ⊥)
     → cond a x (cond b y z) ≡ cond b y (cond a x z)
 swapped true true x y z apart = absurd (apart refl refl)
@@ -110,7 +110,7 @@ seen_put (row ∷ rows) id it short q all =
           placed Greater (rw all.0.id_is (ids_above all.0.id id above)) ∙ seen_stored id it short (row ∷ rows) q
     ]
 
--- a row that is put in stands before the others in a look-up
+-- a look-up finds an inserted row before the others
 pub seen_row : (rows : List Row) (new : Row) (it : IsDevice new) (q : ℕ) → AllByRecursion IsDevice rows
     → seen q (put_row new rows) ≡ cond (eq_by_cmp nat_cmp q (entry_of new).0) (Some (entry_of new).1) (seen q rows)
 seen_row [] new it q all = refl
@@ -146,7 +146,7 @@ put_are_devices (row ∷ rows) new it all =
       | Greater ↦ (it, (all.0, all.1))
     ]
 
--- the rows that are taken out have this rowid
+-- the deleted rows have this rowid
 pub seen_without : (rows : List Row) (id : ℕ) (q : ℕ) → AllByRecursion IsDevice rows
     → seen q (without_rowid (pos id) rows) ≡ cond (eq_by_cmp nat_cmp q id) None (seen q rows)
 seen_without [] id q all = elim (eq_by_cmp nat_cmp q id) as (λ b. ◌≡◌ {A = Option Learned} None (cond b None None))
@@ -208,7 +208,7 @@ seen_without_all rows (i ∷ ids) id it q all same =
     ∙ ap (cond (eq_by_cmp nat_cmp q id) (Some it)) (seen_without rows id q all)
     ∙ hidden (eq_by_cmp nat_cmp q id) (Some it) (seen q rows)
 
--- the row that is replaced is taken out first
+-- the replaced row is deleted first
 pub devices_replaced : (rows : List Row) (ids : List ℤ) (id : ℕ) (it : Learned) → IsShort it.eep
     → AllByRecursion IsDevice rows → AllByRecursion (λ i. i ≡ pos id) ids
     → devices_in (put_row (stored id it) (without_all rows ids)) ≡ insert (devices_in rows) id it

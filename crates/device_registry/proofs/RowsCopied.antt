@@ -1,4 +1,4 @@
--- Rows that are copied into an empty table, in whatever order, are the same devices.
+-- Rows that are copied into an empty table, in any order, are the same devices.
 use Rattle.std.proofs.Common.{◌≡◌, ◌≢◌, ℕ, Bool, true, false, cond, Some, List, [], ◌∷◌, ◌++◌}
 use Rattle.std.proofs.Common.{refl, sym, ap, subst, ◌∙◌}
 use Rattle.std.proofs.Common.{append-nil, arith, nat_cmp}
@@ -21,7 +21,7 @@ use Rattle.device_registry.proofs.RowsAsMap.{seen, key_is}
 use Rattle.device_registry.proofs.SenderTests.{two}
 use Rattle.device_registry.proofs.DistinctRows.{HasNewRowid, put_permutes, apart_turned}
 
--- ---- rows that are put one after another
+-- ---- rows that are inserted one after another
 
 -- no row of the first has the rowid of one of the second
 abbrev HaveNewRowids : List Row → List Row → Type 0
@@ -41,7 +41,7 @@ puts_permute (new ∷ rows) there news all once free =
     (IsPermutation-trans _ _ _ (IsPermutation-append_right rows _ _ (put_permutes new news.0 there all free.0))
     (puts_permute rows put news.1 more once.1 still))
 
--- in a table that was empty they are the rows in their order
+-- in an initially empty table they are the rows in their order
 pub copied : (rows : List Row) → AllByRecursion IsDevice rows → RowidsDiffer rows
     → IsPermutation rows (put_all [] rows)
 copied rows news once = subst (λ rs. IsPermutation rs (put_all [] rows)) (append-nil rows)
@@ -62,7 +62,7 @@ crossed false b x y z apart = refl
 never_both : (q a b : ℕ) → a ≢ b → eq_by_cmp nat_cmp q a ≡ true → eq_by_cmp nat_cmp q b ≡ true → ⊥
 never_both q a b h s t = grind (arith, nat_tests)
 
--- they are seen alike
+-- look-ups find the same in both
 abbrev SeenAlike : List Row → List Row → Type 0
 SeenAlike xs ys = IsPermutation xs ys × (AllByRecursion IsDevice xs → RowidsDiffer xs → (q : ℕ) → seen q xs ≡ seen q ys)
 

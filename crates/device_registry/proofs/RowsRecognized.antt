@@ -1,4 +1,4 @@
--- What the two queries show that read a whole table.
+-- The output of the two queries that read a whole table.
 use Rattle.sqlite.specs.declared.error.Error.{Error}
 use Rattle.std.proofs.Common.{◌≡◌, ◌≢◌, ◌+◌, nat_le, ℕ, ℤ, true, ◌≤ℤ◌, negsuc, Less, Result, Ok, Err, IfOk}
 use Rattle.std.proofs.Common.{◌≤◌, pos, List, [], ◌∷◌, map, length, refl, sym, ap, subst, ◌∙◌, arith, codes}
@@ -47,7 +47,7 @@ all_counted version d db rows a =
     ap length a.shown ∙ length-map a.ordered (λ (o : Output). o.1) ∙ length_permutation a.kept a.ordered a.same
     ∙ ap length kept ∙ length-map (rows_of version (db d)) out
 
--- the table has one row, which has the number that is shown
+-- the table has exactly one row, with the number that is shown
 record IsOne (table : List Row) (shown : Row) : Type 0 where
   row : Row
   are : table ≡ row ∷ []
@@ -80,7 +80,7 @@ version_shown d db rows it a =
     ∙ ap (map (output (version_query d))) (subst (λ rs. a.staged ≡ envs rs) (overlay_is db d) a.grouped) in
     versioned d (db d) it.row a.ordered (sym it.are ∙ a.shown) (subst (λ k. IsPermutation k a.ordered) kept a.same)
 
--- what the query of the version shows
+-- the output of the query for the version
 version_reads : {version : Version} (old new : State) (rows : List Row) (t : HasTables version old.now.schema)
     → Shown read_version_text [] old new rows → IsAnswer (version_query t.meta) (overlay old.now.trees []) [] rows
 version_reads old new rows t h =
@@ -89,7 +89,7 @@ version_reads old new rows t h =
     (Select (program_of (version_query t.meta)) (codes "k" ∷ codes "version" ∷ [])) means.is means.plain means.unlisted
     rows h).answer Null
 
--- ---- rows that rise
+-- ---- ascending rows
 
 at_most : (a b : ℕ) → nat_le a b ≡ true → a ≤ b
 at_most a b h = grind (arith, nat_tests, h)
@@ -105,7 +105,7 @@ numbered last (Real x) h = absurd cc
 numbered last (Text t) h = absurd cc
 numbered last (Blob b) h = absurd cc
 
--- a maker's number, or that of none
+-- a manufacturer ID, or the number of none
 abbrev IsMaker : ℤ → Type 0
 IsMaker n = (negsuc 0 ≤ℤ n) × (n ≤ℤ pos max_maker)
 
@@ -165,11 +165,11 @@ device_shows row it =
     let label = ap is_label_text it.label_is ∙ it.is_label in
     rw (id, eep, maker, label) refl
 
--- the sender of the row is this one or one above
+-- the sender of the row is this one or a greater one
 abbrev AtLeast : ℕ → Row → Type 0
 AtLeast least row = least ≤ natural (column row 0)
 
--- rows that rise are devices, and no two have one number
+-- ascending rows are devices, and no two have the same rowid
 rising : (least : ℕ) (rows : List Row) → devices_rise least (map shown rows) ≡ true
     → AllByRecursion IsDevice rows × AllByRecursion (AtLeast least) rows × RowidsDiffer rows
 rising least [] h = (tt, tt, tt)
@@ -187,7 +187,7 @@ rising least (row ∷ rows) h =
       ),
     )
 
--- the table's rows are devices, none twice, where those that are shown rise
+-- if the shown rows are ascending, the table's rows are devices, none twice
 rows_are : (version : Version) (d : ℕ) (db : Trees) (rows : List Row)
     → IsAnswer (all_query version d) (overlay db []) [] rows → devices_rise 0 rows ≡ true
     → AllByRecursion IsDevice (rows_of version (db d)) × RowidsDiffer (rows_of version (db d))
@@ -202,7 +202,7 @@ rows_are version d db rows a h =
     let back = IsPermutation-sym table to.0 to.1 in
     (all-permutation IsDevice to.0 table back it.0, apart_turned to.0 table back it.2)
 
--- the rows of devices, none twice, are shown to rise
+-- the rows of devices, none twice, are shown in ascending order
 shown_rise : (least : ℕ) (rows : List Row) → AllByRecursion IsDevice rows → IsTable rows
     → AllByRecursion (AtLeast least) rows → devices_rise least (map shown rows) ≡ true
 shown_rise least [] all up high = refl
@@ -223,7 +223,7 @@ from_zero [] = tt
 from_zero (row ∷ rows) = (omega arith, from_zero rows)
 
 module _ (version : Version) where
-  -- what the query of all devices shows
+  -- the output of the query for all devices
   devices_read : (old mid new : State) (devices : List Row) (t : HasTables version old.now.schema) → IsUnchanged old mid
       → Shown (find_all_text version) [] mid new devices
       → IsAnswer (all_query version t.devices) (overlay old.now.trees []) [] devices
@@ -236,7 +236,7 @@ module _ (version : Version) where
       subst (λ (d : Database). IsAnswer (all_query version t.devices) (overlay d.trees []) [] devices) same.0.now_is
       (read.answer Null)
 
-  -- the query of all devices shows as many rows as there are
+  -- the query for all devices shows as many rows as there are
   pub devices_told : (old mid new : State) (devices : List Row) (t : HasTables version old.now.schema)
       → IsUnchanged old mid → Shown (find_all_text version) [] mid new devices
       → length devices ≡ length (rows_of version (old.now.trees t.devices))
@@ -265,7 +265,7 @@ module _ (version : Version) where
         few = omega (arith, few, count);
       }
 
-  -- a registry's devices are shown to rise
+  -- a registry's devices are shown in ascending order
   pub rise_told : (old mid new : State) (devices : List Row) (t : HasTables version old.now.schema)
       → IsWhole version old.now.trees t.meta t.devices → IsUnchanged old mid
       → Shown (find_all_text version) [] mid new devices → devices_rise 0 devices ≡ true

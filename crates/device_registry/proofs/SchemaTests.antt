@@ -1,4 +1,4 @@
--- What the tests of a schema tell.
+-- The tests of a schema, and what they imply.
 use Rattle.std.proofs.Common.{inl, inr, suc, ◌≡◌, ◌≢◌, ℕ, ◌+◌, ◌==◌, List, [], ◌∷◌, Bool, true, false, not}
 use Rattle.std.proofs.Common.{◌&&◌, ◌||◌, Some, None, Option, if◌then◌else◌, subst, refl, sym, ap, ◌∙◌, arith, IsTrue}
 use Rattle.std.proofs.Common.{is_some, is_none, slice_get, option_map, option_and_then, codes}
@@ -47,7 +47,7 @@ unreferred schema name all =
     any_none (refers name) schema.tables (all_weaker (SparesName name) (λ t. refers name t ≡ false)
     (λ t none. any_none (λ reference. same_name reference.parent name) t.references none) schema.tables all)
 
--- what is so of either version is so of whichever
+-- what holds for both versions holds for any version
 pub by_version : (P : Version → Type 0) → P First → P Second → (version : Version) → P version
 by_version P first second First = first
 by_version P first second Second = second
@@ -87,7 +87,7 @@ not_indexed schema tree all =
     any_none (λ index. index.table == tree) schema.indexes (all_weaker (λ index. index.table ≢ tree)
     (λ index. (index.table == tree) ≡ false) (λ index other. grind (arith, nat_tests, other)) schema.indexes all)
 
--- what is found at a place is there, and passes
+-- what is found at an index is there, and passes the test
 record IsFoundAt {X : Type 0} (test : X → Bool) (i at : ℕ) (xs : List X) : Type 0 where
   k : ℕ
   at_is : at ≡ i + k
@@ -127,7 +127,7 @@ none_is : (o : Option ℕ) → not (is_some o) ≡ is_none o
 none_is None = refl
 none_is (Some x) = refl
 
--- the kit's word is the same as ours
+-- the definition of `sqlite` is the same as ours
 counted : (schema : Schema) → lacks_sequence schema ≡ lacks_counts schema
 counted schema =
     ap (λ b. list_any (λ t. t.is_counted) schema.tables && not b)
@@ -248,7 +248,7 @@ named_at schema name tree (Some at) named h = got (slice_get schema.tables at) r
     got None is h = absurd (let e = h in cc)
     got (Some table) is h = record { at = at; table = table; named = named; there = is; is = (let e = h in cc) }
 
--- where the two tables of a version are found
+-- the indexes at which the two tables of a version are found
 pub record IsPlaced (version : Version) (schema : Schema) (meta devices : ℕ) : Type 0 where
   pub meta_is : IsNamed schema meta_name meta
   pub devices_are : IsNamed schema (device_name version) devices
@@ -291,7 +291,7 @@ module _ (version : Version) (schema : Schema) where
     pub found : trees_in version schema ≡ Some (meta, devices) → IsPlaced version schema meta devices
     found h = first (tree_named schema meta_name) refl h
 
-  -- and where a registry has them
+  -- and at which a registry has them
   pub placed_tables : (t : HasTables version schema) → trees_in version schema ≡ Some (t.meta, t.devices)
   placed_tables t =
       let meta : tree_named schema meta_name ≡ Some t.meta = rw (t.meta_stands.named, t.meta_stands.there) in

@@ -1,4 +1,4 @@
--- What a plain SELECT from one table means, wherever the table stands in the schema.
+-- The meaning of a plain SELECT from one table, at any index of the schema.
 use Rattle.std.proofs.Common.{◌≡◌, ℕ, pos, negsuc, not, ◌==◌, List, [], ◌∷◌, length, map, true}
 use Rattle.std.proofs.Common.{false, Option, None, Ok, refl, ◌∙◌}
 use Rattle.sqlite.specs.declared.types.Value.TheVariants.{Int}
@@ -38,7 +38,7 @@ use Rattle.device_registry.proofs.StatementTexts.{program_of}
 use Rattle.device_registry.proofs.TextMeaning.{IsRead, Means, means, IsTyped, program_is}
 use Rattle.device_registry.specs.Stored.{Stands}
 
--- the columns of one table that are shown of each row where the test holds, in this order
+-- the columns of one table, in this order, that are shown of each row for which the test holds
 pub record PlainSelect : Type 0 where
   pub name : List ℕ
   pub columns : List Column
@@ -48,7 +48,7 @@ pub record PlainSelect : Type 0 where
 abbrev pub plain_select : List ℕ → List Column → Option Expr → List Sort → PlainSelect
 plain_select name columns test order = record { name = name; columns = columns; test = test; order = order }
 
--- as it is written: with no WITH, no further part, no page, no GROUP BY, HAVING or DISTINCT
+-- as it is written: without WITH, further parts, a page, GROUP BY, HAVING or DISTINCT
 abbrev from_of : PlainSelect → List Source
 from_of it = roll-Source (record { is_left = false; origin = Named it.name; alias = None; on = None; using = [] }) ∷ []
 
@@ -75,7 +75,7 @@ pub record IsPlainSelect (text : List ℕ) (it : PlainSelect) : Type 0 where
 abbrev pub no_page : Term × Term
 no_page = (lit (Int (negsuc 0)), lit (Int (pos 0)))
 
--- it is read as its one part is
+-- it is read like its only part
 module _ (schema : Schema) (it : PlainSelect) (part : Shown)
     (known : named schema (core_of it) it.order no_page ≡ Ok part) where
   level_as : (sub : Schema → Select → Building Shown) → level sub schema (select_of it) [] ≡ Ok (part, [])
@@ -86,7 +86,7 @@ module _ (schema : Schema) (it : PlainSelect) (part : Shown)
   unfolding query query_to
   query_as = level_as (query_to 15)
 
--- what its clauses become over its table, which stands at this place in the first slot
+-- the meaning of its clauses over its table, which is at this index, in the first slot
 module _ (schema : Schema) (at : ℕ) (table : Table) (it : PlainSelect) where
   abbrev level_of : List Output → Level
   level_of shown = record { tables = record { name = it.name; table = at; slot = 1; shared = [] } ∷ []; shown = shown }
@@ -114,19 +114,19 @@ module _ (schema : Schema) (at : ℕ) (table : Table) (it : PlainSelect) where
       (λ d. Ok (d, map (λ o. o.name) r.0.body.level.shown, map (λ o. o.carried.collation) r.0.body.level.shown)))
 
 module _ (it : PlainSelect) {schema : Schema} {at : ℕ} {table : Table} (stands : Stands schema it.name table at) where
-  -- its part is what its clauses become
+  -- its part is the meaning of its clauses
   named_is : named schema (core_of it) it.order no_page ≡ asked schema at table it
   unfolding named parts body bounds bound table_in take_slot result matching joins join shared inner_join tests keys
       having
   named_is = rw (out-roll-Core, out-roll-Source, stands.named, out-roll-Source, stands.there)
 
-  -- and so it is read
+  -- and the query is read accordingly
   pub query_is : (part : Shown) → asked schema at table it ≡ Ok part → query schema (select_of it) ≡ Ok (part, [])
   query_is part asks = query_as schema it part (named_is ∙ asks)
 
 module _ {text : List ℕ} {it : PlainSelect} (is : IsPlainSelect text it) {schema : Schema} {at : ℕ} {table : Table}
     (stands : Stands schema it.name table at) where
-  -- the text means the query that it asks
+  -- the text means this query
   pub select_means : (d : Draft) {names : List (List ℕ)} (collations : List (Option Collation))
       → asked schema at table it ≡ Ok (d, names, collations) → IsTyped table (query_of d)
       → Means schema text (Reads (program_of (query_of d)) names)

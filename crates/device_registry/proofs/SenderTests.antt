@@ -1,4 +1,4 @@
--- What SQL's tests say of the sender of a row.
+-- The results of SQL's tests of the sender of a row.
 use Rattle.std.proofs.Common.{nat_le, ◌^◌, ◌≡◌, ◌≢◌, ◌⊎◌, inl, inr, ◌<◌, ℕ, ℤ, pos, Bool, true, false, cond}
 use Rattle.std.proofs.Common.{List, [], ◌∷◌, ◌++◌, map, length, Some, None, Option, refl, sym, ap, ◌∙◌, arith}
 use Rattle.std.proofs.Common.{is_eq, Less, nat_cmp, int_cmp, ◌&&◌}
@@ -69,7 +69,7 @@ above a b x y h =
     let e : int_cmp (pos x.id) (pos y.id) ≡ Less =
     sym (value_cmp-Int (pos x.id) (pos y.id)) ∙ rw (x.id_is, y.id_is) at h in grind (arith, ints, nat_tests)
 
--- rows whose rowids differ are of two senders
+-- rows with different rowids are of different senders
 pub two : (a b : Row) (x : IsDevice a) (y : IsDevice b) → rowid a ≢ rowid b → x.id ≢ y.id
 two a b x y other same = other (x.id_is ∙ ap (λ n. Int (pos n)) same ∙ sym y.id_is)
 
@@ -80,7 +80,7 @@ none_other id row x (r ∷ rows) e all far =
     let other = two row r x all.0 far.0 in
     rw (passes_other id r all.0 (λ same. other (e ∙ sym same))) (none_other id row x rows e all.1 far.1)
 
--- the one row of the sender, or none
+-- the only row of the sender, or none
 abbrev pub FindsOne : ℕ → List Row → Type 0
 FindsOne id rows = ((seen id rows ≡ None) × (hits id rows ≡ []))
     ⊎ ((r : Row) × (seen id rows ≡ Some (entry_of r).1) × (hits id rows ≡ (asked id ∷ r ∷ []) ∷ [])
@@ -144,12 +144,12 @@ entries_are (row ∷ rows) all once =
     ∙ ap (put nat_cmp (entry_of row).0 (entry_of row).1) (entries_are rows all.1 once.1)
     ∙ put_first row all.0 rows all.1 once.0
 
--- there are as many as rows
+-- there are as many entries as rows
 pub risen_len : (rows : List Row) → AllByRecursion IsDevice rows → IsTable rows → len (devices_in rows) ≡ length rows
 risen_len rows all once =
     len-entries (devices_in rows) ∙ ap length (entries_are rows all once) ∙ length-map rows entry_of
 
--- ---- what a query with no WITH reads
+-- ---- what a query without WITH reads
 
 pub overlay_is : (db : Trees) (t : ℕ) → overlay db [] t ≡ db t
 overlay_is db t = elim (nat_le (2 ^ 31) t) as (λ b. unwrap_or (cond {A = Option (List Row)} b None None) (db t) ≡ db t)

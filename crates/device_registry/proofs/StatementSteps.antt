@@ -1,4 +1,4 @@
--- From what the store says of a statement to what it does to the registry.
+-- From what the database reports about a statement to its effect on the registry.
 use Rattle.std.proofs.Common.{◌≡◌, ◌⊎◌, inl, inr, ℕ, List, [], append-nil, OnOk, false, None, Ok, Err, Result}
 use Rattle.std.proofs.Common.{IsTrue, IfOk, IfErr, sym, ap, subst, subst₂, ◌∙◌, arith}
 use Rattle.std.proofs.lemmas.Bool.{cases_Bool}
@@ -28,7 +28,7 @@ module _ (sql : List ℕ) (params : Row) (old : State) (command : Command)
       let may = rw (bare.0, bare.1, append-nil params) at h.2 in
       subst₂ (λ k t. MayCommit old None k t params db) (ap command_of known ∙ is) (ap (statement_of sql) known) may
 
--- ---- where nothing is written
+-- ---- nothing is written
 
 pub unchanged : (old new : State) → IsUnchanged old new → GoesOn old new
 unchanged old new same is_open = (
@@ -57,9 +57,9 @@ undone old new back is_open = (
       },
 )
 
--- ---- a refusal
+-- ---- a failure
 
--- it changes nothing, or goes back to what was committed
+-- it changes nothing, or returns to what was committed
 abbrev pub IsSpared : State → State → Type 0
 IsSpared old new = IsUnchanged old new ⊎ IsRolledBack old new
 
@@ -119,7 +119,7 @@ pub ready_on : (old new : State) → GoesOn old new → IsTrue new.is_open → I
 ready_on old new goes_on is_open ready =
     record { devices = ready.devices; shows = (goes_on is_open).1 ready.devices ready.shows }
 
--- a query that was asked of a ready registry
+-- a query of a ready registry
 query_stays : {V : Type 0} (sql : List ℕ) (params : Row) (old new : State) (items : V → List Row) (r : Result V Error)
     → (HasCleanDisk old → IsPlain (understood old.now.schema sql))
     → Survives old new (CommitsShowing sql params old)
@@ -147,7 +147,7 @@ pub ok_then : {T E : Type 0} (A B : T → Type 0) (r : Result T E) → ((v : T) 
 ok_then A B (Ok v) so it = so v it
 ok_then A B (Err e) so it = tt
 
--- a query by a statement that was compiled from a plain text
+-- a query with a statement that was compiled from a plain text
 pub compiled_query_stays : {V : Type 0} (sql text : List ℕ) (params : Row) (old mid new : State) (items : V → List Row)
     (r : Result V Error) → Stays old mid → (HasCleanDisk mid → text ≡ sql)
     → (HasCleanDisk mid → IsPlain (understood mid.now.schema sql)) → Survives mid new (CommitsShowing text params mid)
@@ -158,7 +158,7 @@ compiled_query_stays sql text params old mid new items r first is plain survives
     subst (λ t. IsPlain (understood mid.now.schema t)) (sym (is clean)) (plain clean) in
     stays_then old mid new first (query_stays text params mid new items r known survives shown failed)
 
--- it leaves what a stop could leave before, and it answers of what was there
+-- it leaves what a crash could leave before, and its answer is about the state before
 pub query_survives : (sql text : List ℕ) (params : Row) (old mid new : State) → Survives old mid (λ _. ⊥)
     → (HasCleanDisk mid → text ≡ sql) → (HasCleanDisk mid → IsPlain (understood mid.now.schema sql))
     → Survives mid new (CommitsShowing text params mid) → Survives old new (λ _. ⊥)
@@ -177,14 +177,14 @@ answered_same sql text params old mid new items (Ok v) first is plain shown =
     (subst (λ t. Shown t params mid new (items v)) is shown))
 answered_same sql text params old mid new items (Err e) first is plain shown = tt
 
--- and that answered
+-- and a query that was answered
 pub query_ready : (sql : List ℕ) (params : Row) (old new : State) (rows : List Row)
     → IsPlain (understood old.now.schema sql) → IsReady old → Shown sql params old new rows → IsReady new
 query_ready sql params old new rows plain ready h =
     let same = shown_same sql params old new plain rows h in
     ready_on old new (unchanged old new same) same.0.is_open ready
 
--- a text that is compiled, which writes nothing
+-- compiling a text, which writes nothing
 module _ {V : Type 0} (P : V → Type 0) (sql : List ℕ) (old new : State) where
   compiled_goes : (r : Result V Error) → IfOk r (λ v. P v × IsUnchanged old new)
       → IfErr r (λ e. (params : Row) → IsNotRun old new sql params e) → GoesOn old new
@@ -204,7 +204,7 @@ module _ {V : Type 0} (P : V → Type 0) (sql : List ℕ) (old new : State) wher
   compiled_same (Ok v) ok = ok.1
   compiled_same (Err e) ok = tt
 
-  -- and it tells that the registry is open
+  -- and which implies that the registry is open
   pub compiled_ready : (r : Result V Error) → IfOk r (λ v. P v × IsUnchanged old new)
       → (IsTrue old.is_open → IsReady old) → OnOk r (IsReady new)
   compiled_ready (Ok v) ok ready = ready_on old new (unchanged old new ok.1) ok.1.0.is_open (ready ok.1.0.was_open)

@@ -1,4 +1,4 @@
--- What the registry's statements are.
+-- The registry's statements as syntax trees.
 use Rattle.std.proofs.Common.{ℕ, pos, negsuc, List, [], ◌∷◌, codes, false, Option, None, Some}
 use Rattle.sqlite.specs.declared.types.Value.TheVariants.{Null, Int, Text}
 use Rattle.sqlite.specs.Term.{Term, lit, col, op2}
@@ -43,7 +43,7 @@ column_read name = One (expr.Column None name) None name
 abbrev pub by_column : List ℕ → Sort
 by_column name = roll-Sort (record { key = expr.Column None name; descending = false; nulls_first = None })
 
--- the rowid against the first parameter, as it is written
+-- the rowid compared with the first parameter, as it is written
 abbrev pub id_test : Compared → Option Expr
 id_test op = Some (expr.Binary op (expr.Column None (codes "id")) (expr.Parameter 1))
 
@@ -75,7 +75,7 @@ forget_query d = plain_query d (is_sender ∷ []) (col 1 0 ∷ [])
 abbrev pub renew_query : ℕ → Query
 renew_query d = plain_query d [] (col 1 0 ∷ col 1 0 ∷ lit Null ∷ lit (Int (pos 2)) ∷ [])
 
--- the label of a device: that of the first version is the empty one
+-- the label of a device; in version 1 it is the empty one
 abbrev pub label_term : Version → Term
 label_term First = lit (Text [])
 label_term Second = col 1 4
@@ -84,7 +84,7 @@ abbrev pub all_query : Version → ℕ → Query
 all_query version d = record (plain_query d [] (col 1 0 ∷ col 1 2 ∷ col 1 3 ∷ label_term version ∷ []))
     { order = (col 1 0, record { collation = Binary; descending = false }) ∷ [] }
 
--- the rows of the first version, each with its rowid, as rows of the second
+-- the rows of version 1, each with its rowid, as rows of version 2
 abbrev pub copy_query : ℕ → Query
 copy_query d = record (plain_query d [] (col 1 0 ∷ lit Null ∷ col 1 2 ∷ col 1 3 ∷ lit (Text []) ∷ []))
     { collations = Binary ∷ Binary ∷ Binary ∷ Binary ∷ Binary ∷ [] }

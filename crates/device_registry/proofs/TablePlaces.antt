@@ -1,4 +1,4 @@
--- Where a table stands among the others of a schema.
+-- The index of a table among the others of a schema.
 use Rattle.std.proofs.Common.{◌≡◌, ℕ, ◌+◌, List, [], ◌∷◌, ◌++◌, length, Bool, true, false, Some, refl, ap}
 use Rattle.std.proofs.Common.{◌∙◌, slice_get, nat_le, ◌^◌, ◌==◌, arith, option_map}
 use Rattle.std.specs.List.{AllByRecursion, position_from, find}

@@ -1,4 +1,4 @@
--- What the transaction that makes the two tables leaves, whatever other tables there are.
+-- The result of the transaction that creates the two tables, whatever other tables there are.
 use Rattle.std.proofs.Common.{◌≡◌, ◌≢◌, ◌<◌, inl, inr, ℕ, ◌+◌, ◌^◌, ◌==◌, nat_le, Bool}
 use Rattle.std.proofs.Common.{List, [], ◌∷◌, ◌++◌, length}
 use Rattle.std.proofs.Common.{true, false, not, ◌&&◌, ◌||◌, Some, None, Option, arith, refl, sym, ap, subst, ◌∙◌}
@@ -88,7 +88,7 @@ got_before [] ys at x h = absurd (let e = h in cc)
 got_before (y ∷ xs) ys zero x h = h
 got_before (y ∷ xs) ys (suc at) x h = got_before xs ys at x h
 
--- nothing has the name, by its lists
+-- no list of the schema has the name
 pub unnamed : (schema : Schema) (name : List ℕ) → table_named schema name ≡ None → index_named schema name ≡ None
     → view_named schema name ≡ None → is_used schema name ≡ false
 unnamed schema name table index view =
@@ -96,7 +96,7 @@ unnamed schema name table index view =
     ∙ ap (λ (o : Option ℕ). is_some o || is_some (view_named schema name)) index
     ∙ ap (λ (o : Option ℕ). is_some o) view
 
--- a name that is free stays so when a table of ours with another is made
+-- a free name stays free when a table of ours with another name is created
 pub still_free : (schema : Schema) (own name : List ℕ) (columns : List Column) (checks : List Term)
     → same_name own name ≡ false → is_used schema name ≡ false
     → is_used (created schema (keyed_table own 0 columns checks)) name ≡ false
@@ -112,7 +112,7 @@ still_free schema own name columns checks apart free =
     (sym (append-nil schema.indexes)) none.1 in
     unnamed after name table index none.2
 
--- the name of the table of the devices is free once that of the version is made
+-- the name of the device table is free after the version table is created
 pub half_free : (schema : Schema) → IsClear schema → (version : Version)
     → is_used (with_meta schema) (device_name version) ≡ false
 unfolding same_name
@@ -139,7 +139,7 @@ sequenced : (schema : Schema) (table : Table) (o : Option ℕ) → table_named s
 sequenced schema table None named h = absurd (let e = h in cc)
 sequenced schema table (Some at) named h = sequence_kept schema table at (slice_get schema.tables at) named refl h
 
--- a table that counts no rowids needs no table of the counts
+-- a table that counts no rowids does not need the table of the counts
 pub still_counted : (schema : Schema) (table : Table) → table.is_counted ≡ false → lacks_sequence schema ≡ false
     → lacks_sequence (created schema table) ≡ false
 still_counted schema table plain lacks =
@@ -161,7 +161,7 @@ still_counted schema table plain lacks =
     decided true true h is =
         ap (λ b. true && not b) (sequenced schema table (table_named schema (codes "sqlite_sequence")) refl is)
 
--- a table that refers to nothing spares ours
+-- a table without foreign keys does not refer to ours
 pub spares_all : {name : List ℕ} {tree : ℕ} {columns : List Column} {checks : List Term}
     → SparesOurs (keyed_table name tree columns checks)
 spares_all = record { meta = tt; devices = λ version. tt }

@@ -1,4 +1,4 @@
--- That the registry's tables stand alone: a write of one sets off nothing, and no index is on it.
+-- The registry's tables are independent: a write of one triggers nothing, and no index is on it.
 use Rattle.std.proofs.Common.{slice_get, zero, suc, ◌≡◌, ◌≢◌, inl, inr, ℕ, Bool, true, false, List, [], ◌∷◌, length}
 use Rattle.std.proofs.Common.{Option, None, Some, option_map, option_and_then, refl, sym, subst, ◌∙◌, ◌==◌, ◌&&◌, arith}
 use Rattle.std.proofs.lemmas.Bool.Decides.{nat_tests}
@@ -80,7 +80,7 @@ module _ (schema : Schema) (keys : Keys) (tree : ℕ) (name : List ℕ)
   none_in [] spares = refl
   none_in (child ∷ tables) spares = rw (none_of child child.references spares.0) (none_in tables spares.1)
 
-  -- a step on the table sets off no action
+  -- a step on the table triggers no action
   pub sets_off_nothing : AllByRecursion (SparesName name) schema.tables → works schema keys 0 tree olds news ≡ []
   sets_off_nothing spares = none_in schema.tables spares
 

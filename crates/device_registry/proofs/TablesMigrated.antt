@@ -1,4 +1,4 @@
--- The tables while the second version is made of the first: the new one is added, and then the old one is dropped.
+-- The tables during a migration: the new one is added, and then the old one is dropped.
 use Rattle.std.proofs.Common.{◌≡◌, ◌≢◌, ◌<◌, inl, inr, ℕ, ◌+◌, ◌==◌}
 use Rattle.std.proofs.Common.{List, [], ◌∷◌, ◌++◌, Bool, true, false, not}
 use Rattle.std.proofs.Common.{Some, filter, refl, sym, ap, subst, ◌∙◌, arith, slice_get, suc}
@@ -47,7 +47,7 @@ has_last : {X : Type 0} (xs : List X) (x : X) → Has (xs ++ x ∷ []) x
 has_last [] x = inl refl
 has_last (y ∷ xs) x = inr (has_last xs x)
 
--- one that passes is placed
+-- an element that passes has an index
 record IsPlacedAt {X : Type 0} (test : X → Bool) (xs : List X) (i : ℕ) : Type 0 where
   at : ℕ
   it : X
@@ -76,7 +76,7 @@ place test (y ∷ xs) x (inr later) passes i = elim (cases_Bool (test y)) [
 
 -- ---- a table among others
 
--- the table has its name, nothing else lies in its tree, nothing refers to it, and no index is on it
+-- the table has its name, nothing else is in its tree, nothing refers to it, and no index is on it
 pub record IsLone (schema : Schema) (name : List ℕ) (table : Table) : Type 0 where
   pub listed : Has schema.tables table
   pub named : same_name table.name name ≡ true
@@ -88,7 +88,7 @@ pub lone_alone : (schema : Schema) (name : List ℕ) (table : Table) → IsLone 
     → StandsAlone schema table.tree
 lone_alone schema name table it = stands_alone schema name table.tree it.keeps it.spares it.unindexed
 
--- in a sound database it stands at some place
+-- in a sound database it has an index
 pub lone_stands : (db : Database) → IsDatabase db → (name : List ℕ) (table : Table) → IsLone db.schema name table
     → (at : ℕ) × Stands db.schema name table at
 lone_stands db sound name table it =
@@ -142,7 +142,7 @@ module _ (db : Database) (sound : IsDatabase db) (t : HasTables First db.schema)
   first_below : t.devices < fresh
   first_below = table_below schema (device_table First t.devices) first_has
 
-  -- what holds of all tables and of the new one
+  -- what holds for all tables and for the new one
   with_new : (P : Table → Type 0) → AllByRecursion P schema.tables → P new → AllByRecursion P added.tables
   with_new P all own = all-append P schema.tables (new ∷ []) all (own, tt)
 
@@ -244,7 +244,7 @@ module _ (db : Database) (sound : IsDatabase db) (t : HasTables First db.schema)
     unindexed = kept_indexes (λ index. index.table ≢ fresh) new_lone.unindexed;
   }
 
-  -- the name of the old one is free then
+  -- the name of the old one is then free
   pub first_free : (mid : Database) → IsDatabase mid → mid.schema ≡ added → is_used dropped (device_name First) ≡ false
   first_free mid mid_sound is =
       let lone = subst (λ s. IsLone s (device_name First) (device_table First t.devices)) (sym is) first_lone in
@@ -272,7 +272,7 @@ module _ (db : Database) (sound : IsDatabase db) (t : HasTables First db.schema)
       (kept_indexes (λ i. same_name i.name (device_name First) ≡ false) indexes))
       (none_at (λ w. same_name w.name (device_name First)) 0 dropped.views views)
 
-  -- and so the tables are those of the second version
+  -- so the tables are those of version 2
   pub migrated : (mid last : Database) → IsDatabase mid → mid.schema ≡ added → IsDatabase last → last.schema ≡ dropped
       → (t2 : HasTables Second last.schema) × (t2.meta ≡ t.meta) × (t2.devices ≡ fresh)
   migrated mid last mid_sound mid_is last_sound is =

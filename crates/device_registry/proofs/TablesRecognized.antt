@@ -55,7 +55,7 @@ use Rattle.device_registry.proofs.ListObjectsAnswer.{listing_shows}
 use Rattle.device_registry.proofs.SchemaTests.{IsNamed, IsPlaced, found, has_name, is_cleared}
 use Rattle.device_registry.proofs.TestSteps.{both}
 
--- ---- what a line tells
+-- ---- what a line implies
 
 text_is : (v : Value) (text : List ℕ) → has_text v text ≡ true → v ≡ Text text
 text_is (Text t) text h = ap Text ((bytes_eq-Decides t text).0 h)
@@ -80,7 +80,7 @@ any_output : (test : Row → Bool) (rows : List Row) → list_any (λ (o : Outpu
 any_output test [] = refl
 any_output test (r ∷ rows) = ap (λ b. test (line r) || b) (any_output test rows)
 
--- the listing passes a test where the list of the objects does
+-- the output passes a test if the list of objects does
 answered : (test : Row → Bool) (db : Trees) (rows : List Row) → IsAnswer list_query_is (overlay db []) [] rows
     → list_any test rows ≡ list_any (λ r. test (line r)) (db 0)
 answered test db rows it =
@@ -102,7 +102,7 @@ here trees name text h =
       sql = text_is (column hit.0 5) text passes.1;
     }
 
--- the query of the objects passes a test where the list of the objects does
+-- the query for the objects passes a test if the list of objects does
 lists_as : (old new : State) (rows : List Row) → IsDatabase old.now → Shown list_objects_text [] old new rows
     → (test : Row → Bool) → list_any test rows ≡ list_any (λ r. test (line r)) (listing old.now.trees)
 lists_as old new rows sound shows test =
@@ -115,7 +115,7 @@ told : (old new : State) (rows : List Row) → IsDatabase old.now → Shown list
 told old new rows sound shows name text h =
     here old.now.trees name text (sym (lists_as old new rows sound shows (is_line name text)) ∙ h)
 
--- and the query shows what is listed
+-- what is listed is shown by the query
 shows_line : (old new : State) (rows : List Row) → IsDatabase old.now → Shown list_objects_text [] old new rows
     → (name text : List ℕ) → IsListedAs old.now.trees name text → list_any (is_line name text) rows ≡ true
 shows_line old new rows sound shows name text it =
@@ -154,7 +154,7 @@ defined_as row t text made it lists is =
     let same : it.defined.0 ≡ made = cc in
     it.defined.2 ∙ ap (λ (m : Table). record m { tree = t.tree }) same
 
--- ---- the objects have names of their own
+-- ---- the objects have different names
 
 abbrev name_in : Row → List ℕ
 name_in row = bytes (column row 2)
@@ -162,7 +162,7 @@ name_in row = bytes (column row 2)
 untrue : false ≡ true → ⊥
 untrue e = cc
 
--- the row of a table is that of no view and of no index
+-- the row of a table is not that of a view or an index
 no_view_row : (row : Row) → is_table_row row ≡ true → column row 1 ≡ Text (codes "table") → is_view_row row ≡ true → ⊥
 no_view_row row table kind view =
     let own : is_foreign_row row ≡ false = not-true _ (both _ _ table).1 in
@@ -181,7 +181,7 @@ not_both : (b : Bool) → b ≡ true → b ≡ false → ⊥
 not_both true h k = absurd cc
 not_both false h k = absurd cc
 
--- no row has the name of one of the heads before it
+-- no row has the name of an earlier head
 NewIn : List Head → List Row → Type 0
 NewIn earlier = AllByRecursion (λ row. list_any (λ e. sound.same_name (bytes e.1) (name_in row)) earlier ≡ false)
 
@@ -213,7 +213,7 @@ names_apart earlier (row ∷ rows) h =
       (all_weaker _ (λ r. sound.same_name (name_in row) (name_in r) ≡ false) (λ r both. both.1) rows split, more.1),
     )
 
--- no two rows have one name
+-- no two rows have the same name
 AreApart : List Row → Type 0
 AreApart = IsAscending (λ a b. sound.same_name (name_in a) (name_in b) ≡ false)
 
@@ -278,7 +278,7 @@ module _ (db : Database) (sound : IsDatabase db) where
         subst (λ t. t < 65536) n.is row.2.described.low,
       )
 
-  -- ---- what has the name of a table is that table
+  -- ---- the object with the name of a table is that table
 
   module _ (table : Table) (has : Has db.schema.tables table) (name : List ℕ)
       (named : same_name table.name name ≡ true) where
@@ -288,7 +288,7 @@ module _ (db : Database) (sound : IsDatabase db) where
         let kept = has_filtered is_table_row objects it.0 it.1 in
         (it.0, kept.0, kept.1, it.2)
 
-    -- no other object has it
+    -- no other object has the name
     one_object : (row : Row) (other : List ℕ) → Has objects row → column row 2 ≡ Text other
         → same_name other name ≡ true → row ≡ table_row.0
     one_object row other there is same =
@@ -393,18 +393,18 @@ tables_told version db meta devices sound placed listed =
       counted = placed.alone.counted;
     }
 
--- where the two tables are found and listed, the schema has them
+-- if the two tables are found and listed, the schema has them
 pub tables_taken : (version : Version) (s : State) (meta devices : ℕ) → IsAtRest s
     → trees_in version s.now.schema ≡ Some (meta, devices) → AreListed version s.now.trees
     → HasTables version s.now.schema
 tables_taken version s meta devices rest is listed =
     tables_told version s.now meta devices rest.sound (found version s.now.schema meta devices is) listed
 
--- the trees of a sound database tell its schema
+-- the trees of a sound database determine its schema
 pub same_schema : (db : Trees) (s t : Schema) → IsSound s db → IsSound t db → s ≡ t
 same_schema db s t a b = lists_once (db catalog_tree) s t a.lists b.lists
 
--- so a registry as this program leaves it is found so
+-- so a registry as this program leaves it is recognized
 pub own_found : (version : Version) (s : State) → IsAtRest s → IsOwn version s.now.trees → IsRegistry version s.now
 own_found version s rest own =
     let schema : own.db.schema ≡ s.now.schema = same_schema s.now.trees own.db.schema s.now.schema
@@ -412,7 +412,7 @@ own_found version s rest own =
     let db : own.db ≡ s.now = λ i. record { schema = schema i; trees = own.same i } in
     subst (IsRegistry version) db own.registry
 
--- and a database in which the tables can be made
+-- and so is a database in which the tables can be created
 pub free_found : (s : State) → IsAtRest s → IsFree s.now.trees → IsTrue (is_clear s.now.schema)
 free_found s rest free =
     let same : free.db.schema ≡ s.now.schema = same_schema s.now.trees free.db.schema s.now.schema

@@ -1,4 +1,4 @@
--- What a test of two parts says of each.
+-- A test of two parts, and what it implies for each part.
 use Rattle.std.proofs.Common.{◌≡◌, ◌&&◌, Bool, true, false, refl}
 
 pub both : (a b : Bool) → (a && b) ≡ true → (a ≡ true) × (b ≡ true)

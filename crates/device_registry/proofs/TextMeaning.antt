@@ -1,4 +1,4 @@
--- What it is for a text to mean a command.
+-- A text that means a command.
 use Rattle.std.proofs.Common.{◌≡◌, ℕ, ◌&&◌, List, [], ◌∷◌, true, false, None, Some, Ok, refl}
 use Rattle.std.proofs.Common.{ap, ◌∙◌, option_map, option_and_then}
 use Rattle.sqlite.specs.Schema.{Schema}
@@ -19,20 +19,20 @@ use Rattle.sqlite.proofs.Callers.{IsPlain, command_of}
 use Rattle.device_registry.proofs.StatementTexts.{program_of}
 use Rattle.device_registry.specs.Stored.{Stands}
 
--- the text is this statement, which reads no time
+-- the text is this statement, which does not read the time
 pub record IsRead (text : List ℕ) (statement : Statement) : Type 0 where
   pub parsed : Parsed
   pub read : first text ≡ Ok parsed
   pub is : parsed.statement ≡ statement
   pub timeless : parsed.formats ≡ []
 
--- what the text means under the schema: a statement of one command, with no RETURNING and no time
+-- the meaning of the text under the schema: a statement of one command, without RETURNING and time
 pub record Means (schema : Schema) (text : List ℕ) (c : Command) : Type 0 where
   pub is : command_of (understood schema text) ≡ c
   pub plain : IsPlain (understood schema text)
   pub unlisted : reads_listing schema text ≡ false
 
--- a text means the command that its statement is
+-- a text means the command of its statement
 module _ (schema : Schema) {text : List ℕ} {s : Statement} (c : Command) (it : IsRead text s)
     (untimed : timed schema [] s ≡ [])
     (unshown : (base : ℕ) → returning schema base s ≡ Ok None) (is : (base : ℕ) → command schema [] base s ≡ Ok c) where
@@ -51,7 +51,7 @@ module _ (schema : Schema) {text : List ℕ} {s : Statement} (c : Command) (it :
 abbrev pub draft_of : Table → Query → Draft
 draft_of table q = record (simple (Inner table.tree ∷ []) q.filter q.project) { order = q.order }
 
--- the query reads this table alone, and its terms have types there
+-- the query reads only this table, and its terms have types there
 pub record IsTyped (table : Table) (q : Query) : Type 0 where
   pub from : q.from ≡ inner table.tree end
   pub accepted : (accepts_after [] q (Some (row_classes table ∷ [])) && (is_count [] q.limit && is_count [] q.offset))
@@ -66,7 +66,7 @@ module _ {schema : Schema} {name : List ℕ} {table : Table} {at : ℕ} (stands 
       counts) stands.classes
       ∙ typed.accepted
 
-  -- so it is a program, where the table stands
+  -- therefore it is a program if the table exists
   pub program_is : (d : Draft) → IsTyped table (query_of d) → program schema [] d ≡ Ok (program_of (query_of d))
   unfolding program
   program_is d typed = rw (accepted_over (query_of d) typed)

@@ -1,4 +1,4 @@
--- What the commit of a transaction of ours leaves.
+-- The result of the commit of a transaction of the registry.
 use Rattle.std.proofs.Common.{◌≡◌, ℕ, List, [], Ok, Err, Result, OnOk, IfErr, OnErr, IsTrue, false, true, refl, sym}
 use Rattle.std.proofs.Common.{subst, ◌∙◌, arith}
 use Rattle.std.specs.FinMap.{empty}
@@ -18,7 +18,7 @@ use Rattle.device_registry.specs.Opening.{Remains}
 use Rattle.device_registry.specs.private.Transaction.{IsListedInside}
 use Rattle.device_registry.proofs.TransactionSteps.{since, leaves, uncommitted_remains}
 
--- it is committed as it stands
+-- what it shows is committed
 abbrev pub Commits : State → State → Type 0
 Commits d e = IsTrue d.in_transaction × IsShowing d e d.now d.now false × KeepsCounts d e × (e.marks ≡ [])
 
@@ -38,7 +38,7 @@ on_ok : {V E : Type 0} (r : Result V E) (P Q : Type 0) → (P → Q) → OnOk r 
 on_ok (Ok v) P Q so p = so p
 on_ok (Err e) P Q so p = tt
 
--- a transaction that was to make a registry of such devices has ended
+-- the end of a transaction that was to create a registry of such devices
 pub record Ends {V : Type 0} (Are : Devices → Type 0) (old new : State) (r : Result V Error) : Type 0 where
   pub made : HasCleanDisk new → OnOk r ((devices : Devices) → Are devices → Shows new devices)
   pub others : HasCleanDisk new → OnOk r (KeepsOthers old.now new.now)
@@ -85,7 +85,7 @@ module _ {S V : Type 0} (g : Ghosts S) (texts : List (List ℕ)) (old start last
   ends gone new same commits ok err =
       subst (λ (h : Held S). Ends Are (state g old) (state g h) r) same (ends_at (state g gone) commits ok err)
 
--- if it was to make a registry of no devices
+-- it was to create a registry without devices
 module _ {V : Type 0} {old new : State} {r : Result V Error} (it : Ends (λ devices. devices ≡ empty) old new r) where
   pub made_empty : HasCleanDisk new → OnOk r (Shows new empty)
   made_empty clean = on_ok r ((devices : Devices) → devices ≡ empty → Shows new devices) (Shows new empty)

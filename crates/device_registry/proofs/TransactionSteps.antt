@@ -1,4 +1,4 @@
--- A transaction of ours, from its begin to its end.
+-- A transaction of the registry, from its begin to its end.
 use Rattle.std.proofs.Common.{◌≡◌, inl, inr, ℕ, List, [], ◌∷◌, ◌++◌, Ok, Err, Result, IsTrue, IfErr, OnErr}
 use Rattle.std.proofs.Common.{true, MatchResult, refl, sym, subst, ◌∙◌, arith}
 use Rattle.std.specs.Result.{IsErr}
@@ -24,7 +24,7 @@ uncommitted_then a b c first second = record {
       then_commit a b c (first.kept early) (second.kept clean);
 }
 
--- a text that is run commits nothing
+-- running a text commits nothing
 ran_once : (sql : List ℕ) (old new : State) (r : Result ℕ Error) → Survives old new (λ _. ⊥)
     → (HasCleanDisk new → ExecutesInside 0 sql [] old new r) → IsUncommitted old new
 ran_once sql old new (Ok n) stop ran = record { stop = stop; kept = λ clean. made_commit sql old new n (ran clean) }
@@ -47,7 +47,7 @@ module _ {S : Type 0} (g : Ghosts S) where
         (next.ran clean);
   }
 
-  -- one text more
+  -- one more text
   module _ (texts : List (List ℕ)) (text : List ℕ) (a b c : Held S) (r : Result ℕ Error) (it : IsInside g texts a b)
       (stop : Survives (state g b) (state g c) (λ _. ⊥))
       (runs : HasCleanDisk (state g c) → IsTrue (state g b).in_transaction
@@ -83,7 +83,7 @@ since g old start new is it =
     }
 
 module _ (old last new : State) (it : IsUncommitted old last) where
-  -- what is rolled back is as it was
+  -- a rollback restores the state
   back : HasCleanDisk last → IsRolledBack last new → Remains old new
   back clean gone is_open rest =
       let both = gone.undone is_open in

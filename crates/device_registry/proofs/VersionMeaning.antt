@@ -1,4 +1,4 @@
--- What the texts on the version row mean: those that add it, write it again and read it.
+-- The meaning of the texts for the version row: those that insert, rewrite and read it.
 use Rattle.std.proofs.Common.{ℕ, pos, List, [], ◌∷◌, codes, None, Some, refl}
 use Rattle.sqlite.specs.declared.types.Value.TheVariants.{Null, Int}
 use Rattle.sqlite.specs.Term.{Term, lit, col}

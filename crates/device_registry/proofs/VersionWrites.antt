@@ -1,4 +1,4 @@
--- The version row, as it is written once, and as it is written again.
+-- The version row, when it is inserted and when it is rewritten.
 use Rattle.std.proofs.Common.{◌≢◌, drop, ◌&&◌, ◌==◌, Bool, true, false, suc, arith, ◌≡◌, inl, inr, ℕ, List, []}
 use Rattle.std.proofs.Common.{◌∷◌, Some, None, Option, Ok, Err, Result, OnOk, refl, sym, ap, subst, ◌∙◌, slice_get}
 use Rattle.std.proofs.Common.{unwrap_or}
@@ -36,7 +36,7 @@ use Rattle.device_registry.proofs.RenewEffect.{version_row, cast_version, renews
 use Rattle.device_registry.proofs.DevicesHeld.{renewed_registers}
 use Rattle.device_registry.proofs.StatementSteps.{commits_as}
 
--- the version row is put into its table, and no other table changes
+-- the version row is inserted into its table, and no other table changes
 pub numbers : (schema : Schema) (at m : ℕ) (limit : Option ℕ) (mode : Mode) (db : Trees) (text : List ℕ) (tally : Tally)
     (after : Database)
     → slice_get schema.tables at ≡ Some (meta_table m) → StandsAlone schema m → db m ≡ []
@@ -97,7 +97,7 @@ renewed old new count devices shows h =
           devices shows.registers shows.sound w.changed;
     }
 
--- what the text does to the tables of a registry, and that it changes one row
+-- the effect of the text on the tables of a registry; it changes one row
 effect : (old new : State) (count : ℕ) (devices : Devices) (shows : Shows old devices)
     → Executes renew_text [] old new (Ok count)
     → (new.now.schema ≡ old.now.schema)
@@ -132,7 +132,7 @@ first : (a b : Bool) → (a && b) ≡ true → a ≡ true
 first true b h = refl
 first false b h = h
 
--- the version row is written as it stands, so no table has other rows
+-- the version row is rewritten unchanged, so no table has other rows
 renewed_rows : (old new : State) (count : ℕ) (devices : Devices) → Shows old devices
     → Executes renew_text [] old new (Ok count) → KeepsRows old new
 renewed_rows old new count devices shows h =

@@ -1,4 +1,4 @@
--- What an INSERT, an UPDATE or a DELETE means with no RETURNING, where its table stands in the schema.
+-- The meaning of an INSERT, UPDATE or DELETE without RETURNING, if its table is in the schema.
 use Rattle.std.proofs.Common.{◌≡◌, ℕ, List, [], Option, Ok, refl}
 use Rattle.sqlite.specs.Schema.{Schema}
 use Rattle.sqlite.specs.Table.{Table}
@@ -18,7 +18,7 @@ use Rattle.device_registry.specs.Stored.{Stands}
 
 module _ {schema : Schema} {name : List ℕ} {table : Table} {at : ℕ}
     (stands : Stands schema name table at) {text : List ℕ} where
-  -- the rows that go are those where the test holds
+  -- the rows for which the test holds are deleted
   pub delete_means : {test : Option Expr} (d : Draft) → IsRead text (written.Delete name test [])
       → deleted schema at table test ≡ Ok d → IsTyped table (query_of d)
       → Means schema text (Delete at (program_of (query_of d)))
@@ -26,7 +26,7 @@ module _ {schema : Schema} {name : List ℕ} {table : Table} {at : ℕ}
   delete_means d it is typed =
       means schema _ it refl (λ base. refl) (λ base. rw (stands.named, stands.there, is, program_is stands d typed))
 
-  -- the old rowid and the new row, of each row where the test holds
+  -- the old rowid and the new row, for each row for which the test holds
   pub update_means : {sets : List (List ℕ × Expr)} {test : Option Expr} (d : Draft)
       → IsRead text (written.Update name sets test []) → updated schema at table sets test ≡ Ok d
       → IsTyped table (query_of d) → Means schema text (Update at (program_of (query_of d)))
@@ -34,7 +34,7 @@ module _ {schema : Schema} {name : List ℕ} {table : Table} {at : ℕ}
   update_means d it is typed =
       means schema _ it refl (λ base. refl) (λ base. rw (stands.named, stands.there, is, program_is stands d typed))
 
-  -- no column of the table has the time by default
+  -- no column of the table has the time as its default
   pub insert_means : {how : Conflict} {columns : List (List ℕ)} {rows : Rows} (c : Command)
       → IsRead text (written.Insert how name columns rows [] []) → table.stamps.formats ≡ []
       → ((base : ℕ) → command schema [] base (written.Insert how name columns rows [] []) ≡ Ok c) → Means schema text c

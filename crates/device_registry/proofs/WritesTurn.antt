@@ -1,4 +1,4 @@
--- From what the store says of the three statements that write to how they turn the registry.
+-- From what the database reports about the three statements that write to their effect on the registry.
 use Rattle.std.proofs.Common.{true, ◌≡◌, ◌≢◌, inl, inr, ℕ, List, [], None, Ok, Err, Result, arith}
 use Rattle.std.proofs.Common.{IfOk, OnOk, OnErr, refl, sym, subst, ◌∙◌, false}
 use Rattle.std.specs.FinMap.{insert, remove}
@@ -34,7 +34,7 @@ use Rattle.device_registry.proofs.RenewEffect.{renews}
 use Rattle.device_registry.proofs.DevicesHeld.{put_registers, forgotten_registers, renewed_registers}
 use Rattle.device_registry.proofs.StatementSteps.{commits_as, spared, not_executed}
 
--- A statement that writes, and what it makes of a registry of devices for which there is room.
+-- A statement that writes, and its effect on a registry that is not full for its sender.
 module _ (sql : List ℕ) (params : Row) (change : Change) (HasRoom : Devices → Type 0)
     (command : (db : Database) → IsRegistry Second db → Command)
     (means : (db : Database) (registry : IsRegistry Second db) → Means db.schema sql (command db registry))
@@ -114,7 +114,7 @@ module _ (sql : List ℕ) (params : Row) (change : Change) (HasRoom : Devices �
       err_of (Ok count) h = tt
       err_of (Err e) h = spared old new (not_executed sql params old new e h)
 
--- there is room for the sender, and the change makes this of it
+-- the registry is not full for the sender, and the change gives the sender this data
 abbrev pub MakesIt : Change → ℕ → Learned → Devices → Type 0
 MakesIt change id it devices = (is_full devices id ≡ false) × (changed devices change ≡ insert devices id it)
 
@@ -179,7 +179,7 @@ renew_does change s after text tally devices had sound same h =
     r.whole.row r.tables.meta_stands.there (meta_alone s.now.schema r.tables) r.whole.one r.whole.numbered.key h in
     subst (Registers after) (sym same) (renewed_registers s.now after devices had sound kept.0 kept.1 kept.2)
 
--- a change that leaves the devices as they are is made by writing the version row
+-- a change that leaves the devices as they are is made by rewriting the version row
 pub renew_turns : (change : Change) (old new : State) (r : Result ℕ Error) → (HasCleanDisk old → IsReady old)
     → (HasCleanDisk old → (devices : Devices) → Shows old devices → changed devices change ≡ devices)
     → Survives old new (CommitsBy renew_text [] old) → (HasCleanDisk new → Executes renew_text [] old new r)
@@ -191,7 +191,7 @@ renew_turns change = turned renew_text [] change (λ devices. changed devices ch
     (λ db registry. (λ e. cc, λ name e. cc))
     (renew_does change)
 
--- where a statement was executed, it was so with a count
+-- a statement that was executed returned a count
 pub executed_if : (sql : List ℕ) (params : Row) (old new : State) (r : Result ℕ Error) → Executes sql params old new r
     → IfOk r (λ count. Executes sql params old new (Ok count))
 executed_if sql params old new (Ok count) h = h

@@ -1,4 +1,4 @@
--- What the errors of SQLite are reported as.
+-- The fault for each error of SQLite.
 use Rattle.std.specs.Prelude.{◌≡◌, false}
 use Rattle.sqlite.specs.declared.error.Error.{Error}
 use Rattle.sqlite.specs.declared.error.Error.TheVariants.{SqliteFailure}
@@ -6,11 +6,11 @@ use Rattle.sqlite.specs.declared.error.ErrorCode.TheVariants.{OutOfMemory}
 use Rattle.learned_devices.specs.declared.fault.StoreFault.{StoreFault}
 use Rattle.learned_devices.specs.Faults.{no_answer, no_memory}
 
--- SQLite had no memory, or does not answer
+-- SQLite was out of memory, or failed in another way
 abbrev pub fault_of : Error → StoreFault
 fault_of (SqliteFailure OutOfMemory) = no_memory
 fault_of _ = no_answer
 
--- where this is so, the error is that there was no memory: if it is not, this is not so
+-- if the condition holds, the error is that SQLite was out of memory
 abbrev pub IsMemoryWhere : Type 0 → Error → Type 0
 IsMemoryWhere Whole error = (fault_of error).is_memory ≡ false → ¬ Whole

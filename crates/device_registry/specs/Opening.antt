@@ -1,4 +1,4 @@
--- What an open finds, and what it leaves.
+-- The states that an open finds and leaves.
 use Rattle.std.specs.Prelude.{ℕ, ◌≡◌, ◌≢◌, ◌⊎◌, ◌≤◌, IsTrue, false}
 use Rattle.std.specs.FinMap.{len}
 use Rattle.sqlite.specs.Effect.{Database, IsDatabase}
@@ -20,18 +20,18 @@ use Rattle.device_registry.specs.Stored.{IsRegistry, Holds, IsHeld}
 use Rattle.device_registry.specs.Ready.{Shows, IsReady}
 use Rattle.device_registry.specs.Holding.{AreRegistries, HasDevices, IsCommitted, IsRenewed, MayFind, Finds, Opens}
 
--- the most looked-up senders that a registry may remember. Own choice
+-- the maximum size of the cache of looked-up senders. Own choice
 abbrev pub max_cached : ℕ
 max_cached = 1024
 
--- the connection is open between two transactions, over a sound database
+-- the connection is open, with no open transaction, over a sound database
 pub record IsAtRest (s : State) : Type 0 where
   pub is_open : IsTrue s.is_open
   pub idle : s.in_transaction ≡ false
   pub settled : s.now ≡ s.committed
   pub sound : IsDatabase s.now
 
--- where the connection is open still, it shows the database that it showed, between two transactions
+-- if the connection is still open, it shows the same database as before, with no open transaction
 abbrev pub Remains : State → State → Type 0
 Remains old new = IsTrue new.is_open → IsAtRest old → IsAtRest new × (new.now ≡ old.now)
 
@@ -44,11 +44,11 @@ pub record IsPrepared (old new : State) (devices : Devices) : Type 0 where
 pub record IsOpened (old new : State) : Type 0 where
   -- whatever a crash leaves is a registry
   pub registries : AreRegistries new.may_leave
-  -- the registry has the devices that were committed last, and a crash leaves these and no others
+  -- the registry has the devices that were committed last, and a crash leaves only these
   pub opens : (devices : Devices) × Opens old new devices
-  -- the connection is open, between two transactions
+  -- the connection is open, with no open transaction
   pub ready : IsReady new
-  -- if it was a registry of version 2, it was changed exactly by the text that writes its version row unchanged
+  -- if it was a registry of version 2, it was changed exactly by the text that rewrites its version row unchanged
   pub written : IsHeld old.committed.trees → IsRenewed old new
 
 -- a registry of this version as this program leaves it
@@ -58,19 +58,19 @@ pub record IsOwn (version : Version) (trees : Trees) : Type 0 where
   pub sound : IsDatabase db
   pub registry : IsRegistry version db
 
--- the trees of a registry of the devices that are found in other trees
+-- the trees of a registry of version 2 with the devices that are found in the other trees
 pub record KeepsFound (found left : Trees) : Type 0 where
   pub devices : Devices
   pub finds : Finds found devices
   pub holds : Holds left devices
 
--- No devices are found in the trees: they are neither those of a registry of either version, as this program leaves it,
+-- No devices are found in the trees: they are neither those of a registry of either version as this program leaves it,
 -- nor those of a database in which the tables can be created.
 abbrev pub IsOther : Trees → Type 0
 IsOther trees = (devices : Devices) → ¬ Finds trees devices
 
--- A database is refused. One that is no registry is as it was, and after another fault a stop leaves what it could
--- leave before, or a registry of the devices that were committed.
+-- A database is rejected, or opening it failed. One that is no registry is as it was. After another fault, a crash
+-- leaves what it could leave before, or a registry of the devices that were committed.
 pub record RefusesToOpen (old new : State) (fault : OpenFault) : Type 0 where
   pub survives : Survives old new (KeepsFound old.committed.trees)
   pub clean : HasCleanDisk new → HasCleanDisk old
@@ -79,32 +79,32 @@ pub record RefusesToOpen (old new : State) (fault : OpenFault) : Type 0 where
   pub stop : HasCleanDisk new → (trees : Trees) → new.may_leave trees
       → old.may_leave trees ⊎ (IsTrue old.is_open × KeepsFound old.committed.trees trees)
 
--- An open failed, and dropped its connection. After `NotARegistry` there is a state of which `RefusesToOpen` holds. No
--- contract says that it is the last state of the connection.
+-- An open failed, and dropped its connection. After `NotARegistry`, some state satisfies `RefusesToOpen`. No contract
+-- says that it is the last state of the connection.
 abbrev pub RefusesAndDrops : {C : Type 0} → (C → State) → C → OpenFault → Type 0
 RefusesAndDrops {C} state conn fault =
     fault ≡ NotARegistry → (last : C) × RefusesToOpen (state conn) (state last) fault
 
--- ---- laws
+-- ---- theorems
 
 -- a registry has at most 1,000 devices
 abbrev pub FewAreHeld : Type 0
 FewAreHeld = (trees : Trees) (devices : Devices) → Holds trees devices → len devices ≤ max_devices
 
--- what an open finds in what a stop left is one thing, however often it is opened
+-- the devices that an open finds in what a crash left are unique, however often it is opened
 abbrev pub FoundAgain : Type 0
 FoundAgain = (trees : Trees) (left found : Devices) → Finds trees left → Finds trees found → left ≡ found
 
--- the next open, behind a stop at this moment, may find these devices
+-- the next open after a crash at this moment may find these devices
 abbrev pub MayFindNext : State → Devices → Type 0
 MayFindNext s devices = (trees : Trees) × s.may_leave trees × Finds trees devices
 
--- whatever a stop leaves at this moment, the next open finds some devices there
+-- the next open finds some devices in whatever a crash leaves at this moment
 abbrev pub FindsSomeNext : State → Type 0
 FindsSomeNext s = (trees : Trees) → s.may_leave trees → (devices : Devices) × Finds trees devices
 
--- Behind a refused open the next one finds devices wherever it would have found some before. They are what it could
--- have found before, or what was committed then.
+-- After a failed open, the next one finds devices if it would have found some before. They are what it could have found
+-- before, or what was committed then.
 abbrev pub RefusedOpensKeep : {C : Type 0} → (C → State) → Type 0
 RefusedOpensKeep {C} state = (old new : C) (fault : OpenFault) → HasCleanDisk (state new)
     → RefusesToOpen (state old) (state new) fault
@@ -112,25 +112,26 @@ RefusedOpensKeep {C} state = (old new : C) (fault : OpenFault) → HasCleanDisk 
     × ((devices : Devices) → MayFindNext (state new) devices → MayFindNext (state old) devices
     ⊎ (IsTrue (state old).is_open × Finds (state old).committed.trees devices))
 
--- What is found is never refused as no registry. Whatever a crash leaves of an opened registry is found.
+-- No open rejects, as no registry, a database in which devices are found. They are found in whatever a crash leaves of
+-- an opened registry.
 abbrev pub RegistriesAreRecognized : {C : Type 0} → (C → State) → Type 0
 RegistriesAreRecognized {C} state = ((trees : Trees) → IsHeld trees → (devices : Devices) × Finds trees devices)
     × ((old new : C) (fault : OpenFault) (devices : Devices) → HasCleanDisk (state new)
     → RefusesToOpen (state old) (state new) fault → Finds (state old).committed.trees devices → fault ≢ NotARegistry)
 
--- A database is refused as no registry only if it is none. This holds of an open that drops its connection, too, if the
--- disk had returned what was written when the connection was dropped.
+-- A database is rejected as no registry only if it is none. This also holds of an open that drops its connection, if
+-- the disk had returned what was written when the connection was dropped.
 abbrev pub OnlyOthersAreRefused : {C : Type 0} → (C → State) → Type 0
 OnlyOthersAreRefused {C} state = (conn last : C) → HasCleanDisk (state last)
     → RefusesToOpen (state conn) (state last) NotARegistry → IsOther (state conn).committed.trees
 
--- what is closed and handed on is what the next open finds
+-- the next open finds what a closed registry returned
 abbrev pub HandedOn : {C : Type 0} → (C → State) → Type 0
 HandedOn {C} state = (closed opened : C) (devices found : Devices) → HasCleanDisk (state closed)
     → IsCommitted (state closed)
     → HasDevices (state closed) devices → Opens (state closed) (state opened) found → found ≡ devices
 
--- what a registry held whose files the store has closed is what an open of these files finds, and nothing else
+-- after SQLite has closed the files of a registry, an open of these files finds exactly what the registry held
 abbrev pub ClosedFilesAreFound : {D : Type 0} → Ghosts D → Type 0
 ClosedFilesAreFound {D} g =
     (closed opened : Held (FileStore D g)) (files : Files D) (devices : Devices) → IsCopied closed files
@@ -139,7 +140,7 @@ ClosedFilesAreFound {D} g =
     × ((found : Devices) → Finds (file_state opened).committed.trees found → found ≡ devices)
 
 -- If two files hold what a crash could leave in them, an open of these files finds devices that this crash could leave.
--- (`next_run` of the crate `sqlite` says this of the trees; a store numbers its pages while its disk is clean.)
+-- (`next_run` of the crate `sqlite` says this of the trees; a file store numbers its pages while its disk is clean.)
 abbrev pub CrashedFilesAreFound : {D : Type 0} → Ghosts D → Type 0
 CrashedFilesAreFound {D} g =
     (stopped opened : Held (FileStore D g)) (image : _) → IsTrue (view stopped.store).is_numbered

@@ -1,4 +1,4 @@
--- The registry between two of its statements, and what each does to it.
+-- The registry between two of its statements, and the effect of each on it.
 use Rattle.std.specs.Prelude.{◌≡◌, ◌⊎◌, false, Result, OnOk, OnErr, IsTrue}
 use Rattle.sqlite.specs.State.{State, HasCleanDisk}
 use Rattle.sqlite.specs.Effect.{Database, IsDatabase}
@@ -11,7 +11,7 @@ use Rattle.device_registry.specs.Table.{meta_name, device_name}
 use Rattle.learned_devices.specs.Devices.{Devices, Change, changed}
 use Rattle.device_registry.specs.Stored.{Registers, Holds}
 
--- the registry is open between two transactions, with these devices
+-- the registry is open with no open transaction, and has these devices
 pub record Shows (s : State) (devices : Devices) : Type 0 where
   pub is_open : IsTrue s.is_open
   pub idle : s.in_transaction ≡ false
@@ -23,15 +23,15 @@ pub record IsReady (s : State) : Type 0 where
   pub devices : Devices
   pub shows : Shows s devices
 
--- it was ready, and it is
+-- ready before and after
 abbrev pub AreReady : State → State → Type 0
 AreReady old new = IsReady old × IsReady new
 
--- as long as the disk is honest, an open connection is ready
+-- while the disk is clean, an open connection is ready
 abbrev pub StaysReady : State → Type 0
 StaysReady s = HasCleanDisk s → IsTrue s.is_open → IsReady s
 
--- where the connection is open still, it was open, and has the devices that it had
+-- if the connection is still open, it was open before, and has the same devices
 abbrev pub GoesOn : State → State → Type 0
 GoesOn old new = IsTrue new.is_open → IsTrue old.is_open × ((devices : Devices) → Shows old devices → Shows new devices)
 
@@ -41,7 +41,7 @@ pub record Stays (old new : State) : Type 0 where
   pub stop : HasCleanDisk new → (trees : Trees) → new.may_leave trees → old.may_leave trees
   pub goes_on : HasCleanDisk new → GoesOn old new
 
--- the change is made and committed, or it is refused, and then a stop may leave it all the same
+-- the change is made and committed; or it failed, and then a crash may leave it nevertheless
 pub record Turns {T E : Type 0} (old new : State) (change : Change) (result : Result T E) : Type 0 where
   pub clean : HasCleanDisk new → HasCleanDisk old
   pub stop : HasCleanDisk new → (trees : Trees) → new.may_leave trees → old.may_leave trees
@@ -55,7 +55,7 @@ pub record KeepsRows (old new : State) : Type 0 where
   pub schema : new.now.schema ≡ old.now.schema
   pub rows : (table : Table) → Has old.now.schema.tables table → new.now.trees table.tree ≡ old.now.trees table.tree
 
--- each table with none of our names, of whatever version, is still there, with its rows
+-- each table with none of our names, of either version, still exists with its rows
 abbrev pub KeepsOthers : Database → Database → Type 0
 KeepsOthers old new = (table : Table) → Has old.schema.tables table → same_name table.name meta_name ≡ false
     → ((version : Version) → same_name table.name (device_name version) ≡ false)

@@ -21,17 +21,17 @@ use Rattle.learned_devices.specs.Devices.{Devices, max_devices}
 use Rattle.device_registry.specs.Table.{meta_name, device_name, meta_text, device_text, meta_table, device_table}
 use Rattle.device_registry.specs.Table.Rows.{IsDevice, IsVersion, RowidsDiffer, devices_in, rows_of}
 
--- the schema's table of this name is this one, at this place
+-- the schema's table of this name is this one, at this index
 pub record Stands (schema : Schema) (name : List ℕ) (table : Table) (at : ℕ) : Type 0 where
   pub named : table_named schema name ≡ Some at
   pub there : slice_get schema.tables at ≡ Some table
   pub classes : table_classes schema [] table.tree ≡ Some (row_classes table)
 
--- the table refers to no table of this name by a foreign key
+-- no foreign key of the table refers to this name
 abbrev pub SparesName : List ℕ → Table → Type 0
 SparesName name table = AllByRecursion (λ reference. same_name reference.parent name ≡ false) table.references
 
--- the table refers to none of ours, of whatever version
+-- no foreign key of the table refers to one of ours, of either version
 pub record SparesOurs (table : Table) : Type 0 where
   pub meta : SparesName meta_name table
   pub devices : (version : Version) → SparesName (device_name version) table
@@ -48,17 +48,17 @@ abbrev pub other : Version → Version
 other First = Second
 other Second = First
 
--- No table counts its rowids without SQLite's table of the counts: the CREATE that makes the second version of the
--- first would add it.
+-- In version 1, no table counts its rowids without SQLite's table of the counts: creating the device table of version 2
+-- would add it.
 abbrev pub AreCounted : Version → Schema → Type 0
 AreCounted First schema = lacks_sequence schema ≡ false
 AreCounted Second schema = Unit {0}
 
--- The schema has the two tables of a registry of this version, and what stands beside them leaves them alone: no
--- foreign key refers to them, no other table lies in their trees, they have no index, and the name of the other
--- version's table is free.
+-- The schema has the two tables of a registry of this version, and the other objects do not affect them: no foreign key
+-- refers to them, no other table is in their trees, they have no index, and the name of the other version's table is
+-- free.
 pub record HasTables (version : Version) (schema : Schema) : Type 0 where
-  -- the numbers of their trees, and their places in the schema
+  -- the numbers of their trees, and their indexes in the schema
   pub meta : ℕ
   pub devices : ℕ
   pub meta_at : ℕ
@@ -73,7 +73,7 @@ pub record HasTables (version : Version) (schema : Schema) : Type 0 where
   pub free : is_used schema (device_name (other version)) ≡ false
   pub counted : AreCounted version schema
 
--- in the trees of the two tables, the version is this one, and there are devices, none twice and at most 1,000
+-- in the trees of the two tables, the version is this one, and the other rows are devices, none twice and at most 1,000
 pub record IsWhole (version : Version) (trees : Trees) (meta devices : ℕ) : Type 0 where
   pub row : Row
   pub one : trees meta ≡ row ∷ []
@@ -116,19 +116,19 @@ pub record HoldsAs (version : Version) (trees : Trees) (devices : Devices) : Typ
   pub sound : IsDatabase db
   pub registers : RegistersAs version db devices
 
--- the same of a registry as it is once opened, which is of the second version
+-- the same for an opened registry, which is of version 2
 abbrev pub Registers : Database → Devices → Type 0
 Registers = RegistersAs Second
 
 abbrev pub Holds : Trees → Devices → Type 0
 Holds = HoldsAs Second
 
--- the trees are those of a registry that was opened
+-- the trees are those of a registry of version 2
 pub record IsHeld (trees : Trees) : Type 0 where
   pub devices : Devices
   pub holds : Holds trees devices
 
--- The tables can be made: nothing has their names, of whatever version, no foreign key refers to them, and no table
+-- The tables can be created: nothing has their names, of either version; no foreign key refers to them; and no table
 -- counts its rowids without SQLite's table of the counts, which our CREATE would add.
 pub record IsClear (schema : Schema) : Type 0 where
   pub free_meta : is_used schema meta_name ≡ false
@@ -136,7 +136,7 @@ pub record IsClear (schema : Schema) : Type 0 where
   pub spared : AreSpared schema
   pub counted : lacks_sequence schema ≡ false
 
--- the trees are those of a database in which the tables can be made
+-- the trees are those of a database in which the tables can be created
 pub record IsFree (trees : Trees) : Type 0 where
   pub db : Database
   pub same : db.trees ≡ trees

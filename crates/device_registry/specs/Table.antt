@@ -1,6 +1,6 @@
--- The two tables of the registry, in the two versions that they have had: their names, their numbers and their ranges,
--- the texts of all statements on them, and the tables that SQLite reads. The second version has labels; a database of
--- the first is made one of the second when it is opened.
+-- The two tables of the registry, in both versions: their names, versions and ranges, the texts of all statements on
+-- them, and the tables that SQLite makes of them. Version 2 has labels; a database of version 1 is migrated to it on
+-- open.
 pub mod Rows
 use Rattle.std.specs.Prelude.{ℕ, true, false, List, [], ◌∷◌, ◌++◌, Some, codes, pos, negsuc}
 use Rattle.sqlite.specs.Collation.TheVariants.{Binary}
@@ -15,7 +15,7 @@ use Rattle.sqlite_sql.specs.declared.ops.CompareOp.TheVariants.{Eq, Le, Ge}
 use Rattle.device_registry.specs.declared.table.Version.{Version}
 use Rattle.device_registry.specs.declared.table.Version.TheVariants.{First, Second}
 
--- the number that a version has in its row. Own choice
+-- the number of a version in its row. Own choice
 abbrev pub number_of : Version → ℕ
 number_of First = 1
 number_of Second = 2
@@ -28,7 +28,7 @@ max_sender = 4294967294
 abbrev pub max_profile : ℕ
 max_profile = 16777215
 
--- a maker's number has 11 bits
+-- a manufacturer ID has 11 bits
 abbrev pub max_maker : ℕ
 max_maker = 2047
 
@@ -60,14 +60,14 @@ write_version_text = codes "INSERT INTO enogate_meta (k, version) VALUES (1, 2)"
 abbrev pub read_version_text : List ℕ
 read_version_text = codes "SELECT k, version FROM enogate_meta"
 
--- it writes the second version: in a registry of that version, as it stands
+-- it writes version 2; in a registry of that version the row does not change
 abbrev pub renew_text : List ℕ
 renew_text = codes "UPDATE enogate_meta SET version = 2"
 
 abbrev pub find_text : List ℕ
 find_text = codes "SELECT id, eep, maker, label FROM enogate_device_v2 WHERE id = ?1"
 
--- devices of the first version are shown with the empty label
+-- devices of version 1 are shown with the empty label
 abbrev pub find_all_text : Version → List ℕ
 find_all_text First = codes "SELECT id, eep, maker, '' FROM enogate_device ORDER BY id"
 find_all_text Second = codes "SELECT id, eep, maker, label FROM enogate_device_v2 ORDER BY id"
@@ -117,7 +117,7 @@ keyed_table name tree columns checks = record {
   is_counted = false;
 }
 
--- the value at a place of the row lies between the two
+-- the value at this index of the row is between the two
 abbrev pub between : ℕ → Term → Term → Term
 between place low high =
     op2 And (op2 (Compare Ge Binary) (col 1 place) low) (op2 (Compare Le Binary) (col 1 place) high)

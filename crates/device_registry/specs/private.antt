@@ -1,4 +1,4 @@
--- For private clauses: no public contract depends on these.
+-- For private postconditions: no public contract depends on these.
 pub mod Cached
 pub mod Listing
 pub mod TableCalls

@@ -1,4 +1,4 @@
-//! What is remembered of looked-up senders, known or not.
+//! A cache of looked-up senders, known or unknown.
 ghost use Rattle.std.specs.Prelude.{◌≡◌, ◌≢◌, ◌≤◌, ◌⊎◌, [], nat_eq, None, IfSome, OnSome, IfNone, IfOk, Contains};
 ghost use Rattle.std.specs.Map.{lookup, remove_entry};
 ghost use Rattle.lru.specs.LruCache.{lru_cache, promoted, put_entries};
@@ -10,7 +10,7 @@ use std::num::NonZeroUsize;
 
 pub type Cache = LruCache<u32, Option<Device>>;
 
-/// A cache of so many senders, of which none is known.
+/// An empty cache with room for `most` senders.
 pub fn new_cache(alloc: Global, most: usize) -> Result<Cache, AllocError>
     requires { 1 ≤ most }
     ensures { IfOk result (λ cache. cache.entries ≡ []) }
@@ -19,14 +19,14 @@ pub fn new_cache(alloc: Global, most: usize) -> Result<Cache, AllocError>
     LruCache::new(alloc, most)
 }
 
-/// The same device, if there is one.
+/// Copies the device, if there is one.
 pub fn copied(known: &Option<Device>) -> Option<Device>
     ensures { result ≡ known.now }
 {
     known.as_ref().map(Device::copied)
 }
 
-/// What is remembered of a sender, which is the last to go from then on.
+/// The cache entry of a sender, which becomes the last to be evicted.
 pub fn cached(cache: &mut Cache, id: u32) -> Option<Option<Device>>
     ensures known { IfSome result (λ known. Contains cache.old.entries (id, known)) }
     ensures kept { (entry : _) → Contains cache.new.entries entry → Contains cache.old.entries entry }
@@ -39,8 +39,8 @@ pub fn cached(cache: &mut Cache, id: u32) -> Option<Option<Device>>
     Some(known)
 }
 
-/// Remembers a sender in place of the one of longest ago, unless there is no memory for it: then the cache is as it
-/// was.
+/// Adds or replaces the entry of a sender; a full cache then evicts its least recently used entry. If there is no
+/// memory, the cache does not change.
 pub fn remember(cache: &mut Cache, id: u32, known: Option<Device>)
     ensures put { (cache.new ≡ cache.old)
         ⊎ (cache.new ≡ lru_cache (put_entries nat_eq cache.old id known) cache.old.cap) }
@@ -50,12 +50,12 @@ pub fn remember(cache: &mut Cache, id: u32, known: Option<Device>)
     let _replaced = cache.put(id, known);
 }
 
-/// Forgets what is remembered of a sender.
+/// Removes the entry of a sender.
 pub fn forget_entry(cache: &mut Cache, id: u32)
     ensures gone { cache.new.entries ≡ remove_entry (nat_eq id) cache.old.entries }
     ensures kept { (entry : _) → Contains cache.new.entries entry → Contains cache.old.entries entry × (entry.0 ≢ id) }
 {
-    // The proof asks for the length: it tells that no sender stands in the cache twice.
+    // The proof uses the length: it implies that no sender is in the cache twice.
     let _len = cache.len();
     let _known = cache.pop(&id);
 }

@@ -1,8 +1,8 @@
-//! How many looked-up senders a registry remembers.
+//! The size of a registry's cache.
 
-/// The most looked-up senders that a registry may remember: every device that can be learned, and some others. The
-/// program's registry remembers so many. Own choice.
+/// The maximum size of the cache, in senders: every device that can be learned, and some others. The program's registry
+/// has a cache of this size. Own choice.
 pub const MAX_CACHED: usize = 1024;
 
-/// How many looked-up senders a registry remembers that `open` opens. Own choice.
+/// The size of the cache of a registry that `open` opens, in senders. Own choice.
 pub const DEFAULT_CACHED: usize = 64;

@@ -1,4 +1,4 @@
-//! The registry as a store of devices.
+//! The registry as a device store.
 ghost use Rattle.device_registry.specs.Holding.{Writes, kept_by};
 
 use crate::registry::RegistryOver;

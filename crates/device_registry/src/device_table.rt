@@ -1,4 +1,4 @@
-//! The devices in the database, without a cache.
+//! The device table in the database, without a cache.
 ghost use Rattle.std.specs.Prelude.{◌≡◌, OnOk, IfOk, IsTrue, Some, None};
 ghost use Rattle.std.specs.FinMap.{get};
 ghost use Rattle.sqlite.specs.State.{HasCleanDisk};
@@ -16,7 +16,7 @@ use sqlite::Error;
 use std::alloc::Global;
 use std::marker::Model;
 
-/// The learned devices, over a connection that no one else uses. Each result that is not an error also means that the
+/// The learned devices, over a connection that nothing else uses. Each result that is not an error also means that the
 /// connection is open.
 #[derive(Drop)]
 pub struct DeviceTable<C: SqlConnection> {
@@ -51,8 +51,8 @@ impl<C: SqlConnection> DeviceTable<C> {
         found(&rows)
     }
 
-    /// Learns a device, in place of what was known of its sender, and returns whether there is room for it. It already
-    /// has the label that the sender keeps.
+    /// Upserts a device, unless the registry is full, and returns whether it did. The device already has the label that
+    /// its sender keeps.
     pub fn learn(&mut self, device: Device) -> Result<bool, Error>
         requires { HasCleanDisk (C.state self.old) → (devices : Devices) → HasDevices (C.state self.old) devices →
             after (get devices device.id) (Learn device.eep device.maker) ≡ Some (known_of device) }
@@ -70,7 +70,7 @@ impl<C: SqlConnection> DeviceTable<C> {
         Ok(true)
     }
 
-    /// Stores the device of a known sender, of which only the label may differ.
+    /// Stores the device of a known sender; only its label may be new.
     pub fn relabel(&mut self, device: Device) -> Result<(), Error>
         requires ready { HasCleanDisk (C.state self.old) → IsReady (C.state self.old) }
         requires known { HasCleanDisk (C.state self.old) → (devices : Devices) → HasDevices (C.state self.old) devices →
@@ -87,7 +87,7 @@ impl<C: SqlConnection> DeviceTable<C> {
         Ok(())
     }
 
-    /// Forgets a sender. It commits also if the sender is not known.
+    /// Forgets a sender. Commits also if the sender is not known.
     pub fn forget(&mut self, id: u32) -> Result<(), Error>
         ensures forgets { Forgets (kept (C.state self.old)) (kept (C.state self.new)) id result }
         ensures written { HasCleanDisk (C.state self.new) → (devices : Devices) →
@@ -101,7 +101,7 @@ impl<C: SqlConnection> DeviceTable<C> {
         Ok(())
     }
 
-    /// All devices, by rising ID.
+    /// All devices, by ascending ID.
     pub fn all(&mut self) -> Result<Vec<Device>, Error>
         ensures lists { ListsAll (kept (C.state self.old)) (kept (C.state self.new)) result }
         ensures ready { HasCleanDisk (C.state self.new) → OnOk result (AreReady (C.state self.old)

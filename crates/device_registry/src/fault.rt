@@ -1,4 +1,4 @@
-//! Why a database is refused, and the faults for SQLite's errors.
+//! Faults of an open, and the faults that SQLite's errors are reported as.
 ghost use Rattle.std.specs.Prelude.{◌≡◌};
 ghost use Rattle.device_registry.specs.Faults.{fault_of};
 
@@ -19,10 +19,10 @@ pub(crate) fn store_fault(error: Error) -> StoreFault
 /// Why a database is not prepared, and no registry is opened.
 #[derive(Clone, Copy, Debug, PartialEq, Eq, thiserror::Error)]
 pub enum OpenFault {
-    /// The database holds something else, or something that is no registry of version 1 or 2 under its names.
+    /// The database holds something else, or under our names something that is no registry of version 1 or 2.
     #[error("the database is no registry of version 1 or 2")]
     NotARegistry,
-    /// The store does not answer.
+    /// Out of memory, or the database failed.
     #[error(transparent)]
     Refused(StoreFault),
 }

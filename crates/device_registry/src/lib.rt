@@ -1,8 +1,8 @@
-//! The learned devices, in a SQLite database. What a call answers, the database holds; the senders that were looked
-//! up last are remembered besides. A change is answered once it is committed; `learn` and `forget` give a receipt.
+//! The learned devices, in a SQLite database. Calls return what the database holds; a cache holds the senders that were
+//! looked up last. A call that changes a device returns after the commit; `learn` and `forget` return a receipt.
 //!
-//! Every word on what is stored has one premise, the store's own: so far the disk has returned what was written
-//! (`HasCleanDisk`).
+//! Every statement about what is stored has one premise, which is that of `sqlite`: so far the disk has returned what
+//! was written (`HasCleanDisk`).
 #![tactic(auto)]
 
 mod cache;

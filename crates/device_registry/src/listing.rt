@@ -1,4 +1,4 @@
-//! Whether the list of a database's objects has our two tables.
+//! Recognizing our two tables in the list of a database's objects.
 ghost use Rattle.std.specs.Prelude.{◌≡◌};
 ghost use Rattle.std.specs.List.{list_any};
 ghost use Rattle.sqlite.specs.Order.{column};
@@ -24,7 +24,7 @@ fn is_line(row: &Row, name: &[u8], text: &[u8]) -> bool
     has_text(row, 0, name) && has_text(row, 2, text)
 }
 
-/// Whether the rows list an object of this name with this text.
+/// Whether the rows list an object with this name and text.
 fn lists(rows: &[Row], name: &[u8], text: &[u8]) -> bool
     ensures { result ≡ list_any (is_line name.now text.now) rows.now }
 {

@@ -1,4 +1,4 @@
-//! The two tables, made.
+//! Creating the two tables.
 ghost use Rattle.std.specs.Prelude.{◌≡◌, false, IsTrue, OnOk, OnErr};
 ghost use Rattle.std.specs.FinMap.{empty};
 ghost use Rattle.sqlite.specs.State.{HasCleanDisk, Survives};
@@ -14,7 +14,7 @@ use crate::table::statements::{CREATE_DEVICE, CREATE_META, WRITE_VERSION};
 use crate::transaction::run_listed;
 use sqlite::{Alter, Connection, Error};
 
-/// Makes the two tables and writes the version row, in one transaction, and checks that SQLite lists them with our
+/// Creates the two tables and writes the version row, in one transaction. Checks that SQLite lists the tables with our
 /// texts.
 pub fn make<S: Alter>(conn: &mut Connection<S>) -> Result<(), Error>
     requires idle { conn.old.in_transaction ≡ false }

@@ -1,4 +1,4 @@
-//! A registry of the first version, made one of the second.
+//! Migrating a registry of version 1 to version 2.
 ghost use Rattle.std.specs.Prelude.{◌≡◌, false, IsTrue, OnOk, OnErr};
 ghost use Rattle.sqlite.specs.State.{HasCleanDisk, Survives};
 ghost use Rattle.sqlite.specs.Effect.{IsDatabase};
@@ -14,8 +14,8 @@ use crate::table::statements::{COPY, CREATE_DEVICE, DROP_FIRST_DEVICE, RENEW};
 use crate::transaction::run_listed;
 use sqlite::{Alter, Connection, Error};
 
-/// Makes the second version of the table, with the devices of the first, drops the first and writes the second version,
-/// in one transaction.
+/// Creates the device table of version 2 with the devices of version 1, drops the table of version 1, and writes
+/// version 2, in one transaction.
 pub fn migrate<S: Alter>(conn: &mut Connection<S>) -> Result<(), Error>
     requires idle { conn.old.in_transaction ≡ false }
     requires first { HasCleanDisk (state S.Store conn.old) → IsRegistry First (state S.Store conn.old).now ×

@@ -23,7 +23,7 @@ use crate::taking::version_of;
 use sqlite::Error;
 use std::alloc::Global;
 
-/// Whether the connection is open: a text is compiled, which writes nothing.
+/// Checks that the connection is open, by compiling a statement, which writes nothing.
 fn check_open<C: SqlConnection>(conn: &mut C) -> Result<(), Error>
     requires idle { (C.state conn.old).in_transaction ≡ false }
     ensures idle { OnOk result ((C.state conn.new).in_transaction ≡ false) }
@@ -33,15 +33,14 @@ fn check_open<C: SqlConnection>(conn: &mut C) -> Result<(), Error>
     ensures kept { HasCleanDisk (C.state conn.new) → OnErr result (IsTrue (C.state conn.new).is_open →
         IsAtRest (C.state conn.new) × ((C.state conn.new).now ≡ (C.state conn.old).now)) }
 {
-    // The proof asks for both: they tell of an open connection that its database is sound, and that it is what is
-    // committed.
+    // The proof uses both calls: they imply that the database of an open connection is sound, and is what is committed.
     let _schema = conn.schema();
     let _idle = conn.is_autocommit();
     let _statement = conn.prepare("SELECT 1")?;
     Ok(())
 }
 
-/// Makes a registry of the database, or takes the one that it is.
+/// Accepts the registry in the database, migrates it, or creates it.
 fn make_or_take<C: SqlConnection>(conn: &mut C) -> Result<(), OpenFault>
     requires idle { (C.state conn.old).in_transaction ≡ false }
     requires rest { HasCleanDisk (C.state conn.old) → IsAtRest (C.state conn.old) }
@@ -80,12 +79,12 @@ fn make_or_take<C: SqlConnection>(conn: &mut C) -> Result<(), OpenFault>
     }
 }
 
-/// Makes the database a registry of version 2: it takes one that is, makes one of a registry of version 1, with the
-/// same devices and no labels, and gives the two tables to a database that has none of ours. It is what `open` does to
-/// the database, and the connection stays with the caller, between two transactions; a second call leaves every row as
-/// it is. `Ok` comes after a commit: of a registry that is taken, the version row is written as it stands.
+/// Makes the database a registry of version 2. It accepts one that exists, migrates one of version 1 with the same
+/// devices and no labels, and creates the two tables in a database that has none of ours. `open` does the same to the
+/// database; here the connection stays with the caller, with no open transaction. A second call leaves every row as it
+/// is. `Ok` is returned after a commit: for an accepted registry, the version row is rewritten unchanged.
 ///
-/// `NotARegistry` says that the database is something else, and it is as it was. After `Refused` it holds what it
+/// `NotARegistry` means that the database is something else, and it is as it was. After `Refused` it holds what it
 /// held, perhaps with the two tables, or as version 2.
 pub fn prepare<C: SqlConnection>(conn: &mut C) -> Result<(), OpenFault>
     requires idle { (C.state conn.old).in_transaction ≡ false }
@@ -113,9 +112,9 @@ impl<C: SqlConnection + Drop> RegistryOver<C> {
         RegistryOver::open_with(alloc, conn, DEFAULT_CACHED)
     }
 
-    /// Prepares the database, as `prepare` does, and holds the connection from then on. So many senders that were
-    /// looked up are remembered, 1 to `MAX_CACHED`. On a refusal the connection is dropped: as it was, where there is
-    /// no memory for the cache, and else as `prepare` left it.
+    /// Prepares the database, as `prepare` does, and keeps the connection. `cache` is the size of the cache in senders,
+    /// 1 to `MAX_CACHED`. A failed open drops the connection: as it was, if there is no memory for the cache, and
+    /// otherwise as `prepare` left it.
     pub fn open_with(alloc: Global, conn: C, cache: usize) -> Result<RegistryOver<C>, OpenFault>
         requires idle { (C.state conn).in_transaction ≡ false }
         requires cached { (1 ≤ cache) × (cache ≤ max_cached) }

@@ -1,4 +1,4 @@
-//! Where the two tables stand in a schema, and what stands beside them.
+//! The two tables in a schema, and the objects beside them.
 ghost use Rattle.std.specs.Prelude.{◌≡◌};
 ghost use Rattle.std.specs.List.{list_any};
 ghost use Rattle.sqlite.specs.Table.{Table};
@@ -40,7 +40,7 @@ fn is_referred(schema: &Schema, name: &[u8]) -> bool
         .any(|table| refers(table, name))
 }
 
-/// Whether a foreign key refers to a table of ours, of whatever version.
+/// Whether a foreign key refers to a table of ours, of either version.
 fn are_referred(schema: &Schema) -> bool
     ensures { result ≡ are_referred schema.now }
 {
@@ -69,14 +69,15 @@ fn counts(schema: &Schema) -> bool
         .any(|table| table.is_counted)
 }
 
-/// Whether a table counts its rowids where nothing holds the counts.
+/// Whether a table counts its rowids without SQLite's table of the counts.
 fn lacks_counts(schema: &Schema) -> bool
     ensures { result ≡ lacks_counts schema.now }
 {
     counts(schema) && schema.table_named(b"sqlite_sequence").is_none()
 }
 
-/// Whether no table counts its rowids so, where that is asked: to make the second version of the first.
+/// Whether a registry of this version allows these tables. In version 1 no table may count its rowids without SQLite's
+/// table of the counts, because the migration would add that table.
 fn are_counted(schema: &Schema, version: Version) -> bool
     ensures { result ≡ are_counted version schema.now }
 {
@@ -86,7 +87,7 @@ fn are_counted(schema: &Schema, version: Version) -> bool
     }
 }
 
-/// Whether the tables can be made.
+/// Whether the tables can be created.
 pub fn is_clear(schema: &Schema) -> bool
     ensures { result ≡ is_clear schema.now }
 {
@@ -97,7 +98,7 @@ pub fn is_clear(schema: &Schema) -> bool
         && !lacks_counts(schema)
 }
 
-/// Whether no table but that of this name lies in the tree.
+/// Whether no other table than that of this name is in the tree.
 fn is_lone(schema: &Schema, name: &[u8], tree: u32) -> bool
     ensures { result ≡ is_lone schema.now name.now tree }
 {
@@ -125,7 +126,7 @@ fn tree_named(schema: &Schema, name: &[u8]) -> Option<u32>
     Some(table.tree)
 }
 
-/// The trees of the two tables of this version, where they are left alone.
+/// The trees of the two tables of this version, if other objects do not affect them.
 pub fn trees_in(schema: &Schema, version: Version) -> Option<(u32, u32)>
     ensures { result ≡ trees_in version schema.now }
 {

@@ -1,4 +1,4 @@
-//! The registry.
+//! The registry: the device table with a cache.
 ghost use Rattle.std.specs.Prelude.{◌≡◌, [], true, false, Some, None, option_map, IfOk, IsTrue, OnOk};
 ghost use Rattle.std.specs.FinMap.{get};
 ghost use Rattle.sqlite.specs.State.{HasCleanDisk};
@@ -17,9 +17,9 @@ use learned_devices::{Device, DeviceStore, Label, LearnFault, Receipt, StoreFaul
 use sqlite::Connection;
 use std::marker::Model;
 
-/// The learned devices, over a connection that no one else uses, and a cache of the senders that were looked up last,
-/// known or not. A sender in the cache is answered with no call of the store. The cache is emptied where the store
-/// does not answer, so an entry tells that the connection is open.
+/// The learned devices, over a connection that nothing else uses, and a cache of the senders that were looked up last,
+/// known or unknown. A cached sender is answered without a call of the database. A database failure empties the cache,
+/// so an entry implies that the connection is open.
 #[derive(Drop)]
 pub struct RegistryOver<C: SqlConnection> {
     pub(crate) table: DeviceTable<C>,
@@ -45,7 +45,7 @@ impl<C: SqlConnection> Model for RegistryOver<C> {
         × CacheAgrees (C.state registry.table) registry.cache.entries };
 }
 
-// The device with the label that its sender keeps, of which this is known.
+// The device, with the label of `known`, if the sender is known.
 fn keeping_label(device: Device, known: Option<Device>) -> Device
     ensures { (result.id ≡ device.id) × (known_of result ≡ record {
       eep = device.eep;
@@ -65,7 +65,7 @@ fn keeping_label(device: Device, known: Option<Device>) -> Device
     }
 }
 
-// The device of a sender, of which this is known, with this label in place of its own.
+// The device of a known sender, with this label in place of its own.
 fn with_label(id: u32, known: Device, label: Label) -> Device
     ensures { (result.id ≡ id) × (known_of result ≡ record {
       eep = known.eep;
@@ -82,7 +82,7 @@ fn with_label(id: u32, known: Device, label: Label) -> Device
 }
 
 impl<C: SqlConnection> RegistryOver<C> {
-    // The device of a sender, if it is learned. An answer says besides that the connection is open.
+    // The device of a sender, if it is learned. `Ok` also means that the connection is open.
     fn known(&mut self, id: u32) -> Result<Option<Device>, StoreFault>
         ensures looks_up { LooksUp (kept (C.state self.old)) (kept (C.state self.new)) id result }
         ensures ready { HasCleanDisk (C.state self.new) → OnOk result (AreReady (C.state self.old)
@@ -135,7 +135,7 @@ impl<C: SqlConnection> RegistryOver<C> {
         }
     }
 
-    // Stores a device. A known sender keeps its label; another gets the empty one, which the device has here.
+    // Stores a device. A known sender keeps its label; an unknown one gets the empty label, which the device has here.
     pub(crate) fn put_device(&mut self, device: Device) -> Result<(), LearnFault>
         requires { device.label ≡ [] }
         ensures learns { Learns (kept (C.state self.old)) (kept (C.state self.new)) device result }
@@ -146,8 +146,8 @@ impl<C: SqlConnection> RegistryOver<C> {
         self.learn_kept(keeping_label(device, known))
     }
 
-    /// Learns a device, in place of what was known of its sender. A known sender keeps its label; another gets the
-    /// empty one, which the device has here. `Full` says that 1,000 others are learned. A device that is already
+    /// Learns a device, in place of what was stored for its sender. A known sender keeps its label; an unknown one gets
+    /// the empty label, which the device has here. `Full` means that 1,000 others are learned. A device that is already
     /// stored is written again.
     pub fn learn(&mut self, device: Device) -> Result<Receipt, LearnFault>
         requires { device.label ≡ [] }
@@ -159,7 +159,7 @@ impl<C: SqlConnection> RegistryOver<C> {
         DeviceStore::learn(self, device)
     }
 
-    // Stores a device of a known sender, which has another label.
+    // Stores a device of a known sender, with a new label.
     fn relabel_known(&mut self, device: Device) -> Result<(), StoreFault>
         requires ready { HasCleanDisk (C.state self.old) → IsReady (C.state self.old) }
         requires known { HasCleanDisk (C.state self.old) → (devices : Devices) → HasDevices (C.state self.old) devices
@@ -185,7 +185,7 @@ impl<C: SqlConnection> RegistryOver<C> {
         }
     }
 
-    // Gives a sender this label, if it is learned, and returns whether it is.
+    // Gives a sender this label if it is learned, and returns whether it is.
     pub(crate) fn relabel_as(&mut self, id: u32, label: Label) -> Result<bool, StoreFault>
         ensures relabels { Relabels (kept (C.state self.old)) (kept (C.state self.new)) id label result }
         ensures written { HasCleanDisk (C.state self.new) → (devices : Devices) →
@@ -201,7 +201,7 @@ impl<C: SqlConnection> RegistryOver<C> {
         }
     }
 
-    /// Gives a sender this label, if it is learned, and returns whether it is. A label that it already has is written
+    /// Gives a sender this label if it is learned, and returns whether it is. A label that it already has is written
     /// again.
     pub fn relabel(&mut self, id: u32, text: &str) -> Result<bool, StoreFault>
         requires { is_label text.now ≡ true }
@@ -216,7 +216,7 @@ impl<C: SqlConnection> RegistryOver<C> {
         }
     }
 
-    // Deletes the device of a sender. It commits also where nothing is known of the sender.
+    // Deletes the device of a sender. Commits also if the sender is not known.
     pub(crate) fn delete_device(&mut self, id: u32) -> Result<(), StoreFault>
         ensures forgets { Forgets (kept (C.state self.old)) (kept (C.state self.new)) id result }
         ensures written { HasCleanDisk (C.state self.new) → (devices : Devices) →
@@ -236,7 +236,7 @@ impl<C: SqlConnection> RegistryOver<C> {
         }
     }
 
-    /// Forgets a sender. It commits also where nothing is known of it: the version row is then written as it is.
+    /// Forgets a sender. Commits also if the sender is not known: the version row is then rewritten unchanged.
     pub fn forget(&mut self, id: u32) -> Result<Receipt, StoreFault>
         ensures forgets { Forgets (kept (C.state self.old)) (kept (C.state self.new)) id result }
         ensures receipt { IfOk result (λ receipt. (receipt.id ≡ id) × (receipt.is_learned ≡ false)) }
@@ -247,7 +247,7 @@ impl<C: SqlConnection> RegistryOver<C> {
         DeviceStore::forget(self, id)
     }
 
-    /// All devices, by rising ID.
+    /// All devices, by ascending ID.
     pub fn all(&mut self) -> Result<Vec<Device>, StoreFault>
         ensures { ListsAll (kept (C.state self.old)) (kept (C.state self.new)) result }
     {
@@ -260,8 +260,8 @@ impl<C: SqlConnection> RegistryOver<C> {
         }
     }
 
-    /// Hands the connection on, as it is, with no open transaction. What the registry holds is committed. Whoever opens
-    /// it again asks `is_autocommit` first: of a disk that lied nothing is known.
+    /// Returns the connection unchanged, with no open transaction; all devices of the registry are committed. Before
+    /// opening it again, check `is_autocommit`: nothing is known about a disk that did not return what was written.
     pub fn close(self) -> C
         ensures same { result ≡ self }
         ensures hands_on { HandsOn (C.state self) }

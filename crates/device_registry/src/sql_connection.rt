@@ -1,4 +1,4 @@
-//! What the registry asks of a connection of SQLite.
+//! The registry's interface to a connection of SQLite.
 ghost use Rattle.std.specs.Prelude.{◌≡◌, false, not, IsTrue, IfOk, IfErr, OnOk, OnErr};
 ghost use Rattle.std.specs.FinMap.{empty};
 ghost use Rattle.sqlite.specs.Values.{bound};
@@ -18,10 +18,10 @@ use sqlite::types::ValueRef;
 use sqlite::{Alter, Connection, Error, Row, Statement};
 use sqlite_schema::schema::Schema;
 
-/// What the registry asks of a connection: calls of `sqlite::Connection` and of its statements, in the words of their
-/// contracts, and two of the registry's own, `make_tables` and `migrate_tables`.
+/// The operations that the registry needs of a connection: calls of `sqlite::Connection` and of its statements, with
+/// their contracts, and two of the registry's own, `make_tables` and `migrate_tables`.
 pub trait SqlConnection {
-    /// What it holds, what is committed, and what a stop may leave.
+    /// The state: what the connection shows, what is committed, and what a crash may leave.
     ghost state: { Self → State };
 
     /// Whether no transaction is open.
@@ -74,7 +74,7 @@ pub trait SqlConnection {
         ensures survives { Survives (state self.old) (state self.new)
             (CommitsShowing statement.now.text (bound params.now) (state self.old)) };
 
-    /// Makes the two tables, in a database where nothing has their names, in one transaction.
+    /// Creates the two tables, in a database in which nothing has their names, in one transaction.
     fn make_tables(&mut self) -> Result<(), Error>
         requires idle { (state self.old).in_transaction ≡ false }
         requires clear { HasCleanDisk (state self.old) → IsTrue (is_clear (state self.old).now.schema) ×
@@ -85,7 +85,7 @@ pub trait SqlConnection {
         ensures stop { Survives (state self.old) (state self.new) (λ trees. Holds trees empty) }
         ensures remains { HasCleanDisk (state self.new) → OnErr result (Remains (state self.old) (state self.new)) };
 
-    /// Makes the tables of a registry of the first version those of the second, in one transaction.
+    /// Migrates the tables of a registry of version 1 to version 2, in one transaction.
     fn migrate_tables(&mut self) -> Result<(), Error>
         requires idle { (state self.old).in_transaction ≡ false }
         requires first { HasCleanDisk (state self.old) → IsRegistry First (state self.old).now ×
@@ -98,7 +98,7 @@ pub trait SqlConnection {
             RegistersAs First (state self.old).now devices → Holds trees devices) }
         ensures remains { HasCleanDisk (state self.new) → OnErr result (Remains (state self.old) (state self.new)) };
 
-    // While the connection is open, a stop leaves what is committed.
+    // While the connection is open, a crash leaves what is committed.
     ghost settled: { (s : Self) (trees : Trees) → IsTrue (state s).is_open → (state s).may_leave trees
         → trees ≡ (state s).committed.trees };
 }

@@ -1,5 +1,5 @@
-//! The calls of the store that the registry makes, each by one statement. A call begins with a text that is compiled,
-//! which tells whether the connection is open: nothing is known of what a shut one writes.
+//! The registry's calls of the database, one statement each. Each call first compiles a statement, which fails on a
+//! closed connection: nothing is known about the writes of a closed connection.
 ghost use Rattle.std.specs.Prelude.{◌≡◌, [], ◌∷◌, map, pos, false, Ok, OnOk, OnErr, IfOk, IfErr};
 ghost use Rattle.std.specs.FinMap.{insert};
 ghost use Rattle.sqlite.specs.declared.types.Value.TheVariants.{Int, Text};
@@ -19,7 +19,7 @@ use crate::table::statements::{COUNT_OTHERS, FIND, FIND_ALL, FORGET, PUT, RENEW}
 use learned_devices::{Device, MAX_DEVICES};
 use sqlite::{Error, Row, Statement, params};
 
-/// A text, compiled, which writes nothing. It is refused on a connection that a failure has shut.
+/// Compiles a statement, which writes nothing. Fails on a connection that a failure has closed.
 fn compiled<C: SqlConnection>(conn: &mut C, sql: &str) -> Result<Statement, Error>
     requires { StaysReady (C.state conn.old) }
     ensures text { HasCleanDisk (C.state conn.new) → IfOk result (λ statement. statement.text ≡ sql.now) }
@@ -31,7 +31,7 @@ fn compiled<C: SqlConnection>(conn: &mut C, sql: &str) -> Result<Statement, Erro
     conn.prepare(sql)
 }
 
-/// The rows that a query of one sender shows.
+/// The rows that a query for one sender shows.
 fn rows_for<C: SqlConnection>(
     conn: &mut C,
     statement: &Statement,
@@ -62,7 +62,7 @@ pub(crate) fn look_up<C: SqlConnection>(conn: &mut C, id: u32) -> Result<Vec<Row
     rows_for(conn, &find, id)
 }
 
-/// Whether there is no room for a sender.
+/// Whether the registry is full for a sender.
 pub(crate) fn has_no_room<C: SqlConnection>(conn: &mut C, id: u32) -> Result<bool, Error>
     requires { StaysReady (C.state conn.old) }
     ensures stays { Stays (C.state conn.old) (C.state conn.new) }
@@ -74,7 +74,7 @@ pub(crate) fn has_no_room<C: SqlConnection>(conn: &mut C, id: u32) -> Result<boo
     Ok(number(&rows)? >= MAX_DEVICES as u64)
 }
 
-/// All devices, by rising ID.
+/// The rows of all devices, by ascending ID.
 pub(crate) fn list<C: SqlConnection>(conn: &mut C) -> Result<Vec<Row>, Error>
     requires { StaysReady (C.state conn.old) }
     ensures stays { Stays (C.state conn.old) (C.state conn.new) }
@@ -85,7 +85,6 @@ pub(crate) fn list<C: SqlConnection>(conn: &mut C) -> Result<Vec<Row>, Error>
     conn.query_all_prepared(&all, &[])
 }
 
-/// Runs the statement that puts a device in.
 fn run_put<C: SqlConnection>(
     conn: &mut C,
     id: i64,
@@ -101,7 +100,7 @@ fn run_put<C: SqlConnection>(
     conn.execute(PUT, params![id, eep, maker, label])
 }
 
-/// Puts a device in, in place of what is known of its sender: for any change that makes this device of the sender.
+/// Upserts a device; implements any change whose result is `device`.
 pub(crate) fn put<C: SqlConnection>(conn: &mut C, device: Device) -> Result<usize, Error>
     requires ready { HasCleanDisk (C.state conn.old) → IsReady (C.state conn.old) }
     requires room { HasCleanDisk (C.state conn.old) → (devices : Devices) → Shows
@@ -121,7 +120,6 @@ pub(crate) fn put<C: SqlConnection>(conn: &mut C, device: Device) -> Result<usiz
     )
 }
 
-/// Runs the statement that forgets a sender.
 fn run_forget<C: SqlConnection>(conn: &mut C, id: i64) -> Result<usize, Error>
     ensures runs { HasCleanDisk (C.state conn.new) → Executes forget_text (Int id ∷ [])
         (C.state conn.old) (C.state conn.new) result }
@@ -131,7 +129,7 @@ fn run_forget<C: SqlConnection>(conn: &mut C, id: i64) -> Result<usize, Error>
     conn.execute(FORGET, params![id])
 }
 
-/// Takes out what is known of a sender.
+/// Deletes the device of a sender.
 fn forget<C: SqlConnection>(conn: &mut C, id: u32) -> Result<usize, Error>
     requires { HasCleanDisk (C.state conn.old) → IsReady (C.state conn.old) }
     ensures { Turns (C.state conn.old) (C.state conn.new) (forgotten id) result }
@@ -139,7 +137,7 @@ fn forget<C: SqlConnection>(conn: &mut C, id: u32) -> Result<usize, Error>
     run_forget(conn, i64::from(id))
 }
 
-/// Writes the version as it stands, so that there is a commit where a change changes nothing.
+/// Rewrites the version row unchanged, so that a change without effect commits too.
 pub(crate) fn renew<C: SqlConnection>(conn: &mut C) -> Result<usize, Error>
     requires { HasCleanDisk (C.state conn.old) → IsReady (C.state conn.old) }
     ensures runs { HasCleanDisk (C.state conn.new) → Executes renew_text [] (C.state conn.old)
@@ -159,7 +157,7 @@ pub(crate) fn renew<C: SqlConnection>(conn: &mut C) -> Result<usize, Error>
     conn.execute(RENEW, &[])
 }
 
-/// Takes out what is known of a sender, whose rows these are. Where there is none it commits all the same.
+/// Deletes the device of a sender whose rows are `rows`. Commits also if there is none.
 pub(crate) fn forget_or_renew<C: SqlConnection>(
     conn: &mut C,
     id: u32,

@@ -1,4 +1,4 @@
-//! The two tables of the registry, in the two versions that they have had: their names, their numbers and their ranges.
+//! The two tables of the registry, in both versions: names, numbers and ranges.
 ghost use Rattle.std.specs.Prelude.{◌≡◌, pos};
 ghost use Rattle.device_registry.specs.Stored.{other};
 ghost use Rattle.device_registry.specs.Table.{number_of, device_name, device_text, find_all_text};
@@ -13,12 +13,12 @@ use statements::{CREATE_DEVICE, CREATE_FIRST_DEVICE, FIND_ALL, FIND_ALL_FIRST};
 pub enum Version {
     /// Devices have no labels.
     First,
-    /// They have, and this is what a database of the first version is made when it is opened.
+    /// Devices have labels. Databases of version 1 are migrated to this on open.
     Second,
 }
 
 impl Version {
-    /// The version that it is not.
+    /// The other version.
     pub fn other(self) -> Version
         ensures { result ≡ other self }
     {
@@ -28,7 +28,7 @@ impl Version {
         }
     }
 
-    /// The number that it has in its row.
+    /// The number in its version row.
     pub fn number(self) -> i64
         ensures { result ≡ pos (number_of self) }
     {
@@ -38,7 +38,7 @@ impl Version {
         }
     }
 
-    /// The name of its table of the devices.
+    /// The name of its device table.
     pub fn device(self) -> &'static [u8]
         ensures { result.now ≡ device_name self }
     {
@@ -48,7 +48,7 @@ impl Version {
         }
     }
 
-    /// The text that makes this table.
+    /// The text that creates this table.
     pub fn create_device(self) -> &'static str
         ensures { result.now ≡ device_text self }
     {
@@ -58,7 +58,7 @@ impl Version {
         }
     }
 
-    /// The text that shows all its devices, by rising ID.
+    /// The text that shows all its devices, by ascending ID.
     pub fn find_all(self) -> &'static str
         ensures { result.now ≡ find_all_text self }
     {
@@ -69,11 +69,11 @@ impl Version {
     }
 }
 
-/// The key of the version's row.
+/// The key of the version row.
 pub const KEY: i64 = 1;
 
-/// What stands for no maker.
+/// The stored number for no manufacturer ID.
 pub const NO_MAKER: i64 = -1;
 
-/// The name of the table of the version.
+/// The name of the version table.
 pub const META: &[u8] = b"enogate_meta";

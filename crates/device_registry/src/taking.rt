@@ -1,4 +1,4 @@
-//! Whether a database is a registry, and of which version.
+//! Recognizing a registry and its version.
 ghost use Rattle.std.specs.Prelude.{◌≡◌, [], false, Ok, IsTrue, IfOk, OnErr, MatchOption};
 ghost use Rattle.sqlite.specs.State.{HasCleanDisk, Survives, Shown, IsUnchanged};
 ghost use Rattle.sqlite.specs.Given.{IsPlain};
@@ -16,7 +16,7 @@ use crate::table::statements::{LIST_OBJECTS, READ_VERSION};
 use learned_devices::MAX_DEVICES;
 use sqlite::{Error, Row};
 
-/// The rows that a query with no parameters shows.
+/// The rows that a query without parameters shows.
 fn shown_by<C: SqlConnection>(conn: &mut C, sql: &str) -> Result<Vec<Row>, Error>
     requires { HasCleanDisk (C.state conn.old) → IsPlain (understood
         (C.state conn.old).now.schema sql.now) }
@@ -47,7 +47,7 @@ fn lists_ours<C: SqlConnection>(conn: &mut C, version: Version) -> Result<bool, 
     Ok(are_ours(&rows, version))
 }
 
-/// Whether the version's row is that of this version, and the other rows are those of devices, not too many.
+/// Whether the version row is that of this version, and the other rows are those of devices, not too many.
 fn is_whole<C: SqlConnection>(conn: &mut C, version: Version) -> Result<bool, Error>
     requires { HasCleanDisk (C.state conn.old) → HasTables version (C.state conn.old).now.schema }
     ensures whole { HasCleanDisk (C.state conn.new) → IfOk result (λ yes. IsUnchanged (C.state conn.old)
@@ -71,7 +71,7 @@ fn is_whole<C: SqlConnection>(conn: &mut C, version: Version) -> Result<bool, Er
     Ok(devices_rise(&devices))
 }
 
-/// Whether the database is a registry of this version that may be taken.
+/// Whether the database is a registry of this version that can be accepted.
 fn is_registry<C: SqlConnection>(conn: &mut C, version: Version) -> Result<bool, Error>
     requires { HasCleanDisk (C.state conn.old) → IsAtRest (C.state conn.old) }
     ensures ours { HasCleanDisk (C.state conn.new) → IfOk result (λ yes. IsUnchanged (C.state conn.old)
@@ -92,7 +92,7 @@ fn is_registry<C: SqlConnection>(conn: &mut C, version: Version) -> Result<bool,
     is_whole(conn, version)
 }
 
-/// The version of the registry that the database is, if it is one that may be taken.
+/// The version of the registry in the database, if it can be accepted.
 pub fn version_of<C: SqlConnection>(conn: &mut C) -> Result<Option<Version>, Error>
     requires { HasCleanDisk (C.state conn.old) → IsAtRest (C.state conn.old) }
     ensures found { HasCleanDisk (C.state conn.new) → IfOk result (λ found. IsUnchanged (C.state conn.old)

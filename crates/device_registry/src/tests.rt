@@ -1,4 +1,4 @@
-//! What the calls do to a database, what is remembered, and what a refusal or a stop leaves.
+//! Tests of the effects of calls on a database, of the cache, and of the states after a failure or a crash.
 mod acts;
 mod cache;
 mod crashes;

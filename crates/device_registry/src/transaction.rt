@@ -1,4 +1,4 @@
-//! The statements of a transaction of ours.
+//! The statements of a transaction.
 ghost use Rattle.std.specs.Prelude.{◌≡◌, map, IsTrue, MatchResult};
 ghost use Rattle.sqlite.specs.Effect.{IsDatabase};
 ghost use Rattle.sqlite.specs.State.{HasCleanDisk};
@@ -10,7 +10,7 @@ use crate::table::Version;
 use crate::table::statements::LIST_OBJECTS;
 use sqlite::{Alter, Error, ErrorCode, Transaction};
 
-/// Runs the texts in turn, up to the first that is refused.
+/// Runs the texts in turn, up to the first that fails.
 pub fn run_all<S: Alter>(ours: &mut Transaction<'_, S>, texts: &[&str]) -> Result<(), Error>
     requires { HasCleanDisk (state S.Store ours.old.conn.now) →
         IsTrue (state S.Store ours.old.conn.now).in_transaction }
@@ -25,8 +25,8 @@ pub fn run_all<S: Alter>(ours: &mut Transaction<'_, S>, texts: &[&str]) -> Resul
     Ok(())
 }
 
-/// Runs the texts, and sees that the two tables of this version are listed with our texts then. Where they are not,
-/// SQLite has not done what it was told.
+/// Runs the texts, and checks that the two tables of this version are then listed with our texts. If they are not,
+/// SQLite has not done what the texts say.
 pub fn run_listed<S: Alter>(
     ours: &mut Transaction<'_, S>,
     texts: &[&str],

@@ -15,7 +15,7 @@ use Rattle.erp1_telegrams.specs.declared.telegram.TelegramFault.TheVariants.{Not
 use Rattle.erp1_telegrams.specs.Telegram.{Telegram, CarriesTelegram, is_kind, fits, destination, strength, telegram_in}
 use Rattle.erp1_telegrams.specs.Telegram.{telegram_of, sent}
 
--- ---- the table of the kinds
+-- ---- the table of RORGs
 
 some_test : (a b c d e u v w x y : Bool)
     → (if a then u else if b then v else if c then w else if d then x else if e then y else false) ≡ true
@@ -44,11 +44,11 @@ some_byte false false false true e n h = leb-true 1 n (and_left _ _ h)
 some_byte false false false false true n h = omega (arith, eqb-true n 7 h)
 some_byte false false false false false n h = absurd cc
 
--- every payload has a byte
+-- every payload has at least one byte
 pub fits_some : (r n : ℕ) → fits r n ≡ true → 1 ≤ n
 fits_some r n h = some_byte (r == 0xF6) (r == 0xD5) (r == 0xA5) (r == 0xD2) (r == 0xD4) n h
 
--- ---- a packet that carries a telegram is read so
+-- ---- a packet that carries a telegram is read as that telegram
 
 -- the packet with this data
 abbrev pub packed : ℕ → List ℕ → List ℕ → ℕ → List ℕ → Packet
@@ -128,7 +128,7 @@ carried_of p t h =
       dbm = sym h.dbm i;
     }))
 
--- ---- what is read is carried
+-- ---- what is read is the telegram that the packet carries
 
 guard : {T : Type 0} (b : Bool) (d : TelegramFault) (x : Result T TelegramFault) (t : T)
     → (if b then Err d else x) ≡ Ok t → (b ≡ false) × (x ≡ Ok t)
@@ -214,7 +214,7 @@ sent_of t fit sender dest =
 
 -- ---- what the code reads
 
--- what `new` answers, as a decision list
+-- the result of `new`, as a decision list
 made_is : (r : Result Telegram TelegramFault) (t : Telegram) (k f : Bool) → IfOk r (λ x. x ≡ t)
     → ((r ≡ Err OtherKind) ↔ (k ≡ false)) → ((r ≡ Err BadLength) ↔ ((k ≡ true) × (f ≡ false)))
     → (r ≡ Err NotRadio → ⊥)
@@ -226,7 +226,7 @@ made_is (Err NotRadio) t true true o a b n = absurd (n refl)
 made_is (Err OtherKind) t true true o a b n = absurd (let x = a.0 refl in cc)
 made_is (Err BadLength) t true true o a b n = absurd (let x = (b.0 refl).1 in cc)
 
--- the data behind the kind, w, and the whole data, at one place
+-- the data after the RORG, w, and the whole data, at one index
 same_place : (b w : List ℕ) (n i j : ℕ) → w ≡ drop 1 b → i < 4 → j ≡ n + i
     → get_or w j 0 ≡ get_or (slice_range b (n + 1) (n + 5)) i 0
 same_place b w n i j is below at =
@@ -234,7 +234,7 @@ same_place b w n i j is below at =
     ap (λ (y : List ℕ). get_or y j 0) is ∙ get_or-drop 1 b j 0 ∙ ap (λ (k : ℕ). get_or b k 0) place
     ∙ sym (get_or-drop (n + 1) b i 0) ∙ sym (get_or-take (n + 5 - (n + 1)) (drop (n + 1) b) i 0 (omega arith))
 
--- what the code takes from a packet: w is the data behind the kind, and its last five bytes are the ID and the status
+-- what the code reads from a packet: w is the data after the RORG, and its last five bytes are the ID and the status
 pub record Taken (p : Packet) (w : List ℕ) (id to : ℕ) (level : Option ℕ) : Type 0 where
   pub kind : p.kind ≡ 1
   pub some : 1 ≤ length p.body

@@ -7,8 +7,7 @@ use Rattle.esp3_frames.specs.Packet.{Packet}
 use Rattle.erp1_telegrams.specs.declared.telegram.TelegramFault.{TelegramFault}
 use Rattle.erp1_telegrams.specs.declared.telegram.TelegramFault.TheVariants.{NotRadio, OtherKind, BadLength}
 
--- what a telegram says: its kind, its payload, who sent it, its status, for whom it is, and how strongly it was
--- received, in dBm without the minus
+-- a telegram: its RORG, payload, sender, status and destination, and its signal strength in dBm without the minus sign
 pub record Telegram : Type 0 where
   pub rorg : ℕ
   pub payload : List ℕ
@@ -17,11 +16,11 @@ pub record Telegram : Type 0 where
   pub dest : ℕ
   pub dbm : Option ℕ
 
--- the kinds that are read: RPS, 1BS, 4BS, VLD and UTE (ISO/IEC 14543-3-10, "RORG"). Own choice: no other kind is
+-- the RORGs that are read: RPS, 1BS, 4BS, VLD and UTE (ISO/IEC 14543-3-10, "RORG"). Own choice: no others
 abbrev pub is_kind : ℕ → Bool
 is_kind rorg = rorg == 0xF6 || rorg == 0xD5 || rorg == 0xA5 || rorg == 0xD2 || rorg == 0xD4
 
--- the bytes of payload that a kind may have (ISO/IEC 14543-3-10, "RORG")
+-- the payload lengths, in bytes, of each RORG (ISO/IEC 14543-3-10, "RORG")
 abbrev pub fits : ℕ → ℕ → Bool
 fits rorg n =
     if rorg == 0xF6 then n == 1
@@ -31,7 +30,7 @@ fits rorg n =
     else if rorg == 0xD4 then n == 7
     else false
 
--- the destination in the optional data: the number of subtelegrams, the destination's ID, dBm, the security level
+-- the destination in the optional data: the number of subtelegrams, the destination ID, dBm, the security level
 -- (EnOcean Serial Protocol 3, "Packet type 1: RADIO_ERP1", optional data). Own choice: shorter data is read as a
 -- broadcast
 abbrev pub destination : List ℕ → ℕ
@@ -43,8 +42,8 @@ abbrev pub strength : List ℕ → Option ℕ
 strength (n ∷ a ∷ b ∷ c ∷ d ∷ dbm ∷ security ∷ more) = Some dbm
 strength opt = None
 
--- The packet p carries the telegram t (EnOcean Serial Protocol 3, "Packet type 1: RADIO_ERP1"): its data is the kind,
--- the payload, the four bytes of the sender's ID, the high one first, and the status.
+-- The packet p carries the telegram t (EnOcean Serial Protocol 3, "Packet type 1: RADIO_ERP1"): its data is the RORG,
+-- the payload, the four bytes of the sender ID, the high byte first, and the status.
 pub record CarriesTelegram (p : Packet) (t : Telegram) : Type 0 where
   pub kind : p.kind ≡ 1
   pub id : List ℕ
@@ -68,7 +67,7 @@ telegram_in p =
       dbm = strength p.opt;
     }
 
--- the telegram that a packet carries, or the first fault. That it is the one telegram is the law `one_telegram`.
+-- the telegram that a packet carries, or the first fault. Theorem `one_telegram`: it is the only telegram.
 abbrev pub telegram_of : Packet → Result Telegram TelegramFault
 telegram_of p =
     if not (p.kind == 1) then Err NotRadio
@@ -77,7 +76,7 @@ telegram_of p =
     else if not (fits (slice_index p.body 0) (length p.body - 6)) then Err BadLength
     else Ok (telegram_in p)
 
--- the packet that a telegram is sent in: 3 subtelegrams, the highest value of dBm, no security (EnOcean Serial
+-- the packet in which a telegram is sent: 3 subtelegrams, the highest value of dBm, no security (EnOcean Serial
 -- Protocol 3, "Packet type 1: RADIO_ERP1", the case "send")
 abbrev pub sent : Telegram → Packet
 sent t = record {
@@ -86,7 +85,7 @@ sent t = record {
   opt = 3 ∷ to_be_bytes w32 t.dest ++ 0xFF ∷ 0 ∷ [];
 }
 
--- the longest packet that a telegram is sent in: 20 bytes of data and 7 of optional data, with a header of 6 bytes and
--- one check byte
+-- the maximum length of a packet in which a telegram is sent: 20 bytes of data and 7 of optional data, with a header of
+-- 6 bytes and one CRC
 abbrev pub max_sent : ℕ
 max_sent = 34

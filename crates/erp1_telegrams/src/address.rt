@@ -1,11 +1,11 @@
-//! Which IDs are the gateway's own, and which telegrams it filters out.
+//! The gateway's own IDs, and the telegrams that it filters out.
 ghost use Rattle.std.specs.Prelude.{◌≡◌, true, false, MatchOption};
 ghost use Rattle.erp1_telegrams.specs.Address;
 ghost use Rattle.erp1_telegrams.specs.Address.{filter_reason, is_passed_over};
 
 use crate::telegram::{BROADCAST, Telegram};
 
-/// Whether an ID is a base ID: the first of the 128 IDs that a radio module sends as. It lies in `FF800000` to
+/// Whether an ID is a base ID: the first of the 128 IDs with which a radio module sends. It is from `FF800000` to
 /// `FFFFFF80`, and its low seven bits are 0.
 ///
 /// EnOcean Serial Protocol 3, "CO_WR_IDBASE".
@@ -15,7 +15,7 @@ pub fn is_base(id: u32) -> bool
     id >= 0xFF80_0000 && id <= 0xFFFF_FF80 && id % 128 == 0
 }
 
-/// Whether an ID is one of the 128 that a gateway with this base ID sends as: those from `base` on.
+/// Whether an ID is one of the 128, from `base` on, with which a gateway with this base ID sends.
 ///
 /// EnOcean Serial Protocol 3, "CO_WR_IDBASE".
 pub fn is_own(base: u32, id: u32) -> bool
@@ -29,12 +29,12 @@ pub fn is_own(base: u32, id: u32) -> bool
 pub enum FilterReason {
     /// Its sender is the broadcast ID.
     FromBroadcast,
-    /// It is neither a broadcast nor for this gateway.
+    /// It is neither a broadcast nor addressed to this gateway.
     ForOthers,
 }
 
-/// Why a gateway with this base ID filters a telegram out, or `None` if it does not: the sender is the broadcast ID,
-/// or the destination is neither the broadcast ID nor one of the 128 IDs from `base` on. Own choice.
+/// Why a gateway with this base ID filters out a telegram, or `None` if it does not: the sender is the broadcast ID, or
+/// the destination is neither the broadcast ID nor one of the 128 IDs from `base` on. Own choice.
 pub fn filter_reason(base: u32, telegram: &Telegram) -> Option<FilterReason>
     ensures { MatchOption result (is_passed_over base telegram.now ≡ false)
         (λ reason. (is_passed_over base telegram.now ≡ true) × (reason ≡ filter_reason telegram.now)) }

@@ -1,21 +1,20 @@
 //! Equipment profiles.
 ghost use Rattle.std.specs.Prelude.{◌≡◌};
 
-/// The name of an equipment profile (EnOcean Equipment Profiles, "Structure"): the kind of its telegrams, its
-/// function and its type.
+/// An equipment profile (EnOcean Equipment Profiles, "Structure"): the RORG of its telegrams, its FUNC and its TYPE.
 #[derive(Clone, Copy, Debug, PartialEq, Eq)]
 pub struct Eep {
     /// The RORG of its telegrams.
     pub rorg: u8,
-    /// The function, 0 to 3F.
+    /// The FUNC, 0 to 3F.
     pub func: u8,
-    /// The type within the function, 0 to 7F.
+    /// The TYPE within the FUNC, 0 to 7F.
     pub typ: u8,
 }
 
 impl Eep {
-    /// The profile with this RORG, function and type. In a constant, write a struct literal: a constant of Rattle calls
-    /// no function.
+    /// The profile with this RORG, FUNC and TYPE. In a constant, write a struct literal: a constant of Rattle calls no
+    /// function.
     pub const fn new(rorg: u8, func: u8, typ: u8) -> Eep
         ensures { result ≡ record {
           rorg = rorg;

@@ -1,15 +1,15 @@
-//! Laws of the definitions. Each function does nothing: its contract is the law.
+//! Theorems about the definitions. Each function does nothing: its contract is the theorem.
 ghost use Rattle.std.specs.Prelude.{◌≡◌, ℕ, ◌<◌, ◌^◌, ◌↔◌, length, IsTrue, Some, Ok};
 ghost use Rattle.esp3_frames.specs.Packet.{Packet};
 ghost use Rattle.erp1_telegrams.specs.Telegram.{Telegram, CarriesTelegram, fits, telegram_of, sent};
 
-/// What is read from a packet is the telegram that it carries, and a packet carries at most one.
+/// Reading a packet returns the telegram that it carries, and a packet carries at most one.
 pub fn one_telegram()
     ensures read { (p : Packet) (t : Telegram) → CarriesTelegram p t ↔ (telegram_of p ≡ Ok t) }
     ensures only { (p : Packet) (t u : Telegram) → CarriesTelegram p t → CarriesTelegram p u → t ≡ u }
 {}
 
-/// The packet in which a telegram is sent is read as that telegram, but for its dBm, which is sent as 255.
+/// The packet in which a telegram is sent is read as that telegram, except for its dBm, which is sent as 255.
 pub fn sent_is_read()
     ensures { (t : Telegram) → IsTrue (fits t.rorg (length t.payload)) → t.sender < 2 ^ 32 → t.dest < 2 ^ 32
         → telegram_of (sent t) ≡ Ok (record t { dbm = Some 255 }) }

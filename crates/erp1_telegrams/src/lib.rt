@@ -1,5 +1,5 @@
-//! The radio telegrams of ISO/IEC 14543-3-10, in packets of EnOcean Serial Protocol 3 of the type RADIO_ERP1: read from
-//! a packet, and written as one; and the IDs that a gateway has for its own. Nothing here takes memory.
+//! The radio telegrams of ISO/IEC 14543-3-10: reading them from packets of EnOcean Serial Protocol 3 of the type
+//! RADIO_ERP1, and writing them as such; and the gateway's own IDs. Nothing here allocates.
 #![tactic(auto)]
 
 mod address;

@@ -1,4 +1,4 @@
-//! The kinds of telegrams that the gateway reads, each by its RORG (ISO/IEC 14543-3-10, "RORG").
+//! The RORGs of the telegrams that the gateway reads (ISO/IEC 14543-3-10, "RORG").
 
 /// Repeated switch communication.
 pub const RPS: u8 = 0xF6;
@@ -12,5 +12,5 @@ pub const FOUR_BS: u8 = 0xA5;
 /// A payload of variable length.
 pub const VLD: u8 = 0xD2;
 
-/// Universal teach-in.
+/// Universal teach-in (UTE).
 pub const UTE: u8 = 0xD4;

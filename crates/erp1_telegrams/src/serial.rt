@@ -1,4 +1,4 @@
-//! Telegrams in packets.
+//! Reading and writing telegrams in packets.
 ghost use Rattle.std.specs.Prelude.{◌≡◌, ◌≤◌, ◌+◌, ◌-◌, ◌++◌, length, nat_lt, if◌then◌else◌};
 ghost use Rattle.std.specs.Prelude.{Ok, Err, OnOk, OnErr};
 ghost use Rattle.arrayvec.specs.ArrayVec.{array_vec_len};
@@ -11,9 +11,10 @@ use arrayvec::ArrayVec;
 use esp3_frames::packet_type::RADIO_ERP1;
 use esp3_frames::{PacketFault, PacketRef, write_packet};
 
-/// Reads the telegram that a packet carries (EnOcean Serial Protocol 3, "Packet type 1: RADIO_ERP1"). A fault is the
-/// first one: `NotRadio`, `BadLength` where there is no data, `OtherKind`, and `BadLength` where the payload has not
-/// the length of its kind. Optional data shorter than seven bytes is read as a broadcast without dBm.
+/// Reads the telegram that a packet carries (EnOcean Serial Protocol 3, "Packet type 1: RADIO_ERP1"). Of several faults
+/// it returns the first, in this order: `NotRadio`, `BadLength` if there is no data, `OtherKind`, and `BadLength` if
+/// the payload does not have a length of its RORG. Optional data shorter than seven bytes is read as a broadcast
+/// without dBm.
 pub fn read(p: &PacketRef<'_>) -> Result<Telegram, TelegramFault>
     ensures { result ≡ telegram_of (packet_of p.now) }
 {
@@ -47,8 +48,8 @@ fn addressee(opt: &[u8]) -> (u32, Option<u8>)
 }
 
 /// Appends the packet in which the telegram is sent: with 3 subtelegrams, dBm FF and security level 0, and with the
-/// telegram's own status. `NoRoom` where the packet does not fit behind what `out` holds; then `out` stays as it was.
-/// A packet has at most 34 bytes, so it fits behind 30.
+/// telegram's own status. `NoRoom` if the packet does not fit after the contents of `out`, which then does not change.
+/// A packet has at most 34 bytes, so it fits after 30.
 pub fn write(t: &Telegram, out: &mut ArrayVec<u8, 64>) -> Result<(), PacketFault>
     ensures outcome { result ≡ (if nat_lt (64 - array_vec_len out.old) (length (spelling (sent t.now)))
         then Err PacketFault.NoRoom else Ok tt) }

@@ -1,4 +1,4 @@
-//! One telegram, whichever way it came.
+//! Telegrams, received or to be sent.
 ghost use Rattle.std.specs.Prelude.{◌≡◌, ◌≢◌, ◌↔◌, length, true, false, IsTrue, IfOk, Err};
 ghost use Rattle.erp1_telegrams.specs.Telegram.{fits, is_kind};
 
@@ -7,7 +7,7 @@ use arrayvec::ArrayVec;
 use std::marker::Model;
 use thiserror::Error;
 
-/// The destination of a telegram that is for everyone (EnOcean Serial Protocol 3, "Packet type 1: RADIO_ERP1").
+/// The destination of a broadcast (EnOcean Serial Protocol 3, "Packet type 1: RADIO_ERP1").
 pub const BROADCAST: u32 = 0xFFFF_FFFF;
 
 /// Why there is no telegram.
@@ -16,16 +16,16 @@ pub enum TelegramFault {
     /// The packet is not of the type RADIO_ERP1.
     #[error("no radio packet")]
     NotRadio,
-    /// The telegram's kind, its RORG, is none of RPS, 1BS, 4BS, VLD and UTE.
+    /// The RORG is none of RPS, 1BS, 4BS, VLD and UTE.
     #[error("a telegram of another kind")]
     OtherKind,
-    /// The payload has not the length of the telegram's kind, or the data ends before the sender's ID or the status.
+    /// The payload does not have a length of the telegram's RORG, or the data ends before the sender ID or the status.
     #[error("a telegram of a wrong length")]
     BadLength,
 }
 
-/// A telegram (ISO/IEC 14543-3-10) of one of the five kinds, with a payload of that kind's length. In contracts it is
-/// the record `Telegram` of `specs/Telegram.antt`.
+/// A telegram (ISO/IEC 14543-3-10) with one of the five RORGs, and a payload with a length of that RORG. In contracts
+/// it is the record `Telegram` of `specs/Telegram.antt`.
 #[derive(Clone, Debug, Drop)]
 pub struct Telegram {
     rorg: u8,
@@ -56,9 +56,9 @@ impl Model for Telegram {
 }
 
 impl Telegram {
-    /// A telegram of these parts, as one that is to be sent. The kind is a RORG, the IDs have 32 bits, and dBm stands
-    /// without its minus. `OtherKind` where there is no such kind, and else `BadLength` where the payload has not the
-    /// kind's length.
+    /// A telegram with these parts, to be sent. The IDs have 32 bits, and dBm is given without its minus sign.
+    /// `OtherKind` if the RORG is not one of the five, and otherwise `BadLength` if the payload does not have a length
+    /// of the RORG.
     pub fn new(
         rorg: u8,
         payload: &[u8],
@@ -99,14 +99,14 @@ impl Telegram {
         })
     }
 
-    /// The kind of the telegram: F6 is RPS, D5 1BS, A5 4BS, D2 VLD and D4 UTE (ISO/IEC 14543-3-10, "RORG").
+    /// The RORG: F6 is RPS, D5 1BS, A5 4BS, D2 VLD and D4 UTE (ISO/IEC 14543-3-10, "RORG").
     pub fn rorg(&self) -> u8
         ensures { result ≡ self.now.rorg }
     {
         self.rorg
     }
 
-    /// What the sender says: 1 byte at RPS and 1BS, 4 bytes at 4BS, 1 to 14 bytes at VLD and 7 bytes at UTE.
+    /// The payload: 1 byte for RPS and 1BS, 4 bytes for 4BS, 1 to 14 bytes for VLD, and 7 bytes for UTE.
     pub fn payload(&self) -> &[u8]
         ensures value { result.now ≡ self.now.payload }
         ensures length_fits { IsTrue (fits self.now.rorg (length self.now.payload)) }
@@ -121,22 +121,22 @@ impl Telegram {
         self.sender
     }
 
-    /// The status byte: the repeater's count in its low four bits, and at RPS the bits T21 and NU
-    /// (ISO/IEC 14543-3-10, "Status").
+    /// The status byte: the repeater count in its low four bits, and for RPS the bits T21 and NU (ISO/IEC 14543-3-10,
+    /// "Status").
     pub fn status(&self) -> u8
         ensures { result ≡ self.now.status }
     {
         self.status
     }
 
-    /// The ID of the device that it is for, or `BROADCAST`.
+    /// The ID of the device that it is addressed to, or `BROADCAST`.
     pub fn dest(&self) -> u32
         ensures { result ≡ self.now.dest }
     {
         self.dest
     }
 
-    /// How strongly it was received, in dBm without the minus: 45 is -45 dBm. None where the packet did not say it.
+    /// The signal strength in dBm without the minus sign: 45 is -45 dBm. `None` if the packet did not contain it.
     pub fn dbm(&self) -> Option<u8>
         ensures { result ≡ self.now.dbm }
     {
@@ -144,7 +144,7 @@ impl Telegram {
     }
 }
 
-/// Whether telegrams of this kind are read.
+/// Whether telegrams with this RORG are read.
 pub(crate) fn is_kind(rorg: u8) -> bool
     ensures { result ≡ is_kind rorg }
 {
@@ -154,7 +154,7 @@ pub(crate) fn is_kind(rorg: u8) -> bool
     )
 }
 
-/// Whether a telegram of this kind may have this many bytes of payload.
+/// Whether a payload of this RORG may have this many bytes.
 fn fits(rorg: u8, len: usize) -> bool
     ensures { result ≡ fits rorg len }
 {

@@ -1,4 +1,4 @@
--- The check byte of one byte more, and what the table has.
+-- The CRC of a message with one more byte, and the entries of the table.
 use Rattle.std.proofs.Common.{◌≡◌, ℕ, zero, suc, ◌+◌, ◌-◌, ◌*◌, ◌^◌, ◌<◌, Bool, true, false, cond, ltb, eqb}
 use Rattle.std.proofs.Common.{List, [], ◌∷◌, ◌++◌, length, get_or, bit_xor, refl, sym, ap, ◌∙◌, append_assoc, arith}
 use Rattle.std.proofs.Common.{length-append, inl, inr, zero-add}
@@ -39,14 +39,14 @@ times_x_byte n h = elim (cases_lt n 128) [
       omega (arith, ap times_x e, high_half r (omega arith), b)
 ]
 
--- sums by `xor`, regrouped
+-- sums with `xor`, regrouped
 swap_right : (a b c : ℕ) → bit_xor (bit_xor a b) c ≡ bit_xor (bit_xor a c) b
 swap_right a b c = xor_assoc a b c ∙ ap (λ n. bit_xor a n) (xor_comm b c) ∙ sym (xor_assoc a c b)
 
 cancel_right : (a c : ℕ) → bit_xor (bit_xor a c) c ≡ a
 cancel_right a c = xor_assoc a c c ∙ ap (λ n. bit_xor a n) (xor_self c) ∙ xor_zero_r a
 
--- what times_x makes of a sum
+-- times_x of a sum
 both_low : (a b : ℕ) → a < 128 → b < 128 → times_x (bit_xor a b) ≡ bit_xor (times_x a) (times_x b)
 both_low a b ha hb =
     let h : bit_xor a b < 2 ^ 7 = xor_lt 7 a b (omega arith) (omega arith) in
@@ -134,7 +134,7 @@ pub check_byte : (m : List ℕ) → check m < 256
 unfolding check
 check_byte m = remainder_byte (bits m)
 
--- a bit behind
+-- one more bit at the end
 more_bit : (c : Bool) (n : ℕ) → cond c (times_x n) 0 ≡ times_x (cond c n 0)
 more_bit true n = refl
 more_bit false n = refl
@@ -200,7 +200,7 @@ check_fed : (m : List ℕ) (b : ℕ) → check (m ++ b ∷ []) ≡ feed (check m
 unfolding check
 check_fed m b = ap remainder (bits_last m b) ∙ remainder_more (bits m) (byte_bits b)
 
--- a byte, eight times times x
+-- times_x eight times, for a byte
 unfoldable pub eighth : ℕ → ℕ
 eighth a = shifted a (true ∷ true ∷ true ∷ true ∷ true ∷ true ∷ true ∷ true ∷ [])
 
@@ -231,7 +231,7 @@ pub check_one : (b : ℕ) → b < 256 → check (b ∷ []) ≡ eighth b
 unfolding same_eighth
 check_one b h = eqb-true _ _ (agree_below_at same_eighth (λ _. true) 256 b all_eighths h)
 
--- one byte more: the check of one byte, the check so far joined with it
+-- one more byte: the CRC of the single byte that is the sum of this byte and the CRC so far
 pub check_next : (m : List ℕ) (b : ℕ) → b < 256 → check (m ++ b ∷ []) ≡ check (bit_xor (check m) b ∷ [])
 check_next m b h =
     let hc = check_byte m in
@@ -246,7 +246,7 @@ check_next m b h =
     ∙ sym (eighth_xor (check m) b hc h)
     ∙ sym (check_one (bit_xor (check m) b) x)
 
--- the table
+-- the table entry of a byte is its CRC
 in_table : ℕ → Bool
 in_table b = eqb (get_or TABLE b 0) (eighth b)
 

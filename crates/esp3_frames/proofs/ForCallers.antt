@@ -1,5 +1,4 @@
--- The facts about the definitions that proofs cite, also those of the crates above: the laws, and steps that they are
--- made of.
+-- The facts about the definitions that proofs cite, also those of the crates above: the theorems, and their steps.
 pub use Rattle.esp3_frames.proofs.CheckLemmas.{check_next, check_nil}
 pub use Rattle.esp3_frames.proofs.PacketLemmas.{one_reading}
 pub use Rattle.esp3_frames.proofs.FrontLemmas.{front_partial}

@@ -1,4 +1,4 @@
--- The frames of a text, by what stands at its front.
+-- The frames of a text, by its front.
 use Rattle.std.proofs.Common.{◌≡◌, ◌≢◌, ℕ, zero, suc, ◌+◌, ◌<◌, ◌≤◌, Bool, false, cond, ◌&&◌}
 use Rattle.std.proofs.Common.{◌==◌, eqb, get_or, List, [], ◌∷◌, ◌++◌, length, take, drop, refl, sym, ap, ◌∙◌, subst}
 use Rattle.std.proofs.Common.{arith, length-append, ◌⊎◌, inl, inr}
@@ -15,7 +15,7 @@ use Rattle.esp3_frames.proofs.PacketLemmas.{packet_length, one_reading, begins_n
 use Rattle.esp3_frames.proofs.FrontLemmas.{front_partial, front_whole}
 use Rattle.esp3_frames.proofs.FramingLemmas.{only_framing, stepped, empty_may_become, front_never}
 
--- one of three things stands there
+-- the front is one of three cases
 pub cases_front : (f : Front) → (f ≡ Never) ⊎ ((f ≡ Partial) ⊎ ((p : Packet) × (f ≡ Whole p)))
 cases_front Never = inl refl
 cases_front Partial = inr (inl refl)
@@ -32,7 +32,7 @@ unfolding frames_after front_of
 frames-never [] e = absurd cc
 frames-never (b ∷ s) e = (omega arith, ap (stepped b s) (sym e))
 
--- a byte that is no sync byte begins no packet
+-- a byte other than the sync byte begins no packet
 no_begin : (b : ℕ) (t : Bool) (x : Front) → b ≢ 0x55 → cond (b == 0x55 && t) x Never ≡ Never
 no_begin b t x n = let e : eqb b 0x55 ≡ false = ne_eqb b 0x55 n in rw e refl
 

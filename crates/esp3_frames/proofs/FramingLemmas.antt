@@ -30,7 +30,7 @@ behind_partial : (b : Bool) (x : Front) → b ≡ true → cond b Partial x ≡ 
 behind_partial true x e h = cc
 behind_partial false x e h = cc
 
--- the cells of a text that begins with a packet
+-- the bytes of a text that begins with a packet
 begins_cells : (p : Packet) (s h l o k c : ℕ) (t r : List ℕ) → (s ∷ h ∷ l ∷ o ∷ k ∷ c ∷ t) ≡ spelling p ++ r
     → IsPacket p (spelling p) → front_of (s ∷ h ∷ l ∷ o ∷ k ∷ c ∷ t) ≡ Never → ⊥
 unfolding front_of
@@ -194,17 +194,17 @@ one_framing (finds {p = p} {front = v} {s = s} {ps = ps} hp e c)
 pub only_framing : (s : List ℕ) (ps : List Packet) (r : List ℕ) → Framing s ps r → (ps ≡ packets_in s) × (r ≡ rest_of s)
 only_framing s ps r c = one_framing c (framing_of s)
 
--- of what a framing leaves one more packet may come
+-- the rest of a framing may become a packet
 pub rest_may_become : {s : List ℕ} {ps : List Packet} {r : List ℕ} → Framing s ps r → MayBecomePacket r
 rest_may_become (ends l) = l
 rest_may_become (skips d c) = rest_may_become c
 rest_may_become (finds hp e c) = rest_may_become c
 
--- a text that may become a packet holds none, and is its own rest
+-- a text that may become a packet contains none, and is its own rest
 pub frames_of-may_become : (w : List ℕ) → MayBecomePacket w → ([] ≡ packets_in w) × (w ≡ rest_of w)
 frames_of-may_become w l = only_framing w [] w (ends l)
 
--- a framing goes on from its rest
+-- a framing continues from its rest
 pub framing-append : {s : List ℕ} {ps : List Packet} {r : List ℕ} (t : List ℕ) (qs : List Packet) (u : List ℕ)
     → Framing s ps r → Framing (r ++ t) qs u → Framing (s ++ t) (ps ++ qs) u
 framing-append t qs u (ends l) c = c

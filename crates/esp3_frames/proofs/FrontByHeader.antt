@@ -1,4 +1,4 @@
--- What stands at the front of a text, by its header.
+-- The front of a text, by its header.
 use Rattle.std.proofs.Common.{◌≡◌, ◌≢◌, ℕ, ◌+◌, ◌*◌, ◌<◌, ◌≤◌, Bool, true, false, cond, ◌&&◌, ◌==◌}
 use Rattle.std.proofs.Common.{eqb, leb, List, [], ◌∷◌, ◌++◌, length, take, drop, get_or, refl, sym, ap, ◌∙◌}
 use Rattle.std.proofs.Common.{arith}
@@ -23,7 +23,7 @@ front-short (s ∷ g ∷ l ∷ o ∷ []) h = refl
 front-short (s ∷ g ∷ l ∷ o ∷ k ∷ []) h = refl
 front-short (s ∷ g ∷ l ∷ o ∷ k ∷ c ∷ w) h = absurd (omega arith)
 
--- so a part of a header is no whole packet
+-- so a part of a header is not a whole packet
 chosen-no_whole : (t : Bool) (p : Packet) → cond t Partial Never ≢ Whole p
 chosen-no_whole true p e = absurd cc
 chosen-no_whole false p e = absurd cc
@@ -97,13 +97,13 @@ front_behind-never d o k w h g =
     let e2 : eqb (get_or w (d + o) 0) (check (take (d + o) w)) ≡ false = ne_eqb _ _ g in
     rw (e1, e2) refl
 
--- a text of at least six bytes whose header is good
+-- a text of at least six bytes with a valid header
 pub front-good : (b : List ℕ) (x : Header) → 6 ≤ length b → header_of (take 6 b) ≡ Ok x
     → front_of b ≡ front_behind x.data_len x.opt_len x.kind (drop 6 b)
 front-good b x long good =
     let s = six_first b (take 6 b) (drop 6 b) long refl refl in front-header b (take 6 b) (drop 6 b) x s.0 s.1 good
 
--- a text of at least six bytes whose header is not
+-- a text of at least six bytes with an invalid header
 pub front-bad : (b : List ℕ) (e : HeaderFault) → 6 ≤ length b → header_of (take 6 b) ≡ Err e → front_of b ≡ Never
 front-bad b e long bad =
     let s = six_first b (take 6 b) (drop 6 b) long refl refl in front-no_header b (take 6 b) (drop 6 b) e s.0 s.1 bad

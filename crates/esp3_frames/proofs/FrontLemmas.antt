@@ -18,7 +18,7 @@ test_fitting h l o f =
     and_from _ _ (and_from _ _ (lt-ltb h 256 f.high) (lt-ltb l 256 f.low))
     (and_from _ _ (lt-ltb o 256 f.opts) (lt-ltb 0 _ f.some))
 
--- a header that fits, with not more than the lengths behind it, may become a packet
+-- a header that fits, followed by at most the announced lengths, may become a packet
 pub completed : (h l o k : ℕ) (w : List ℕ) → Fitting h l o → length w ≤ 256 * h + l + o
     → MayBecomePacket (0x55 ∷ h ∷ l ∷ o ∷ k ∷ check (h ∷ l ∷ o ∷ k ∷ []) ∷ w)
 completed h l o k w f hw =
@@ -57,7 +57,7 @@ completed h l o k w f hw =
 may_become_sync : (s : ℕ) (w : List ℕ) → s ≡ 0x55 → MayBecomePacket (0x55 ∷ w) → MayBecomePacket (s ∷ w)
 may_become_sync s w e h = subst (λ (n : ℕ). MayBecomePacket (n ∷ w)) (sym e) h
 
--- what a test answers
+-- the result of a test
 pub chosen_partial : (b : Bool) → cond b Partial Never ≡ Partial → b ≡ true
 chosen_partial true e = refl
 chosen_partial false e = absurd cc
@@ -81,7 +81,7 @@ may_become_five h l o k e =
     may_become-shorter (0x55 ∷ h ∷ l ∷ o ∷ k ∷ []) (check (h ∷ l ∷ o ∷ k ∷ []) ∷ [])
     (completed h l o k [] (fitting h l o e) (omega arith))
 
--- which of the three a text behind a header is
+-- which of the three cases holds for a text after a header
 behind : (b c : Bool) (p : Packet) (f : Front) → cond b Partial (cond c (Whole p) Never) ≡ f
     → ((b ≡ true) × (f ≡ Partial))
     ⊎ (((b ≡ false) × (c ≡ true) × (f ≡ Whole p)) ⊎ ((b ≡ false) × (c ≡ false) × (f ≡ Never)))
@@ -96,7 +96,7 @@ good false x f e n = absurd (n (sym e))
 same_whole : (p q : Packet) → Whole p ≡ Whole q → q ≡ p
 same_whole p q e = cc
 
--- a text that may become a packet by the test
+-- a text that may become a packet, by the test
 may_become_six : (s h l o k c : ℕ) (w : List ℕ) → front_of (s ∷ h ∷ l ∷ o ∷ k ∷ c ∷ w) ≡ Partial
     → MayBecomePacket (s ∷ h ∷ l ∷ o ∷ k ∷ c ∷ w)
 unfolding front_of made
@@ -133,7 +133,7 @@ front_partial (s ∷ h ∷ l ∷ o ∷ k ∷ []) e = let a =
     and_parts _ _ (chosen_partial _ e) in may_become_sync s _ (eqb-true s 0x55 a.0) (may_become_five h l o k a.1)
 front_partial (s ∷ h ∷ l ∷ o ∷ k ∷ c ∷ w) e = may_become_six s h l o k c w e
 
--- a packet that the test finds stands there
+-- a packet that the test finds is the front of the text
 pub record Found (p : Packet) (w : List ℕ) : Type 0 where
   pub front : List ℕ
   pub rest : List ℕ
@@ -179,7 +179,7 @@ front_whole (s ∷ h ∷ l ∷ o ∷ []) p e = absurd (no_whole _ p e)
 front_whole (s ∷ h ∷ l ∷ o ∷ k ∷ []) p e = absurd (no_whole _ p e)
 front_whole (s ∷ h ∷ l ∷ o ∷ k ∷ c ∷ w) p e = hit_six s h l o k c w p e
 
--- a text that begins a packet passes the tests
+-- a text that begins with a packet passes the tests
 pub fit_parts : (p : Packet) (s h l o k c : ℕ) (w t : List ℕ) → IsPacket p (s ∷ h ∷ l ∷ o ∷ k ∷ c ∷ t)
     → (may_begin (s ∷ h ∷ l ∷ o ∷ []) && c == check (h ∷ l ∷ o ∷ k ∷ [])) ≡ true
 fit_parts p s h l o k c w t hp =

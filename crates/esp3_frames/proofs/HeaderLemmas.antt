@@ -1,4 +1,4 @@
--- What a header says of the packet behind it.
+-- Headers, and what they imply about their packets.
 use Rattle.std.proofs.Common.{◌≡◌, ℕ, ◌+◌, ◌*◌, ◌/◌, ◌%◌, ◌<◌, ◌≤◌, Bool, true, false, cond, List, []}
 use Rattle.std.proofs.Common.{◌∷◌, ◌++◌, length, take, drop, get_or, refl, sym, ap, ◌∙◌, arith}
 use Rattle.std.proofs.Common.{length-take, length-drop}
@@ -12,7 +12,7 @@ use Rattle.esp3_frames.specs.declared.packet.Header.{Header}
 use Rattle.esp3_frames.specs.declared.packet.HeaderFault.{HeaderFault}
 use Rattle.esp3_frames.specs.Packet.{lengths_fit, Packet, header, spelling, IsPacket}
 
--- what a packet's bytes are, by place
+-- the bytes of a packet, by index
 pub record Parts (p : Packet) (s h l o k c : ℕ) (w : List ℕ) : Type 0 where
   pub sync : s ≡ 0x55
   pub high : h ≡ length p.body / 256
@@ -54,7 +54,7 @@ parts_packet p s h l o k c w r =
     ∙ ap (λ (n : ℕ). check ((length p.body / 256) ∷ (length p.body % 256) ∷ length p.opt ∷ n ∷ [])) r.kind) in
     cc
 
--- the check behind the data
+-- the CRC after the data
 pub tail_check : (m r w : List ℕ) (n : ℕ) → n ≡ length m → w ≡ m ++ check m ∷ r → get_or w n 0 ≡ check (take n w)
 tail_check m r w n en ew =
     let at : get_or (m ++ check m ∷ r) (length m) 0 ≡ check m = get_or-append_seam m (check m) r 0 in
@@ -62,7 +62,7 @@ tail_check m r w n en ew =
     ap (λ (i : ℕ). get_or w i 0) en ∙ ap (λ (y : List ℕ). get_or y (length m) 0) ew ∙ at
     ∙ sym (ap (λ (i : ℕ). check (take i w)) en ∙ ap (λ (y : List ℕ). check (take (length m) y)) ew ∙ ap check front)
 
--- what a test of the lengths says
+-- the facts that a test of the lengths implies
 pub record Fitting (h l o : ℕ) : Type 0 where
   pub high : h < 256
   pub low : l < 256
@@ -76,7 +76,7 @@ fitting h l o e =
     let c = and_parts _ _ a.1 in
     record { high = ltb-true h 256 b.0; low = ltb-true l 256 b.1; opts = ltb-true o 256 c.0; some = ltb-true 0 _ c.1 }
 
--- what makes a packet
+-- a packet from its parts
 unfoldable pub made : (k d o : ℕ) (w : List ℕ) → Packet
 made k d o w = record { kind = k; body = take d (take (d + o) w); opt = drop d (take (d + o) w) }
 
@@ -127,7 +127,7 @@ guard false e y x h = (refl, h)
 ok_same : (y x : Header) → ◌≡◌ {A = Result Header HeaderFault} (Ok y) (Ok x) → y ≡ x
 ok_same y x e = cc
 
--- a slice is its first six bytes and the others
+-- a slice consists of its first six bytes and the others
 pub six_first : (b f w : List ℕ) → 6 ≤ length b → f ≡ take 6 b → w ≡ drop 6 b → (length f ≡ 6) × (f ++ w ≡ b)
 six_first b f w h ef ew = (
   ap length ef ∙ omega (arith, length-take 6 b),
@@ -135,7 +135,7 @@ six_first b f w h ef ew = (
       ∙ ap (λ (y : List ℕ). take 6 b ++ y) ew ∙ take-append-drop 6 b,
 )
 
--- what a header that is read says
+-- the facts that a header that is read implies
 pub record Heads (s h l o k c : ℕ) (x : Header) : Type 0 where
   pub sync : s ≡ 0x55
   pub checked : c ≡ check (h ∷ l ∷ o ∷ k ∷ [])

@@ -5,7 +5,7 @@ use Rattle.esp3_frames.specs.Check.{check}
 use Rattle.esp3_frames.specs.Packet.{Packet, spelling, IsPacket, OneReading}
 use Rattle.esp3_frames.specs.Framing.{BeginsWithPacket, MayBecomePacket, NeverPacket}
 
--- two fronts of one length are one
+-- two prefixes of the same length are equal
 pub append_parts : (v w x y : List ℕ) → length v ≡ length w → v ++ x ≡ w ++ y → (v ≡ w) × (x ≡ y)
 append_parts [] [] x y h e = (refl, e)
 append_parts [] (b ∷ w) x y h e = absurd (omega arith)
@@ -16,7 +16,7 @@ append_parts (a ∷ v) (b ∷ w) x y h e =
     let r = append_parts v w x y (omega arith) tails in
     (cc, r.1)
 
--- of two fronts of one list, one begins the other
+-- of two prefixes of one list, one is a prefix of the other
 pub split_fronts : (w t v r : List ℕ) → w ++ t ≡ v ++ r
     → ((m : List ℕ) × (w ≡ v ++ m) × (r ≡ m ++ t)) ⊎ ((m : List ℕ) × (v ≡ w ++ m) × (0 < length m))
 split_fronts w t [] r e = inl (w, refl, sym e)
@@ -61,7 +61,7 @@ spelling_length p =
 pub packet_length : (p : Packet) (w : List ℕ) → IsPacket p w → length w ≡ length p.body + length p.opt + 7
 packet_length p w h = ap length h.bytes ∙ spelling_length p
 
--- a text is not both
+-- a text does not begin with a packet if it may become one
 pub begins_not_may : (w : List ℕ) → BeginsWithPacket w → MayBecomePacket w → ⊥
 begins_not_may w h l =
     let e : w ++ l.more ≡ h.front ++ (h.rest ++ l.more) =

@@ -1,4 +1,4 @@
--- Worked streams, by computing.
+-- Golden tests: framings of streams, by computing.
 use Rattle.std.proofs.Common.{◌≡◌, ℕ, List, [], ◌∷◌, ◌++◌, refl}
 use Rattle.esp3_frames.specs.Check.{power, byte_bits, bits, remainder, check}
 use Rattle.esp3_frames.specs.Packet.{Packet}
@@ -23,18 +23,18 @@ one : frames_of contact ≡ one_contact
 unfolding front_of frames_after check bits remainder power byte_bits
 one = refl
 
--- a wrong data check, and the packet again
+-- a wrong CRC of the data, and then the packet again
 again : frames_of (0x55 ∷ 0x00 ∷ 0x07 ∷ 0x07 ∷ 0x01 ∷ 0x7A ∷ 0xD5 ∷ 0x09 ∷ 0x01 ∷ 0x80 ∷ 0x0A ∷ 0xBC ∷ 0x00 ∷
     0x01 ∷ 0xFF ∷ 0xFF ∷ 0xFF ∷ 0xFF ∷ 0x2D ∷ 0x00 ∷ 0x1E ∷ contact) ≡ one_contact
 unfolding front_of frames_after check bits remainder power byte_bits
 again = refl
 
--- a false sync byte, whose header has a wrong check
+-- a false sync byte, whose header has a wrong CRC
 false_sync : frames_of (0x55 ∷ 0x55 ∷ 0x00 ∷ contact) ≡ one_contact
 unfolding front_of frames_after check bits remainder power byte_bits
 false_sync = refl
 
--- the header of the longest data holds a packet back
+-- the header of the longest data delays a packet
 longest : List ℕ
 longest = 0x55 ∷ 0xFF ∷ 0xFF ∷ 0x00 ∷ 0x09 ∷ 0xC5 ∷ contact
 
@@ -42,7 +42,7 @@ longest_waits : frames_of longest ≡ record { ready = []; rest = longest }
 unfolding longest front_of frames_after check bits remainder power byte_bits
 longest_waits = refl
 
--- a false header holds three packets back
+-- a false header delays three packets
 held : List ℕ
 held = 0x55 ∷ 0x00 ∷ 0x3F ∷ 0x00 ∷ 0x01 ∷ 0xA1 ∷ contact ++ contact ++ contact
 

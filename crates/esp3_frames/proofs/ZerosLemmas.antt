@@ -1,4 +1,4 @@
--- What bytes 00 behind a message make of its check byte, and the check byte of a message in two parts.
+-- The CRC after more zero bytes, and the CRC of a message in two parts.
 use Rattle.std.proofs.Common.{◌≡◌, ℕ, zero, suc, ◌+◌, ◌-◌, ◌%◌, ◌<◌, ◌≤◌, Bool, true, cond, eqb, ltb, List}
 use Rattle.std.proofs.Common.{[], ◌∷◌, ◌++◌, length, replicate, get_or, bit_xor, refl, sym, ap, ◌∙◌, append_assoc}
 use Rattle.std.proofs.Common.{arith, inl, inr, zero-add}
@@ -11,7 +11,7 @@ use Rattle.esp3_frames.specs.declared.check.TheConstants.{TABLE, ROUNDS, PLACES}
 use Rattle.esp3_frames.proofs.CheckLemmas.{check_byte, check_one, remainder_byte, feed, table_at}
 use Rattle.esp3_frames.proofs.CheckLemmas.{feed_xor, shifted, eighth, remainder_more}
 
--- one byte 00 more makes a byte
+-- one more zero byte gives a byte
 one_byte : (c : ℕ) → check (c ∷ []) < 256
 one_byte c = check_byte (c ∷ [])
 
@@ -49,7 +49,7 @@ check_parts m w =
     ∙ ap (λ n. bit_xor n (feed 0 (bits w))) (shifted_bits r w h)
     ∙ ap (bit_xor (after_zeros r (length w))) (fed_from_zero (bits w))
 
--- the check byte of the second part, from that of the first and that of both
+-- the CRC of the second part, from that of the first part and that of both
 pub check_second : (m w : List ℕ) → bit_xor (check (m ++ w)) (after_zeros (check m) (length w)) ≡ check w
 check_second m w =
     let s : ℕ = after_zeros (check m) (length w) in
@@ -70,8 +70,8 @@ check-zeros m n =
     check_parts m (replicate n 0) ∙ ap (bit_xor (after_zeros (check m) (length (replicate n 0)))) (check_zeros n)
     ∙ xor_zero_r _ ∙ ap (after_zeros (check m)) (length-replicate n 0)
 
--- what the tables have: each byte at its place, and the next one after it, in two rows that go round. The places from
--- 254 on have the bytes that stay
+-- the tables: each byte is at its index, and its successor follows it, in two cycles. The entries from index 254 on do
+-- not change
 is_placed : ℕ → Bool
 is_placed c = eqb (get_or ROUNDS (get_or PLACES c 0) 0) c
 
@@ -104,7 +104,7 @@ all_still : agree_below is_still (λ _. true) 256 ≡ true
 unfolding is_still
 all_still = refl
 
--- n bytes 00 go n places on
+-- n zero bytes advance the index by n
 next : (row k : ℕ) → agree_below (is_next row) (λ _. true) 127 ≡ true → row ≤ 127 → k < 127
     → check (get_or ROUNDS (row + k) 0 ∷ []) ≡ get_or ROUNDS (row + (k + 1) % 127) 0
 unfolding is_byte is_next

@@ -1,21 +1,21 @@
--- The framing of a stream, computed. That it is the one framing of the stream is the law `one_framing`.
+-- The framing of a stream, computed. Theorem `one_framing`: it is the only framing of the stream.
 use Rattle.std.specs.Prelude.{ℕ, zero, suc, ◌+◌, ◌*◌, List, [], ◌∷◌, length, take, drop, Bool, ◌&&◌, nat_le}
 use Rattle.std.specs.Prelude.{◌==◌, slice_index, slice_index_or, if◌then◌else◌}
 use Rattle.esp3_frames.specs.Check.{check}
 use Rattle.esp3_frames.specs.Packet.{lengths_fit, Packet}
 
--- some packet begins with these bytes, of which there are at most five: what has not come is taken for the best
+-- some packet may begin with these at most five bytes; missing bytes are assumed to be valid
 abbrev pub may_begin : List ℕ → Bool
 may_begin w =
     slice_index_or w 0 0x55 == 0x55 && lengths_fit (slice_index_or w 1 0) (slice_index_or w 2 0) (slice_index_or w 3 1)
 
--- what stands at the front of a text: no packet whatever follows, a part of one, or a whole one
+-- the front of a text: no packet whatever follows, a part of one, or a whole one
 pub data Front : Type 0 where
   Never : Front
   Partial : Front
   Whole : Packet → Front
 
--- the front of a text whose first six bytes are a good header with these lengths and this type, and w behind it
+-- the front of a text whose first six bytes are a valid header with these lengths and this type, followed by w
 abbrev pub front_behind : ℕ → ℕ → ℕ → List ℕ → Front
 front_behind d o kind w =
     if nat_le (length w) (d + o) then Partial
@@ -29,12 +29,12 @@ front_of (s ∷ h ∷ l ∷ o ∷ k ∷ c ∷ w) =
     else Never
 front_of w = if may_begin w then Partial else Never
 
--- the packets of a stream, and the rest behind them
+-- the packets of a stream, and the rest after them
 pub record Frames : Type 0 where
   pub ready : List Packet
   pub rest : List ℕ
 
--- the frames of what comes after the next n bytes, which belong to a packet
+-- the frames after the next n bytes, which belong to a packet
 unfoldable pub frames_after : ℕ → List ℕ → Frames
 frames_after n [] = record { ready = []; rest = [] }
 frames_after (suc n) (b ∷ s) = frames_after n s
@@ -49,10 +49,10 @@ frames_after zero (b ∷ s) =
 abbrev pub frames_of : List ℕ → Frames
 frames_of s = frames_after zero s
 
--- the packets that a stream holds
+-- the packets in a stream
 abbrev pub packets_in : List ℕ → List Packet
 packets_in s = (frames_of s).ready
 
--- what is left of a stream behind its packets
+-- the rest of a stream after its packets
 abbrev pub rest_of : List ℕ → List ℕ
 rest_of s = (frames_of s).rest

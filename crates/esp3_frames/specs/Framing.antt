@@ -1,4 +1,4 @@
--- Which packets a stream of bytes holds (EnOcean Serial Protocol 3, "UART synchronization (packet detection)").
+-- The packets in a stream of bytes (EnOcean Serial Protocol 3, "UART synchronization (packet detection)").
 use Rattle.std.specs.Prelude.{◌≡◌, ℕ, ◌<◌, List, [], ◌∷◌, ◌++◌, length}
 use Rattle.esp3_frames.specs.Packet.{Packet, IsPacket}
 
@@ -21,9 +21,9 @@ pub record MayBecomePacket (w : List ℕ) : Type 0 where
 abbrev pub NeverPacket : List ℕ → Type 0
 NeverPacket w = (¬ BeginsWithPacket w) × (¬ MayBecomePacket w)
 
--- A stream is a row of single skipped bytes and of packets, and then a rest of which one more packet may come. A byte
--- is skipped only where no packet can begin. Own choice: behind a refused sync byte the search goes on at the very next
--- byte.
+-- A framing of a stream is a sequence of packets and single skipped bytes, and then a rest that may become a packet. A
+-- byte is skipped only if no packet can begin there. Own choice: after a rejected sync byte the search continues at the
+-- very next byte.
 pub data Framing : List ℕ → List Packet → List ℕ → Type 0 where
   ends : {s : List ℕ} → MayBecomePacket s → Framing s [] s
   skips : {b : ℕ} {s : List ℕ} {ps : List Packet} {rest : List ℕ} → NeverPacket (b ∷ s) → Framing s ps rest

@@ -1,4 +1,4 @@
--- What the calls answer.
+-- The results of the calls.
 use Rattle.std.specs.Prelude.{ℕ, ◌+◌, ◌*◌, List, length, not, nat_lt, ◌==◌, ◌||◌, slice_index, slice_range}
 use Rattle.std.specs.Prelude.{if◌then◌else◌, Result, Ok, Err}
 use Rattle.esp3_frames.specs.Check.{check}
@@ -10,7 +10,7 @@ use Rattle.esp3_frames.specs.declared.packet.HeaderFault.TheVariants as header
 use Rattle.esp3_frames.specs.declared.packet.PacketFault.{PacketFault}
 use Rattle.esp3_frames.specs.declared.packet.PacketFault.TheVariants as packet
 
--- the packet that a reference lends
+-- the packet of a reference
 abbrev pub packet_of : PacketRef → Packet
 packet_of r = record { kind = r.kind; body = r.body.now; opt = r.opt.now }
 
@@ -19,7 +19,7 @@ abbrev pub header_in : List ℕ → Header
 header_in b =
     record { data_len = 256 * slice_index b 1 + slice_index b 2; opt_len = slice_index b 3; kind = slice_index b 4 }
 
--- the header in six bytes, or the first fault. Bytes announce what does not fit only where both lengths are 0
+-- the header in six bytes, or the first fault. Announced lengths do not fit only if both are 0
 abbrev pub header_of : List ℕ → Result Header HeaderFault
 header_of b =
     if not (slice_index b 0 == 0x55) then Err header.NotSync
@@ -27,7 +27,7 @@ header_of b =
     else if not (lengths_fit (slice_index b 1) (slice_index b 2) (slice_index b 3)) then Err header.EmptyPacket
     else Ok (header_in b)
 
--- what writing a packet into this much room answers: nothing, or the first fault
+-- the result of writing a packet with this much capacity left: success, or the first fault
 abbrev pub write_outcome : Packet → ℕ → Result (Unit {0}) PacketFault
 write_outcome p room =
     if length p.body + length p.opt == 0 then Err packet.EmptyPacket

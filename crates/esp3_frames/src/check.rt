@@ -1,9 +1,9 @@
-//! The check byte of packets.
+//! The CRC-8 of packets.
 ghost use Rattle.std.specs.Prelude.{◌≡◌, ℕ, List, [], ◌∷◌, ◌++◌, length, bit_xor};
 ghost use Rattle.esp3_frames.specs.Check;
 ghost use Rattle.esp3_frames.specs.Check.{check};
 
-// The check byte of each single byte.
+// The CRC of each single byte.
 static TABLE: [u8; 256] = [
     0x00, 0x07, 0x0e, 0x09, 0x1c, 0x1b, 0x12, 0x15, 0x38, 0x3f, 0x36, 0x31, 0x24, 0x23, 0x2a, 0x2d,
     0x70, 0x77, 0x7e, 0x79, 0x6c, 0x6b, 0x62, 0x65, 0x48, 0x4f, 0x46, 0x41, 0x54, 0x53, 0x5a, 0x5d,
@@ -29,8 +29,8 @@ fn check_of(b: u8) -> u8
     TABLE[b as usize]
 }
 
-/// The check byte of a message that goes on with the byte `b`, where `c` is the check byte of the message so far:
-/// the check byte of the single byte `c ^ b`. The message of no bytes has the check byte 0.
+/// The CRC of a message with one more byte `b`, if `c` is the CRC of the message so far: the CRC of the single byte
+/// `c ^ b`. The empty message has the CRC 0.
 ///
 /// EnOcean Serial Protocol 3, "CRC8 calculation".
 pub fn check8_next(c: u8, b: u8) -> u8
@@ -39,8 +39,7 @@ pub fn check8_next(c: u8, b: u8) -> u8
     check_of(c ^ b)
 }
 
-/// The check byte of a message: CRC-8 with the polynomial x^8 + x^2 + x + 1, from 0, with nothing reflected or
-/// inverted.
+/// The CRC of a message: CRC-8 with the polynomial x^8 + x^2 + x + 1, starting at 0; nothing is reflected or inverted.
 ///
 /// EnOcean Serial Protocol 3, "CRC8 calculation".
 pub fn check8(b: &[u8]) -> u8
@@ -53,8 +52,7 @@ pub fn check8(b: &[u8]) -> u8
     check
 }
 
-// All check bytes in the order in which further bytes 00 of the message change them: two cycles of 127, and then the
-// two that do not change.
+// All CRCs, in the order in which more zero bytes change them: two cycles of 127, and then the two that do not change.
 static ROUNDS: [u8; 256] = [
     0x01, 0x07, 0x15, 0x6b, 0x16, 0x62, 0x29, 0xdf, 0x13, 0x79, 0x68, 0x1f, 0x5d, 0x94, 0xe5, 0xb5,
     0x02, 0x0e, 0x2a, 0xd6, 0x2c, 0xc4, 0x52, 0xb9, 0x26, 0xf2, 0xd0, 0x3e, 0xba, 0x2f, 0xcd, 0x6d,
@@ -94,10 +92,10 @@ static PLACES: [u8; 256] = [
     0xfa, 0x7d, 0x19, 0xb2, 0x5e, 0xd1, 0x95, 0x4b, 0x3b, 0xc1, 0xa2, 0x6d, 0xa1, 0xff, 0x5d, 0xb1,
 ];
 
-// The length of a cycle: 127 bytes 00 more change no check byte.
+// The length of a cycle: 127 more zero bytes change no CRC.
 const ROUND: usize = 127;
 
-// The check byte of a message after `count` bytes 00 more, from its check byte so far.
+// The CRC of a message with the CRC `check`, after `count` more zero bytes.
 fn after_zeros(check: u8, count: usize) -> u8
     ensures { result ≡ Check.after_zeros check count }
 {
@@ -115,9 +113,9 @@ fn after_zeros(check: u8, count: usize) -> u8
     ROUNDS[then]
 }
 
-/// The check byte of the `len` bytes that came between two moments of a running check: `before` was the check byte so
-/// far at the first of them, and `all` at the second. It takes the same few steps for every length. Own choice: the
-/// standard goes through the bytes.
+/// The CRC of the `len` bytes that came between two moments of a running CRC: `before` is the running CRC at the first
+/// moment, and `all` at the second. The number of steps does not depend on the length. Own choice: the standard goes
+/// through the bytes.
 pub fn check8_between(before: u8, all: u8, len: usize) -> u8
     ensures value { result ≡ bit_xor all (Check.after_zeros before len) }
     ensures part { (m w : List ℕ) → before ≡ check m → all ≡ check (m ++ w) → len ≡ length w → result ≡ check w }

@@ -1,4 +1,4 @@
-//! Laws of the definitions. Each function does nothing: its contract is the law.
+//! Theorems about the definitions. Each function does nothing: its contract is the theorem.
 ghost use Rattle.std.specs.Prelude.{◌≡◌, ◌≢◌, ℕ, ◌+◌, ◌<◌, ◌≤◌, List, [], ◌∷◌, ◌++◌, ◌⊎◌};
 ghost use Rattle.std.specs.Prelude.{length, take, drop, slice_index, bit_xor, replicate, if◌then◌else◌, Ok, Err};
 ghost use Rattle.esp3_frames.specs.Check.{check, after_zeros};
@@ -19,26 +19,26 @@ pub fn limits()
     ensures packet { MAX_PACKET ≡ max_packet }
 {}
 
-/// The check byte of a message that is one byte longer.
+/// The CRC of a message with one more byte.
 pub fn check_next()
     ensures { (m : List ℕ) (b : ℕ) → b < 256 → check (m ++ b ∷ []) ≡ check (bit_xor (check m) b ∷ []) }
 {}
 
-/// The check byte of a message in two parts: what as many bytes 00 as the second part has make of the check byte of the
-/// first, joined with the check byte of the second. A row of 127 bytes 00 changes no check byte.
+/// The CRC of a message in two parts: the CRC of the first part, advanced over as many zero bytes as the second part
+/// has, joined with the CRC of the second part. A sequence of 127 zero bytes changes no CRC.
 pub fn check_in_parts()
     ensures parts { (m w : List ℕ) → check (m ++ w) ≡ bit_xor (after_zeros (check m) (length w)) (check w) }
     ensures zeros { (m : List ℕ) (n : ℕ) → check (m ++ replicate n 0) ≡ after_zeros (check m) n }
     ensures period { (c n : ℕ) → c < 256 → after_zeros c (n + 127) ≡ after_zeros c n }
 {}
 
-/// A text is at most one packet, a packet has one text, and no packet begins another.
+/// A text is at most one packet, a packet has one text, and no packet is a proper prefix of another.
 pub fn one_reading()
     ensures { OneReading }
 {}
 
-/// A text begins with a packet, may become one, or never does, and only one of the three. The first and the third stay
-/// so when the text grows; the empty text is of the second kind.
+/// A text begins with a packet, may become one, or never does, and exactly one of the three holds. The first and the
+/// third are stable when the text grows; the empty text may become a packet.
 pub fn one_of_three()
     ensures decided { (w : List ℕ) → BeginsWithPacket w ⊎ (MayBecomePacket w ⊎ NeverPacket w) }
     ensures apart { (w : List ℕ) → BeginsWithPacket w → MayBecomePacket w → ⊥ }
@@ -47,8 +47,8 @@ pub fn one_of_three()
     ensures never_stays { (w t : List ℕ) → NeverPacket w → NeverPacket (w ++ t) }
 {}
 
-/// Each stream has exactly one framing, and of its rest one more packet may come. A text that may become a packet is
-/// its own rest.
+/// Each stream has exactly one framing, and its rest may become a packet. A text that may become a packet is its own
+/// rest.
 pub fn one_framing()
     ensures some { (s : List ℕ) → Framing s (packets_in s) (rest_of s) }
     ensures only { (s r : List ℕ) (ps : List Packet) → Framing s ps r → (ps ≡ packets_in s) × (r ≡ rest_of s) }
@@ -56,15 +56,15 @@ pub fn one_framing()
     ensures whole_rest { (w : List ℕ) → MayBecomePacket w → ([] ≡ packets_in w) × (w ≡ rest_of w) }
 {}
 
-/// The packets of a stream that comes in two parts are those of the first part, and then those of its rest with the
-/// second part behind it.
+/// The packets of a stream in two parts are those of the first part, and then those of its rest followed by the second
+/// part.
 pub fn framing_in_parts()
     ensures packets { (s t : List ℕ) → packets_in (s ++ t) ≡ packets_in s ++ packets_in (rest_of s ++ t) }
     ensures rest { (s t : List ℕ) → rest_of (s ++ t) ≡ rest_of (rest_of s ++ t) }
 {}
 
-/// What stands at the front of a text, computed, is what it is by its definition. No packet is longer than
-/// `max_packet` bytes, and what may become one is shorter.
+/// The computed front of a text agrees with the definition. No packet is longer than `max_packet` bytes, and a text
+/// that may become one is shorter.
 pub fn fronts()
     ensures never { (w : List ℕ) → front_of w ≡ Never → NeverPacket w }
     ensures partial { (w : List ℕ) → front_of w ≡ Partial → MayBecomePacket w × (length w < max_packet) }
@@ -73,8 +73,8 @@ pub fn fronts()
     ensures empty { front_of [] ≡ Partial }
 {}
 
-/// The frames of a text, by what stands at its front: a byte is skipped, nothing is there yet, or a packet is. Bytes up
-/// to the next sync byte are skipped.
+/// The frames of a text, by its front: a byte is skipped, nothing is decided yet, or there is a packet. Bytes up to the
+/// next sync byte are skipped.
 pub fn frames_by_front()
     ensures never { (w : List ℕ) → front_of w ≡ Never → (0 < length w) × (frames_of (drop 1 w) ≡ frames_of w) }
     ensures skipped { (w : List ℕ) (n : ℕ) → n ≤ length w → ((i : ℕ) → i < n → slice_index w i ≢ 0x55) →
@@ -86,7 +86,7 @@ pub fn frames_by_front()
     ensures one { (p : Packet) (w : List ℕ) → IsPacket p w → packets_in w ≡ p ∷ [] }
 {}
 
-/// What stands at the front of a text, by its header: by what has come of it, where that is less than six bytes.
+/// The front of a text, by its header, or by the part of it that is there if the text has less than six bytes.
 pub fn front_by_header()
     ensures short { (b : List ℕ) → length b < 6 → front_of b ≡ (if may_begin b then Partial else Never) }
     ensures bad { (b : List ℕ) (e : HeaderFault) → 6 ≤ length b → header_of (take 6 b) ≡ Err e → front_of b ≡ Never }

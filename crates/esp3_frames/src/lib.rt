@@ -1,6 +1,6 @@
-//! The packets of EnOcean Serial Protocol 3: their check byte, their header, and a whole packet read and written.
-//! Nothing here takes memory. Where packets stand in a stream of bytes is said by the definitions alone
-//! (`specs/Framing.antt`), whose laws stand in `laws`.
+//! The packets of EnOcean Serial Protocol 3: their CRC and header, and reading and writing a whole packet. Nothing here
+//! allocates. Only the definitions (`specs/Framing.antt`) say which packets a stream of bytes contains; `laws` has the
+//! theorems about them.
 #![tactic(auto)]
 
 mod check;

@@ -1,10 +1,11 @@
 //! The limits of a packet (EnOcean Serial Protocol 3, "Packet structure").
 
-/// The longest data of a packet, in bytes: its length is two bytes.
+/// The maximum length of a packet's data, in bytes: the length field has two bytes.
 pub const MAX_DATA: u16 = 65535;
 
-/// The longest optional data of a packet, in bytes: its length is one byte.
+/// The maximum length of a packet's optional data, in bytes: the length field has one byte.
 pub const MAX_OPTIONAL_DATA: u8 = 255;
 
-/// The longest packet, in bytes: six up to the check of the header, the data, the optional data and their check.
+/// The maximum length of a packet, in bytes: six up to the CRC of the header, the data, the optional data and their
+/// CRC.
 pub const MAX_PACKET: usize = 6 + MAX_DATA as usize + MAX_OPTIONAL_DATA as usize + 1;

@@ -1,4 +1,4 @@
-//! Headers and packets, read and written whole.
+//! Reading and writing headers and whole packets.
 ghost use Rattle.std.specs.Prelude.{◌≡◌, ◌≢◌, ℕ, ◌+◌, ◌*◌, ◌-◌, ◌++◌, length, IfSome, IfNone, OnOk, OnErr};
 ghost use Rattle.esp3_frames.specs.Frames.{front_of};
 ghost use Rattle.esp3_frames.specs.Frames.Front.{Whole};
@@ -15,7 +15,7 @@ use thiserror::Error;
 /// The first byte of each packet.
 pub const SYNC_BYTE: u8 = 0x55;
 
-/// What the first six bytes of a packet announce.
+/// The contents of the first six bytes of a packet.
 #[derive(Clone, Copy, Debug, PartialEq, Eq)]
 pub struct Header {
     /// The length of the data, in bytes.
@@ -26,13 +26,13 @@ pub struct Header {
     pub kind: u8,
 }
 
-/// Why six bytes begin no packet. They are looked for in this order.
+/// Why six bytes are not the beginning of a packet. The first that applies is reported, in this order.
 #[derive(Clone, Copy, Debug, PartialEq, Eq, Error)]
 pub enum HeaderFault {
     /// The first byte is not the sync byte `55`.
     #[error("no sync byte")]
     NotSync,
-    /// The sixth byte is not the check byte of the four before it.
+    /// The sixth byte is not the CRC of the four before it.
     #[error("wrong check byte of the header")]
     HeaderCheck,
     /// Both lengths are 0. Own choice: there is no such packet.
@@ -40,15 +40,15 @@ pub enum HeaderFault {
     EmptyPacket,
 }
 
-/// Whether a header may announce these lengths: that of the data in two bytes, high first, and that of the optional
-/// data. Own choice: a packet is not empty.
+/// Whether a header may announce these lengths: that of the data in two bytes, the high byte first, and that of the
+/// optional data. Own choice: a packet is not empty.
 pub fn lengths_fit(high: u8, low: u8, opt_len: u8) -> bool
     ensures { result ≡ Packet.lengths_fit high low opt_len }
 {
     high > 0 || low > 0 || opt_len > 0
 }
 
-/// Reads the sync byte, the header and its check: the first six bytes of a packet. Of several faults it answers the
+/// Reads the sync byte, the header and its CRC: the first six bytes of a packet. Of several faults it returns the
 /// first.
 ///
 /// EnOcean Serial Protocol 3, "Packet structure".
@@ -82,7 +82,7 @@ pub struct PacketRef<'a> {
     pub opt: &'a [u8],
 }
 
-/// The packet with which a slice begins, and how many bytes it has. `None` says that no whole packet begins it.
+/// The packet at the beginning of a slice, and its length in bytes. `None` if the slice begins with no whole packet.
 ///
 /// EnOcean Serial Protocol 3, "Packet structure".
 pub fn first_packet(b: &[u8]) -> Option<(PacketRef<'_>, usize)>
@@ -107,7 +107,7 @@ pub fn first_packet(b: &[u8]) -> Option<(PacketRef<'_>, usize)>
     Some((packet, len + 7))
 }
 
-/// Reads a slice that is one packet, from its sync byte to its last check byte. Any other slice gives `None`.
+/// Reads a slice that is exactly one packet, from its sync byte to its last CRC. Any other slice gives `None`.
 ///
 /// EnOcean Serial Protocol 3, "Packet structure".
 pub fn read_packet(b: &[u8]) -> Option<PacketRef<'_>>
@@ -120,7 +120,7 @@ pub fn read_packet(b: &[u8]) -> Option<PacketRef<'_>>
     }
 }
 
-/// Why a packet is not written. They are looked for in this order.
+/// Why a packet is not written. The first that applies is reported, in this order.
 #[derive(Clone, Copy, Debug, PartialEq, Eq, Error)]
 pub enum PacketFault {
     /// There is neither data nor optional data.
@@ -129,12 +129,12 @@ pub enum PacketFault {
     /// The data is longer than `MAX_DATA`, or the optional data longer than `MAX_OPTIONAL_DATA`.
     #[error("packet too long")]
     TooLong,
-    /// The packet does not fit behind what the buffer holds.
+    /// The packet does not fit after the contents of the buffer.
     #[error("no room for the packet")]
     NoRoom,
 }
 
-/// Appends one packet with its check bytes. Of several faults it answers the first, and leaves the buffer as it was.
+/// Appends one packet with its CRCs. Of several faults it returns the first, and leaves the buffer as it was.
 ///
 /// EnOcean Serial Protocol 3, "Packet structure".
 pub fn write_packet<const CAP: usize>(

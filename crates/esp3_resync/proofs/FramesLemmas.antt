@@ -1,4 +1,4 @@
--- What a framer's bytes hold, by what stands at their front.
+-- The frames of a framer's bytes, by their front.
 use Rattle.std.proofs.Common.{◌≡◌, ◌≢◌, ℕ, zero, suc, ◌+◌, ◌-◌, ◌≤◌, ◌<◌}
 use Rattle.std.proofs.Common.{Bool, true, false, List, [], ◌∷◌, ◌++◌}
 use Rattle.std.proofs.Common.{length, take, drop, get_or, refl, sym, subst, ap, ◌∙◌, arith, append_assoc, inl, inr}
@@ -17,7 +17,7 @@ use Rattle.esp3_frames.proofs.ForCallers.{frames_of-may_become, frames-never, fr
 use Rattle.esp3_frames.proofs.ForCallers.{frames-whole}
 use Rattle.esp3_resync.specs.private.Settled.{ReachesSync}
 
--- where no packet is ready, a text whose front may become one is its own rest
+-- if no packet is ready, a text whose front may become one is its own rest
 pub unready : (s : List ℕ) → front_of s ≢ Never → length (frames_of s).ready ≡ 0
     → (front_of s ≡ Partial) × ((frames_of s).rest ≡ s)
 unready s n e = elim (cases_front (front_of s)) [
@@ -38,14 +38,14 @@ pub frames_of-empty : frames_of [] ≡ record { ready = []; rest = [] }
 unfolding frames_after
 frames_of-empty = refl
 
--- whether a packet is ready, by what stands at the front
+-- whether a packet is ready, by the front
 pub ready_by_front : (b : Bool) (s : List ℕ) (p : Packet) → OnTrue b (front_of s ≡ Whole p)
     → OnFalse b (front_of s ≡ Partial)
     → (IsTrue b → 0 < length (frames_of s).ready) × (0 < length (frames_of s).ready → IsTrue b)
 ready_by_front true s p whole partial = (λ t. ready_whole s p whole, λ h. refl)
 ready_by_front false s p whole partial = (λ t. absurd cc, λ h. absurd (omega (arith, h, unready_partial s partial)))
 
--- a text of which no packet begins at the first byte, from its next sync byte on
+-- a text that begins with no packet, from its next sync byte on
 pub frames_at_sync : (w v : List ℕ) → front_of w ≡ Never → ReachesSync (drop 1 w) v
     → (frames_of v ≡ frames_of w) × (length v < length w)
 frames_at_sync w v never to =
@@ -54,7 +54,7 @@ frames_at_sync w v never to =
       omega (arith, none.0, ap length to.is, length-drop to.count (drop 1 w), length-drop 1 w),
     )
 
--- six bytes make no packet ready
+-- six bytes contain no packet
 pub few : (n : ℕ) (w : List ℕ) → length w ≤ n → n ≤ 6 → length (frames_of w).ready ≡ 0
 few zero w within short =
     ap (λ (v : List ℕ). length (frames_of v).ready) (nil_from_length w (omega arith))
@@ -76,7 +76,7 @@ frames_same f g e d =
     ap (λ (ps : List Packet). record { ready = ps; rest = f.rest }) e
     ∙ ap (λ (r : List ℕ). record { ready = g.ready; rest = r }) d
 
--- where no packet is ready, the frames go on from the rest
+-- if no packet is ready, the frames continue from the rest
 go_on : (s t : List ℕ) → length (frames_of s).ready ≡ 0 → frames_of ((frames_of s).rest ++ t) ≡ frames_of (s ++ t)
 go_on s t none =
     let parts = framing_in_parts s t in
@@ -91,7 +91,7 @@ idle w f n e none =
     let u = unready w n (ap (λ (x : Frames). length x.ready) e ∙ none) in
     sym e ∙ ap frames_of (sym u.1 ∙ ap (λ (x : Frames). x.rest) e ∙ sym (append-nil f.rest))
 
--- where a part of some bytes makes no packet ready, no part of it does
+-- if a prefix of some bytes completes no packet, no prefix of it does
 pub quiet_before : (r b : List ℕ) (i k : ℕ) → length (frames_of (r ++ take i b)).ready ≡ 0 → k ≤ i
     → length (frames_of (r ++ take k b)).ready ≡ 0
 quiet_before r b i k none within =
@@ -111,7 +111,7 @@ quiet_before r b i k none within =
       length-append first others,
     )
 
--- the frames of a part of some bytes, and of more of them
+-- the frames of a prefix of some bytes, and of a longer one
 module _ (r b : List ℕ) (i : ℕ) (f : Frames) (is : f ≡ frames_of (r ++ take i b)) (none : length f.ready ≡ 0) where
   further : (t : List ℕ) (g : Frames) → g ≡ frames_of (f.rest ++ t) → g ≡ frames_of ((r ++ take i b) ++ t)
   further t g next =
@@ -145,14 +145,14 @@ none_ready false zero e h = refl
 none_ready false (suc n) e h = let z = h (omega arith) in absurd cc
 none_ready true n e h = absurd cc
 
--- where no packet is ready, a framer's bytes are its rest, and a part of a packet
+-- if no packet is ready, a framer's bytes are its rest, and a part of a packet
 pub held : (w : List ℕ) (f : Frames) → front_of w ≢ Never → frames_of w ≡ f → length f.ready ≡ 0
     → (front_of w ≡ Partial) × (w ≡ f.rest)
 held w f n e none =
     let u = unready w n (ap (λ (x : Frames). length x.ready) e ∙ none) in
     (u.0, sym u.1 ∙ ap (λ (x : Frames). x.rest) e)
 
--- bytes before the first sync byte hold no packet, and nothing is left of them
+-- bytes before the first sync byte contain no packet, and leave no rest
 pub frames_of-noise : (b : List ℕ) (n : ℕ) → ((i : ℕ) → i < n → get_or b i 0 ≢ 0x55)
     → frames_of (take n b) ≡ record { ready = []; rest = [] }
 frames_of-noise b n none =
@@ -163,7 +163,7 @@ frames_of-noise b n none =
     in
     sym (frames-skipped t (length t) (omega arith) here) ∙ ap frames_of (drop-length t) ∙ frames_of-empty
 
--- bytes that bring nothing change nothing where nothing is held
+-- bytes without a packet or a rest change nothing if nothing is held
 pub noise_taken : (w t : List ℕ) (f : Frames) → w ≡ [] → w ≡ f.rest → frames_of w ≡ f
     → frames_of t ≡ record { ready = []; rest = [] } → f ≡ frames_of (f.rest ++ t)
 noise_taken w t f nil is e none =
@@ -175,7 +175,7 @@ frames_of-one p w h =
     let only = only_framing w (p ∷ []) [] (finds h (sym (append-nil w)) (ends empty_may_become)) in
     frames_same (frames_of w) (record { ready = p ∷ []; rest = [] }) (sym only.0) (sym only.1)
 
--- of a part of a packet no packet is ready
+-- a part of a packet makes no packet ready
 pub quiet_part_of_packet : (p : Packet) (w : List ℕ) (k : ℕ) → IsPacket p w → k < length w
     → length (frames_of (take k w)).ready ≡ 0
 quiet_part_of_packet p w k whole below =

@@ -1,4 +1,4 @@
--- What a header at the front of some bytes says of them.
+-- A header at the front of some bytes, and what it implies about them.
 use Rattle.std.proofs.Common.{◌≡◌, ◌≢◌, ℕ, ◌+◌, ◌<◌, ◌≤◌, Bool, true, false, cond, List, ◌++◌, length, take}
 use Rattle.std.proofs.Common.{drop, get_or, sym, ap, ◌∙◌, arith, length-append, length-take, length-drop, inl, inr}
 use Rattle.std.specs.Prelude.{Some}
@@ -14,7 +14,7 @@ use Rattle.esp3_frames.proofs.ForCallers.{front-short, front-good, front_behind-
 use Rattle.esp3_frames.proofs.ForCallers.{front_behind-never, whole_length}
 use Rattle.esp3_resync.specs.private.Settled.{HasHeader, packet_at}
 
--- less than six bytes that are not to be skipped
+-- less than six bytes that are not skipped
 chosen : (b : Bool) (f : Front) → f ≡ cond b Partial Never → f ≢ Never → f ≡ Partial
 chosen true f e n = e
 chosen false f e n = absurd (n e)
@@ -22,14 +22,14 @@ chosen false f e n = absurd (n e)
 pub short_partial : (w : List ℕ) → length w < 6 → front_of w ≢ Never → front_of w ≡ Partial
 short_partial w short n = chosen (may_begin w) (front_of w) (front-short w short) n
 
--- a header stays when bytes come
+-- a header stays the same when more bytes come
 pub header_stays : (w t : List ℕ) (h : Header) → HasHeader w (Some h) → HasHeader (w ++ t) (Some h)
 header_stays w t h has = (
   omega (arith, has.0, length-append w t),
   ap header_of (take-append-le 6 w t has.0) ∙ has.1,
 )
 
--- the length of what a header announces, and that the check byte behind it is right
+-- the announced length, and that the CRC after it is correct
 abbrev announced_len : Header → ℕ
 announced_len h = h.data_len + h.opt_len
 
@@ -40,7 +40,7 @@ module _ (w : List ℕ) (h : Header) (has : HasHeader w (Some h)) where
   behind : front_of w ≡ front_behind h.data_len h.opt_len h.kind (drop 6 w)
   behind = front-good w h has.0 has.1
 
-  -- the check byte, counted from either front
+  -- the byte of the CRC, by its index after the header and by its index in the packet
   last : get_or (drop 6 w) (announced_len h) 0 ≡ get_or w (announced_len h + 6) 0
   last =
       let e : 6 + announced_len h ≡ announced_len h + 6 = omega arith in
@@ -61,14 +61,14 @@ module _ (w : List ℕ) (h : Header) (has : HasHeader w (Some h)) where
       let n : announced_len h < length (drop 6 w) = omega (arith, length-drop 6 w) in
       behind ∙ front_behind-never h.data_len h.opt_len h.kind (drop 6 w) n (λ e. wrong (sym last ∙ e))
 
-  -- with all its bytes there, it is whole unless it is refused
+  -- with all its bytes there, the packet is whole unless it is rejected
   pub whole : announced_len h + 6 < length w → front_of w ≢ Never → front_of w ≡ Whole (packet_at h w)
   whole long n = elim (cases_eq (get_or w (announced_len h + 6) 0) (check (take (announced_len h) (drop 6 w)))) [
     | inl right ↦ stands long right
     | inr wrong ↦ absurd (n (refused long wrong))
   ]
 
-  -- a part of it is not longer than all but its last byte
+  -- a part of a packet is at most all but its last byte
   pub part_fits : front_of w ≡ Partial → length w ≤ announced_len h + 6
   part_fits p = elim (cases_lt (announced_len h + 6) (length w)) [
     | inl more ↦ absurd (let z = sym p ∙ whole more (λ n. let y = sym p ∙ n in cc) in cc)

@@ -1,4 +1,4 @@
--- What a window keeps beside its bytes, as bytes come and go.
+-- The running CRCs of a window while bytes come and go.
 use Rattle.std.proofs.Common.{◌≡◌, ℕ, ◌+◌, ◌-◌, ◌<◌, ◌≤◌}
 use Rattle.std.proofs.Common.{List, [], ◌∷◌, ◌++◌, length, take, drop, slice_set}
 use Rattle.std.proofs.Common.{get_or, bit_xor, sym, subst, ap, ◌∙◌, append_assoc, arith}
@@ -11,7 +11,7 @@ use Rattle.esp3_frames.specs.Check.{check}
 use Rattle.esp3_frames.proofs.ForCallers.{check_next}
 use Rattle.esp3_resync.specs.private.Running.{Noted}
 
--- after the last byte is the check byte of all
+-- after the last byte is the CRC of all bytes
 pub noted_last : (g w c : List ℕ) (n : ℕ) → n ≡ length w → Noted g w c → get_or c n 0 ≡ check (g ++ w)
 noted_last g w c n e noted =
     noted n (omega arith) ∙ ap (λ (y : List ℕ). check (g ++ y)) (take_all n w (omega arith))
@@ -56,7 +56,7 @@ noted_more g w b c at i k n m start below byte place fits all is noted =
       after,
     )
 
--- the bytes from one place on, and the check bytes beside them, moved to the front
+-- the bytes from one index on, and their CRCs, moved to the front
 pub noted_moved : (g w c d : List ℕ) (s : ℕ) → s ≤ length w
     → ((k : ℕ) → k ≤ length w - s → get_or d k 0 ≡ get_or c (s + k) 0) → Noted g w c
     → Noted (g ++ take s w) (drop s w) d

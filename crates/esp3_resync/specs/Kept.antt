@@ -1,19 +1,19 @@
--- What a buffer keeps of a packet that was handed out.
+-- The contents of a buffer for a returned packet.
 use Rattle.std.specs.Prelude.{◌≡◌, ℕ, ◌+◌, ◌≤◌, List, length, take, drop, vec_capacity, Option, Some, None, IfSome}
 use Rattle.std.specs.Global.{Vec}
 use Rattle.esp3_frames.specs.Packet.{Packet, max_packet}
 use Rattle.esp3_frames.specs.declared.packet.Header.{Header}
 
--- the packet with the header h whose data, and behind it the optional data, are v
+-- the packet with the header h whose data, followed by the optional data, is v
 abbrev pub packet_with : Header → List ℕ → Packet
 packet_with h v = record { kind = h.kind; body = take h.data_len v; opt = drop h.data_len v }
 
--- what a buffer keeps: nothing yet, or a packet
+-- the contents of a buffer: nothing yet, or a packet
 abbrev pub kept : Option Header → List ℕ → Option Packet
 kept None v = None
 kept (Some h) v = Some (packet_with h v)
 
--- there is room for every packet, and what is kept has the lengths that its header announced
+-- there is capacity for every packet, and what is kept has the lengths that its header announced
 pub record Buffered (v : Vec ℕ) (h : Option Header) : Type 0 where
   pub room : max_packet ≤ vec_capacity v
   pub lengths : IfSome h (λ x. x.data_len + x.opt_len ≡ length v.items)

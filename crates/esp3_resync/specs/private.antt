@@ -1,3 +1,3 @@
--- For private clauses: no public contract depends on these.
+-- For private postconditions: no public contract depends on these.
 pub mod Running
 pub mod Settled

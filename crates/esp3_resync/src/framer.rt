@@ -1,4 +1,4 @@
-//! A framer takes the bytes of a serial line, and hands out the packets that they make.
+//! The framer: extracts packets from the bytes of a serial line.
 ghost use Rattle.std.specs.Prelude.{◌≡◌, ◌≢◌, ◌+◌, ℕ, ◌<◌, ◌≤◌, ◌↔◌};
 ghost use Rattle.std.specs.Prelude.{[], ◌∷◌, ◌++◌, length, take};
 ghost use Rattle.std.specs.Prelude.{Some, None, IsTrue, IfOk, IfSome, IfNone};
@@ -17,12 +17,12 @@ use esp3_frames::{Header, MAX_PACKET, PacketRef, first_packet};
 use std::alloc::{AllocError, Global};
 use std::marker::Model;
 
-/// Room for one packet: the one that a framer handed out last, or none yet.
+/// A buffer for one packet: the one that a framer returned last, or none yet.
 #[derive(Drop)]
 pub struct PacketBuf {
-    // The data of the packet, and its optional data behind it.
+    // The data of the packet, followed by its optional data.
     bytes: Vec<u8>,
-    // What its header says: how long the two are, and the type.
+    // The header: the lengths of the two, and the type.
     header: Option<Header>,
 }
 
@@ -39,7 +39,7 @@ impl Model for PacketBuf {
 }
 
 impl PacketBuf {
-    /// A buffer with no packet yet. It takes the memory for every packet that may come; without that it is an error.
+    /// A buffer with no packet yet. Allocates the memory for every packet that may come; fails if there is none.
     pub fn new(alloc: Global) -> Result<PacketBuf, AllocError>
         ensures { IfOk result (λ b. b ≡ None) }
     {
@@ -49,7 +49,7 @@ impl PacketBuf {
         })
     }
 
-    /// The packet that was handed out last, of which the data has a length of two bytes. It takes no memory.
+    /// The packet that was returned last; its data is at most 65,535 bytes. Does not allocate.
     pub fn packet(&self) -> Option<PacketRef<'_>>
         ensures packet { option_map packet_of result ≡ self.now }
         ensures short { IfSome result (λ packet. length packet.body.now ≤ max_data) }
@@ -64,15 +64,15 @@ impl PacketBuf {
     }
 }
 
-/// The bytes of a stream behind the packets that were handed out, seen as the packets that are ready and the rest
-/// behind them, of which one more packet may come.
+/// The bytes of a stream after the packets that were returned: the packets that are ready, and the rest after them,
+/// which may become a packet.
 ///
-/// EnOcean Serial Protocol 3, "UART synchronization (packet detection)". Own choice: behind a refused sync byte the
-/// search goes on at the very next byte, so no byte is lost.
+/// EnOcean Serial Protocol 3, "UART synchronization (packet detection)". Own choice: after a rejected sync byte the
+/// search continues at the very next byte, so no byte is lost.
 #[derive(Drop)]
 pub struct Framer {
     window: Window,
-    // What the first six bytes of the window announce, once they are there.
+    // The contents of the window's first six bytes, once they are there.
     header: Option<Header>,
 }
 
@@ -88,8 +88,7 @@ impl Model for Framer {
 }
 
 impl Framer {
-    /// A framer to which no byte has come. It takes the memory for all that it will ever hold; without that it is an
-    /// error.
+    /// A framer that has received no byte. Allocates all the memory that it will ever use; fails if there is none.
     pub fn new(alloc: Global) -> Result<Framer, AllocError>
         ensures { IfOk result (λ f. f ≡ record { ready = []; rest = [] }) }
     {
@@ -99,7 +98,7 @@ impl Framer {
         })
     }
 
-    /// Whether a packet is ready to be taken. Of the rest one more packet may come.
+    /// Whether a packet is ready. The rest may become one more packet.
     pub fn is_ready(&self) -> bool
         ensures ready { IsTrue result ↔ (0 < length self.now.ready) }
         ensures rest { MayBecomePacket self.now.rest }
@@ -110,7 +109,7 @@ impl Framer {
         }
     }
 
-    /// Takes the next byte of the stream. One byte can make several packets ready. It takes no memory.
+    /// Processes the next byte of the stream. One byte can make several packets ready. Does not allocate.
     pub fn push(&mut self, b: u8)
         requires { length self.old.ready ≡ 0 }
         ensures { self.new ≡ frames_of (self.old.rest ++ b ∷ []) }
@@ -118,8 +117,8 @@ impl Framer {
         let _count = self.push_some(&[b]);
     }
 
-    /// Takes the next bytes of the stream up to the one that makes a packet ready, or all if none does, and returns how
-    /// many it took. It takes no memory.
+    /// Processes the next bytes of the stream up to the one that makes a packet ready, or all if none does, and returns
+    /// their number. Does not allocate.
     pub fn push_run(&mut self, bytes: &[u8]) -> usize
         requires { length self.old.ready ≡ 0 }
         ensures within { result ≤ length bytes.now }
@@ -128,7 +127,7 @@ impl Framer {
         ensures up_to { length self.new.ready ≡ 0 → result ≡ length bytes.now }
         ensures before { (k : ℕ) → k < result → length (frames_of (self.old.rest ++ take k bytes.now)).ready ≡ 0 }
     {
-        // The proof needs what the framer holds at the start.
+        // The proof uses what the framer holds at the start.
         let _held = &self.window;
         let mut count = 0;
         while count < bytes.len() {
@@ -140,8 +139,8 @@ impl Framer {
         count
     }
 
-    // Takes at least one of the next bytes of the stream, and none after the one that makes a packet ready, and returns
-    // how many.
+    // Processes at least one of the next bytes of the stream, and none after the one that makes a packet ready, and
+    // returns their number.
     fn push_some(&mut self, bytes: &[u8]) -> usize
         requires none { length self.old.ready ≡ 0 }
         requires some { 0 < length bytes.now }
@@ -168,9 +167,9 @@ impl Framer {
         count
     }
 
-    /// The packet with which the next bytes of the stream begin, and how many bytes it has. `None` says that a byte is
-    /// held, or that no whole packet begins them. If the packet's bytes were pushed and the packet was taken, the
-    /// framer would be as it is. It copies nothing.
+    /// The packet with which the next bytes of the stream begin, and its length in bytes. `None` if a byte is held, or
+    /// if the bytes begin with no whole packet. If the packet's bytes were pushed and the packet taken, the framer
+    /// would be as it is now. Copies nothing.
     pub fn lend<'b>(&self, bytes: &'b [u8]) -> Option<(PacketRef<'b>, usize)>
         requires { length self.now.ready ≡ 0 }
         ensures within { IfSome result (λ r. (0 < r.1) × (r.1 ≤ length bytes.now)) }
@@ -187,8 +186,8 @@ impl Framer {
         first_packet(bytes)
     }
 
-    /// Hands out the first packet that is ready, and says whether there was one. With none it changes nothing. It takes
-    /// no memory.
+    /// Moves the first packet that is ready into `out`, and returns whether there was one. If there is none, nothing
+    /// changes. Does not allocate.
     pub fn take(&mut self, out: &mut PacketBuf) -> bool
         ensures ready { IsTrue result ↔ (0 < length self.old.ready) }
         ensures taken { OnTrue result ((p : Packet) × (out.new ≡ Some p) × (self.old.ready ≡ p ∷ self.new.ready)

@@ -1,4 +1,4 @@
-//! What stands at the front of a window: a part of a packet, a whole one, or bytes that are to be skipped.
+//! The front of a window: a part of a packet, a whole one, or bytes to skip.
 ghost use Rattle.std.specs.Prelude.{◌≡◌, ◌+◌, ◌↔◌, IsTrue, Some};
 ghost use Rattle.std.specs.Bool.{OnTrue, OnFalse};
 ghost use Rattle.esp3_frames.specs.Frames.{front_of, frames_of};
@@ -9,25 +9,25 @@ ghost use Rattle.esp3_resync.specs.private.Settled.{HasHeader, IsFound, Settled,
 use crate::window::Window;
 use esp3_frames::{Header, SYNC_BYTE, lengths_fit, read_header};
 
-/// What stands at the front of a window.
+/// The front of a window.
 #[derive(Clone, Copy)]
 pub enum Found {
     /// No packet begins here, whatever follows.
     Refused,
-    /// A packet may begin here, of which less than six bytes have come.
+    /// A packet may begin here; less than six of its bytes have come.
     Begun,
-    /// A packet with this header may stand here, or stands here.
+    /// A packet with this header is here, or may be.
     Announced(Header),
 }
 
-/// The length of the data and the optional data that a header announces.
+/// The length of the data and optional data that a header announces.
 pub fn announced_len(header: Header) -> usize
     ensures { result ≡ header.data_len + header.opt_len }
 {
     header.data_len as usize + header.opt_len as usize
 }
 
-/// Whether the packet whose header stands at the front has come whole, where it is not refused.
+/// Whether the packet with the header at the front is complete, if it is not rejected.
 pub fn is_whole(window: &Window, header: Header) -> bool
     requires { Settled window.now (Some header) }
     ensures whole { OnTrue result (front_of window.now ≡ Whole (packet_at header window.now)) }
@@ -36,7 +36,7 @@ pub fn is_whole(window: &Window, header: Header) -> bool
     announced_len(header) + 6 < window.len()
 }
 
-/// Whether the packet whose header stands at the front has come whole, with a wrong check byte.
+/// Whether the packet with the header at the front is complete, with a wrong CRC.
 pub fn is_refused(window: &Window, header: Header) -> bool
     requires { HasHeader window.now (Some header) }
     ensures { IsTrue result ↔ (front_of window.now ≡ Never) }
@@ -45,8 +45,7 @@ pub fn is_refused(window: &Window, header: Header) -> bool
     len + 6 < window.len() && window.byte_or(len + 6, 0) != window.check_of(6, len)
 }
 
-// Whether a packet may begin with these bytes, of which there are at most five. What has not come is taken for the
-// best.
+// Whether a packet may begin with these at most five bytes. Missing bytes are assumed to be valid.
 fn may_begin(window: &Window) -> bool
     ensures { result ≡ Frames.may_begin window.now }
 {
@@ -78,7 +77,7 @@ fn front(window: &Window) -> Found
     }
 }
 
-/// Skips bytes until a packet may stand at the front, and answers its header, once that is there.
+/// Skips bytes until a packet may begin at the front, and returns its header once that is complete.
 pub fn settle(window: &mut Window) -> Option<Header>
     ensures frames { frames_of window.new ≡ frames_of window.old }
     ensures settled { Settled window.new result }
@@ -92,7 +91,8 @@ pub fn settle(window: &mut Window) -> Option<Header>
     }
 }
 
-/// Skips the first byte, at which no packet begins, and then as `settle`: so that byte is not looked at again.
+/// Skips the first byte, at which no packet begins, and then proceeds as `settle`, so it does not check that byte
+/// again.
 pub fn settle_behind(window: &mut Window) -> Option<Header>
     requires { front_of window.old ≡ Never }
     ensures frames { frames_of window.new ≡ frames_of window.old }

@@ -1,4 +1,4 @@
-//! Which packets a stream holds, however its bytes come.
+//! Resynchronization: finding the packets in a stream that arrives in chunks of any size.
 #![tactic(auto)]
 
 mod framer;

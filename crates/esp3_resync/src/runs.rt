@@ -1,4 +1,4 @@
-//! How many of the next bytes of a stream are taken at once: as many as make no packet ready before the last of them.
+//! The number of bytes that can be processed at once: no byte but the last of them may make a packet ready.
 ghost use Rattle.std.specs.Prelude.{◌≡◌, ◌≢◌, ℕ, ◌<◌, ◌≤◌, ◌++◌, length, take, slice_index, Some};
 ghost use Rattle.esp3_frames.specs.Frames.{front_of};
 ghost use Rattle.esp3_frames.specs.Frames.Front.{Partial};
@@ -9,7 +9,7 @@ use crate::window::Window;
 use esp3_frames::{Header, SYNC_BYTE};
 use memchr::memchr;
 
-/// Appends bytes of the packet with whose header the window begins, up to its last one, and returns how many.
+/// Appends bytes of the packet whose header begins the window, up to its last one, and returns their number.
 pub fn push_announced(window: &mut Window, header: Header, bytes: &[u8]) -> usize
     requires has { HasHeader window.old (Some header) }
     requires partial { front_of window.old ≡ Partial }
@@ -25,7 +25,7 @@ pub fn push_announced(window: &mut Window, header: Header, bytes: &[u8]) -> usiz
     count
 }
 
-/// Appends bytes until there are six, which may be a header, and returns how many.
+/// Appends bytes until there are six, which may be a header, and returns their number.
 pub fn push_first(window: &mut Window, bytes: &[u8]) -> usize
     requires { length window.old < 6 }
     ensures within { result ≤ length bytes.now }
@@ -38,7 +38,7 @@ pub fn push_first(window: &mut Window, bytes: &[u8]) -> usize
     count
 }
 
-/// How many bytes precede the first sync byte. Without one these are all.
+/// The number of bytes before the first sync byte: all, if there is none.
 pub fn noise_len(bytes: &[u8]) -> usize
     ensures within { result ≤ length bytes.now }
     ensures none { (i : ℕ) → i < result → slice_index bytes.now i ≢ 0x55 }

@@ -1,4 +1,4 @@
-//! The bytes that a framer holds, in one slice, with a running check byte for each.
+//! The bytes that a framer holds, in one slice, with a running CRC for each.
 ghost use Rattle.std.specs.Prelude.{◌≡◌, ℕ, ◌+◌, ◌<◌, ◌≤◌, List, [], ◌++◌, length, take, drop};
 ghost use Rattle.std.specs.Prelude.{slice_index, slice_index_or, vec_capacity, ◌==◌, IfOk};
 ghost use Rattle.esp3_frames.specs.Check.{check};
@@ -11,14 +11,14 @@ use memchr::memchr;
 use std::alloc::{AllocError, Global};
 use std::marker::Model;
 
-// The number of bytes that come at least between two moves of the bytes held.
+// The minimum number of bytes between two moves of the held bytes.
 const SLACK: usize = 8192;
 
-// The number of bytes for which there is memory.
+// The capacity, in bytes.
 const ROOM: usize = MAX_PACKET + SLACK;
 
-// Goes on with a running check over some bytes: `checks` has the check byte of all bytes before them at `at`. It gets
-// the check byte of all up to each of them.
+// Continues a running CRC over some bytes: `checks` has at `at` the CRC of all bytes before them, and gets the CRC of
+// all bytes up to each of them.
 fn note_checks(checks: &mut [u8], at: usize, bytes: &[u8])
     requires { at + length bytes.now < length checks.old }
     ensures len { length checks.new ≡ length checks.old }
@@ -32,8 +32,8 @@ fn note_checks(checks: &mut [u8], at: usize, bytes: &[u8])
     }
 }
 
-// Moves the bytes from `start` on to the front, with their checks, if `count` bytes more do not fit, and returns where
-// they begin then.
+// Moves the bytes from `start` on to the front, with their CRCs, if `count` more bytes do not fit. Returns their new
+// start.
 fn make_room(bytes: &mut Vec<u8>, start: usize, checks: &mut Vec<u8>, count: usize) -> usize
     requires running { Running bytes.old start checks.old }
     requires few { length bytes.old.items + count ≤ start + max_packet }
@@ -50,7 +50,8 @@ fn make_room(bytes: &mut Vec<u8>, start: usize, checks: &mut Vec<u8>, count: usi
     0
 }
 
-// Makes at least `count` places for checks, within the capacity. So memory is not written to before as many bytes come.
+// Extends `checks` to at least `count` entries, within its capacity. Memory is therefore not written to before as many
+// bytes have come.
 fn make_places(checks: &mut Vec<u8>, count: usize)
     requires { count ≤ vec_capacity checks.old }
     ensures enough { count ≤ length checks.new.items }
@@ -64,17 +65,17 @@ fn make_places(checks: &mut Vec<u8>, count: usize)
     }
 }
 
-/// At most as many bytes of a stream as the longest packet has, appended at the end and dropped at the front.
+/// The held bytes, at most as many as the longest packet has. They are appended at the end and dropped at the front.
 ///
-/// For each byte the check byte of all bytes before it is stored. So the check byte of any part costs the same few
-/// steps, however long the part is, and a refused packet is only searched for the next sync byte.
+/// For each byte, the CRC of all bytes before it is stored. The CRC of any part therefore takes the same few steps,
+/// whatever its length, and a rejected packet is only searched for the next sync byte.
 #[derive(Drop)]
 pub struct Window {
-    // Some bytes that were dropped, and after them those that are held.
+    // Some dropped bytes, and after them the held ones.
     bytes: Vec<u8>,
-    // How many of them were dropped.
+    // The number of dropped bytes.
     start: usize,
-    // For each of all these bytes the check byte of all that came before it, and then the check byte of all.
+    // For each of these bytes the CRC of all bytes before it, and then the CRC of all.
     checks: Vec<u8>,
 }
 
@@ -90,7 +91,7 @@ impl Model for Window {
 }
 
 impl Window {
-    /// An empty window. It takes the memory for all that it will ever hold; without that it is an error.
+    /// An empty window. Allocates all the memory that it will ever use; fails if there is none.
     pub fn new(alloc: Global) -> Result<Window, AllocError>
         ensures { IfOk result (λ w. w ≡ []) }
     {
@@ -104,14 +105,14 @@ impl Window {
         })
     }
 
-    /// The bytes that it holds.
+    /// The held bytes.
     pub fn as_slice(&self) -> &[u8]
         ensures { result.now ≡ self.now }
     {
         &self.bytes[self.start..]
     }
 
-    /// How many bytes it holds.
+    /// The number of held bytes.
     pub fn len(&self) -> usize
         ensures len { result ≡ length self.now }
         ensures within { result ≤ max_packet }
@@ -119,21 +120,21 @@ impl Window {
         self.bytes.len() - self.start
     }
 
-    /// Whether it holds none.
+    /// Whether no byte is held.
     pub fn is_empty(&self) -> bool
         ensures { result ≡ (length self.now == 0) }
     {
         self.len() == 0
     }
 
-    /// The byte at `i`, counted from the front, or `other` where there is none.
+    /// The byte at index `i` from the front, or `other` if there is none.
     pub fn byte_or(&self, i: usize, other: u8) -> u8
         ensures { result ≡ slice_index_or self.now i other }
     {
         self.as_slice().get(i).copied().unwrap_or(other)
     }
 
-    /// The check byte of the `len` bytes from `from` on.
+    /// The CRC of the `len` bytes from index `from` on.
     pub fn check_of(&self, from: usize, len: usize) -> u8
         requires { from + len ≤ length self.now }
         ensures { result ≡ check (take len (drop from self.now)) }
@@ -171,7 +172,7 @@ impl Window {
         self.skip(1 + count);
     }
 
-    /// Moves `count` bytes from the front into `to`, in place of all that stands there.
+    /// Moves `count` bytes from the front into `to`, replacing its contents.
     pub fn move_into(&mut self, count: usize, to: &mut Vec<u8>)
         requires { (count ≤ length self.old) × (count ≤ vec_capacity to.old) }
         ensures rest { self.new ≡ drop count self.old }

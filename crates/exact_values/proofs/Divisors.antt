@@ -10,7 +10,7 @@ use Rattle.std.proofs.Math.Nat.{dvd-mul_right, add-mul, mod-add-div', dvd-add_if
 use Rattle.std.proofs.lemmas.Bool.Decides.{nat_tests}
 use Rattle.exact_values.specs.Ratio.{greatest_divisor}
 
--- the parts without their greatest common divisor have none but 1
+-- two numbers, each divided by their greatest common divisor, have no common divisor but 1
 pub IsGcd-divided : (a b g : ℕ) → 0 < g → IsGcd a b g → IsGcd (a / g) (b / g) 1
 IsGcd-divided a b g p h = (
   one-dvd (a / g),
@@ -45,7 +45,7 @@ greatest_divisor_step k a b g l p h lower = by_cases (eqb (a % suc k) 0 && eqb (
         let other : g ≡ suc k → ⊥ = not_there a b g (suc k) (mod-eq-zero_of_dvd g h.0) (mod-eq-zero_of_dvd g h.1) e in
         lower (omega (arith, other)) p h
 
--- the search downward finds it
+-- the downward search finds it
 pub greatest_divisor_is : (k a b g : ℕ) → g ≤ k → 0 < g → IsGcd a b g → greatest_divisor k a b ≡ g
 unfolding greatest_divisor
 greatest_divisor_is zero a b g l p h = absurd (omega arith)
@@ -58,8 +58,8 @@ pub positive_divisor : (b g : ℕ) → 0 < b → g ∣ b → 0 < g
 positive_divisor b zero p d = absurd (omega (arith, div-mul_cancel zero d))
 positive_divisor b (suc g) p d = omega arith
 
--- what divides the products of two numbers with c divides that of their greatest common divisor with c, as Euclid's
--- steps show
+-- what divides the products of two numbers with c divides that of their greatest common divisor with c, as the steps of
+-- Euclid's algorithm show
 product_divisor : (k a b c : ℕ) → b ≤ k → (g : ℕ) × IsGcd a b g × ((d : ℕ) → d ∣ a * c → d ∣ b * c → d ∣ g * c)
 product_divisor k a zero c l = (a, IsGcd-from_zero a 0 refl, λ d p q. p)
 product_divisor zero a (suc b) c l = absurd (omega arith)
@@ -75,7 +75,7 @@ product_divisor (suc k) a (suc b) c l =
           (subst (λ (n : ℕ). d ∣ n) (sym e) p)),
     )
 
--- what divides a product and has no common divisor with the first factor but 1 divides the other
+-- what divides a product, and has no common divisor with the first factor but 1, divides the second
 pub dvd_of_coprime : (a d c : ℕ) → IsGcd a d 1 → d ∣ a * c → d ∣ c
 dvd_of_coprime a d c h p =
     let found = product_divisor d a d c (omega arith) in

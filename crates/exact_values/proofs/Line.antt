@@ -1,4 +1,4 @@
--- What a raw number stands for, by its distance from a bound.
+-- The value of a raw number, by its distance from a bound.
 use Rattle.std.proofs.Common.{◌≡◌, ℕ, ◌-◌, ◌*◌, ◌≤◌, sym, ap, ◌∙◌, arith, min, max, ⊎_elim}
 use Rattle.std.specs.Prelude.{ℤ, pos, ◌*ℤ◌, ◌+ℤ◌, ◌-ℤ◌}
 use lib.IntN.{neg_ℤ, *ℤ_comm}

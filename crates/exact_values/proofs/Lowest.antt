@@ -27,7 +27,7 @@ product_divided b n g dn db =
     let en = ap (λ k. b / g * k) (div-mul_cancel g dn) in
     omega (arith, eb, en)
 
--- a fraction in lowest terms has the value of the one that it was made of
+-- reducing a fraction to lowest terms keeps its value
 pub value_divided : (t : ℤ) (b g : ℕ) → 0 < g → g ∣ unsigned_abs t → g ∣ b
     → pos b *ℤ int_div t (pos g) ≡ pos (b / g) *ℤ t
 value_divided (pos n) b g p dt db = ap pos (product_divided b n g dt db)
@@ -62,7 +62,7 @@ IsLowest_divided t b g p h =
       no_common_divisor = rw (abs_divided t g q) (IsGcd-divided (unsigned_abs t) b g q h);
     }
 
--- of two fractions with one value, the denominator of the one in lowest terms divides the other's
+-- of two fractions with the same value, the denominator of the one in lowest terms divides the other's
 dvd-den : (a b : Ratio) → IsLowest a → a.num *ℤ pos b.den ≡ b.num *ℤ pos a.den → a.den ∣ b.den
 dvd-den a b h e =
     let sizes : unsigned_abs a.num * b.den ≡ unsigned_abs b.num * a.den =
@@ -70,7 +70,7 @@ dvd-den a b h e =
     dvd_of_coprime (unsigned_abs a.num) a.den b.den h.no_common_divisor
     (subst (λ (n : ℕ). a.den ∣ n) (sym sizes) (dvd-mul_left a.den (unsigned_abs b.num)))
 
--- a factor above 0 can be taken from both sides
+-- a factor above 0 can be cancelled on both sides
 *ℤ-cancel : (x y : ℤ) (d : ℕ) → 0 < d → x *ℤ pos d ≡ y *ℤ pos d → x ≡ y
 *ℤ-cancel x y d p e =
     let l = product_is x (pos d) in

@@ -1,4 +1,4 @@
--- The fraction that a value of the program is (own choice).
+-- The fraction of a Rust value (own choice).
 use Rattle.exact_values.specs.declared.fraction.Fraction.{Fraction}
 use Rattle.exact_values.specs.Ratio.{Ratio}
 

@@ -1,24 +1,24 @@
--- Fractions in lowest terms. They are an own choice: no standard says how a value is written.
+-- Fractions in lowest terms. They are an own choice: no standard says how to write a value.
 use Rattle.std.specs.Prelude.{ℕ, ◌/◌, ◌%◌, ◌<◌, ◌==◌, ◌&&◌, if◌then◌else◌, suc, zero, ℤ, pos, int_div}
 use Rattle.std.specs.Prelude.{unsigned_abs}
 use Rattle.std.specs.Int.{IsGcd}
 
--- a fraction: a numerator with its sign, and a denominator
+-- a fraction: a signed numerator, and a denominator
 pub record Ratio : Type 0 where
   pub num : ℤ
   pub den : ℕ
 
--- r is in lowest terms: the denominator is above 0, and no number but 1 divides both parts
+-- r is in lowest terms: the denominator is above 0, and only 1 divides both parts
 pub record IsLowest (r : Ratio) : Type 0 where
   pub positive : 0 < r.den
   pub no_common_divisor : IsGcd (unsigned_abs r.num) r.den 1
 
--- the greatest of the numbers up to the first that divides both others
+-- the greatest number up to the first argument that divides both others
 unfoldable pub greatest_divisor : ℕ → ℕ → ℕ → ℕ
 greatest_divisor zero a b = 1
 greatest_divisor (suc k) a b = if (a % suc k == 0) && (b % suc k == 0) then suc k else greatest_divisor k a b
 
--- n / d in lowest terms, for a d above 0
+-- n / d in lowest terms, if d is above 0
 unfoldable pub lowest : ℤ → ℕ → Ratio
 lowest n d =
     let g = greatest_divisor d (unsigned_abs n) d in

@@ -1,11 +1,11 @@
-//! Fractions, and the one that a quotient is.
+//! Exact fractions, and quotients as fractions.
 ghost use Rattle.std.specs.Prelude.{◌≡◌, ◌<◌, ◌≤◌, pos, ◌*ℤ◌};
 ghost use Rattle.exact_values.specs.Ratio.{IsLowest, lowest};
 ghost use Rattle.exact_values.specs.Fraction.{ratio};
 
 use crate::divisor::greatest_common_divisor;
 
-/// An exact fraction, which the calls of this crate make in lowest terms: 1024/51, -40/1. In contracts it is
+/// An exact fraction. The functions of this crate return it in lowest terms: 1024/51, -40/1. In contracts it is
 /// `ratio f`, the record `Ratio` of `specs/Ratio.antt`. The default is 0/1.
 #[derive(Clone, Copy, Debug, PartialEq, Eq)]
 pub struct Fraction {
@@ -25,14 +25,14 @@ impl Default for Fraction {
 }
 
 impl Fraction {
-    /// The numerator, which carries the sign: -40 of -40/1.
+    /// The numerator, with the sign: -40 of -40/1.
     pub fn num(&self) -> i64
         ensures { result ≡ (ratio self.now).num }
     {
         self.num
     }
 
-    /// The denominator, above 0 in what this crate makes: 51 of 1024/51.
+    /// The denominator, above 0 in the results of this crate: 51 of 1024/51.
     pub fn den(&self) -> i64
         ensures { result ≡ pos (ratio self.now).den }
     {

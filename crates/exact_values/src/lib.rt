@@ -1,6 +1,6 @@
-//! Exact values of fields: the fraction in lowest terms that a raw number stands for on a line between two bounds, as
-//! the columns "Valid Range" and "Scale" of the EnOcean Equipment Profiles 2.6 give them, or by a divisor. Nothing here
-//! rounds or takes memory.
+//! Exact values of fields, as fractions in lowest terms: of a raw number on a linear scale between two bounds, which
+//! the columns "Valid Range" and "Scale" of the EnOcean Equipment Profiles 2.6 give, or of a raw number and a divisor.
+//! Nothing here rounds or allocates.
 #![tactic(auto)]
 
 mod divisor;

@@ -1,4 +1,4 @@
-//! What a raw number stands for on a line between two bounds.
+//! Linear scales between two bounds.
 ghost use Rattle.std.specs.Prelude.{◌≡◌, ◌≢◌, ◌^◌, ◌≤◌, ◌↔◌, ℤ, pos, negsuc, ◌≤ℤ◌, ◌*ℤ◌};
 ghost use Rattle.std.specs.Prelude.{IsSome, IfSome, option_map};
 ghost use Rattle.exact_values.specs.Ratio.{IsLowest};
@@ -7,11 +7,12 @@ ghost use Rattle.exact_values.specs.Scale.{IsBetween, StandsFor, interpolated, s
 
 use crate::fraction::{Fraction, reduced};
 
-/// What `raw` stands for where `raw_lo` stands for `tenths_lo` tenths of a unit and `raw_hi` for `tenths_hi`, and the
-/// numbers between them in proportion (EnOcean Equipment Profiles 2.6, "Valid Range" and "Scale"): the exact fraction
-/// of the unit, in lowest terms. None where `raw` lies outside the two raw bounds, which themselves are within.
+/// The value of `raw` on the linear scale on which `raw_lo` means `tenths_lo` tenths of a unit and `raw_hi` means
+/// `tenths_hi` (EnOcean Equipment Profiles 2.6, "Valid Range" and "Scale"): the exact fraction of the unit, in lowest
+/// terms. `None` if `raw` is outside the two raw bounds, which themselves are in range.
 ///
-/// The raw bounds differ, stand in either order and are at most 65535; the tenths are at most a million either way.
+/// The raw bounds differ, are in either order, and are at most 65535; the tenths are from minus one million to one
+/// million.
 ///
 /// `scale(127, 255, 0, 0, 400)` is 1024/51: 0 degrees at 255, 40 degrees at 0, and about 20.08 degrees at 127.
 #[tactic(auto, unfolding(crate::specs::Scale::scaled))]
@@ -33,7 +34,7 @@ pub fn scale(raw: u32, raw_lo: u32, raw_hi: u32, tenths_lo: i32, tenths_hi: i32)
     }
 }
 
-// What `raw` stands for, where it lies between the raw bounds.
+// The value of `raw`, which is between the raw bounds.
 fn interpolate(raw: u32, raw_lo: u32, raw_hi: u32, tenths_lo: i32, tenths_hi: i32) -> Fraction
     requires differ { raw_lo ≢ raw_hi }
     requires low { raw_lo ≤ 65535 }
@@ -53,7 +54,7 @@ fn interpolate(raw: u32, raw_lo: u32, raw_hi: u32, tenths_lo: i32, tenths_hi: i3
     reduced(base + more, 10 * width)
 }
 
-// A product of tenths and a distance of raw numbers, and that two such products can be added.
+// A product of tenths and a distance of raw numbers; its contract implies that two such products can be added.
 fn times(tenths: i64, distance: u32) -> i64
     requires low { negsuc 1999999 ≤ℤ tenths }
     requires high { tenths ≤ℤ pos 2000000 }

@@ -1,10 +1,10 @@
--- What a call that reads answers, and leaves.
+-- The result of a call that reads a telegram, and the readings that it leaves.
 use Rattle.std.specs.Prelude.{Bool, List, if◌then◌else◌, Option, Some, None, Result, Ok, Err}
 use Rattle.profile_rows.specs.Reading.{Entry, entries}
 use Rattle.profile_rows.specs.declared.reading.Reading.{Reading}
 use Rattle.profile_rows.specs.declared.unreadable.Unreadable.{Unreadable}
 
--- a refusal, or else the readings that the call leaves
+-- an error, or the readings that the call leaves
 abbrev pub told : Result (Unit {0}) Unreadable → List Reading → Result (List Entry) Unreadable
 told (Ok done) readings = Ok (entries readings)
 told (Err refusal) readings = Err refusal

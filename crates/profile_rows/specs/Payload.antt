@@ -1,4 +1,4 @@
--- The data of a telegram, and what a profile reads in it.
+-- The data of a telegram, and the readings of a profile in it.
 use Rattle.std.specs.Prelude.{ℕ, Bool, true, List, length, not, ◌==◌, if◌then◌else◌, Option, Some, None, Result}
 use Rattle.std.specs.Prelude.{Ok, Err}
 use Rattle.bit_fields.specs.Bits.{field}
@@ -8,7 +8,7 @@ use Rattle.profile_rows.specs.Rows.{Row}
 use Rattle.profile_rows.specs.declared.unreadable.Unreadable.{Unreadable}
 use Rattle.profile_rows.specs.declared.unreadable.Unreadable.TheVariants as refusals
 
--- A payload of this RORG is data, and no teach-in: at 1BS and 4BS the learn bit is 1, and the others have none
+-- A payload of this RORG is data, not teach-in: for 1BS and 4BS the LRN bit is 1, and the others have no LRN bit
 -- (EnOcean Equipment Profiles 2.6, "RPS Telegram", "1BS Telegram" and "4BS Telegram").
 abbrev pub is_data : ℕ → List ℕ → Bool
 is_data rorg payload =
@@ -16,7 +16,8 @@ is_data rorg payload =
     else if rorg == 0xA5 then field payload 28 1 == 1
     else true
 
--- the payload of a data telegram of this RORG, which has n bytes, or the first refusal (own choice: their order)
+-- the payload, of n bytes, of a data telegram with this RORG, or the first reason to reject it (own choice: their
+-- order)
 abbrev pub payload_of : ℕ → ℕ → Telegram → Result (List ℕ) Unreadable
 payload_of rorg n t =
     if not (t.rorg == rorg) then Err refusals.WrongKind
@@ -24,8 +25,8 @@ payload_of rorg n t =
     else if not (is_data rorg t.payload) then Err refusals.OtherMessage
     else Ok t.payload
 
--- what a profile reads in a telegram: what its rows read in the payload, which is `reads`, or the first refusal. Own
--- choice: that the profile has no rows is the first of the refusals
+-- the readings of a telegram by a profile: what its rows read in the payload, which is `reads`, or the first reason to
+-- reject it. Own choice: the first reason is that the profile has no rows
 abbrev pub readings_by :
     (List ℕ → List Row → List Entry) → Option (List Row) → Result (List ℕ) Unreadable → Result (List Entry) Unreadable
 readings_by reads None payload = Err refusals.NotSupported

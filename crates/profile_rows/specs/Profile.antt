@@ -4,17 +4,17 @@ use Rattle.std.specs.List.{find, list_any}
 use Rattle.erp1_telegrams.specs.declared.eep.Eep.{Eep}
 use Rattle.profile_rows.specs.Rows.{Row}
 
--- the profiles of one RORG and one FUNC that share their rows: these types
+-- profiles with the same rows: these types of one RORG and FUNC
 pub record Profiles : Type 0 where
   pub rorg : ℕ
   pub func : ℕ
   pub types : List ℕ
   pub rows : List Row
 
--- the profile has this RORG and this FUNC, and one of these types
+-- the profile has this RORG and FUNC, and one of these types
 unfoldable pub is_one_of : ℕ → ℕ → List ℕ → Eep → Bool
 is_one_of rorg func types eep = eep.rorg == rorg && eep.func == func && list_any (λ typ. eep.typ == typ) types
 
--- the rows of a profile, where it stands in a table
+-- the rows of a profile, if a table has it
 abbrev pub rows_in : List Profiles → Eep → Option (List Row)
 rows_in table eep = option_map (λ ps. ps.rows) (find (λ ps. is_one_of ps.rorg ps.func ps.types eep) table)

@@ -1,5 +1,5 @@
 -- The rows of a profile's table (EnOcean Equipment Profiles 2.6, the tables "Offset, Size, Data, ShortCut, .., Valid
--- Range, Scale, Unit"): where a field stands, when it is read, and what its number means.
+-- Range, Scale, Unit"): the place of a field, the condition under which it is read, and the meaning of its number.
 use Rattle.std.specs.Prelude.{ℕ, ◌^◌, ℤ, pos, Bool, true, List, [], ◌∷◌, codes, Option, Some, None, ◌==◌, ◌&&◌}
 use Rattle.std.specs.Prelude.{nat_lt, if◌then◌else◌}
 use Rattle.std.specs.List.{find, flat_map}
@@ -8,38 +8,38 @@ use Rattle.exact_values.specs.Scale.{scaled}
 use Rattle.bit_fields.specs.Bits.{field}
 use Rattle.profile_rows.specs.Reading.{Meaning, value, word, raw, out_of_range, Entry}
 
--- what the number in a field means
+-- the meaning of the number in a field
 pub data Kind : Type 0 where
-  -- a value: the first number stands for the third, in tenths, and the second for the fourth, in a unit; linear between
-  -- them
+  -- a value with a unit: the first number means the third, in tenths of the unit, and the second means the fourth;
+  -- linear between them
   range : ℕ → ℕ → ℤ → ℤ → List ℕ → Kind
-  -- the word beside the number
+  -- the word listed with the number
   words : List (ℕ × List ℕ) → Kind
-  -- one word below a number, another from it on
+  -- one word below a number, another from that number on
   parted : ℕ → List ℕ → List ℕ → Kind
   -- 0 to 100 percent, and a word for 127
   percent_or : List ℕ → Kind
-  -- a value: the number over a divisor, in a unit
+  -- a value with a unit: the number divided by a divisor
   over : ℕ → List ℕ → Kind
-  -- a value: the number over ten to the power of another field, which has this offset and this length, in a unit
+  -- a value with a unit: the number divided by ten to the power of another field, given by its offset and length
   over_power : ℕ → ℕ → List ℕ → Kind
   -- the number itself
   number : Kind
-  -- all numbers are reserved: none means anything
+  -- all numbers are reserved: none has a meaning
   reserved : Kind
 
--- when a row is read
+-- the condition under which a row is read
 pub data Condition : Type 0 where
   always : Condition
-  -- the field of this offset and this length is this number
+  -- the field at this offset, of this length, is this number
   where_field : ℕ → ℕ → ℕ → Condition
-  -- the field of this offset and this length is above this number
+  -- the field at this offset, of this length, is above this number
   where_above : ℕ → ℕ → ℕ → Condition
   -- the bit NU of the status is this number
   where_nu : ℕ → Condition
   both : Condition → Condition → Condition
 
--- a row: its name, the offset and the length of its field, when it is read, and what its number means
+-- a row: its name, the offset and length of its field, its condition, and the meaning of its number
 pub record Row : Type 0 where
   pub name : List ℕ
   pub offset : ℕ
@@ -51,7 +51,7 @@ pub record Row : Type 0 where
 abbrev pub nu_of : ℕ → ℕ
 nu_of status = field (status ∷ []) 3 1
 
--- a condition holds in a telegram of this status and this payload
+-- a condition holds for a telegram with this status and this payload
 abbrev pub holds : Condition → ℕ → List ℕ → Bool
 holds always status payload = true
 holds (where_field offset len n) status payload = field payload offset len == n
@@ -59,25 +59,25 @@ holds (where_above offset len n) status payload = nat_lt n (field payload offset
 holds (where_nu n) status payload = nu_of status == n
 holds (both a b) status payload = holds a status payload && holds b status payload
 
--- a value in a unit, or none
+-- a value with a unit, or no value
 abbrev pub value_or_none : List ℕ → ℕ → Option Ratio → Meaning
 value_or_none unit n None = out_of_range n
 value_or_none unit n (Some ratio) = value ratio unit
 
--- what n means where a stands for x tenths of a unit and b for y tenths
+-- the value of n if a means x tenths of a unit and b means y tenths
 abbrev pub value_in_range : ℕ → ℕ → ℤ → ℤ → List ℕ → ℕ → Meaning
 value_in_range a b x y unit n = value_or_none unit n (scaled n a b x y)
 
--- a word that was found, or none
+-- the word that was found, or none
 abbrev pub word_or_none : ℕ → Option (ℕ × List ℕ) → Meaning
 word_or_none n None = out_of_range n
 word_or_none n (Some found) = word found.1
 
--- the word beside n in a list of numbers and words
+-- the word listed with n in a list of numbers and words
 abbrev pub word_beside : List (ℕ × List ℕ) → ℕ → Meaning
 word_beside list n = word_or_none n (find (λ entry. entry.0 == n) list)
 
--- one word below a bound, another from it on
+-- one word below a bound, another from the bound on
 abbrev pub word_by : ℕ → List ℕ → List ℕ → ℕ → Meaning
 word_by bound below from n = if nat_lt n bound then word below else word from
 
@@ -85,11 +85,11 @@ word_by bound below from n = if nat_lt n bound then word below else word from
 abbrev pub percentage_or : List ℕ → ℕ → Meaning
 percentage_or text n = if n == 127 then word text else value_in_range 0 100 (pos 0) (pos 1000) (codes "%") n
 
--- n over a divisor, in a unit
+-- n divided by a divisor, with a unit
 abbrev pub quotient : ℕ → List ℕ → ℕ → Meaning
 quotient divisor unit n = value (lowest (pos n) divisor) unit
 
--- what the number n in a field of this payload means
+-- the meaning of the number n in a field of this payload
 abbrev pub meant : Kind → List ℕ → ℕ → Meaning
 meant (range a b x y unit) payload n = value_in_range a b x y unit n
 meant (words list) payload n = word_beside list n
@@ -100,17 +100,17 @@ meant (over_power offset len unit) payload n = quotient (10 ^ field payload offs
 meant number payload n = raw n
 meant reserved payload n = out_of_range n
 
--- what a row reads in a telegram of this status and this payload: nothing where its condition does not hold
+-- the readings of a row in a telegram with this status and this payload: none if its condition does not hold
 abbrev pub row_entries : ℕ → List ℕ → Row → List Entry
 row_entries status payload row =
     if holds row.condition status payload
     then record { name = row.name; meaning = meant row.kind payload (field payload row.offset row.len) } ∷ []
     else []
 
--- what rows read, in their order
+-- the readings of a list of rows, in their order
 abbrev pub rows_entries : ℕ → List ℕ → List Row → List Entry
 rows_entries status payload rows = flat_map (row_entries status payload) rows
 
--- what rows read in a payload, where none of them asks for the status
+-- the readings of rows in a payload, if none of them depends on the status
 abbrev pub entries_of : List ℕ → List Row → List Entry
 entries_of payload rows = rows_entries 0 payload rows

@@ -1,5 +1,5 @@
-//! What the crates of profiles share: readings, refusals, the rows of a profile's table, the macros that write what
-//! rows read, and the data of a telegram.
+//! Shared by the crates of profiles: readings, errors, the rows of a profile's table, the macros that decode rows, and
+//! the data of a telegram.
 #![tactic(auto)]
 
 mod macros;

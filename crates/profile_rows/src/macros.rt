@@ -1,9 +1,9 @@
-//! The macros that write what a profile reads. A row of a table is written as
-//! `"NAME" (offset, length) [condition] kind(arguments);`, where the kinds are the functions of the module `rows`.
+//! The macros that decode the rows of a profile. A row of a table is written as
+//! `"NAME" (offset, length) [condition] kind(arguments);`, in which the kinds are the functions of the module `rows`.
 
 /// Sets `readings: &mut Readings` to what rows read in the bytes of a payload, in the order of the rows. There are at
-/// most eight rows. A condition is empty, a field as `(7, 1) = 1` or `(8, 3) > 4`, a variable of the caller as
-/// `nu = 1`, or such a variable and a field as `nu = 1 and (7, 1) = 1`. As an example, for `bytes: &[u8; 4]`:
+/// most eight rows. A condition is empty, a field as in `(7, 1) = 1` or `(8, 3) > 4`, a variable of the caller as in
+/// `nu = 1`, or such a variable and a field as in `nu = 1 and (7, 1) = 1`. Example, for `bytes: &[u8; 4]`:
 ///
 /// ```text
 /// read_rows! { readings, bytes, 4;
@@ -41,9 +41,9 @@ macro_rules! read_rows {
     };
 }
 
-/// Sets `readings: &mut Readings` to what the rows of the first arm that names the profile read, and gives a `bool`:
-/// whether there is such an arm. If not, `readings` stays as it was. An arm is written as
-/// `(RORG, FUNC, [TYPE, ..]) => { rows }`. As an example, for `eep: Eep` and `bytes: &[u8; 1]`:
+/// Sets `readings: &mut Readings` to what the rows of the first arm that names the profile read, and returns whether
+/// there is such an arm. If not, `readings` does not change. An arm is written as
+/// `(RORG, FUNC, [TYPE, ..]) => { rows }`. Example, for `eep: Eep` and `bytes: &[u8; 1]`:
 ///
 /// ```text
 /// read_profiles! { readings, eep, bytes, 1;

@@ -1,4 +1,4 @@
-//! The data of a telegram, which the rows of a profile read.
+//! The data of a telegram, which the rows of a profile decode.
 
 ghost use Rattle.std.specs.Prelude.{◌≡◌, Ok, Err, MatchResult};
 ghost use Rattle.profile_rows.specs.Payload.{payload_of};
@@ -7,9 +7,9 @@ use crate::Unreadable;
 use bit_fields::get;
 use erp1_telegrams::{Telegram, lrn_bit, rorg};
 
-/// The payload of a data telegram of this RORG, which has `N` bytes, or the first refusal: `WrongKind` where the
-/// telegram's RORG is another one, `WrongLength` where the payload has not `N` bytes, and `OtherMessage` where it is a
-/// teach-in of 1BS or 4BS.
+/// The payload, of `N` bytes, of a data telegram with this RORG, or the first error: `WrongKind` if the telegram has
+/// another RORG, `WrongLength` if the payload does not have `N` bytes, and `OtherMessage` if it is a 1BS or 4BS
+/// teach-in.
 pub fn payload_of<const N: usize>(rorg: u8, telegram: &Telegram) -> Result<&[u8; N], Unreadable>
     ensures { MatchResult result
         (λ bytes. payload_of rorg N telegram.now ≡ Ok bytes.now)

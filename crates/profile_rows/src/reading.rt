@@ -1,28 +1,28 @@
-//! What is read in a telegram.
+//! The readings of a telegram.
 
 use arrayvec::ArrayVec;
 use exact_values::Fraction;
 
-/// What a reading says. In contracts it is `meaning_of` it, of `specs/Reading.antt`.
+/// The meaning of a reading. In contracts it is `meaning_of` it, of `specs/Reading.antt`.
 #[derive(Clone, Copy, Debug, PartialEq, Eq)]
 pub enum What {
-    /// An exact value, in the unit that stands beside it.
+    /// An exact value, with its unit.
     Value(Fraction, &'static str),
     /// A word.
     Word(&'static str),
-    /// A number that stands for itself.
+    /// A number without a unit.
     Raw(u32),
-    /// A number for which the profile has neither a value nor a word.
+    /// A number for which the profile defines neither a value nor a word.
     OutOfRange(u32),
 }
 
-/// What is read under one name of a profile. In contracts it is `entry_of` it, of `specs/Reading.antt`. The default has
-/// no name and is the number 0.
+/// A reading under one name of a profile. In contracts it is `entry_of` it, of `specs/Reading.antt`. The default has no
+/// name and is the number 0.
 #[derive(Clone, Copy, Debug, PartialEq, Eq)]
 pub struct Reading {
     /// The short name of the field in the profile.
     pub name: &'static str,
-    /// What is read there.
+    /// The meaning of the field.
     pub what: What,
 }
 
@@ -40,5 +40,5 @@ impl Default for Reading {
     }
 }
 
-/// What is read in one telegram, in the order of the profile's rows.
+/// The readings of one telegram, in the order of the profile's rows.
 pub type Readings = ArrayVec<Reading, 8>;

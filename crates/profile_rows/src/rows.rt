@@ -1,5 +1,5 @@
-//! What the rows of a profile's table read: a function for each kind of row.
-//! They serve the crates of profiles, and are mostly called by the macro `read_rows!`.
+//! The readings of the rows of a profile's table: a function for each kind of row. The crates of profiles use them,
+//! mostly through the macro `read_rows!`.
 
 ghost use Rattle.std.specs.Prelude.{◌≡◌, ◌≢◌, ◌^◌, ◌≤◌, ℤ, pos, negsuc, ◌≤ℤ◌, map};
 ghost use Rattle.profile_rows.specs.Reading.{meaning_of, raw as itself, out_of_range};
@@ -8,8 +8,8 @@ ghost use Rattle.profile_rows.specs.Rows.{value_in_range, word_beside, word_by, 
 use crate::What;
 use exact_values::scale;
 
-/// A value in `unit`: `raw_lo` stands for `tenths_lo` tenths and `raw_hi` for `tenths_hi`, linear between them. The raw
-/// bounds may stand in either order. A number outside them is out of range.
+/// A value in `unit`: `raw_lo` means `tenths_lo` tenths and `raw_hi` means `tenths_hi`, linear between them. The raw
+/// bounds may be in either order. A number outside them is out of range.
 pub fn range(
     raw: u32,
     raw_lo: u32,
@@ -31,7 +31,7 @@ pub fn range(
     }
 }
 
-/// The word that stands first beside the number. A number without a word is out of range.
+/// The first word that is listed with the number. A number without a word is out of range.
 pub fn words(raw: u32, list: &[(u32, &'static str)]) -> What
     ensures { meaning_of result ≡ word_beside (map (λ entry. (entry.0, entry.1.now)) list.now) raw }
 {
@@ -43,7 +43,7 @@ pub fn words(raw: u32, list: &[(u32, &'static str)]) -> What
     reserved(raw)
 }
 
-/// The word `below` below the bound, and the word `from` from it on.
+/// The word `below` for numbers below the bound, and the word `from` from the bound on.
 pub fn parted(raw: u32, bound: u32, below: &'static str, from: &'static str) -> What
     ensures { meaning_of result ≡ word_by bound below.now from.now raw }
 {
@@ -61,7 +61,7 @@ pub fn percent_or(raw: u32, word: &'static str) -> What
     }
 }
 
-/// A value in `unit`: the number over a divisor.
+/// A value in `unit`: the number divided by a divisor.
 pub fn over(raw: u32, divisor: u32, unit: &'static str) -> What
     requires { (1 ≤ divisor) × (divisor ≤ 1000) }
     ensures { meaning_of result ≡ quotient divisor unit.now raw }
@@ -69,7 +69,7 @@ pub fn over(raw: u32, divisor: u32, unit: &'static str) -> What
     What::Value(exact_values::over(raw, divisor), unit)
 }
 
-/// A value in `unit`: the number over ten to a power, at most the third.
+/// A value in `unit`: the number divided by ten to a power, at most the third.
 pub fn over_power(raw: u32, exponent: u32, unit: &'static str) -> What
     requires { exponent ≤ 3 }
     ensures { meaning_of result ≡ quotient (10 ^ exponent) unit.now raw }

@@ -3,7 +3,7 @@ use Rattle.std.specs.Prelude.{pos, List, [], ◌∷◌, codes}
 use Rattle.profile_rows.specs.Rows.{Row, range, always, where_field}
 use Rattle.profile_rows.specs.Profile.{Profiles}
 
--- the concentration of CO2, with the humidity and the temperature where there are sensors of these
+-- the concentration of CO2, with the humidity and the temperature if there are sensors for these
 abbrev pub carbon_dioxide : List Row
 carbon_dioxide =
     record {

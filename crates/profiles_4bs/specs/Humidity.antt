@@ -4,7 +4,7 @@ use Rattle.profile_rows.specs.Rows.{Row, range, always, where_field}
 use Rattle.profile_rows.specs.Profile.{Profiles}
 use Rattle.profiles_4bs.specs.Tenths.{minus}
 
--- the humidity, and between two ends, in tenths, the temperature, where there is a temperature sensor
+-- the humidity, and the temperature between two bounds, in tenths, if there is a temperature sensor
 abbrev pub humidity_and_temperature : ℤ → ℤ → List Row
 humidity_and_temperature coldest hottest =
     record {

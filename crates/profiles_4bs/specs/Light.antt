@@ -3,8 +3,8 @@ use Rattle.std.specs.Prelude.{ℤ, pos, List, [], ◌∷◌, codes}
 use Rattle.profile_rows.specs.Rows.{Row, range, always, where_field}
 use Rattle.profile_rows.specs.Profile.{Profiles}
 
--- the supply voltage, and the one of two illuminations that the range select names: first the ends of ILL2, then those
--- of ILL1, in tenths
+-- the supply voltage, and the one of two illuminations that the range select chooses: first the bounds of ILL2, then
+-- those of ILL1, in tenths
 abbrev pub voltage_and_light : ℤ → ℤ → ℤ → ℤ → List Row
 voltage_and_light darkest2 brightest2 darkest1 brightest1 =
     record {

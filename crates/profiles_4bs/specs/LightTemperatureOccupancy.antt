@@ -10,8 +10,8 @@ use Rattle.profiles_4bs.specs.OccupancyButton.{pressed_or_released}
 abbrev pub on_or_off : List (ℕ × List ℕ)
 on_or_off = (0, codes "on") ∷ (1, codes "off") ∷ []
 
--- the supply voltage, the light up to an end, the temperature between two ends, the motion and the occupancy
--- button; the ends are in tenths
+-- the supply voltage, the light up to a bound, the temperature between two bounds, the motion and the occupancy button;
+-- the bounds are in tenths
 abbrev pub all_in_one : ℤ → ℤ → ℤ → List Row
 all_in_one brightest coldest hottest =
     record {

@@ -3,8 +3,8 @@ use Rattle.std.specs.Prelude.{ℕ, List, [], ◌∷◌, codes}
 use Rattle.profile_rows.specs.Rows.{Row, over_power, number, always, where_field}
 use Rattle.profile_rows.specs.Profile.{Profiles}
 
--- The meter reading over ten to the power of the field of two bits at 30, and the tariff as the number itself. The bit
--- 29 selects the unit: of a cumulative value, or of a current one
+-- The meter reading divided by ten to the power of the field of two bits at offset 30, and the tariff as the number
+-- itself. The bit at offset 29 selects the unit: that of a cumulative value, or that of a current one
 abbrev pub reading_and_tariff : List ℕ → List ℕ → List Row
 reading_and_tariff cumulative current =
     record {

@@ -3,7 +3,7 @@ use Rattle.std.specs.Prelude.{pos, List, [], ◌∷◌, codes}
 use Rattle.profile_rows.specs.Rows.{Row, range, parted, always, where_field}
 use Rattle.profile_rows.specs.Profile.{Profiles}
 
--- the supply voltage where it is available, and whether somebody moves
+-- the supply voltage if it is available, and whether there is motion
 abbrev pub voltage_and_motion : List Row
 voltage_and_motion =
     record {

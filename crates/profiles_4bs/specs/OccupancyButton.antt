@@ -1,4 +1,4 @@
--- The occupancy button, which profiles of several functions have (EnOcean Equipment Profiles 2.6, "A5-08: Light,
+-- The occupancy button, which profiles of several FUNCs have (EnOcean Equipment Profiles 2.6, "A5-08: Light,
 -- Temperature and Occupancy Sensor" and "A5-10: Room Operating Panel").
 use Rattle.std.specs.Prelude.{ℕ, List, [], ◌∷◌, codes}
 

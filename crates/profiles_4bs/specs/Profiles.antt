@@ -1,4 +1,4 @@
--- What 4BS telegrams say.
+-- The readings of 4BS telegrams.
 use Rattle.std.specs.Prelude.{Bool, List, ◌++◌, is_some, Option, Result}
 use Rattle.erp1_telegrams.specs.declared.eep.Eep.{Eep}
 use Rattle.erp1_telegrams.specs.Telegram.{Telegram}
@@ -16,7 +16,7 @@ use Rattle.profiles_4bs.specs.Gas.{gas}
 use Rattle.profiles_4bs.specs.RoomOperatingPanel.{room_operating_panel}
 use Rattle.profiles_4bs.specs.Meter.{meter}
 
--- the profiles that are read (own choice), and their rows
+-- the supported profiles (own choice), and their rows
 abbrev pub table : List Profiles
 table =
     temperature
@@ -28,14 +28,14 @@ table =
     ++ room_operating_panel
     ++ meter
 
--- the rows of a profile, where it is read
+-- the rows of a profile, if it is supported
 unfoldable pub rows_of : Eep → Option (List Row)
 rows_of eep = rows_in table eep
 
--- a profile is supported where it has rows
+-- a profile is supported if it has rows
 abbrev pub supported : Eep → Bool
 supported eep = is_some (rows_of eep)
 
--- what a profile reads in a telegram, or the first refusal
+-- the readings of a telegram by a profile, or the first reason to reject it
 abbrev pub readings_of : Eep → Telegram → Result (List Entry) Unreadable
 readings_of eep t = readings_by entries_of (rows_of eep) (payload_of eep.rorg 4 t)

@@ -4,7 +4,7 @@ use Rattle.profile_rows.specs.Rows.{Row, range, always}
 use Rattle.profile_rows.specs.Profile.{Profiles}
 use Rattle.profiles_4bs.specs.Tenths.{minus}
 
--- a number of 8 bits, which falls from 255 to 0 as the temperature rises from one end to the other, in tenths
+-- a number of 8 bits, which falls from 255 to 0 as the temperature rises between two bounds, in tenths
 abbrev pub of_8_bits : ℤ → ℤ → List Row
 of_8_bits coldest hottest =
     record {
@@ -28,13 +28,13 @@ of_10_bits coldest hottest =
     }
     ∷ []
 
--- A5-02-01: -40 to 0 C, and for each type more both ends are 10 C more
+-- A5-02-01: -40 to 0 C; for each further type both bounds are 10 C higher
 abbrev pub of_40_degrees : ℕ → Profiles
 of_40_degrees typ =
     let more = pos (100 * (typ - 0x01)) in
     record { rorg = 0xA5; func = 0x02; types = typ ∷ []; rows = of_8_bits (more -ℤ pos 400) more }
 
--- A5-02-10: -60 to 20 C, and for each type more both ends are 10 C more
+-- A5-02-10: -60 to 20 C; for each further type both bounds are 10 C higher
 abbrev pub of_80_degrees : ℕ → Profiles
 of_80_degrees typ =
     let more = pos (100 * (typ - 0x10)) in

@@ -1,4 +1,4 @@
--- Numbers of tenths, in which the ends of a range are said.
+-- Numbers of tenths, for the bounds of a range.
 use Rattle.std.specs.Prelude.{ℕ, ℤ, pos, ◌-ℤ◌}
 
 -- a number below zero

@@ -1,4 +1,4 @@
-//! What 4BS telegrams say by their profiles (EnOcean Equipment Profiles 2.6).
+//! Decoding 4BS telegrams by their profiles (EnOcean Equipment Profiles 2.6).
 #![tactic(auto)]
 
 mod gas;

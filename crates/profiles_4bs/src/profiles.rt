@@ -1,4 +1,4 @@
-//! The 4BS profiles, and what a telegram says by one of them.
+//! The 4BS profiles, and decoding telegrams by them.
 
 ghost use Rattle.std.specs.Prelude.{◌≡◌, option_map, OnErr};
 ghost use Rattle.std.specs.Bool.{OnFalse};
@@ -33,19 +33,20 @@ fn read_into(eep: Eep, bytes: &[u8; 4], readings: &mut Readings) -> bool
     }
 }
 
-/// Whether telegrams of a profile are read: whether the profile stands in `table` of `specs/Profiles.antt`. `read`
-/// answers `NotSupported` exactly where it does not. The reader runs on zeros, and what it reads is dropped, so the
-/// code names each profile once, in the functions `read_into`.
+/// Whether a profile is supported: whether it is in `table` of `specs/Profiles.antt`. `read` returns `NotSupported`
+/// exactly if it is not. The function decodes zeros and drops the readings, so the code names each profile only once,
+/// in the functions `read_into`.
 pub fn supports(eep: Eep) -> bool
     ensures { result ≡ supported eep }
 {
     read_into(eep, &[0; 4], &mut Readings::new())
 }
 
-/// Reads a telegram by a profile: `readings` is what it says, in the order of the profile's rows (EnOcean Equipment
-/// Profiles 2.6). On a refusal `readings` stays as it was. The refusals come in this order: `NotSupported` where the
-/// profile is not read, `WrongKind` where the telegram's RORG is not the profile's, `WrongLength` where the payload has
-/// not four bytes, and `OtherMessage` where the telegram is a 4BS teach-in.
+/// Decodes a telegram by a profile: sets `readings` to its readings, in the order of the profile's rows (EnOcean
+/// Equipment Profiles 2.6). On an error `readings` does not change. The first error that applies is returned, in this
+/// order: `NotSupported` if the profile is not supported, `WrongKind` if the telegram does not have the RORG of the
+/// profile, `WrongLength` if the payload does not have four bytes, and `OtherMessage` if the telegram is a 4BS
+/// teach-in.
 pub fn read(eep: Eep, telegram: &Telegram, readings: &mut Readings) -> Result<(), Unreadable>
     ensures exact { told result readings.new.items ≡ readings_of eep telegram.now }
     ensures err { OnErr result (readings.new ≡ readings.old) }

@@ -12,7 +12,7 @@ use erp1_telegrams::Eep;
 use profile_rows::{Readings, read_profiles};
 
 /// Sets `readings` to what the rows of a profile A5-02 read in a payload, and returns whether the profile has rows.
-/// Each of the three functions has a part of the profiles: one of all would cost more than the three to prove.
+/// Each of the three functions has a part of the profiles: a single function would cost more to prove.
 pub(crate) fn read_into(eep: Eep, bytes: &[u8; 4], readings: &mut Readings) -> bool
     ensures exact { told_if result readings.new.items ≡ option_map (entries_of bytes.now) (rows_in temperature eep) }
     ensures none { OnFalse result (readings.new ≡ readings.old) }

@@ -1,4 +1,4 @@
--- What RPS and 1BS telegrams say.
+-- The readings of RPS and 1BS telegrams.
 use Rattle.std.specs.Prelude.{Bool, List, [], ◌∷◌, is_some, Option, Result}
 use Rattle.erp1_telegrams.specs.declared.eep.Eep.{Eep}
 use Rattle.erp1_telegrams.specs.Telegram.{Telegram}
@@ -10,7 +10,7 @@ use Rattle.profile_rows.specs.declared.unreadable.Unreadable.{Unreadable}
 use Rattle.profiles_rps.specs.Rps.{push_button, two_rockers, four_rockers}
 use Rattle.profiles_rps.specs.OneByte.{single_contact}
 
--- the profiles that are read (own choice), and their rows
+-- the supported profiles (own choice), and their rows
 abbrev pub table : List Profiles
 table =
     record { rorg = 0xF6; func = 0x01; types = 0x01 ∷ []; rows = push_button }
@@ -19,14 +19,14 @@ table =
     ∷ record { rorg = 0xD5; func = 0x00; types = 0x01 ∷ []; rows = single_contact }
     ∷ []
 
--- the rows of a profile, where it is read
+-- the rows of a profile, if it is supported
 unfoldable pub rows_of : Eep → Option (List Row)
 rows_of eep = rows_in table eep
 
--- a profile is supported where it has rows
+-- a profile is supported if it has rows
 abbrev pub supported : Eep → Bool
 supported eep = is_some (rows_of eep)
 
--- what a profile reads in a telegram, or the first refusal
+-- the readings of a telegram by a profile, or the first reason to reject it
 abbrev pub readings_of : Eep → Telegram → Result (List Entry) Unreadable
 readings_of eep t = readings_by (rows_entries t.status) (rows_of eep) (payload_of eep.rorg 1 t)

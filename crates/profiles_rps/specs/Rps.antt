@@ -16,7 +16,7 @@ push_button =
 abbrev pub rockers_ab : List (ℕ × List ℕ)
 rockers_ab = (0, codes "AI") ∷ (1, codes "A0") ∷ (2, codes "BI") ∷ (3, codes "B0") ∷ []
 
--- how many buttons are pressed at a rocker switch of two
+-- the number of pressed buttons of a switch with two rockers
 abbrev pub none_or_three : List (ℕ × List ℕ)
 none_or_three = (0, codes "none") ∷ (3, codes "three_or_four") ∷ []
 
@@ -42,7 +42,8 @@ rockers_abcd =
     ∷ (4, codes "CI") ∷ (5, codes "C0") ∷ (6, codes "DI") ∷ (7, codes "D0")
     ∷ []
 
--- F6-03-01 and F6-03-02: Rocker Switch, 4 Rocker. Own choice: how many buttons are pressed is told as the number itself
+-- F6-03-01 and F6-03-02: Rocker Switch, 4 Rocker. Own choice: the number of pressed buttons is reported as the number
+-- itself
 abbrev pub four_rockers : List Row
 four_rockers =
     record { name = codes "R1"; offset = 0; len = 3; condition = where_nu 1; kind = words rockers_abcd }

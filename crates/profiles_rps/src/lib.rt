@@ -1,4 +1,4 @@
-//! What RPS and 1BS telegrams say by their profiles (EnOcean Equipment Profiles 2.6).
+//! Decoding RPS and 1BS telegrams by their profiles (EnOcean Equipment Profiles 2.6).
 #![tactic(auto)]
 
 mod profiles;

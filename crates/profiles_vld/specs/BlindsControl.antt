@@ -1,4 +1,4 @@
--- The rows of the message of D2-05-00 that is read (EnOcean Equipment Profiles 2.6, "D2-05-00", the command 4: Blinds
+-- The rows of the D2-05-00 message that is decoded (EnOcean Equipment Profiles 2.6, "D2-05-00", the command 4: Blinds
 -- Control for Position and Angle).
 use Rattle.std.specs.Prelude.{List, [], ◌∷◌, codes}
 use Rattle.profile_rows.specs.Rows.{Row, percent_or, number, always}

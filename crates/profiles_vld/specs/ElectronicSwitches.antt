@@ -1,5 +1,5 @@
--- The rows of the messages of D2-01 that are read (EnOcean Equipment Profiles 2.6, "D2-01", the commands 4 and 7:
--- Electronic Switches and Dimmers with Local Control). Own choice: all types of D2-01 are read by these rows.
+-- The rows of the D2-01 messages that are decoded (EnOcean Equipment Profiles 2.6, "D2-01", the commands 4 and 7:
+-- Electronic Switches and Dimmers with Local Control). Own choice: these rows apply to all types of D2-01.
 use Rattle.std.specs.Prelude.{ℕ, List, [], ◌∷◌, codes}
 use Rattle.profile_rows.specs.Rows.{Row, words, percent_or, over, number, reserved, always, where_field, where_above}
 
@@ -20,12 +20,12 @@ status_response =
     ∷ record { name = codes "OV"; offset = 17; len = 7; condition = always; kind = percent_or (codes "not_applicable") }
     ∷ []
 
--- the measured value where the unit UN is this number, in the unit that the number stands for
+-- the measured value if the field UN has this number, in the unit of that number
 abbrev pub measured_in : ℕ → List ℕ → Row
 measured_in un unit =
     record { name = codes "MV"; offset = 16; len = 32; condition = where_field 8 3 un; kind = over 1 unit }
 
--- Actuator Measurement Response (CMD 7): channel, unit, measured value. The units above 4 are reserved: there the
+-- Actuator Measurement Response (CMD 7): channel, unit, measured value. The units above 4 are reserved: with these the
 -- measured value is a number without a unit (own choice)
 abbrev pub measurement_response : List Row
 measurement_response =

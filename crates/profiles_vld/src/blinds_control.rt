@@ -7,8 +7,8 @@ ghost use Rattle.profiles_vld.specs.Profiles.{blinds_control_says};
 use bit_fields::get;
 use profile_rows::{Readings, Unreadable, read_rows};
 
-/// Sets `readings` to what a payload says, or returns the first refusal: `WrongLength` if it has not four bytes, and
-/// `OtherMessage` if its command is not 4.
+/// Sets `readings` to the readings of a payload, or returns the first error: `WrongLength` if it does not have four
+/// bytes, and `OtherMessage` if its command is not 4.
 pub(crate) fn read_into(payload: &[u8], readings: &mut Readings) -> Result<(), Unreadable>
     ensures exact { told result readings.new.items ≡ blinds_control_says payload.now }
     ensures err { OnErr result (readings.new ≡ readings.old) }

@@ -10,8 +10,8 @@ ghost use Rattle.profiles_vld.specs.Profiles.{electronic_switches_say};
 use bit_fields::get;
 use profile_rows::{Readings, Unreadable, read_rows};
 
-/// Sets `readings` to what a payload says, or returns the first refusal: `OtherMessage` if its command is neither 4 nor
-/// 7, and `WrongLength` if it has not the length of its command's message.
+/// Sets `readings` to the readings of a payload, or returns the first error: `OtherMessage` if its command is neither 4
+/// nor 7, and `WrongLength` if it does not have the length of its command's message.
 pub(crate) fn read_into(payload: &[u8], readings: &mut Readings) -> Result<(), Unreadable>
     ensures exact { told result readings.new.items ≡ electronic_switches_say payload.now }
     ensures err { OnErr result (readings.new ≡ readings.old) }
@@ -23,7 +23,7 @@ pub(crate) fn read_into(payload: &[u8], readings: &mut Readings) -> Result<(), U
     }
 }
 
-/// The command of a message. A payload of no bytes has none, and 0 stands for it.
+/// The command of a message, or 0 if the payload is empty.
 fn command(payload: &[u8]) -> u32
     ensures { result ≡ field payload.now 4 4 }
 {
@@ -33,7 +33,8 @@ fn command(payload: &[u8]) -> u32
     }
 }
 
-/// Sets `readings` to those of a state, which is the command 4. `WrongLength` if the payload has not three bytes.
+/// Sets `readings` to those of a status, which is the command 4. `WrongLength` if the payload does not have three
+/// bytes.
 fn status_response(payload: &[u8], readings: &mut Readings) -> Result<(), Unreadable>
     ensures exact { told result readings.new.items ≡ of_length 3 payload.now status_response }
     ensures err { OnErr result (readings.new ≡ readings.old) }
@@ -53,7 +54,8 @@ fn status_response(payload: &[u8], readings: &mut Readings) -> Result<(), Unread
     Ok(())
 }
 
-/// Sets `readings` to those of a measurement, which is the command 7. `WrongLength` if the payload has not six bytes.
+/// Sets `readings` to those of a measurement, which is the command 7. `WrongLength` if the payload does not have six
+/// bytes.
 fn measurement_response(payload: &[u8], readings: &mut Readings) -> Result<(), Unreadable>
     ensures exact { told result readings.new.items ≡ of_length 6 payload.now measurement_response }
     ensures err { OnErr result (readings.new ≡ readings.old) }

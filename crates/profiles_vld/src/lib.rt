@@ -1,4 +1,4 @@
-//! What VLD telegrams say by their profiles (EnOcean Equipment Profiles 2.6).
+//! Decoding VLD telegrams by their profiles (EnOcean Equipment Profiles 2.6).
 #![tactic(auto)]
 
 mod blinds_control;

@@ -1,4 +1,4 @@
-//! The VLD profiles, and what a telegram says by one of them.
+//! The VLD profiles, and decoding telegrams by them.
 
 ghost use Rattle.std.specs.Prelude.{◌≡◌, option_map, IfNone, IfSome, OnErr};
 ghost use Rattle.profile_rows.specs.Answer.{told};
@@ -8,7 +8,8 @@ use crate::{blinds_control, electronic_switches};
 use erp1_telegrams::{Eep, Telegram, rorg};
 use profile_rows::{Readings, Unreadable};
 
-/// Sets `readings` to what a payload says by a profile, or returns the first refusal; None if the profile is not read.
+/// Sets `readings` to the readings of a payload by a profile, or returns the first error; `None` if the profile is not
+/// supported.
 fn read_into(eep: Eep, payload: &[u8], readings: &mut Readings) -> Option<Result<(), Unreadable>>
     ensures exact { option_map (λ answer. told answer readings.new.items) result
         ≡ option_map (λ says. says payload.now) (profile_says eep) }
@@ -22,21 +23,21 @@ fn read_into(eep: Eep, payload: &[u8], readings: &mut Readings) -> Option<Result
     }
 }
 
-/// Whether telegrams of a profile are read: whether `profile_says` of `specs/Profiles.antt` has the profile. `read`
-/// answers `NotSupported` exactly where it has not. The reader runs on a payload of no bytes, and its answer to it is
-/// dropped, so the code names each profile once, in `read_into`.
+/// Whether a profile is supported: whether `profile_says` of `specs/Profiles.antt` has it. `read` returns
+/// `NotSupported` exactly if it has not. The function decodes an empty payload and drops the result, so the code names
+/// each profile only once, in `read_into`.
 pub fn supports(eep: Eep) -> bool
     ensures { result ≡ supported eep }
 {
     read_into(eep, &[], &mut Readings::new()).is_some()
 }
 
-/// Reads a telegram by a profile: `readings` is what it says, in the order of the profile's rows (EnOcean Equipment
-/// Profiles 2.6). On a refusal `readings` stays as it was. The refusals come in this order: `NotSupported` where the
-/// profile is not read and `WrongKind` where the telegram's RORG is not the profile's. Then, for D2-01, `OtherMessage`
-/// where the command is neither 4 nor 7, and `WrongLength` where the payload has not three bytes at the command 4, or
-/// six at the command 7; for D2-05-00, `WrongLength` where the payload has not four bytes, and `OtherMessage` where the
-/// command is not 4.
+/// Decodes a telegram by a profile: sets `readings` to its readings, in the order of the profile's rows (EnOcean
+/// Equipment Profiles 2.6). On an error `readings` does not change. The first error that applies is returned, in this
+/// order: `NotSupported` if the profile is not supported, and `WrongKind` if the telegram does not have the RORG of the
+/// profile. Then, for D2-01, `OtherMessage` if the command is neither 4 nor 7, and `WrongLength` if the payload does
+/// not have three bytes (command 4) or six bytes (command 7). For D2-05-00, `WrongLength` if the payload does not have
+/// four bytes, and `OtherMessage` if the command is not 4.
 pub fn read(eep: Eep, telegram: &Telegram, readings: &mut Readings) -> Result<(), Unreadable>
     ensures exact { told result readings.new.items ≡ readings_of eep telegram.now }
     ensures err { OnErr result (readings.new ≡ readings.old) }

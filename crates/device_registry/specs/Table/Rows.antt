@@ -24,7 +24,7 @@ eep_number eep = eep.rorg * 65536 + eep.func * 256 + eep.typ
 abbrev pub eep_of : ℕ → Eep
 eep_of number = record { rorg = number / 65536 % 256; func = number / 256 % 256; typ = number % 256 }
 
--- a maker as it is stored: -1 for none
+-- a manufacturer ID as it is stored: -1 for none
 abbrev pub maker_number : Option ℕ → ℤ
 maker_number (Some maker) = pos maker
 maker_number None = negsuc 0
@@ -64,20 +64,20 @@ entry_of row = (
 abbrev pub devices_in : List Row → Devices
 devices_in rows = from_entries (map entry_of rows)
 
--- a row of the first version as the second has it: with the empty label
+-- a row of version 1 with the empty label added, as in version 2
 abbrev pub with_label : Row → Row
 with_label row = column row 0 ∷ Null ∷ column row 2 ∷ column row 3 ∷ Text [] ∷ []
 
--- the rows of a version as the second has them
+-- the rows of a version as rows of version 2
 abbrev pub rows_of : Version → List Row → List Row
 rows_of First rows = map with_label rows
 rows_of Second rows = rows
 
--- no two rows have one rowid, in whatever order they come
+-- no two rows have the same rowid, in any order
 abbrev pub RowidsDiffer : List Row → Type 0
 RowidsDiffer = IsAscending (λ a b. rowid a ≢ rowid b)
 
--- a row of the device table: a sender, a profile and a maker, each in its range, and a label
+-- a row of the device table: a sender, a profile and a manufacturer ID, each in its range, and a label
 pub record IsDevice (row : Row) : Type 0 where
   pub id : ℕ
   pub id_is : column row 0 ≡ Int (pos id)
@@ -102,14 +102,14 @@ abbrev pub put_params : ℕ → Learned → Row
 put_params id it =
     Int (pos id) ∷ Int (pos (eep_number it.eep)) ∷ Int (maker_number it.maker) ∷ Text it.label ∷ []
 
--- the row of the version
+-- the version row
 pub record IsVersion (version : Version) (row : Row) : Type 0 where
   pub key : column row 0 ≡ Int (pos 1)
   pub number : column row 2 ≡ Int (pos (number_of version))
 
 -- ---- the rows that queries show
 
--- the device that a query shows by its sender, its profile, its maker and its label
+-- the device that a query shows by its sender, its profile, its manufacturer ID and its label
 abbrev pub listed : Row → Device
 listed row = device (natural (column row 0)) (record {
   eep = eep_of (natural (column row 1));
@@ -117,19 +117,19 @@ listed row = device (natural (column row 0)) (record {
   label = label_in (column row 3);
 })
 
--- the row of this device is shown, or none
+-- the row of this device is shown, or none if there is no device
 abbrev pub AreFound : Option Device → List Row → Type 0
 AreFound None rows = rows ≡ []
 AreFound (Some it) rows = (row : Row) × (rows ≡ row ∷ []) × (listed row ≡ it)
 
--- the rows show the row of the version
+-- the rows show the version row
 pub record ShowsVersion (version : Version) (rows : List Row) : Type 0 where
   pub row : Row
   pub are : rows ≡ row ∷ []
   pub key : column row 0 ≡ Int (pos 1)
   pub number : column row 1 ≡ Int (pos (number_of version))
 
--- a number that is not past the last
+-- a number that is not above the last
 abbrev pub is_number : ℕ → Value → Bool
 is_number last (Int (pos n)) = nat_le n last
 is_number last (Int (negsuc n)) = false
@@ -138,7 +138,7 @@ is_number last (Real x) = false
 is_number last (Text t) = false
 is_number last (Blob b) = false
 
--- the number of a maker, or that of none
+-- a manufacturer ID, or the number of none
 abbrev pub is_maker : Value → Bool
 is_maker (Int (pos n)) = nat_le n max_maker
 is_maker (Int (negsuc n)) = n == 0
@@ -155,13 +155,13 @@ is_label_text Null = false
 is_label_text (Real x) = false
 is_label_text (Blob b) = false
 
--- the row shows a device, each number in its range, and a label
+-- the row shows a device: each number in its range, and a label
 abbrev pub shows_device : Row → Bool
 shows_device row =
     is_number max_sender (column row 0) && is_number max_profile (column row 1) && is_maker (column row 2)
     && is_label_text (column row 3)
 
--- the rows show devices, whose senders rise from this one
+-- the rows show devices, by ascending sender from this one on
 abbrev pub devices_rise : ℕ → List Row → Bool
 devices_rise least [] = true
 devices_rise least (row ∷ rows) =

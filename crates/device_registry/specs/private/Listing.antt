@@ -1,4 +1,4 @@
--- For private clauses: what the rows of the list of the objects show, as functions.
+-- For private postconditions: the rows of the list of objects, as functions.
 use Rattle.std.specs.Prelude.{ℕ, List, Bool, false, ◌&&◌}
 use Rattle.std.specs.Str.{bytes_eq}
 use Rattle.std.specs.List.{list_any}

@@ -1,10 +1,10 @@
--- What a call of the table without its cache does.
+-- The effect of a call of the device table, without its cache.
 use Rattle.std.specs.Prelude.{◌≡◌, Bool, not, MatchBool, MatchResult, Result}
 use Rattle.learned_devices.specs.declared.Device.{Device}
 use Rattle.learned_devices.specs.Devices.{Devices, is_full, learned}
 use Rattle.learned_devices.specs.Kept.{Kept, Keeps, Commits, Pends}
 
--- a device is learned, if there is room for it: the result is whether there is
+-- a device is learned if the registry is not full; the result is whether it is learned
 pub record Adds {E : Type 0} (old new : Kept) (it : Device) (result : Result Bool E) : Type 0 where
   pub clean : new.honest → old.honest
   pub registries : new.honest → new.sound

@@ -1,4 +1,4 @@
-//! The rows of the two tables: what the queries on them show, and the numbers that are put into them.
+//! The rows of the two tables: reading what queries show, and the numbers to store.
 ghost use Rattle.std.specs.Prelude.{◌≡◌, ◌≤◌, ◌<◌, [], ◌∷◌, All, ℕ, map, length, pos, false, Option, IsTrue};
 ghost use Rattle.std.specs.Prelude.{IfOk, IfErr, MatchOption};
 ghost use Rattle.sqlite.specs.declared.types.Value.TheVariants.{Int};
@@ -18,7 +18,7 @@ use sqlite::types::ValueRef;
 use sqlite::{Error, ErrorCode, Row};
 use std::alloc::Global;
 
-/// The number at a place of the row, where there is one that is not past the last.
+/// The number at this index of the row, if there is one and it is not above `last`.
 fn number_in(row: &Row, at: usize, last: u32) -> Option<u32>
     ensures { MatchOption result (is_number last (column row.now at) ≡ false)
         (λ n. (column row.now at ≡ Int (pos n)) × (n ≤ last)) }
@@ -29,7 +29,7 @@ fn number_in(row: &Row, at: usize, last: u32) -> Option<u32>
     }
 }
 
-/// The maker at a place of the row, where there is a maker's number or that of none.
+/// The manufacturer ID at this index of the row, if there is a valid number or that of none.
 fn read_maker(row: &Row, at: usize) -> Option<Option<u16>>
     ensures { MatchOption result (is_maker (column row.now at) ≡ false)
         (λ maker. (maker ≡ maker_in (column row.now at)) × IsTrue (is_maker (column row.now at))) }
@@ -40,7 +40,7 @@ fn read_maker(row: &Row, at: usize) -> Option<Option<u16>>
     }
 }
 
-/// The label at a place of the row, where there is one.
+/// The label at this index of the row, if there is one.
 fn read_label(row: &Row, at: usize) -> Option<Label>
     ensures { MatchOption result (is_label_text (column row.now at) ≡ false)
         (λ label. (label ≡ label_in (column row.now at)) × IsTrue (is_label_text (column row.now at))) }
@@ -51,7 +51,6 @@ fn read_label(row: &Row, at: usize) -> Option<Label>
     }
 }
 
-/// A profile, of its number.
 fn eep_of_number(number: u32) -> Eep
     ensures { result ≡ eep_of number }
 {
@@ -62,7 +61,7 @@ fn eep_of_number(number: u32) -> Eep
     )
 }
 
-/// The device that a row shows, where each of its numbers is in its range and its label is one.
+/// The device that a row shows, if each number is in its range and its label is valid.
 fn device_in(row: &Row) -> Option<Device>
     ensures { MatchOption result (shows_device row.now ≡ false)
         (λ it. (it ≡ listed row.now) × IsTrue (shows_device row.now)) }
@@ -79,7 +78,7 @@ fn device_in(row: &Row) -> Option<Device>
     })
 }
 
-/// Whether the rows are those of devices, by rising ID.
+/// Whether the rows are those of devices, by ascending ID.
 pub fn devices_rise(rows: &[Row]) -> bool
     ensures { result ≡ devices_rise 0 rows.now }
 {
@@ -103,7 +102,7 @@ fn has_number(row: &Row, at: usize, number: i64) -> bool
     }
 }
 
-/// Whether there is one row, that of this version.
+/// Whether there is exactly one row, that of this version.
 pub fn is_version(rows: &[Row], version: Version) -> bool
     ensures version { IsTrue result → ShowsVersion version rows.now }
     ensures complete { rows.now ≡ (Int (pos 1) ∷ Int (pos (number_of version)) ∷ []) ∷ [] → IsTrue result }
@@ -111,7 +110,7 @@ pub fn is_version(rows: &[Row], version: Version) -> bool
     rows.len() == 1 && has_number(&rows[0], 0, KEY) && has_number(&rows[0], 1, version.number())
 }
 
-/// The device that a row shows. No registry has a row that shows none.
+/// The device that a row shows. No row of a registry gives an error.
 fn shown(row: &Row) -> Result<Device, Error>
     ensures shown { IfOk result (λ it. it ≡ listed row.now) }
     ensures refused { IfErr result (IsMemoryWhere (IsTrue (shows_device row.now))) }
@@ -119,7 +118,7 @@ fn shown(row: &Row) -> Result<Device, Error>
     device_in(row).ok_or(Error::SqliteFailure(ErrorCode::DatabaseCorrupt))
 }
 
-/// The device of a sender, whose rows these are.
+/// The device of a sender, from the rows of its look-up.
 pub fn found(rows: &[Row]) -> Result<Option<Device>, Error>
     ensures found { (known : Option Device) → AreFound known rows.now → IfOk result (λ found. found ≡ known) }
     ensures refused { IfErr result (IsMemoryWhere (All (λ row. IsTrue (shows_device row)) rows.now)) }
@@ -160,7 +159,7 @@ pub fn number_of(eep: Eep) -> i64
     i64::from(eep.rorg) * 65536 + i64::from(eep.func) * 256 + i64::from(eep.typ)
 }
 
-/// The number of a maker, or that of none.
+/// The number of a manufacturer ID, or that of none.
 pub fn number_of_maker(maker: Option<u16>) -> i64
     ensures { result ≡ maker_number maker }
 {

@@ -1,4 +1,4 @@
-//! Calls of a registry as data, each with the answer that is wanted of it.
+//! Calls of a registry as data, each with its expected answer.
 ghost use Rattle.std.specs.Prelude.{◌≤◌};
 ghost use Rattle.device_registry.specs.Opening.{max_cached};
 
@@ -10,50 +10,50 @@ use std::alloc::Global;
 use std::process::Abort;
 use std::test::Fail;
 
-/// A call of a registry, or a look at what it remembers.
+/// A call of a registry, or a look into its cache.
 #[derive(Clone, Copy)]
 pub enum Act {
-    /// A sender is this device, or is not learned.
+    /// The look-up of a sender finds this device, or none.
     Finds(u32, Option<Known>),
     /// The device is learned.
     Learns(Known),
-    /// The device is one too many.
+    /// The registry is full for the device.
     IsFullFor(Known),
-    /// The sender gets this label, if it is learned, which it is or is not.
+    /// The sender gets this label, if it is learned; the flag says whether it is.
     Relabels(u32, &'static str, bool),
-    /// The sender is not learned from then on.
+    /// The sender is forgotten.
     Forgets(u32),
-    /// So many devices are listed.
+    /// This many devices are listed.
     Counts(usize),
-    /// At this place of the list, from 0 on, stands this device.
+    /// The device at this index of the list, from 0 on.
     Lists(usize, Known),
-    /// What is remembered of a sender, if it is.
+    /// The cache entry of a sender, if there is one.
     Remembers(u32, Option<Option<Known>>),
-    /// So many senders are remembered.
+    /// This many senders are cached.
     RemembersSoMany(usize),
-    /// An act with so many senders, with the IDs from 0 on.
+    /// An act for each of this many senders, with the IDs from 0 on.
     Many(Many, u32),
 }
 
-/// Acts with many senders.
+/// Acts for many senders.
 #[derive(Clone, Copy)]
 pub enum Many {
     /// None of them is learned.
     FindsNone,
     /// Contacts are learned.
     LearnsContacts,
-    /// Contacts and sensors are learned in turn.
+    /// Contacts and sensors are learned alternately.
     LearnsInTurn,
-    /// Contacts and sensors are found in turn, twice each, and of as many senders behind them none is.
+    /// Contacts and sensors are found alternately, twice each; as many senders after them are unknown.
     FindsInTurn,
-    /// Contacts are remembered.
+    /// Contacts are cached.
     RemembersContacts,
     /// Varied devices are listed, and nothing else.
     ListsVaried,
 }
 
-/// Takes the acts in turn, over a new registry with a cache of so many senders, and those behind them once its database
-/// is opened again.
+/// Performs the acts in turn, over a new registry with a cache of this size, and the later acts after its database is
+/// opened again.
 pub fn play<S: Fresh>(
     alloc: Global,
     rt: &impl Abort,
@@ -69,7 +69,7 @@ pub fn play<S: Fresh>(
     take_all(rt, &mut registry, behind)
 }
 
-/// Takes the acts in turn.
+/// Performs the acts in turn.
 pub fn take_all<R: Remembering>(
     rt: &impl Abort,
     registry: &mut R,

@@ -1,4 +1,4 @@
-//! What is remembered of looked-up senders.
+//! The cache of looked-up senders.
 ghost use Rattle.std.specs.Prelude.{◌≤◌};
 ghost use Rattle.device_registry.specs.Opening.{max_cached};
 
@@ -9,7 +9,7 @@ use std::alloc::Global;
 use std::process::Abort;
 use std::test::Fail;
 
-/// A sender that is remembered as not learned.
+/// A sender that is cached as not learned.
 const NOT_LEARNED: Option<Option<Known>> = Some(None);
 
 #[test]
@@ -138,7 +138,7 @@ fn a_full_registry_goes_on_remembering(rt: HostRuntime) -> Result<(), Fail> {
     play::<MemStore>(rt.alloc(), &rt, 1024, &acts, &[])
 }
 
-// A cache of so many senders answers as any other, and remembers so many behind it.
+// A cache of this size gives the same answers as any other, and holds this many senders afterwards.
 fn answers_the_same(
     alloc: Global,
     rt: &impl Abort,

@@ -1,4 +1,4 @@
-//! What a refusal of the disk leaves in the registry, and what a stop behind it leaves in the files.
+//! The states of the registry after a failure of the disk, and of its files after a crash that follows.
 use super::acts::{Act, take_all};
 use super::disks::{
     Disks, Refusal, Stop, Which, closed, connected, empty_files, refusing, stopped,
@@ -10,28 +10,28 @@ use std::alloc::Global;
 use std::process::Abort;
 use std::test::Fail;
 
-/// So many devices that their table has more than one page, and so many that it has one.
+/// A number of devices whose table has more than one page, and one whose table has a single page.
 const MANY: i64 = 350;
 
 const FEW: i64 = 10;
 
-/// The stop of trials that have none of their own.
+/// The crash of trials that do not choose one.
 const DEATH: Stop = Stop::OfProcess;
 
-// The files of a closed registry of so many contacts, with the IDs from 0 on.
+// The files of a closed registry of this many contacts, with the IDs from 0 on.
 fn made(alloc: Global, devices: i64) -> Result<Disks, Fail> {
     let conn = surely_connected(alloc, empty_files(alloc), 9)?;
     closed(filled(alloc, conn, devices)?)
 }
 
-// The files of a closed database that is a registry of version 1 with so many devices.
+// The files of a closed database that is a registry of version 1 with this many devices.
 fn made_first(alloc: Global, devices: u32) -> Result<Disks, Fail> {
     let mut conn = surely_connected(alloc, empty_files(alloc), 9)?;
     be_first_version(&mut conn, i64::from(devices))?;
     closed(conn)
 }
 
-// How a trial over these files ends.
+// The end of a trial over these files.
 fn end_of(
     alloc: Global,
     rt: &impl Abort,
@@ -52,7 +52,7 @@ fn end_of(
     }
 }
 
-// How a trial ends over the files that its stop left.
+// The end of a trial over the files that its crash left.
 fn end_behind(
     alloc: Global,
     rt: &impl Abort,
@@ -64,7 +64,7 @@ fn end_behind(
     behind_stop(alloc, rt, conn, trial, end)
 }
 
-// What is refused at a turn: one write is told as failed, or each call is refused from one on.
+// The failures of a turn: one write is reported as failed, or each call from one on fails.
 fn refusal(trial: Trial, turn: u64) -> Refusal {
     match trial {
         Trial::Learning(_) => Refusal::Write(turn.saturating_add(1)),
@@ -76,7 +76,7 @@ fn refusal(trial: Trial, turn: u64) -> Refusal {
     }
 }
 
-// The ends of a trial over copies of these files, where each call or write is refused in turn, until nothing is.
+// The ends of a trial over copies of these files: each call or write fails in turn, until none does.
 fn each_refused(
     alloc: Global,
     rt: &impl Abort,
@@ -96,7 +96,8 @@ fn each_refused(
     Err(Fail::from("refusals without end"))
 }
 
-// How many syncs of the log a connection over these files makes, with a registry opened on it that does so, or without.
+// The number of syncs of the log that a connection over these files makes, with a registry that performs the acts, or
+// without one.
 fn syncs(alloc: Global, rt: &impl Abort, files: &Disks, acts: Option<&[Act]>) -> Result<u64, Fail> {
     let files = refusing(alloc, files, Which::Log, Refusal::Nothing)?;
     let conn = surely_connected(alloc, files, 9)?;
@@ -172,7 +173,7 @@ fn an_open_answers_behind_a_sync(rt: HostRuntime) -> Result<(), Fail> {
     Ok(())
 }
 
-// No contract can tell it: a stop leaves the same devices.
+// No contract can state this: a crash leaves the same devices.
 #[test]
 fn a_label_that_is_there_is_answered_behind_a_sync(rt: HostRuntime) -> Result<(), Fail> {
     let files = made(rt.alloc(), FEW)?;
@@ -188,8 +189,8 @@ fn a_label_that_is_there_is_answered_behind_a_sync(rt: HostRuntime) -> Result<()
 #[test]
 fn an_open_ends_what_a_refused_write_left(rt: HostRuntime) -> Result<(), Fail> {
     let files = made(rt.alloc(), FEW)?;
-    // With no open behind it, a change that was refused may be found again. There the store has shut the connection, so
-    // that no open on it answers Ok.
+    // Without an open after it, a failed change may be found later. In that case the database has closed the
+    // connection, so no open on it returns Ok.
     let trial = Trial::Learning(false);
     let ends = each_refused(rt.alloc(), &rt, &files, Which::Log, trial, DEATH)?;
     assert!(rt; ends.contains(&End::Found));
@@ -211,7 +212,7 @@ fn an_empty_database_is_prepared_behind_each_stop(rt: HostRuntime) -> Result<(),
         for stop in [Stop::OfProcess, Stop::OfMachine] {
             let ends = each_refused(rt.alloc(), &rt, &files, which, Trial::Preparing, stop)?;
             assert!(rt; !ends.is_empty(), "{which:?}, {stop:?}");
-            // Of the file of the database `prepare` asks nothing: its pages stay in the log.
+            // `prepare` does not use the database file: its pages stay in the log.
             assert!(rt;
                 which == Which::Database || ends.contains(&End::MadeBehind),
                 "{stop:?}"
@@ -221,7 +222,7 @@ fn an_empty_database_is_prepared_behind_each_stop(rt: HostRuntime) -> Result<(),
     Ok(())
 }
 
-// Registries of version 1, whose `prepare` is refused from each call of a file on, and then stopped.
+// Registries of version 1: `prepare` fails from each call of a file on, and then there is a crash.
 fn migrates_behind_each_stop(
     alloc: Global,
     rt: &impl Abort,
@@ -239,7 +240,7 @@ fn a_thousand_devices_are_migrated_behind_each_stop(rt: HostRuntime) -> Result<(
         for stop in [Stop::OfProcess, Stop::OfMachine] {
             let ends = migrates_behind_each_stop(rt.alloc(), &rt, 1000, which, stop)?;
             assert!(rt; ends.contains(&End::Was(1)), "{which:?}, {stop:?}");
-            // A write that was told as failed lies in the log, and the process alone has died.
+            // A write that was reported as failed is in the log, and only the process has died.
             let is_migrated = which == Which::Log && stop == Stop::OfProcess;
             assert_eq!(rt;
                 ends.contains(&End::Was(2)),

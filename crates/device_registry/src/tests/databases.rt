@@ -1,4 +1,4 @@
-//! Which databases are refused, and that they are left as they were; and which rows may stand in the tables.
+//! Rejected databases, which are left as they were, and the rows that the tables accept.
 use super::given::{Fresh, open_idle, prepare_idle, run};
 use super::looking::{has_objects, in_version, objects, prepares, run_lines, show};
 use crate::OpenFault;
@@ -9,11 +9,10 @@ use std::alloc::Global;
 use std::process::Abort;
 use std::test::Fail;
 
-/// The two versions.
 const VERSIONS: [Version; 2] = [Version::First, Version::Second];
 
-/// Databases that have not both tables as they ought to be, of either version. Of each: its statements; a query that
-/// shows a number; and that number. What differs between the versions is marked.
+/// Databases that do not have both tables as they should be, in either version. For each: its statements, a query that
+/// shows a number, and that number. Marks stand for what differs between the versions.
 const WITHOUT_OURS: &str = "\
 <META>
 ? SELECT count(*) FROM enogate_meta
@@ -100,7 +99,7 @@ INSERT INTO <device> VALUES (5, 13959169, -1<empty>)
 ? SELECT maker FROM <device>
 = -1";
 
-/// Databases of our two tables that are no registry, told in the same way.
+/// Databases with our two tables that are no registry, in the same form.
 const BESIDE_OURS: &str = "\
 <META>
 <DEVICE>
@@ -181,14 +180,14 @@ SELECT i, 13959169, -1<empty> FROM n LIMIT 1001
 ? SELECT count(*) FROM <device>
 = 1001";
 
-/// A database of version 2 whose device has a text for a label, told in the same way.
+/// A database of version 2 with a device whose label is this text, in the same form.
 const WITH_LABEL: &str = "\
 <OURS>
 INSERT INTO enogate_device_v2 VALUES (5, 13959169, -1, ''), (6, 13959169, -1, <text>)
 ? SELECT count(*) FROM enogate_device_v2 WHERE label = <text>
 = 1";
 
-/// Texts that are no labels, as SQL tells them.
+/// Texts that are no labels, as written in SQL.
 const NO_LABELS: &str = "\
 'abcdefghijklmnopqrstuvwxyz0123456'
 ' '
@@ -200,8 +199,8 @@ const NO_LABELS: &str = "\
 'Door\u{7F}'
 'T\u{FC}r'";
 
-/// Further databases of version 2, told in the same way: with a label that is no UTF-8, and of a table that would take
-/// none.
+/// More databases of version 2, in the same form: with a label that is not UTF-8, and with a table that would accept no
+/// label.
 const BESIDE_SECOND: &str = "\
 <OURS>
 INSERT INTO enogate_device_v2 SELECT 5, 13959169, -1, CAST(x'80' AS TEXT)
@@ -234,7 +233,7 @@ fn is_refused_to_open<S: Alter + Drop>(
     Ok(())
 }
 
-// `prepare` refuses a database, whose query shows the same before and behind it.
+// `prepare` rejects a database, whose query shows the same before and after it.
 fn is_refused_showing<S: Alter>(
     rt: &impl Abort,
     conn: &mut Connection<S>,
@@ -246,7 +245,7 @@ fn is_refused_showing<S: Alter>(
     show(rt, conn, query, shown)
 }
 
-// `prepare` refuses a database, which has the same objects before and behind it.
+// `prepare` rejects a database, which has the same objects before and after it.
 fn is_left_by_prepare<S: Alter>(
     alloc: Global,
     rt: &impl Abort,
@@ -260,7 +259,6 @@ fn is_left_by_prepare<S: Alter>(
     has_objects(alloc, rt, conn, before.as_str())
 }
 
-// Each of these databases, in a version, is refused.
 fn are_refused<S: Fresh>(
     alloc: Global,
     rt: &impl Abort,
@@ -304,7 +302,7 @@ fn labels_that_are_none(rt: HostRuntime) -> Result<(), Fail> {
     are_refused::<MemStore>(rt.alloc(), &rt, BESIDE_SECOND, Version::Second)
 }
 
-/// Rows that our tables themselves do not take.
+/// Rows that our tables themselves do not accept.
 const NOT_TAKEN: &str = "\
 INSERT INTO enogate_meta VALUES (2, 2)
 INSERT INTO enogate_meta VALUES (1, NULL)
@@ -317,7 +315,6 @@ INSERT INTO enogate_device_v2 VALUES (5, 1, 1, NULL)
 INSERT INTO enogate_device_v2 VALUES (5, 1, 1, x'41')
 INSERT INTO enogate_device_v2 (id, eep, maker) VALUES (5, 1, 1)";
 
-// Our own tables do not take these rows.
 fn are_not_taken<S: Fresh>(alloc: Global, rt: &impl Abort) -> Result<(), Fail> {
     let mut conn = S::fresh(alloc)?;
     prepares(rt, &mut conn)?;
@@ -332,7 +329,7 @@ fn rows_that_the_tables_refuse(rt: HostRuntime) -> Result<(), Fail> {
     are_not_taken::<MemStore>(rt.alloc(), &rt)
 }
 
-// Whether each of these rows may stand in the table of the devices.
+// Whether the device table may have each of these rows.
 fn are_devices<S: Fresh>(
     alloc: Global,
     rt: &impl Abort,
@@ -347,7 +344,7 @@ fn are_devices<S: Fresh>(
     Ok(())
 }
 
-// Whether each of these rows may stand in the table of the version, which is this one. What differs is marked.
+// Whether the version table of this version may have each of these rows. Marks stand for what differs.
 fn are_version<S: Fresh>(
     alloc: Global,
     rt: &impl Abort,

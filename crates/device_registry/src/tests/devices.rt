@@ -1,4 +1,4 @@
-//! What is learned is found, listed and forgotten, also by the next open.
+//! Learned devices are found, listed and forgotten, also after the next open.
 use super::acts::{Act, Many, play, take_all};
 use super::given::{Fresh, Known, contact, fresh_registry, open_idle, run, sensor};
 use erp1_telegrams::Eep;
@@ -23,7 +23,6 @@ fn learns_finds_and_forgets(rt: HostRuntime) -> Result<(), Fail> {
     play::<MemStore>(rt.alloc(), &rt, 64, &acts, &[])
 }
 
-/// The longest label.
 const LONGEST: &str = "~ abcdefghijklmnopqrstuvwxyz 012";
 
 #[test]
@@ -119,13 +118,13 @@ fn the_next_open_finds_all(rt: HostRuntime) -> Result<(), Fail> {
     play::<MemStore>(rt.alloc(), &rt, 64, &before, &behind)
 }
 
-// Of how many rows the last statement changed.
+// Checks how many rows the last statement changed.
 fn has_changed<S: Alter>(rt: &impl Abort, conn: &Connection<S>, wanted: usize) -> Result<(), Fail> {
     assert_eq!(rt; conn.changes(), wanted);
     Ok(())
 }
 
-// A statement changes no row, and then an open the one of the version.
+// A statement changes no row, and then an open changes the version row.
 fn open_writes_one_row<S: Fresh>(alloc: Global, rt: &impl Abort) -> Result<(), Fail> {
     let mut registry = fresh_registry::<S>(alloc, 64)?;
     take_all(rt, &mut registry, &[Act::Learns(contact(1))])?;

@@ -1,4 +1,4 @@
-//! Disks that refuse a call, and connections over them.
+//! Disks that fail, and connections over them.
 ghost use Rattle.std.specs.Prelude.{◌≡◌, ◌+◌};
 
 use sqlite::{Alter, Connection, FileStore, Files, Options};
@@ -7,11 +7,11 @@ use std::alloc::Global;
 use std::io;
 use std::test::Fail;
 
-/// A disk that tells one write as failed, though its bytes are in the file. Each other call goes as below it.
+/// A disk that reports one write as failed although its bytes are in the file. All other calls go to the disk below.
 #[derive(Drop)]
 pub struct Stumbling<D: Disk> {
     inner: D,
-    /// Which write from here on is told as failed, the next one being 1, or 0 for none.
+    /// The write that is reported as failed: the next one is 1, and 0 is none.
     write: u64,
     told: u64,
     syncs: u64,
@@ -31,7 +31,7 @@ impl<D: Disk> Stumbling<D> {
         &self.inner
     }
 
-    /// How many syncs there were.
+    /// The number of syncs so far.
     pub fn syncs(&self) -> u64 {
         self.syncs
     }
@@ -121,7 +121,7 @@ impl<D: Disk> Disk for Stumbling<D> {
     }
 }
 
-/// The files of all tests over disks: of one type, so that the store is compiled for it alone.
+/// The files of all tests over disks: one type, so that the database code is compiled for only one.
 pub type Disks = Files<Stumbling<Fuse<Memory>>>;
 
 /// The log, or the database file.
@@ -131,17 +131,17 @@ pub enum Which {
     Database,
 }
 
-/// What a file refuses.
+/// How a file fails.
 #[derive(Clone, Copy)]
 pub enum Refusal {
     Nothing,
-    /// Each call but the first ones, of which there are so many.
+    /// All calls fail except this many at the beginning.
     From(u64),
-    /// The write of this number. It is told as failed, though its bytes are in the file.
+    /// The write with this number is reported as failed, although its bytes are in the file.
     Write(u64),
 }
 
-/// What a stop leaves of what was written and not synced.
+/// How much of the unsynced data a crash leaves.
 #[derive(Clone, Copy, Debug, PartialEq, Eq)]
 pub enum Stop {
     /// The process dies: all of it.
@@ -173,7 +173,7 @@ fn copied(alloc: Global, file: &Stumbling<Fuse<Memory>>) -> Result<Memory, Fail>
     Ok(copy)
 }
 
-/// New files with the bytes of these, one of which refuses.
+/// New files with the bytes of these; one of them fails.
 pub fn refusing(
     alloc: Global,
     files: &Disks,
@@ -194,16 +194,16 @@ pub fn refusing(
     })
 }
 
-/// What a stop leaves.
+/// The state that a crash leaves.
 #[derive(Drop)]
 pub struct Left {
-    /// The files. They are copies, and refuse nothing any more.
+    /// Copies of the files, which no longer fail.
     pub files: Disks,
-    /// How many syncs of the log there were.
+    /// The number of syncs of the log.
     pub syncs: u64,
 }
 
-/// A connection that keeps so many pages in memory, or none where the disk refuses.
+/// A connection that keeps this many pages in memory, or none if the disk fails.
 pub fn connected(
     alloc: Global,
     files: Disks,
@@ -217,7 +217,7 @@ pub fn connected(
     Ok(Connection::open_files(alloc, files, options).ok())
 }
 
-/// A connection where the disk is not to refuse.
+/// A connection over a disk that must not fail.
 pub fn surely_connected(
     alloc: Global,
     files: Disks,
@@ -229,12 +229,12 @@ pub fn surely_connected(
     }
 }
 
-/// The files of a connection that is closed.
+/// The files of a closed connection.
 pub fn closed(conn: Connection<FileStore<Stumbling<Fuse<Memory>>>>) -> Result<Disks, Fail> {
     Ok(conn.close_files().ok().ok_or("not closed")?)
 }
 
-/// What a stop at this moment leaves of a connection.
+/// The state that a crash at this moment leaves of a connection.
 pub fn stopped(
     alloc: Global,
     conn: Connection<FileStore<Stumbling<Fuse<Memory>>>>,
@@ -253,7 +253,7 @@ fn files_of<D: Disk + Drop>(store: FileStore<D>) -> Files<D> {
     store.close()
 }
 
-// What a stop leaves of a disk, which refuses nothing any more.
+// The disk that a crash leaves; it no longer fails.
 fn left_of(disk: Stumbling<Fuse<Memory>>, stop: Stop) -> Stumbling<Fuse<Memory>> {
     let mut file = disk.into_inner();
     if stop == Stop::OfMachine {
@@ -262,7 +262,7 @@ fn left_of(disk: Stumbling<Fuse<Memory>>, stop: Stop) -> Stumbling<Fuse<Memory>>
     Stumbling::new(file, 0)
 }
 
-// What a stop leaves of these files.
+// The state that a crash leaves of these files.
 fn left_by(alloc: Global, files: Disks, stop: Stop) -> Result<Left, Fail> {
     let syncs = files.log.syncs();
     let Files { log, db } = files;

@@ -1,4 +1,4 @@
-//! What the faults of an open say.
+//! The texts of the faults of an open.
 use crate::OpenFault;
 use sqlite::{Error, ErrorCode};
 use std::alloc::{AllocError, Global};

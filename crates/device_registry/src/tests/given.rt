@@ -39,7 +39,7 @@ pub const FIRST_VERSION_ROW: &str = "INSERT INTO enogate_meta VALUES (1, 1);";
 
 pub const VERSION_ROW: &str = "INSERT INTO enogate_meta VALUES (1, 2);";
 
-/// What is known of a sender.
+/// The data of a known sender.
 #[derive(Clone, Copy)]
 pub struct Known {
     pub id: u32,
@@ -68,7 +68,7 @@ impl Known {
         }
     }
 
-    /// The device with the empty label, which is how it is learned.
+    /// The device with the empty label, in which form it is learned.
     pub fn unlabelled(self) -> Device
         ensures { result.label ≡ [] }
     {
@@ -99,12 +99,12 @@ pub fn sensor(id: u32) -> Known {
     }
 }
 
-/// A contact or a sensor, in turn.
+/// A contact or a sensor, alternately.
 pub fn either(id: u32) -> Known {
     if id % 2 == 0 { contact(id) } else { sensor(id) }
 }
 
-/// One of 1,000 devices, of which no two have one profile or one maker.
+/// One of 1,000 devices; no two have the same profile or manufacturer ID.
 pub fn varied(id: u32) -> Known {
     let at = id % 1000;
     Known {
@@ -115,7 +115,7 @@ pub fn varied(id: u32) -> Known {
     }
 }
 
-/// Makes a database one of the first version, with so many of those devices, with the IDs from 0 on.
+/// Makes the database a registry of version 1 with this many of those devices, with the IDs from 0 on.
 pub fn be_first_version<S: Alter>(conn: &mut Connection<S>, devices: i64) -> Result<(), Fail> {
     run(conn, META_TABLE)?;
     run(conn, FIRST_DEVICE_TABLE)?;
@@ -155,7 +155,7 @@ pub fn learn<R: Remembering>(registry: &mut R, known: Known) -> Result<(), Learn
     Ok(())
 }
 
-/// `relabel`, with a text that is a label.
+/// `relabel` with a text that is a label.
 pub fn relabel<R: Remembering>(
     registry: &mut R,
     id: u32,
@@ -170,7 +170,7 @@ pub fn forget<R: Remembering>(registry: &mut R, id: u32) -> Result<(), StoreFaul
     Ok(())
 }
 
-/// A store of which a test gets a new database: so all else of a test is generic in the store.
+/// A store that gives a test a new database; the rest of a test is generic in the store.
 pub trait Fresh: Alter + Drop + Sized {
     fn fresh(alloc: Global) -> Result<Connection<Self>, Fail>;
 }
@@ -181,7 +181,7 @@ impl Fresh for MemStore {
     }
 }
 
-/// A new registry with a cache of so many senders.
+/// A new registry with a cache of this many senders.
 pub fn fresh_registry<S: Fresh>(alloc: Global, cache: usize) -> Result<Registry<S>, Fail>
     requires { (1 ≤ cache) × (cache ≤ max_cached) }
 {
@@ -192,7 +192,7 @@ pub fn fresh_registry<S: Fresh>(alloc: Global, cache: usize) -> Result<Registry<
     Ok(Registry::open_with(alloc, conn, cache)?)
 }
 
-/// `Registry::open`, of a connection that no statement has left in a transaction.
+/// `Registry::open` over a connection that has no open transaction.
 pub fn open_idle<S: Alter + Drop>(
     alloc: Global,
     conn: Connection<S>,
@@ -203,7 +203,7 @@ pub fn open_idle<S: Alter + Drop>(
     Ok(Registry::open(alloc, conn))
 }
 
-/// `prepare`, of a connection that no statement has left in a transaction.
+/// `prepare` of a connection that has no open transaction.
 pub fn prepare_idle<S: Alter>(conn: &mut Connection<S>) -> Result<Result<(), OpenFault>, Fail> {
     if !conn.is_autocommit() {
         return Err(Fail::from("a transaction is open"));

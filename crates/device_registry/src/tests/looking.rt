@@ -1,4 +1,4 @@
-//! Databases made of texts, and looks at what they hold.
+//! Creating databases from texts, and inspecting them.
 use super::given::{
     DEVICE_TABLE, FIRST_DEVICE_TABLE, FIRST_VERSION_ROW, META_TABLE, VERSION_ROW, number,
     prepare_idle, run,
@@ -9,10 +9,10 @@ use std::alloc::Global;
 use std::process::Abort;
 use std::test::Fail;
 
-/// The statements that make a registry, by their marks.
+/// The statements that create a registry, by their marks.
 const OURS: &str = "<META>\n<DEVICE>\n<VERSION>";
 
-/// The marks of a text that is told of both versions: each with what stands for it in the first, and in the second.
+/// The marks of a text for both versions, each with its meaning in version 1 and in version 2.
 const MARKS: [(&str, &str, &str); 13] = [
     ("<OURS>", OURS, OURS),
     ("<META>", META_TABLE, META_TABLE),
@@ -29,7 +29,7 @@ const MARKS: [(&str, &str, &str); 13] = [
     ("<n>", "1", "2"),
 ];
 
-/// The text in a version.
+/// The text for one version.
 pub fn in_version(alloc: Global, text: &str, version: Version) -> Result<String, Fail> {
     let mut told = String::from_str(alloc, text)?;
     for (mark, first, second) in MARKS {
@@ -41,7 +41,7 @@ pub fn in_version(alloc: Global, text: &str, version: Version) -> Result<String,
     Ok(told)
 }
 
-/// Runs the statements, of which each has a line.
+/// Runs the statements, one in each line.
 pub fn run_lines<S: Alter>(conn: &mut Connection<S>, lines: &str) -> Result<(), Fail> {
     for line in lines.lines() {
         run(conn, line)?;
@@ -49,7 +49,7 @@ pub fn run_lines<S: Alter>(conn: &mut Connection<S>, lines: &str) -> Result<(), 
     Ok(())
 }
 
-/// The objects of a database, each by its kind, its name and its text.
+/// The objects of a database, each with its kind, name and text.
 pub fn objects<S: Alter>(alloc: Global, conn: &mut Connection<S>) -> Result<String, Fail> {
     let mut told = String::new(alloc);
     for row in &conn.query_all(
@@ -95,7 +95,7 @@ pub fn prepares<S: Alter>(rt: &impl Abort, conn: &mut Connection<S>) -> Result<(
     Ok(())
 }
 
-/// Shows, of each line of the table, by its query its number.
+/// Checks, for each line of the table, that its query shows its number.
 pub fn show_each<S: Alter>(
     rt: &impl Abort,
     conn: &mut Connection<S>,

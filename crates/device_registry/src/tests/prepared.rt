@@ -1,4 +1,4 @@
-//! What `prepare` makes of a database that it does not refuse.
+//! The result of `prepare` for a database that it accepts.
 use super::acts::{Act, Many, take_all};
 use super::given::{
     DEVICE_TABLE, Fresh, META_TABLE, be_first_version, contact, open_idle, run, sensor,
@@ -10,7 +10,7 @@ use std::alloc::Global;
 use std::process::Abort;
 use std::test::Fail;
 
-// Our two tables of version 2, and no other object, with the version's row.
+// Our two tables of version 2, and no other object, with the version row.
 fn has_ours<S: Alter>(
     alloc: Global,
     rt: &impl Abort,
@@ -30,7 +30,7 @@ fn has_ours<S: Alter>(
     )
 }
 
-// An empty database, once it is prepared.
+// An empty database after `prepare`.
 fn is_made<S: Fresh>(alloc: Global, rt: &impl Abort) -> Result<(), Fail> {
     let mut conn = S::fresh(alloc)?;
     prepares(rt, &mut conn)?;
@@ -43,7 +43,7 @@ fn an_empty_database_is_made_one(rt: HostRuntime) -> Result<(), Fail> {
     is_made::<MemStore>(rt.alloc(), &rt)
 }
 
-/// A registry of either version, with something beside it. What differs is marked.
+/// A registry of either version with other objects beside it. Marks stand for what differs.
 const FILLED: &str = "\
 <OURS>
 INSERT INTO <device> VALUES (7, 13959169, -1<empty>), (3, 10813957, 70<empty>)
@@ -51,7 +51,7 @@ CREATE TABLE room (name TEXT) STRICT
 INSERT INTO room VALUES ('hall'), ('attic')
 INSERT INTO <device> VALUES (5, 0, 2047<empty>), (4294967294, 16777215, 0<empty>)";
 
-/// Queries, each with the number that it shows behind a `prepare`.
+/// Queries, each with the number that it shows after `prepare`.
 const LEFT: &str = "\
 SELECT sum(k * 10 + version) FROM enogate_meta = 12
 SELECT count(*) FROM enogate_device_v2 = 4
@@ -64,7 +64,7 @@ SELECT count(*) FROM room = 2
 SELECT count(*) FROM sqlite_schema = 3
 SELECT count(*) FROM sqlite_schema WHERE name = 'enogate_device' = 0";
 
-// `prepare` of a registry of either version leaves each row, and so does a second one.
+// `prepare` of a registry of either version leaves each row, and so does a second call.
 fn is_taken_twice<S: Fresh>(alloc: Global, rt: &impl Abort, version: Version) -> Result<(), Fail> {
     let mut conn = S::fresh(alloc)?;
     run_lines(&mut conn, in_version(alloc, FILLED, version)?.as_str())?;
@@ -82,7 +82,7 @@ fn each_version_is_taken_with_every_row(rt: HostRuntime) -> Result<(), Fail> {
     is_taken_twice::<MemStore>(rt.alloc(), &rt, Version::Second)
 }
 
-// A registry of version 1 with so many devices, once it is opened, and opened again.
+// A registry of version 1 with this many devices, after it is opened once, and again.
 fn is_migrated<S: Fresh>(alloc: Global, rt: &impl Abort, devices: u32) -> Result<(), Fail> {
     let mut conn = S::fresh(alloc)?;
     be_first_version(&mut conn, i64::from(devices))?;
@@ -103,7 +103,7 @@ fn version_1_becomes_version_2(rt: HostRuntime) -> Result<(), Fail> {
     Ok(())
 }
 
-// A database of another hand is taken.
+// A database made by someone else is accepted.
 fn a_thousand_are_taken<S: Fresh>(alloc: Global, rt: &impl Abort) -> Result<(), Fail> {
     let mut conn = S::fresh(alloc)?;
     run_lines(

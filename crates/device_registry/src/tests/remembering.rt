@@ -1,11 +1,11 @@
-//! What tests ask of a registry, whatever its store is.
+//! The tests' interface to a registry over any store.
 ghost use Rattle.std.specs.Prelude.{◌≡◌, [], true};
 ghost use Rattle.learned_devices.specs.Labels.{is_label};
 
 use crate::cache::copied;
 use crate::{Device, LearnFault, Receipt, RegistryOver, SqlConnection, StoreFault};
 
-/// The calls of a registry, and looks at what it remembers: so what takes one names no types of the store.
+/// The calls of a registry, and looks into its cache, so that code using them names no types of the store.
 pub trait Remembering {
     fn find(&mut self, id: u32) -> Result<Option<Device>, StoreFault>;
 
@@ -19,10 +19,10 @@ pub trait Remembering {
 
     fn all(&mut self) -> Result<Vec<Device>, StoreFault>;
 
-    /// What is remembered of a sender, if it is. The look leaves the order of the entries.
+    /// The cache entry of a sender, if there is one. The order of the entries does not change.
     fn remembered(&self, id: u32) -> Option<Option<Device>>;
 
-    /// How many senders are remembered.
+    /// The number of cached senders.
     fn count_remembered(&self) -> usize;
 }
 

@@ -1,4 +1,4 @@
-//! What a registry does over a disk that refuses, one step each.
+//! A registry over a disk that fails, one step each.
 use super::acts::{Act, Many, take_all};
 use super::given::{
     Known, contact, forget, is_learn_store, is_open_store, is_store, learn, number, open_idle,
@@ -11,7 +11,7 @@ use std::alloc::Global;
 use std::process::Abort;
 use std::test::Fail;
 
-/// The calls of a registry that ask the store.
+/// The calls of a registry that use the database.
 #[derive(Clone, Copy, Debug, PartialEq, Eq)]
 pub enum Call {
     Find,
@@ -29,32 +29,32 @@ pub const CALLS: [Call; 5] = [
     Call::All,
 ];
 
-/// What became of calls over a disk that refuses.
+/// The result of calls over a disk that fails.
 #[derive(Clone, Copy, Debug, PartialEq, Eq)]
 pub enum End {
-    /// Nothing was refused.
+    /// Nothing failed.
     NoRefusal,
-    /// No registry was opened, or the first call was refused.
+    /// No registry was opened, or the first call failed.
     Early,
-    /// This call was refused first, and behind it the sender that it was to change was found, or was not.
+    /// The first call that failed; and whether the sender that it was to change was found afterwards.
     At(Call, bool),
-    /// A sender that was not looked up was refused, where one that was looked up was answered.
+    /// The look-up of an uncached sender failed, and a cached sender was answered.
     ToldApart,
-    /// A change was refused, and so was the next open on its connection.
+    /// A change failed, and so did the next open on its connection.
     Shut,
-    /// A change was refused, and behind a stop its sender was found.
+    /// A change failed, and after a crash its sender was found.
     Found,
-    /// A change was refused, and behind a stop its sender was not found.
+    /// A change failed, and after a crash its sender was not found.
     NotFound,
-    /// An empty database was not prepared, and was behind a stop.
+    /// An empty database was not prepared before a crash, but was after it.
     MadeBehind,
-    /// A registry of version 1 was not prepared, and behind a stop it was this version.
+    /// A registry of version 1 was not prepared, and after a crash it had this version.
     Was(i64),
-    /// A change that was told was found behind a stop.
+    /// An acknowledged change was found after a crash.
     Kept,
 }
 
-/// What a filled registry knows of a sender: one has a label.
+/// The data of a sender in a filled registry: one has a label.
 fn known(id: u32) -> Known {
     if id == 9 {
         contact(9).labelled("Room")
@@ -63,7 +63,7 @@ fn known(id: u32) -> Known {
     }
 }
 
-/// The connection of a closed registry with so many contacts, with the IDs from 0 on.
+/// The connection of a closed registry with this many contacts, with the IDs from 0 on.
 pub fn filled<S: Alter + Drop>(
     alloc: Global,
     conn: Connection<S>,
@@ -82,7 +82,7 @@ pub fn filled<S: Alter + Drop>(
     Ok(conn)
 }
 
-// Whether `find` is refused by the store. Else it finds what a filled registry knows.
+// Whether the database fails in `find`. If not, it finds what a filled registry holds.
 fn is_find_refused<R: Remembering>(
     rt: &impl Abort,
     registry: &mut R,
@@ -100,7 +100,6 @@ fn is_find_refused<R: Remembering>(
     }
 }
 
-// Whether `learn` is refused by the store.
 fn is_learn_refused<R: Remembering>(
     rt: &impl Abort,
     registry: &mut R,
@@ -113,7 +112,7 @@ fn is_learn_refused<R: Remembering>(
     Ok(false)
 }
 
-// Whether `relabel` is refused by the store. Else the sender is known.
+// Whether the database fails in `relabel`. If not, the sender is known.
 fn is_relabel_refused<R: Remembering>(
     rt: &impl Abort,
     registry: &mut R,
@@ -131,7 +130,6 @@ fn is_relabel_refused<R: Remembering>(
     }
 }
 
-// Whether `forget` is refused by the store.
 fn is_forget_refused<R: Remembering>(
     rt: &impl Abort,
     registry: &mut R,
@@ -144,7 +142,7 @@ fn is_forget_refused<R: Remembering>(
     Ok(false)
 }
 
-// Whether `all` is refused by the store. Else it shows what was changed.
+// Whether the database fails in `all`. If not, the list shows the change.
 fn is_all_refused<R: Remembering>(rt: &impl Abort, registry: &mut R) -> Result<bool, Fail> {
     match registry.all() {
         Ok(all) => {
@@ -169,7 +167,7 @@ fn is_refused<R: Remembering>(rt: &impl Abort, registry: &mut R, call: Call) -> 
     }
 }
 
-// Whether a sender is found behind the refusal of its change. Then it is found as it was before.
+// Whether a sender is found after its change failed. If so, it is as it was before.
 fn is_found_behind<R: Remembering>(
     rt: &impl Abort,
     registry: &mut R,
@@ -184,7 +182,7 @@ fn is_found_behind<R: Remembering>(
     Ok(!is_find_refused(rt, registry, id)?)
 }
 
-// Where the calls meet the first refusal. Behind it nothing is remembered.
+// The first call that fails. After it the cache is empty.
 fn first_refusal<R: Remembering>(rt: &impl Abort, registry: &mut R) -> Result<End, Fail> {
     for call in CALLS {
         if is_refused(rt, registry, call)? {
@@ -195,8 +193,7 @@ fn first_refusal<R: Remembering>(rt: &impl Abort, registry: &mut R) -> Result<En
     Ok(End::NoRefusal)
 }
 
-// Whether the disk refuses a sender that was not looked up, where one that was is answered. Behind it nothing is
-// remembered.
+// Whether the look-up of an uncached sender fails, and a cached sender is answered. Afterwards the cache is empty.
 fn look_ups<R: Remembering>(rt: &impl Abort, registry: &mut R) -> Result<End, Fail> {
     if is_find_refused(rt, registry, 7)? {
         return Ok(End::Early);
@@ -211,7 +208,7 @@ fn look_ups<R: Remembering>(rt: &impl Abort, registry: &mut R) -> Result<End, Fa
     Ok(End::NoRefusal)
 }
 
-// The connection of a closed registry that has learned a sender, given another a label and forgotten a third.
+// The connection of a closed registry that has learned a sender, labelled another and forgotten a third.
 fn changed<S: Alter + Drop>(rt: &impl Abort, registry: Registry<S>) -> Result<Connection<S>, Fail> {
     let mut registry = registry;
     let acts = [
@@ -223,7 +220,7 @@ fn changed<S: Alter + Drop>(rt: &impl Abort, registry: Registry<S>) -> Result<Co
     Ok(registry.close())
 }
 
-// The connection of a closed registry that has refused to learn a sender, or none where it has learned it.
+// The connection of a closed registry that failed to learn a sender, or none if it has learned it.
 fn refused_to_learn<S: Alter + Drop>(
     rt: &impl Abort,
     registry: Registry<S>,
@@ -233,7 +230,7 @@ fn refused_to_learn<S: Alter + Drop>(
     Ok(is_refused.then_some(registry.close()))
 }
 
-/// The connection, opened and closed once more, or none where the disk refuses that.
+/// The connection, opened and closed once more, or none if the disk fails meanwhile.
 fn opened_and_closed<S: Alter + Drop>(
     alloc: Global,
     rt: &impl Abort,
@@ -260,7 +257,7 @@ fn found<R: Remembering>(rt: &impl Abort, registry: &mut R) -> Result<End, Fail>
     }
 }
 
-// `prepare` of a database that is no registry of version 2 yet.
+// `prepare` of a database that is not yet a registry of version 2.
 fn prepared<S: Alter>(rt: &impl Abort, conn: &mut Connection<S>) -> Result<End, Fail> {
     match prepare_idle(conn)? {
         Ok(()) => Ok(End::NoRefusal),
@@ -271,24 +268,24 @@ fn prepared<S: Alter>(rt: &impl Abort, conn: &mut Connection<S>) -> Result<End, 
     }
 }
 
-/// What is tried over files that refuse.
+/// A trial over files that fail.
 #[derive(Clone, Copy)]
 pub enum Trial {
-    /// Each call that asks the store, where so many pages are kept in memory.
+    /// Each call that uses the database, with this many pages in memory.
     Calls(usize),
-    /// A sender that was looked up, and one that was not.
+    /// A cached sender, and an uncached one.
     LookUps,
-    /// A `learn`, behind which the connection is opened again, or is not; and a stop.
+    /// A `learn`, and a crash; the flag says whether the connection is opened again in between.
     Learning(bool),
-    /// `prepare` of an empty database, and a stop.
+    /// `prepare` of an empty database, and a crash.
     Preparing,
-    /// `prepare` of a registry of version 1 with so many devices, and a stop.
+    /// `prepare` of a registry of version 1 with this many devices, and a crash.
     Migrating(u32),
-    /// A `learn`, a `relabel` and a `forget`, and a stop.
+    /// A `learn`, a `relabel` and a `forget`, and a crash.
     Changing,
 }
 
-/// How many pages are kept in memory.
+/// The number of pages that are kept in memory.
 pub fn pages(trial: Trial) -> usize {
     match trial {
         Trial::Calls(pages) => pages,
@@ -298,8 +295,8 @@ pub fn pages(trial: Trial) -> usize {
     }
 }
 
-/// What the trial does before its stop, over a connection that it hands back where it goes on behind the stop. The end
-/// stays as it is where the disk refuses to open a registry.
+/// The part of a trial before its crash. It returns the connection if the trial continues after the crash. The end
+/// stays as it is if the disk fails while a registry is opened.
 pub fn before_stop<S: Alter + Drop>(
     alloc: Global,
     rt: &impl Abort,
@@ -380,7 +377,7 @@ fn changing<S: Alter + Drop>(
     Ok(Some(changed(rt, registry)?))
 }
 
-/// What the trial does behind its stop, over a new connection, and how it ends.
+/// The part of a trial after its crash, over a new connection, and its end.
 pub fn behind_stop<S: Alter + Drop>(
     alloc: Global,
     rt: &impl Abort,
@@ -400,7 +397,7 @@ pub fn behind_stop<S: Alter + Drop>(
     }
 }
 
-// Of a registry of version 1 that was refused, the end tells which version it was behind the stop.
+// For a registry of version 1 that was not prepared, the end has its version after the crash.
 fn told_by_version<S: Alter>(
     conn: &mut Connection<S>,
     trial: Trial,

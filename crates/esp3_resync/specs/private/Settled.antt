@@ -1,4 +1,4 @@
--- What a framer knows of what stands at the front of its bytes.
+-- A framer's knowledge about the front of its bytes.
 use Rattle.std.specs.Prelude.{◌≡◌, ◌≢◌, ℕ, ◌+◌, ◌<◌, ◌≤◌, List, [], ◌⊎◌, length, take, drop, slice_index}
 use Rattle.std.specs.Prelude.{Option, Some, None, Ok}
 use Rattle.esp3_frames.specs.Packet.{Packet}
@@ -10,27 +10,27 @@ use Rattle.esp3_resync.specs.Kept.{packet_with}
 use Rattle.esp3_resync.specs.declared.front.Found.{Found}
 use Rattle.esp3_resync.specs.declared.front.Found.TheVariants as found
 
--- the header of the bytes w has not come yet, or it is h
+-- the header of the bytes w is not complete yet, or it is h
 abbrev pub HasHeader : List ℕ → Option Header → Type 0
 HasHeader w None = length w < 6
 HasHeader w (Some h) = (6 ≤ length w) × (header_of (take 6 w) ≡ Ok h)
 
--- a framer's bytes begin with no byte that is to be skipped, and it keeps their header once that has come
+-- a framer's bytes do not begin with a byte to skip, and it keeps their header once that is complete
 pub record Settled (w : List ℕ) (h : Option Header) : Type 0 where
   pub front : front_of w ≢ Never
   pub header : HasHeader w h
 
--- the code's answer says what the bytes w begin with
+-- the code's result agrees with the beginning of the bytes w
 abbrev pub IsFound : Found → List ℕ → Type 0
 IsFound found.Refused w = front_of w ≡ Never
 IsFound found.Begun w = Settled w None
 IsFound (found.Announced h) w = Settled w (Some h)
 
--- the packet whose header h stands at the front of w
+-- the packet at the front of w, with the header h
 abbrev pub packet_at : Header → List ℕ → Packet
 packet_at h w = packet_with h (take (h.data_len + h.opt_len) (drop 6 w))
 
--- v is w from its first sync byte on, or nothing where it has none
+-- v is w from its first sync byte on, or nothing if it has none
 pub record ReachesSync (w v : List ℕ) : Type 0 where
   pub count : ℕ
   pub within : count ≤ length w

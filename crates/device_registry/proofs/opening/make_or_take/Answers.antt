@@ -10,7 +10,7 @@ use Rattle.device_registry.proofs.OpenCalls.{taken_stop, taken_others, migrated_
 use Rattle.device_registry.proofs.OpenRenews.{renewed_by}
 use Rattle.device_registry.proofs.opening.make_or_take.Goals as goal
 
--- ---- the tables are made
+-- ---- the tables are created
 
 pub returns-in_err-make_tables-clause-stop : goal.returns-in_err-make_tables-clause-stop
 returns-in_err-make_tables-clause-stop g c = begun_stop c.requires.rest (search rules) c.make_tables.ensures.stop
@@ -40,7 +40,7 @@ returns-in-None-clause-refused g c clean why =
     (λ version. IsRegistry version old.now)) c.in-None.is found.1)
     (λ clear. absurd (search rules))
 
--- ---- it is a registry of the first version
+-- ---- it is a registry of version 1
 
 pub migrate_tables-requires-clause-idle : goal.migrate_tables-requires-clause-idle
 migrate_tables-requires-clause-idle g c = c.version_of.ensures.mode c.requires.idle
@@ -74,7 +74,7 @@ returns-in_ok-migrate_tables-in-Some-First g c =
       remains = search rules;
     }
 
--- ---- it is a registry of the second version
+-- ---- it is a registry of version 2
 
 pub renew-requires : goal.renew-requires
 renew-requires g c = taken_ready (took Second c.in-Some-Second.is c.in-Some-Second.field-0-is c.requires.rest

@@ -3,7 +3,7 @@ use Rattle.esp3_frames.specs.Check.{check}
 use Rattle.esp3_resync.specs.private.Running.{Noted}
 use Rattle.esp3_resync.proofs.window.note_checks.Given as goal
 
--- the bytes so far are noted
+-- the CRCs of the bytes so far are stored
 abbrev pub invariant-loop-i : goal.invariant-loop-i
 invariant-loop-i l = record {
   len : length l.checks ≡ length l.fn.checks;

@@ -32,7 +32,7 @@ nonzero_div-result-2 c =
     positive_divisor c.from.result c.greatest_common_divisor-divisor.result
     (rw c.from.ensures c.requires) c.greatest_common_divisor-divisor.ensures.1
 
--- the numerator that is made
+-- the numerator of the result
 num_made : (t : ℤ) (g : ℕ) → FitsSigned w64 t → 0 < g → g < 2 ^ 63
     → to_z w64 (of_z w64 (int_div (to_z w64 (of_z w64 t)) (to_z w64 g))) ≡ int_div t (pos g)
 num_made t g fits p small =
@@ -40,7 +40,7 @@ num_made t g fits p small =
     let whole : FitsSigned w64 (int_div t (pos g)) = quot_fits w64 t (pos g) fits above in
     rw (to_z-of_z w64 t fits, to_z_pos w64 g small) (to_z-of_z w64 (int_div t (pos g)) whole)
 
--- the divisor is the greatest of both parts
+-- the divisor is the greatest common divisor of both parts
 divides : (c : goal.After-from-2)
     → IsGcd (unsigned_abs c.args.top) c.args.bottom c.greatest_common_divisor-divisor.result
 divides c =

@@ -3,7 +3,7 @@ use Rattle.std.specs.List.{slice_get}
 use Rattle.bit_fields.specs.Bits.{byte_bits, bits, number, field}
 use Rattle.profiles_vld.proofs.electronic_switches.command.Goals as goal
 
--- the first four bits stand in the first byte
+-- the first four bits are in the first byte
 in_first : (bytes : List ℕ) (first : ℕ) → Some first ≡ slice_get bytes 0 → field (first ∷ []) 4 4 ≡ field bytes 4 4
 unfolding field bits byte_bits
 in_first [] first is = cc

@@ -19,7 +19,7 @@ returns-in_err-has_no_room-clause-adds g c =
     rw (← c.self.view_is) (adds_not old new c.has_no_room.ensures.stays c.self.invariant c.args.device
     c.from_residual.result c.from_residual.ensures.0)
 
--- ---- there is no room
+-- ---- the registry is full
 
 pub invariant_of-self-then-branch : goal.invariant_of-self-then-branch
 invariant_of-self-then-branch g c = keeps_well (g.C.SqlConnection.state c.self.inside.conn)

@@ -2,7 +2,7 @@ use Rattle.device_registry.proofs.CacheAgreement.{fewer_recalled, recalled, told
 use Rattle.device_registry.proofs.CacheAgreement.{cleared_recalled}
 use Rattle.device_registry.proofs.registry.RegistryOver.known.Goals as goal
 
--- ---- the sender is remembered
+-- ---- the sender is cached
 
 pub invariant_of-self : goal.invariant_of-self
 invariant_of-self g c = (

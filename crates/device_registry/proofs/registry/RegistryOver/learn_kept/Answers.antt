@@ -8,7 +8,7 @@ use Rattle.device_registry.proofs.registry.RegistryOver.learn_kept.Goals as goal
 pub learn-requires : goal.learn-requires
 learn-requires g c = rw (← c.self.view_is) at c.requires
 
--- ---- there is room
+-- ---- the registry is not full
 
 pub invariant_of-self : goal.invariant_of-self
 invariant_of-self g c =
@@ -40,7 +40,7 @@ returns-in-Ok-true-clause-written g c =
     rw (← c.self.view_is) (λ clean devices has.
     c.in-Ok-true.ensures.written clean devices has c.in-Ok-true.field-0-test)
 
--- ---- there is no room, and what is remembered of the others stays
+-- ---- the registry is full, and the other cache entries stay
 
 pub invariant_of-self-in-Ok-false : goal.invariant_of-self-in-Ok-false
 invariant_of-self-in-Ok-false g c =
@@ -64,7 +64,7 @@ returns-in-Ok-false-clause-learns g c =
     c.learn.ensures.adds in
     rw (← c.self.view_is) (record { clean = adds.clean; registries = adds.registries; devices = adds.devices })
 
--- ---- the store does not answer
+-- ---- the database fails
 
 pub returns-in-Err-clause-learns : goal.returns-in-Err-clause-learns
 returns-in-Err-clause-learns g c =

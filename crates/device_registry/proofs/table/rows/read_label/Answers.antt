@@ -5,7 +5,7 @@ use Rattle.device_registry.specs.Table.Rows.{is_label_text, label_in}
 use Rattle.device_registry.proofs.LabelTexts.{unread}
 use Rattle.device_registry.proofs.table.rows.read_label.Goals as goal
 
--- a label is UTF-8, so what is not is none
+-- a label is UTF-8, so a text that is not UTF-8 is no label
 pub returns-in_err-ok-in-Ok-Text : goal.returns-in_err-ok-in-Ok-Text
 returns-in_err-ok-in-Ok-Text c =
     let value = column c.args.row.now c.args.at in

@@ -2,7 +2,7 @@ use Rattle.std.proofs.Common.{◌≡◌, ◌≤◌, ◌-◌, ◌++◌, length, t
 use Rattle.esp3_frames.specs.Frames.{frames_of}
 use Rattle.esp3_resync.proofs.framer.Framer.push_run.Given as goal
 
--- the bytes so far are taken, and made no packet ready
+-- the bytes so far are processed, and completed no packet
 abbrev pub invariant-loop-count : goal.invariant-loop-count
 invariant-loop-count l = record {
   within : l.count ≤ length l.bytes;

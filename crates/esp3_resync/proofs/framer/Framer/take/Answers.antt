@@ -32,7 +32,7 @@ returns-then-not-is_whole-clause-ready c =
     let e = ap (λ (x : Frames). length x.ready) c.self.view_is in
     (λ t. absurd cc, λ h. absurd (omega (arith, r, e, h)))
 
--- what is moved out behind a header
+-- what is moved out after a header
 moved : (s : List ℕ) (h : Header) (behind to : List ℕ) (k : ℕ) → behind ≡ drop 6 s → to ≡ take k behind
     → k ≡ h.data_len + h.opt_len → to ≡ take (h.data_len + h.opt_len) (drop 6 s)
 moved s h behind to k is items count = items ∙ ap (λ i. take i behind) count ∙ ap (take (h.data_len + h.opt_len)) is
